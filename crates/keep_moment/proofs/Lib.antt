@@ -1,0 +1,6 @@
+mod Seconds
+mod Calendar
+mod Pieces
+mod Zones
+mod Stamps
+mod Moments

@@ -1,0 +1,4 @@
+pub mod Lists
+pub mod Alive
+pub mod Walk
+pub mod Rounds

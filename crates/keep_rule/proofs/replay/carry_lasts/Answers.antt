@@ -1,0 +1,21 @@
+use Rattle.std.proofs.Common.{◌≡◌, ℕ, ◌<◌, ◌∙◌, ap, arith, get_or, length, min, subst, sym, ◌+◌, set, Some, None}
+use Rattle.keep_tree.specs.declared.entry.Entry.{Entry}
+use Rattle.keep_tree.specs.Forest.{entry_at}
+use Rattle.keep_tree.proofs.Placed.{parents_first}
+use Rattle.keep_rule.specs.Replay.{shown}
+use Rattle.keep_rule.proofs.Rounds.{LastsBelow, lasts_child, lasts_root}
+use Rattle.keep_rule.proofs.replay.carry_lasts.Goals as goal
+use Rattle.keep_rule.proofs.replay.carry_lasts.Goals.{in-None, in-Some}
+
+pub loop-index-preserved : goal.loop-index-preserved
+loop-index-preserved c =
+    let es = c.args.forest.now.entries in
+    let ends = c.args.ends.now in
+    let i = c.loop-index.index in
+    let there : i < length c.loop-index.lasts = omega arith in
+    let Goal : ℕ → Type 0 = λ v. LastsBelow es (shown ends) (set c.loop-index.lasts i v) (i + 1) in
+    elim c.match-get.branch [
+      | in-None w ↦ subst Goal (sym w.lasts-is) (lasts_root es ends c.loop-index.lasts i there (sym (ap (λ (e : Entry). e.parent) c.get.ensures.value) ∙ w.in-None.is) c.loop-index.invariant)
+      | in-Some w ↦ subst Goal (sym (w.lasts-is ∙ w.min.ensures))
+          (lasts_child es ends c.loop-index.lasts i w.in-Some.parent there (parents_first c.args.forest.now c.get.ensures.sound) (sym (ap (λ (e : Entry). e.parent) c.get.ensures.value) ∙ w.in-Some.is) c.loop-index.invariant)
+    ]

@@ -1,0 +1,56 @@
+use Rattle.std.proofs.Common.{◌≡◌, ◌∙◌, ◌+◌, ◌<◌, ◌↔◌, ◌++◌, ◌∷◌, ℕ, IsTrue, ap, arith, drop, get_or, length, refl, subst, sym, take, vec_len}
+use Rattle.std.proofs.lemmas.List.{drop_all}
+use Rattle.keep_moment.specs.declared.moment.TheConstants.{LAST}
+use Rattle.keep_tree.specs.Forest.{end_of, entry_at}
+use Rattle.keep_rule.specs.declared.wake.Wake.{Wake}
+use Rattle.keep_rule.specs.Ends.{after, ends_after, listed}
+use Rattle.keep_rule.specs.Keeps.{Keeps}
+use Rattle.keep_rule.specs.Replay.{KeptBetween, shown}
+use Rattle.keep_rule.proofs.Lists.{listed_shown, need_within, rewritten, unrolled}
+use Rattle.keep_rule.proofs.Walk.{Rises, ends_after_cons, ends_after_nil, kept_first, kept_last, kept_more, rises}
+use Rattle.keep_rule.proofs.replay.ends_after.Goals as goal
+
+pub loop-wake-init : goal.loop-wake-init
+loop-wake-init c =
+    let g = c.args.forest.now in
+    record {
+      ends = c.in_ok-ends.ensures.0;
+      lasts = c.in_ok-lasts.ensures.0;
+      rises = (c.args.start, rises g.entries c.args.start c.args.wakes.now (sym c.in_default.ensures));
+      rest = ap (λ f. ends_after g.entries g.margin f c.args.wakes.now) c.in_ok-ends.ensures.1;
+    }
+
+pub loop-wake-preserved : goal.loop-wake-preserved
+loop-wake-preserved c =
+    let es = c.args.forest.now.entries in
+    let margin = c.args.forest.now.margin in
+    let ws = c.args.wakes.now in
+    let w = c.wake-item.result in
+    let ends = c.loop-wake.ends.items in
+    let now = c.renew.new.ends in
+    let ws' = drop (c.loop-wake.wake-index + 1) ws in
+    let rest = unrolled ws c.loop-wake.wake-index w (omega arith) c.wake-item.is in
+    let risen : Rises (length es) c.loop-wake.invariant.rises.0 (w ∷ ws') = subst (Rises (length es) c.loop-wake.invariant.rises.0) rest c.loop-wake.invariant.rises.1 in
+    let written = rewritten c.loop-wake.ends.len now ends (omega (arith, c.renew.auto.ends, c.deref_mut-in-loop-wake.ensures.len)) in
+    record {
+      ends = c.loop-wake.invariant.ends;
+      lasts = c.loop-wake.invariant.lasts;
+      rises = (w.at, risen.1.1);
+      rest = ap (λ xs. ends_after es margin (shown xs) ws') written
+          ∙ ap (λ f. ends_after es margin f ws') (c.renew.ensures ∙ ap (λ xs. after es margin (shown xs) w) c.deref_mut-in-loop-wake.ensures.value)
+          ∙ sym (ends_after_cons es margin (shown ends) w ws')
+          ∙ sym (ap (ends_after es margin (shown ends)) rest)
+          ∙ c.loop-wake.invariant.rest;
+    }
+
+pub returns-clause-ends : goal.returns-clause-ends
+returns-clause-ends c =
+    let es = c.args.forest.now.entries in
+    let margin = c.args.forest.now.margin in
+    let ws = c.args.wakes.now in
+    let ends = c.loop-wake.ends.items in
+    let done : shown ends ≡ ends_after es margin (end_of es) ws =
+    sym (ends_after_nil es margin (shown ends)) ∙ sym (ap (ends_after es margin (shown ends)) (drop_all c.loop-wake.wake-index ws (omega arith))) ∙ c.loop-wake.invariant.rest in (
+      sym c.in_default.ensures,
+      c.from_vec.ensures ∙ listed_shown es ends (sym c.loop-wake.ends.ok.0 ∙ c.loop-wake.invariant.ends) ∙ ap (listed es) done,
+    )

@@ -1,0 +1,9 @@
+use Rattle.std.proofs.Common.{ℕ, ◌≤◌, ◌<◌}
+use Rattle.keep_tree.specs.Forest.{entry_at}
+use Rattle.keep_rule.specs.Keeps.{Alive}
+use Rattle.keep_rule.specs.Replay.{Lasts}
+use Rattle.keep_rule.proofs.replay.lasts_between.Given as goal
+
+abbrev pub invariant-loop-index : goal.invariant-loop-index
+invariant-loop-index l =
+    (ends : ℕ → ℕ) → Lasts l.forest.entries ends l.lasts → (k m : ℕ) → k < l.index → l.from ≤ m → m < l.to → m < (entry_at l.forest.entries k).need → Alive l.forest.entries ends m k

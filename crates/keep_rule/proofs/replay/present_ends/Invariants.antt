@@ -1,0 +1,9 @@
+use Rattle.std.proofs.Common.{◌≡◌, ℕ, ◌<◌, get_or, vec_len}
+use Rattle.keep_tree.specs.Forest.{end_of}
+use Rattle.keep_rule.proofs.replay.present_ends.Given as goal
+
+abbrev pub invariant-loop-index : goal.invariant-loop-index
+invariant-loop-index l = record {
+  count : vec_len l.ends ≡ l.index;
+  each : (k : ℕ) → k < l.index → get_or l.ends.items k 0 ≡ end_of l.forest.entries k;
+}

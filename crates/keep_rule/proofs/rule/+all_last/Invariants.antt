@@ -1,0 +1,4 @@
+use Rattle.keep_rule.proofs.rule.+all_last.Given as goal
+
+abbrev pub decreases-all_last : goal.decreases-all_last
+decreases-all_last l = l.index

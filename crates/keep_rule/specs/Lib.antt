@@ -1,0 +1,5 @@
+pub mod Plans
+pub mod Ends
+pub mod Keeps
+pub mod Reach
+pub mod Replay

@@ -1,0 +1,4 @@
+pub mod Entries
+pub mod Chains
+pub mod Placed
+pub mod Names

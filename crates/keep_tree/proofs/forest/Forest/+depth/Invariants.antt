@@ -1,0 +1,4 @@
+use Rattle.keep_tree.proofs.forest.Forest.+depth.Given as goal
+
+abbrev pub decreases-depth : goal.decreases-depth
+decreases-depth l = l.index

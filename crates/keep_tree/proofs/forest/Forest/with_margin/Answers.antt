@@ -1,0 +1,13 @@
+use Rattle.std.proofs.Common.{List, sym, subst, ap, ◌∙◌}
+use Rattle.keep_tree.specs.declared.entry.Entry.{Entry}
+use Rattle.keep_tree.specs.Forest.{index_named}
+use Rattle.keep_tree.specs.Push.{IsForest}
+use Rattle.keep_tree.proofs.Names.{none_at_bytes}
+use Rattle.keep_tree.proofs.Placed.{empty_is_forest}
+use Rattle.keep_tree.proofs.forest.Forest.with_margin.Goals as goal
+
+pub invariant_of-result : goal.invariant_of-result
+invariant_of-result c = (
+  subst (λ (es : List Entry). IsForest (record { entries = es; margin = c.args.margin })) (sym c.new.ensures.items) (empty_is_forest c.args.margin c.requires.least c.requires.most),
+  λ q. none_at_bytes c.new-2.result c.new-2.ensures.empty q ∙ ap (λ (es : List Entry). index_named es q) (sym c.new.ensures.items),
+)

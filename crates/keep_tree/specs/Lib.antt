@@ -1,0 +1,4 @@
+pub mod Forest
+pub mod Over
+pub mod Push
+pub mod Renewal

@@ -1,0 +1,83 @@
+ghost use Rattle.std.specs.Prelude.{◌≡◌, ℕ, ◌+◌, ◌-◌, ◌^◌, ◌<◌, ◌≤◌, [], ◌++◌, length, true, Some, IfOk, IsOkUnless, MatchResult};
+ghost use Rattle.vault_http.specs.declared.fault.SinkFault.TheVariants.{Failed};
+ghost use Rattle.vault_http.specs.Failures.{Counts};
+ghost use Rattle.vault_http.specs.Memory.{IsCall, is_failed};
+
+use crate::calls::CallCount;
+use crate::{Device, Sink, SinkFault};
+use std::alloc::Global;
+use std::marker::Model;
+
+/// A sink that collects what it is given; at most one call fails, a given one. A growth that is refused is
+/// `OutOfMemory`. Contracts see the bytes that it collected and its calls.
+#[derive(Debug, Drop)]
+pub struct MemorySink {
+    bytes: Vec<u8>,
+    calls: CallCount,
+}
+
+impl Model for MemorySink {
+    ghost use Rattle.vault_http.specs.Memory.{Collected};
+
+    ghost Value = { Collected };
+
+    ghost view = { λ s. record { bytes = s.bytes.items; calls = s.calls } };
+}
+
+impl MemorySink {
+    /// A sink that holds nothing yet. After `before_failure` calls (writes and flushes) that go well one call fails;
+    /// with `None` none does.
+    pub fn new(alloc: Global, before_failure: Option<u64>) -> MemorySink
+        ensures bytes { result.bytes ≡ [] }
+        ensures calls { result.calls ≡ record { before_failure = before_failure; failures = 0 } }
+    {
+        MemorySink {
+            bytes: Vec::new(alloc),
+            calls: CallCount::new(before_failure),
+        }
+    }
+
+    /// What it collected.
+    pub fn bytes(&self) -> &[u8]
+        ensures { result.now ≡ self.now.bytes }
+    {
+        &self.bytes
+    }
+}
+
+impl Device for MemorySink {
+    ghost failed_calls = { λ s. s.calls.failures };
+
+    ghost written = { λ s. Some s.bytes };
+
+    ghost is_in_memory = { true };
+
+    fn failures(&self) -> u64 {
+        self.calls.failures()
+    }
+}
+
+impl Sink for MemorySink {
+    fn write_some(&mut self, piece: &[u8]) -> Result<usize, SinkFault>
+        ensures bound { IfOk result (λ n. (n ≤ length piece.now) × (0 < length piece.now → 0 < n)) }
+        ensures count { Counts result self.old.calls.failures self.new.calls.failures }
+
+        // The whole piece is taken, and the call named fails.
+        ensures bytes { MatchResult result (λ n. (n ≡ length piece.now) × (self.new.bytes ≡ self.old.bytes ++ piece.now))
+            (λ _. self.new.bytes ≡ self.old.bytes) }
+        ensures calls { IsCall (is_failed result) self.old.calls self.new.calls }
+    {
+        self.calls.begin()?;
+        self.bytes.extend_from_slice(piece)?;
+        Ok(piece.len())
+    }
+
+    fn flush(&mut self) -> Result<(), SinkFault>
+        ensures bytes { self.new.bytes ≡ self.old.bytes }
+        ensures memory { IsOkUnless result Failed }
+        ensures count { Counts result self.old.calls.failures self.new.calls.failures }
+        ensures calls { IsCall (is_failed result) self.old.calls self.new.calls }
+    {
+        Ok(self.calls.begin()?)
+    }
+}
