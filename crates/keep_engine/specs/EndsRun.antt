@@ -1,0 +1,33 @@
+-- The run `ends`: what it has written, and when it gives which exit.
+use Rattle.std.specs.Prelude.{◌≡◌, ℕ, Bool, IsTrue, ◌⊎◌, List, Option, Some, Ok, Err, length}
+use Rattle.std.specs.Io.KnownBytes.{Appends, Keeps}
+use Rattle.keep_tree.specs.Forest.{Grove}
+use Rattle.keep_rule.specs.declared.wake.WakeFault.{WakeFault}
+use Rattle.keep_rule.specs.Plans.{wake_fault}
+use Rattle.keep_inventory.specs.declared.fault.InvFault.{InvFault}
+use Rattle.keep_inventory.specs.Stock.{Stock}
+use Rattle.keep_inventory.specs.Inventory.{inventory}
+use Rattle.vault_http.specs.Failures.{HasFailed}
+use Rattle.keep_engine.specs.declared.exit.Exit.{Exit}
+use Rattle.keep_engine.specs.declared.exit.Exit.TheVariants as exits
+use Rattle.keep_engine.specs.EndsText.{IsEndsText, all_asked}
+
+-- what a run writes to, before and after: its bytes where they are known, its count of failures, and whether it keeps
+-- the bytes in memory
+pub record Output : Type 0 where
+  pub old : Option (List ℕ)
+  pub new : Option (List ℕ)
+  pub failed_before : ℕ
+  pub failed_after : ℕ
+  pub is_in_memory : Bool
+
+-- `ends` over the bytes of an inventory, by exit
+abbrev pub EndsRun : List ℕ → ℕ → List ℕ → Exit → Output → Type 0
+EndsRun bytes s moments exits.Done out =
+    (stock : Stock) × (inventory bytes ≡ Ok stock) × (text : List ℕ) × IsEndsText stock.grove s moments text × Appends out.old out.new text
+EndsRun bytes s moments exits.Inventory out = (fault : InvFault) × (inventory bytes ≡ Err fault) × Keeps out.old out.new
+EndsRun bytes s moments exits.CommandLine out =
+    (stock : Stock) × (inventory bytes ≡ Ok stock) × (fault : WakeFault) × (wake_fault stock.grove.entries s (all_asked (length stock.grove.entries) moments) ≡ Some fault) × Keeps out.old out.new
+EndsRun bytes s moments exits.Device out = HasFailed out.failed_before out.failed_after
+EndsRun bytes s moments exits.Memory out = Keeps out.old out.new ⊎ IsTrue out.is_in_memory
+EndsRun bytes s moments exit out = ⊥

@@ -1,0 +1,4 @@
+pub mod Exits
+pub mod EndsText
+pub mod EndsRun
+pub mod Answers

@@ -1,0 +1,4 @@
+pub mod Keys
+pub mod Tables
+pub mod Stocks
+pub mod Trees

@@ -1,0 +1,21 @@
+-- Arrays of tables, for the reader that refuses other arrays.
+use Rattle.std.proofs.Common.{◌≡◌, List, [], ◌∷◌, ◌&&◌, refl, sym, ap, ◌∙◌}
+use Rattle.std.specs.List.{list_all}
+use Rattle.std.specs.Option.{is_some}
+use Rattle.toml.specs.declared.value.Value.{Value}
+use Rattle.toml.specs.Data.{Data, string, integer, float, boolean, datetime, array, table, Items, item, as_table}
+use Rattle.toml.specs.Text.{are_tables}
+use Rattle.toml.specs.View.{view, items_view}
+
+first_is_table : (d : Data) (ds : Items) → are_tables (item d ds) ≡ is_some (as_table d) && are_tables ds
+first_is_table (table ms) ds = refl
+first_is_table (string s) ds = refl
+first_is_table (integer z) ds = refl
+first_is_table (float x) ds = refl
+first_is_table (boolean b) ds = refl
+first_is_table (datetime dt) ds = refl
+first_is_table (array is) ds = refl
+
+pub tables_listed : (vs : List Value) → list_all (λ v. is_some (as_table (view v))) vs ≡ are_tables (items_view vs)
+tables_listed [] = refl
+tables_listed (v ∷ vs) = ap (λ b. is_some (as_table (view v)) && b) (tables_listed vs) ∙ sym (first_is_table (view v) (items_view vs))

@@ -1,0 +1,63 @@
+ghost use Rattle.std.specs.Prelude.{◌≡◌};
+ghost use Rattle.keep_inventory.specs.Terms.{step_of, ceiling_of, max_ttl_of};
+
+use keep_moment::{Moment, Span};
+
+/// On what terms an entry is renewed. Durations are in seconds.
+///
+/// Source: Vault, "Tokens" (period, explicit max TTL); Vault, "Lease, renew, and revoke" (maximum TTL).
+#[derive(Clone, Copy, Debug, PartialEq, Eq)]
+pub struct Terms {
+    /// The moment of its issue, from which its maximum TTLs count.
+    pub issued: Moment,
+    /// The increment that is written, also beside a period.
+    pub increment: Option<Span>,
+    /// The period of a periodic token, else 0.
+    pub period: Span,
+    /// The maximum TTL.
+    pub max_ttl: Span,
+    /// The explicit max TTL, 0 where none is set.
+    pub explicit_max: Span,
+}
+
+impl Terms {
+    /// What a renewal asks for: the period where it is not 0, else the increment.
+    pub(crate) fn step(&self) -> Span
+        ensures { result ≡ step_of self.now }
+    {
+        if self.period == 0 {
+            self.increment.unwrap_or(0)
+        } else {
+            self.period
+        }
+    }
+
+    /// The moment past which no renewal leads, in seconds since 1970-01-01T00:00:00Z; `None` where there is none.
+    pub(crate) fn ceiling(&self) -> Option<u64>
+        ensures { result ≡ ceiling_of self.now }
+    {
+        if self.period == 0 {
+            let explicit = 0 < self.explicit_max && self.explicit_max < self.max_ttl;
+            let longest = if explicit {
+                self.explicit_max
+            } else {
+                self.max_ttl
+            };
+            Some(self.issued.plus(longest))
+        } else if self.explicit_max == 0 {
+            None
+        } else {
+            Some(self.issued.plus(self.explicit_max))
+        }
+    }
+}
+
+/// The maximum TTL that is written, or the system's where that is 0 or absent.
+pub(crate) fn max_ttl(system_max: Span, written: Option<Span>) -> Span
+    ensures { result ≡ max_ttl_of system_max written }
+{
+    match written {
+        None | Some(0) => system_max,
+        Some(longest) => longest,
+    }
+}

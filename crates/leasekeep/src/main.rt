@@ -1,0 +1,12 @@
+//! `leasekeep`: keeps Vault tokens and leases alive with the fewest wake-ups. The program over `keep_engine`: words,
+//! files, standard streams and the exit status.
+#![tactic(auto)]
+
+use std::process::ExitCode;
+
+mod command;
+mod run;
+
+fn main(rt: HostRuntime) -> ExitCode {
+    ExitCode::from(run::run(&rt, rt.stderr()).code())
+}
