@@ -7,6 +7,24 @@ use vault_http::{InputFault, MemorySink};
 const WEB: &str =
     "[[token]]\nname = \"web\"\nissued = 1000\nend = 1060\nincrement = 60\nmax_ttl = 9000\nneed = 1200\n";
 
+const TOKEN_AND_LEASE: &str =
+    "[[token]]\nname = \"T\"\nissued = 1000\nend = 1100\nincrement = 100\nmax_ttl = 9000\n\n\
+    [[lease]]\nname = \"L\"\ntoken = \"T\"\nissued = 1000\nend = 1060\nincrement = 60\nmax_ttl = 9000\nneed = 1200\n";
+
+const LOW_CEILING: &str =
+    "[[token]]\nname = \"T\"\nissued = 1000\nend = 1100\nincrement = 100\nmax_ttl = 150\n\n\
+    [[lease]]\nname = \"L\"\ntoken = \"T\"\nissued = 1000\nend = 1060\nincrement = 60\nmax_ttl = 9000\nneed = 1200\n";
+
+const PERIODIC: &str =
+    "[[token]]\nname = \"pay\"\nissued = 900\nend = 1060\nperiod = 60\nexplicit_max_ttl = 200\nneed = 1100\n";
+
+const WEB_BY_DATE: &str =
+    "[[token]]\nname = \"web\"\nissued = 1000\nend = \"1970-01-01T00:17:40Z\"\nincrement = 60\nmax_ttl = 9000\nneed = 1200\n";
+
+const BASE_AND_BIG: &str =
+    "[[token]]\nname = \"base\"\nissued = 1000\nend = 6000\nincrement = 60\nmax_ttl = 9000\n\n\
+    [[lease]]\nname = \"big\"\ntoken = \"base\"\nissued = 1000\nend = 5000\nincrement = 60\nmax_ttl = 9000\nneed = 4000\n";
+
 const TWO_TOKENS: &str =
     "[[token]]\nname = \"a\"\nissued = 1000\nend = 1060\nincrement = 60\nmax_ttl = 9000\nneed = 1100\n\n\
     [[token]]\nname = \"b\"\nissued = 1000\nend = 1100\nincrement = 100\nmax_ttl = 9000\nneed = 1400\n";
@@ -91,6 +109,9 @@ fn ends_writes_its_text_or_its_fault(rt: HostRuntime) -> Result<(), Fail> {
 fn ends_names_the_fault_of_an_inventory(rt: HostRuntime) -> Result<(), Fail> {
     let alloc = rt.alloc();
     let twice = format!(in alloc; "{WEB}{WEB}")?;
+    let secrets = format!(in alloc;
+        "{WEB}\n[[token]]\nname = \"app\"\nissued = 1000\nend = 1060\nincrement = 60\nsecret = \"web\"\n"
+    )?;
     let cases = [
         ("x", "not-toml"),
         (
@@ -114,6 +135,15 @@ fn ends_names_the_fault_of_an_inventory(rt: HostRuntime) -> Result<(), Fail> {
             "[[token]]\nname = \"web\"\nissued = 1000\nend = 257697268095\nincrement = 60\n",
             "bad-value 0 end",
         ),
+        (
+            "[[token]]\nname = \"t\"\nissued = 1000\nend = 1060\nincrement = 60\n\n[[lease]]\nname = \"l\"\ntoken = \"nobody\"\nissued = 1000\nend = 1060\nincrement = 60\n",
+            "tree 1 no-parent",
+        ),
+        (
+            "[[token]]\nname = \"t\"\nparent = \"t\"\nissued = 1000\nend = 1060\nincrement = 60\n",
+            "tree 0 no-parent",
+        ),
+        (secrets.as_str(), "bad-value 1 secret"),
         ("system_max = 0\n", "bad-value - system_max"),
         ("token = 3\n", "bad-value - token"),
         ("margin = 0\n", "bad-value - margin"),
@@ -137,6 +167,40 @@ fn ends_names_the_fault_of_an_inventory(rt: HostRuntime) -> Result<(), Fail> {
         assert!(rt; out.bytes().is_empty(), "case {i}");
         assert_eq!(rt; faults.bytes(), line.as_bytes(), "case {i}");
     }
+    Ok(())
+}
+
+// Two inventories that differ in the token's value and the lease id alone write the same.
+#[test]
+fn no_secret_shows(rt: HostRuntime) -> Result<(), Fail> {
+    let alloc = rt.alloc();
+    let hidden = format!(in alloc;
+        "[[token]]\nname = \"T\"\nsecret = \"hvs.hidden\"\nissued = 1000\nend = 1100\nincrement = 100\nmax_ttl = 9000\n\n\
+        [[lease]]\nname = \"L\"\nlease_id = \"db/creds/app/1\"\ntoken = \"T\"\nissued = 1000\nend = 1060\nincrement = 60\nmax_ttl = 9000\nneed = 1200\n"
+    )?;
+    let moments = moments_of(alloc, &[1059, 1118, 1177])?;
+    let mut plain_out = MemorySink::new(alloc, None);
+    let mut hidden_out = MemorySink::new(alloc, None);
+    let mut faults = MemorySink::new(alloc, None);
+    let plain_exit = run_ends(
+        alloc,
+        TOKEN_AND_LEASE.as_bytes(),
+        moment(1000)?,
+        &moments,
+        &mut plain_out,
+        &mut faults,
+    );
+    let hidden_exit = run_ends(
+        alloc,
+        hidden.as_bytes(),
+        moment(1000)?,
+        &moments,
+        &mut hidden_out,
+        &mut faults,
+    );
+    assert_eq!(rt; plain_exit, Exit::Done);
+    assert_eq!(rt; hidden_exit, Exit::Done);
+    assert_eq!(rt; plain_out.bytes(), hidden_out.bytes());
     Ok(())
 }
 

@@ -1,4 +1,6 @@
 pub mod Keys
 pub mod Tables
-pub mod Stocks
 pub mod Trees
+pub mod Stocks
+pub mod Registers
+pub mod Matched

@@ -3,5 +3,7 @@ pub mod Answers
 pub mod Values
 pub mod Terms
 pub mod Stock
-pub mod Token
+pub mod Found
+pub mod Intake
+pub mod Rows
 pub mod Inventory

@@ -1,8 +1,12 @@
 -- The value at a key of a table, by its type.
--- Source: TOML 1.1, "Integer", "String" and "Boolean"; the ranges are this project's own.
-use Rattle.std.specs.Prelude.{ℕ, Bool, List, pos, Option, Some, None, Result, Ok, Err, nat_le, ◌&&◌, if◌then◌else◌}
+-- Source: TOML 1.1, "Integer", "String" and "Boolean"; RFC 3339, section 5.6; the ranges are this project's own.
+use Rattle.std.specs.Prelude.{ℕ, Bool, List, pos, Option, Some, None, Result, Ok, Err, nat_le, nat_lt, ◌&&◌, if◌then◌else◌, length}
+use Rattle.std.specs.Result.{result_ok}
+use Rattle.std.specs.List.{list_all}
+use Rattle.std.specs.Int.{is_in_range}
 use Rattle.toml.specs.Data.{Data, string, integer, boolean, array, Items, Members, get_member}
 use Rattle.toml.specs.Text.{are_tables}
+use Rattle.keep_moment.specs.MomentOf.{moment_of}
 use Rattle.keep_moment.specs.declared.moment.TheConstants.{LAST}
 use Rattle.keep_tree.specs.declared.forest.TheConstants.{END_MAX}
 use Rattle.keep_inventory.specs.declared.key.Key.{Key}
@@ -19,12 +23,14 @@ abbrev pub whole : ℕ → ℕ → Data → Option ℕ
 whole low high (integer (pos n)) = if nat_le low n && nat_le n high then Some n else None
 whole low high _ = None
 
--- a moment: a whole number of seconds
+-- a moment: a whole number of seconds, or a date and time by RFC 3339
 abbrev pub moment : Data → Option ℕ
+moment (string s) = result_ok (moment_of s)
 moment d = whole 0 LAST d
 
 -- an end: a moment, or a whole number of seconds up to the greatest end
 abbrev pub ending : Data → Option ℕ
+ending (string s) = result_ok (moment_of s)
 ending d = whole 0 END_MAX d
 
 abbrev pub flag : Data → Option Bool
@@ -34,6 +40,15 @@ flag _ = None
 abbrev pub text : Data → Option (List ℕ)
 text (string s) = Some s
 text _ = None
+
+-- 1 to 256 bytes from 0x21 to 0x7E
+abbrev pub is_credential : List ℕ → Bool
+is_credential s = nat_lt 0 (length s) && (nat_le (length s) 256 && list_all (is_in_range 0x21 0x7E) s)
+
+-- a token's own value, or a lease's id
+abbrev pub credential : Data → Option (List ℕ)
+credential (string s) = if is_credential s then Some s else None
+credential _ = None
 
 abbrev pub tables : Data → Option Items
 tables (array ds) = if are_tables ds then Some ds else None

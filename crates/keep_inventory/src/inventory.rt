@@ -1,35 +1,41 @@
-ghost use Rattle.std.specs.Prelude.{◌≡◌, ◌<◌, length, OnErr};
-ghost use Rattle.keep_inventory.specs.Stock.{IsStock, Changes, empty, terms_at, credential_at, pushed, added};
+ghost use Rattle.std.specs.Prelude.{◌≡◌, ◌<◌, length};
+ghost use Rattle.keep_inventory.specs.Stock.{IsStock, terms_at, credential_at};
+ghost use Rattle.keep_inventory.specs.Intake.{stock_of};
 
-use crate::fault::InvFault;
-use crate::row::Row;
+use crate::draft::Draft;
+use crate::register::Register;
 use crate::terms::Terms;
-use keep_moment::Text;
-use keep_tree::{Entry, Forest, TreeFault};
-use std::alloc::Global;
+use keep_tree::Forest;
 use std::marker::Model;
 
 /// The credentials of a forest's entries, in order: a token's own value, or a lease's id.
 #[derive(Debug, Drop)]
 pub struct Credentials {
-    items: Vec<Text>,
+    secrets: Register,
+    lease_ids: Register,
 }
 
 impl Model for Credentials {
-    ghost use Rattle.std.specs.Prelude.{List, ℕ};
+    ghost use Rattle.std.specs.Prelude.{List, ℕ, ◌++◌};
 
     ghost Value = { List (List ℕ) };
 
-    ghost view = { λ x. x.items.items };
+    ghost view = { λ c. c.secrets ++ c.lease_ids };
 }
 
 impl Credentials {
     /// The credential of the entry at an index.
+    #[tactic(auto, using(crate::proofs::Stocks::halves))]
     pub fn get(&self, index: u32) -> &[u8]
         requires { index < length self.now }
         ensures { result.now ≡ credential_at self.now index }
     {
-        self.items[index as usize].list()
+        let (index, tokens) = (index as usize, self.secrets.len());
+        if index < tokens {
+            self.secrets.get(index)
+        } else {
+            self.lease_ids.get(index - tokens)
+        }
     }
 }
 
@@ -42,7 +48,6 @@ pub struct Inventory {
 }
 
 impl Model for Inventory {
-    ghost use Rattle.std.specs.Prelude.{◌≡◌, length};
     ghost use Rattle.keep_inventory.specs.Stock.{Stock, IsStock};
 
     ghost Value = { Stock };
@@ -79,7 +84,7 @@ impl Inventory {
         self.terms[index as usize]
     }
 
-    /// The forest and the credentials, which fit its entries. It takes no memory.
+    /// The forest and the credentials, one for each of its entries. It takes no memory.
     pub fn into_parts(self) -> (Forest, Credentials)
         ensures forest { result.0 ≡ self.grove }
         ensures credentials { result.1 ≡ self.credentials }
@@ -88,45 +93,18 @@ impl Inventory {
         (self.forest, self.credentials)
     }
 
-    /// An inventory with no entry, and a forest of that margin.
-    pub(crate) fn empty(alloc: Global, margin: u32) -> Inventory
-        requires least { 0 < margin }
-        requires most { margin < 3601 }
-        ensures { result ≡ empty margin }
+    /// The inventory of a draft whose tables are all read.
+    pub(crate) fn of(draft: Draft) -> Inventory
+        requires { IsStock (stock_of draft) }
+        ensures { result ≡ stock_of draft }
     {
         Inventory {
-            forest: Forest::with_margin(alloc, margin),
+            forest: draft.forest,
             credentials: Credentials {
-                items: Vec::new(alloc),
+                secrets: draft.secrets,
+                lease_ids: draft.lease_ids,
             },
-            terms: Vec::new(alloc),
+            terms: draft.terms,
         }
-    }
-
-    #[tactic(auto, unfolding(crate::specs::Stock::added), using(crate::proofs::Stocks::growing))]
-    /// Appends an entry with what stands beside it.
-    pub(crate) fn add(&mut self, row: Row) -> Result<(), InvFault>
-        ensures { Changes (added self.old row) self.new result }
-    {
-        self.credentials.items.reserve(1)?;
-        self.terms.reserve(1)?;
-        push(&mut self.forest, row.entry)?;
-        self.credentials.items.push(row.credential).unwrap();
-        self.terms.push(row.terms).unwrap();
-        Ok(())
-    }
-}
-
-// Appends an entry, or names why the forest refuses it.
-#[tactic(auto, unfolding(crate::specs::Stock::pushed))]
-fn push(forest: &mut Forest, entry: Entry) -> Result<(), InvFault>
-    ensures changes { Changes (pushed forest.old entry) forest.new result }
-    ensures unchanged { OnErr result (forest.new ≡ forest.old) }
-{
-    let index = forest.len();
-    match forest.push(entry) {
-        Ok(_) => Ok(()),
-        Err(TreeFault::OutOfMemory) => Err(InvFault::OutOfMemory),
-        Err(fault) => Err(InvFault::Tree(index, fault)),
     }
 }

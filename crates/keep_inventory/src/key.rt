@@ -7,13 +7,19 @@ pub enum Key {
     SystemMax,
     Margin,
     Token,
+    Lease,
     Name,
+    Parent,
     Issued,
     End,
     Renewable,
     Increment,
+    Period,
     MaxTtl,
+    ExplicitMaxTtl,
     Need,
+    Secret,
+    LeaseId,
 }
 
 impl Key {
@@ -25,13 +31,19 @@ impl Key {
             Key::SystemMax => "system_max",
             Key::Margin => "margin",
             Key::Token => "token",
+            Key::Lease => "lease",
             Key::Name => "name",
+            Key::Parent => "parent",
             Key::Issued => "issued",
             Key::End => "end",
             Key::Renewable => "renewable",
             Key::Increment => "increment",
+            Key::Period => "period",
             Key::MaxTtl => "max_ttl",
+            Key::ExplicitMaxTtl => "explicit_max_ttl",
             Key::Need => "need",
+            Key::Secret => "secret",
+            Key::LeaseId => "lease_id",
         }
     }
 }

@@ -1,15 +1,21 @@
 //! The inventory: the tokens and leases to keep, as a TOML document lists them.
+//!
+//! The contract for the layers above: [`read`] gives the forest, the credentials and the terms that the definition
+//! Inventory gives for the document's tree, or its first fault; [`Inventory`] has one credential and one set of terms for
+//! each entry of its forest. Begin with `document`, then `row`.
 #![tactic(auto)]
 
 mod document;
+mod draft;
 mod fault;
 mod inventory;
 mod key;
+mod known;
+mod register;
 mod row;
 mod terms;
 #[cfg(test)]
 mod tests;
-mod token;
 mod value;
 
 pub use document::{SYSTEM_MAX, read};

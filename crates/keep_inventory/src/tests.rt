@@ -1,110 +1,19 @@
-use crate::{InvFault, Key, Terms, read};
+mod faulty;
+
+use crate::{InvFault, Inventory, Terms, read};
+use faulty::FAULTY;
 use keep_moment::{Moment, Name};
-use keep_tree::{Entry, Kind, TreeFault};
+use keep_tree::{Entry, Kind};
+use std::process::Abort;
 use std::test::Fail;
 
 // The inventory with one token that is due: `web`, end 1060, increment 60, needed to 1200.
 const WEB: &str =
     "[[token]]\nname = \"web\"\nissued = 1000\nend = 1060\nincrement = 60\nmax_ttl = 9000\nneed = 1200\n";
 
-// Each text with its first fault.
-const FAULTY: [(&str, InvFault); 28] = [
-    ("token", InvFault::NotToml),
-    ("end = 9223372036854775808", InvFault::NotToml),
-    // the top level: unknown keys first, then values in order
-    ("tokens = 3\nsystem_max = 0", InvFault::UnknownKey(None)),
-    (
-        "token = 3\nmargin = 0\nsystem_max = 0",
-        InvFault::BadValue(None, Key::SystemMax),
-    ),
-    (
-        "system_max = 4294967296",
-        InvFault::BadValue(None, Key::SystemMax),
-    ),
-    (
-        "token = 3\nmargin = 0",
-        InvFault::BadValue(None, Key::Margin),
-    ),
-    ("margin = 3601", InvFault::BadValue(None, Key::Margin)),
-    ("token = 3", InvFault::BadValue(None, Key::Token)),
-    ("token = [{}, 3]", InvFault::BadValue(None, Key::Token)),
-    // the keys of an entry: unknown ones first, then each in order
-    (
-        "[[token]]\nnam = \"web\"\nend = -1",
-        InvFault::UnknownKey(Some(0)),
-    ),
-    ("[[token]]\nissued = -1", InvFault::MissingKey(0, Key::Name)),
-    (
-        "[[token]]\nname = 3\nissued = -1",
-        InvFault::BadValue(Some(0), Key::Name),
-    ),
-    (
-        "[[token]]\nname = \"web\"\nend = -1",
-        InvFault::MissingKey(0, Key::Issued),
-    ),
-    (
-        "[[token]]\nname = \"web\"\nissued = 253402300800\nend = -1",
-        InvFault::BadValue(Some(0), Key::Issued),
-    ),
-    (
-        "[[token]]\nname = \"web\"\nissued = 1000\nrenewable = 1",
-        InvFault::MissingKey(0, Key::End),
-    ),
-    (
-        "[[token]]\nname = \"web\"\nissued = 1000\nend = 257697268095\nrenewable = 1",
-        InvFault::BadValue(Some(0), Key::End),
-    ),
-    (
-        "[[token]]\nname = \"web\"\nissued = 1000\nend = 1060\nrenewable = 1",
-        InvFault::BadValue(Some(0), Key::Renewable),
-    ),
-    (
-        "[[token]]\nname = \"web\"\nissued = 1000\nend = 1060\nmax_ttl = -1",
-        InvFault::MissingKey(0, Key::Increment),
-    ),
-    (
-        "[[token]]\nname = \"web\"\nissued = 1000\nend = 1060\nincrement = 60.0",
-        InvFault::BadValue(Some(0), Key::Increment),
-    ),
-    (
-        "[[token]]\nname = \"web\"\nissued = 1000\nend = 1060\nincrement = 60\nmax_ttl = -1\nneed = -1",
-        InvFault::BadValue(Some(0), Key::MaxTtl),
-    ),
-    (
-        "[[token]]\nname = \"a b\"\nissued = 1000\nend = 1060\nincrement = 60\nneed = -1",
-        InvFault::BadValue(Some(0), Key::Need),
-    ),
-    // what the forest refuses
-    (
-        "[[token]]\nname = \"a b\"\nissued = 1000\nend = 1060\nincrement = 60",
-        InvFault::Tree(0, TreeFault::BadName),
-    ),
-    (
-        "[[token]]\nname = \"web\"\nissued = 1000\nend = 1002\nincrement = 1\nneed = 1010",
-        InvFault::Tree(0, TreeFault::StepTooSmall),
-    ),
-    (
-        "margin = 10\n[[token]]\nname = \"web\"\nissued = 1000\nend = 1060\nincrement = 10",
-        InvFault::Tree(0, TreeFault::StepTooSmall),
-    ),
-    (
-        "[[token]]\nname = \"web\"\nissued = 1000\nend = 1060\nincrement = 60\n[[token]]\nname = \"web\"\nissued = 1000\nend = 1060\nincrement = 60",
-        InvFault::Tree(1, TreeFault::NameTwice),
-    ),
-    (
-        "[[token]]\nname = \"web\"\nissued = 1000\nend = 1060\nincrement = 60\n[[token]]",
-        InvFault::MissingKey(1, Key::Name),
-    ),
-    // entries in order, an earlier one before a later one
-    (
-        "[[token]]\n[[token]]\nnam = 3",
-        InvFault::MissingKey(0, Key::Name),
-    ),
-    (
-        "[[token]]\nname = 1979-05-27",
-        InvFault::BadValue(Some(0), Key::Name),
-    ),
-];
+// A token and its lease, each with a credential of its own, and the lease written first.
+const TOKEN_AND_LEASE: &str =
+    "[[lease]]\nname = \"L\"\ntoken = \"T\"\nissued = \"1970-01-01T00:16:40Z\"\nend = \"1970-01-01T01:17:40+01:00\"\nincrement = 60\nmax_ttl = 9000\nneed = \"1970-01-01t00:20:00.9z\"\nlease_id = \"db/creds/app/1\"\n\n[[token]]\nname = \"T\"\nissued = 1000\nend = 1100\nincrement = 100\nmax_ttl = 150\nsecret = \"s.1234\"\n";
 
 #[test]
 fn faults_in_order(rt: HostRuntime) {
@@ -118,11 +27,27 @@ fn faults_in_order(rt: HostRuntime) {
     assert_eq!(rt; read(rt.alloc(), b"# \xff").err(), Some(InvFault::NotToml));
 }
 
+// The entry at an index, its credential and its terms.
+fn holds<R: Abort>(
+    rt: &R,
+    inventory: &Inventory,
+    index: u32,
+    entry: &Entry,
+    credential: &str,
+    terms: Terms,
+) {
+    assert!(rt; index < inventory.forest().len());
+    assert_eq!(rt; inventory.forest().get(index), entry);
+    assert!(rt; inventory.credential(index) == credential.as_bytes());
+    assert_eq!(rt; inventory.terms(index), terms);
+}
+
 #[test]
 fn the_web_example(rt: HostRuntime) -> Result<(), Fail> {
     let alloc = rt.alloc();
     let inventory = read(alloc, WEB.as_bytes())?;
     assert!(rt; inventory.forest().len() == 1);
+    assert_eq!(rt; inventory.forest().margin(), 1);
     let web = Entry {
         name: Name::of(alloc, b"web")?,
         kind: Kind::Token,
@@ -133,9 +58,6 @@ fn the_web_example(rt: HostRuntime) -> Result<(), Fail> {
         ceiling: Some(10000),
         need: 1200,
     };
-    assert_eq!(rt; inventory.forest().get(0), &web);
-    assert_eq!(rt; inventory.forest().margin(), 1);
-    assert!(rt; inventory.credential(0) == b"web".as_slice());
     let terms = Terms {
         issued: Moment::new(1000).ok_or("a moment")?,
         increment: Some(60),
@@ -143,46 +65,143 @@ fn the_web_example(rt: HostRuntime) -> Result<(), Fail> {
         max_ttl: 9000,
         explicit_max: 0,
     };
-    assert_eq!(rt; inventory.terms(0), terms);
+    holds(&rt, &inventory, 0, &web, "web", terms);
     let (forest, credentials) = inventory.into_parts();
     assert!(rt; forest.len() == 1);
     assert!(rt; credentials.get(0) == b"web".as_slice());
     Ok(())
 }
 
-// Without an entry, and with the maximum TTL and the margin of the top level.
 #[test]
-fn the_top_level(rt: HostRuntime) -> Result<(), Fail> {
+fn a_token_and_its_lease(rt: HostRuntime) -> Result<(), Fail> {
     let alloc = rt.alloc();
-    assert!(rt; read(alloc, b"")?.forest().is_empty());
-    let other = read(
-        alloc,
-        b"system_max = 500\nmargin = 10\ntoken = [{name = \"a\", issued = 0x3e8, end = 1_060, increment = 60, max_ttl = 0, renewable = false}]",
-    )?;
-    assert_eq!(rt; other.forest().margin(), 10);
-    assert!(rt; other.forest().len() == 1);
-    assert_eq!(rt; other.forest().get(0).ceiling, Some(1500));
-    assert_eq!(rt; other.forest().get(0).renewable, false);
-    assert_eq!(rt; other.forest().get(0).need, 0);
-    let absent = read(
-        alloc,
-        b"[[token]]\nname = \"a\"\nissued = 1000\nend = 1060\nincrement = 60",
-    )?;
-    assert!(rt; absent.forest().len() == 1);
-    assert_eq!(rt; absent.forest().get(0).ceiling, Some(2765800));
+    let inventory = read(alloc, TOKEN_AND_LEASE.as_bytes())?;
+    assert!(rt; inventory.forest().len() == 2);
+    let issued = Moment::new(1000).ok_or("a moment")?;
+    let token = Entry {
+        name: Name::of(alloc, b"T")?,
+        kind: Kind::Token,
+        parent: None,
+        end: 1100,
+        renewable: true,
+        step: 100,
+        ceiling: Some(1150),
+        need: 0,
+    };
+    let terms = Terms {
+        issued,
+        increment: Some(100),
+        period: 0,
+        max_ttl: 150,
+        explicit_max: 0,
+    };
+    holds(&rt, &inventory, 0, &token, "s.1234", terms);
+    let lease = Entry {
+        name: Name::of(alloc, b"L")?,
+        kind: Kind::Lease,
+        parent: Some(0),
+        end: 1060,
+        renewable: true,
+        step: 60,
+        ceiling: Some(10000),
+        need: 1200,
+    };
+    let terms = Terms {
+        issued,
+        increment: Some(60),
+        period: 0,
+        max_ttl: 9000,
+        explicit_max: 0,
+    };
+    holds(&rt, &inventory, 1, &lease, "db/creds/app/1", terms);
+    let (forest, credentials) = inventory.into_parts();
+    assert!(rt; forest.len() == 2);
+    assert!(rt; credentials.get(1) == b"db/creds/app/1".as_slice());
     Ok(())
 }
 
-// Each front of the web example is read as an inventory of one token or refused by name.
+// Step and ceiling by increment, period, maximum TTLs and the system's maximum; the margin of the top level.
 #[test]
-fn prefixes_of_the_web_example(rt: HostRuntime) -> Result<(), Fail> {
+fn steps_and_ceilings(rt: HostRuntime) -> Result<(), Fail> {
+    let rows: [(&str, u32, Option<u64>); 10] = [
+        (
+            "issued = 900\nend = 1060\nperiod = 60\nexplicit_max_ttl = 200",
+            60,
+            Some(1100),
+        ),
+        (
+            "issued = 900\nend = 1060\nperiod = 60\nincrement = 30\nexplicit_max_ttl = 200",
+            60,
+            Some(1100),
+        ),
+        (
+            "issued = 900\nend = 1060\nperiod = 60\nmax_ttl = 100",
+            60,
+            None,
+        ),
+        (
+            "issued = 900\nend = 1060\nincrement = 30\nmax_ttl = 100\nexplicit_max_ttl = 200",
+            30,
+            Some(1000),
+        ),
+        (
+            "issued = 900\nend = 1060\nincrement = 30\nmax_ttl = 300\nexplicit_max_ttl = 200",
+            30,
+            Some(1100),
+        ),
+        (
+            "issued = 900\nend = 1060\nincrement = 30\nmax_ttl = 300\nexplicit_max_ttl = 0",
+            30,
+            Some(1200),
+        ),
+        (
+            "issued = 900\nend = 1060\nincrement = 30\nmax_ttl = 0",
+            30,
+            Some(1400),
+        ),
+        ("issued = 900\nend = 1060\nincrement = 30", 30, Some(1400)),
+        (
+            "issued = 900\nend = 1060\nincrement = 30\nmax_ttl = 501",
+            30,
+            Some(1401),
+        ),
+        (
+            "issued = 0x384\nend = 1_060\nincrement = +30\nperiod = -0\nneed = 0",
+            30,
+            Some(1400),
+        ),
+    ];
     let alloc = rt.alloc();
+    for (keys, step, ceiling) in rows {
+        let text = format!(in alloc;
+            "system_max = 500\nmargin = 10\n[[token]]\nname = \"pay\"\nrenewable = false\n{keys}"
+        )?;
+        let inventory = read(alloc, text.as_bytes())?;
+        assert!(rt; inventory.forest().len() == 1);
+        assert_eq!(rt; inventory.forest().margin(), 10);
+        assert_eq!(rt; inventory.forest().get(0).step, step, "{keys}");
+        assert_eq!(rt; inventory.forest().get(0).ceiling, ceiling, "{keys}");
+        assert_eq!(rt; inventory.forest().get(0).renewable, false);
+    }
+    let absent = read(
+        alloc,
+        b"token = [{name = \"a\", issued = 1000, end = 1060, increment = 60}]",
+    )?;
+    assert!(rt; absent.forest().len() == 1);
+    assert_eq!(rt; absent.forest().get(0).ceiling, Some(2765800));
+    assert!(rt; read(alloc, b"")?.forest().is_empty());
+    Ok(())
+}
+
+// Each front of the web example is read as an inventory of at most one token, or refused by name.
+#[test]
+fn prefixes_of_the_web_example(rt: HostRuntime) {
     for length in 0..WEB.len() {
-        match read(alloc, &WEB.as_bytes()[..length]) {
+        match read(rt.alloc(), &WEB.as_bytes()[..length]) {
             Ok(inventory) => assert!(rt; inventory.forest().len() <= 1),
-            Err(InvFault::NotToml | InvFault::MissingKey(0, _) | InvFault::UnknownKey(_)) => {}
+            Err(InvFault::NotToml | InvFault::MissingKey(0, _) | InvFault::UnknownKey(Some(0))) =>
+                {}
             Err(other) => assert_eq!(rt; other, InvFault::NotToml, "{length}"),
         }
     }
-    Ok(())
 }

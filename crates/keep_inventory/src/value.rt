@@ -1,18 +1,21 @@
-ghost use Rattle.std.specs.Prelude.{◌≡◌, option_map, option_copied, Some, None, string_bytes, is_some};
+ghost use Rattle.std.specs.Prelude.{◌≡◌, option_map, option_copied, None, is_some};
 ghost use Rattle.std.specs.List.{list_all};
-ghost use Rattle.std.specs.BTreeMap.{keys as map_keys};
+ghost use Rattle.std.specs.Int.{is_in_range};
 ghost use Rattle.toml.specs.View.{view, table_view, items_view};
 ghost use Rattle.toml.specs.Data.{get_member, as_table};
 ghost use Rattle.toml.specs.Text.{are_tables};
-ghost use Rattle.keep_inventory.specs.Keys.{key_text, all_keys, is_top_key, is_token_key};
+ghost use Rattle.keep_inventory.specs.Keys.{key_text};
 ghost use Rattle.keep_inventory.specs.Answers.{Gives};
-ghost use Rattle.keep_inventory.specs.Values.{only, whole, moment, ending, flag, text, tables, value_at};
+ghost use Rattle.keep_inventory.specs.Values.{whole, moment, ending, flag, text, credential, is_credential, tables, value_at};
 
 use crate::fault::InvFault;
 use crate::key::Key;
-use keep_moment::{LAST, Moment, Span};
+use keep_moment::{LAST, Moment, Span, read_rfc3339};
 use keep_tree::END_MAX;
 use toml::{Table, Value};
+
+/// The most bytes of a credential.
+pub const CREDENTIAL_MAX: usize = 256;
 
 // The value at a key.
 fn at(table: &Table, key: Key) -> Option<&Value>
@@ -31,6 +34,26 @@ fn whole(value: &Value, low: u64, high: u64) -> Option<u64>
     }
 }
 
+// A moment: a whole number of seconds, or a date and time by RFC 3339.
+fn as_moment(value: &Value) -> Option<Moment>
+    ensures { result ≡ moment (view value.now) }
+{
+    match value {
+        Value::String(text) => read_rfc3339(text.as_str()).ok(),
+        _ => Moment::new(whole(value, 0, LAST)?),
+    }
+}
+
+// An end: a moment, or a whole number of seconds up to the greatest end.
+fn as_end(value: &Value) -> Option<u64>
+    ensures { result ≡ ending (view value.now) }
+{
+    match value {
+        Value::String(text) => Some(read_rfc3339(text.as_str()).ok()?.get()),
+        _ => whole(value, 0, END_MAX),
+    }
+}
+
 /// The moment at a key, in whole seconds since 1970-01-01T00:00:00Z, if the key is there.
 pub fn moment_at(table: &Table, place: Option<u32>, key: Key) -> Result<Option<Moment>, InvFault>
     ensures { result ≡ value_at moment place key (table_view table.now) }
@@ -38,8 +61,8 @@ pub fn moment_at(table: &Table, place: Option<u32>, key: Key) -> Result<Option<M
     let Some(value) = at(table, key) else {
         return Ok(None);
     };
-    match whole(value, 0, LAST) {
-        Some(seconds) => Ok(Moment::new(seconds)),
+    match as_moment(value) {
+        Some(moment) => Ok(Some(moment)),
         None => Err(InvFault::BadValue(place, key)),
     }
 }
@@ -51,7 +74,7 @@ pub fn end_at(table: &Table, place: Option<u32>, key: Key) -> Result<Option<u64>
     let Some(value) = at(table, key) else {
         return Ok(None);
     };
-    match whole(value, 0, END_MAX) {
+    match as_end(value) {
         Some(seconds) => Ok(Some(seconds)),
         None => Err(InvFault::BadValue(place, key)),
     }
@@ -102,6 +125,32 @@ pub fn text_at(table: &Table, place: Option<u32>, key: Key) -> Result<Option<&st
     }
 }
 
+// Whether these bytes are a credential: 1 to 256 bytes from 0x21 to 0x7E.
+fn is_credential(text: &[u8]) -> bool
+    ensures { result ≡ is_credential text.now }
+{
+    !text.is_empty() && text.len() <= CREDENTIAL_MAX && is_visible(text)
+}
+
+fn is_visible(text: &[u8]) -> bool
+    ensures { result ≡ list_all (is_in_range 0x21 0x7E) text.now }
+{
+    text.iter().all(|b| *b >= 0x21 && *b <= 0x7e)
+}
+
+/// The credential at a key, if the key is there.
+pub fn credential_at(table: &Table, place: Option<u32>, key: Key) -> Result<Option<&str>, InvFault>
+    ensures { Gives option_copied result (value_at credential place key (table_view table.now)) }
+{
+    let Some(value) = at(table, key) else {
+        return Ok(None);
+    };
+    match value {
+        Value::String(text) if is_credential(text.as_bytes()) => Ok(Some(text.as_str())),
+        _ => Err(InvFault::BadValue(place, key)),
+    }
+}
+
 // Whether each of these values is a table.
 fn are_tables(values: &[Value]) -> bool
     ensures { result ≡ are_tables (items_view values.now) }
@@ -125,73 +174,5 @@ pub fn tables_at(table: &Table, key: Key) -> Result<Option<&[Value]>, InvFault>
     match value {
         Value::Array(values) if are_tables(values) => Ok(Some(values.as_slice())),
         _ => Err(InvFault::BadValue(None, key)),
-    }
-}
-
-// Whether the top level of a document has this key.
-fn is_top_key(key: &str) -> bool
-    ensures { result ≡ is_top_key key.now }
-{
-    key == "system_max" || key == "margin" || key == "token"
-}
-
-// Whether a token has this key.
-fn is_token_key(key: &str) -> bool
-    ensures { result ≡ is_token_key key.now }
-{
-    key == "name"
-        || key == "issued"
-        || key == "end"
-        || key == "renewable"
-        || key == "increment"
-        || key == "max_ttl"
-        || key == "need"
-}
-
-// Whether the top level has no other keys.
-fn has_only_top_keys(table: &Table) -> bool
-    ensures { result ≡ all_keys is_top_key (table_view table.now) }
-{
-    has_top_keys(table)
-}
-
-// Whether a token has no other keys.
-fn has_only_token_keys(table: &Table) -> bool
-    ensures { result ≡ all_keys is_token_key (table_view table.now) }
-{
-    has_token_keys(table)
-}
-
-fn has_top_keys(table: &Table) -> bool
-    ensures { result ≡ list_all (λ k. is_top_key (string_bytes k)) (map_keys table.now) }
-{
-    table.keys().all(|key| is_top_key(key.as_str()))
-}
-
-fn has_token_keys(table: &Table) -> bool
-    ensures { result ≡ list_all (λ k. is_token_key (string_bytes k)) (map_keys table.now) }
-{
-    table.keys().all(|key| is_token_key(key.as_str()))
-}
-
-/// Refuses a top level with another key than its own.
-pub fn only_top_keys(table: &Table) -> Result<(), InvFault>
-    ensures { result ≡ only is_top_key None (table_view table.now) }
-{
-    if has_only_top_keys(table) {
-        Ok(())
-    } else {
-        Err(InvFault::UnknownKey(None))
-    }
-}
-
-/// Refuses a token with another key than those of a token.
-pub fn only_token_keys(table: &Table, index: u32) -> Result<(), InvFault>
-    ensures { result ≡ only is_token_key (Some index) (table_view table.now) }
-{
-    if has_only_token_keys(table) {
-        Ok(())
-    } else {
-        Err(InvFault::UnknownKey(Some(index)))
     }
 }

@@ -2,3 +2,5 @@ pub mod Lists
 pub mod Alive
 pub mod Walk
 pub mod Rounds
+pub mod Stuck
+pub mod Keeping

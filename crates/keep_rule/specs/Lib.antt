@@ -3,3 +3,7 @@ pub mod Ends
 pub mod Keeps
 pub mod Reach
 pub mod Replay
+pub mod Unkeepable
+pub mod Forced
+pub mod Least
+pub mod Laws

@@ -1,1 +1,13 @@
 pub mod Handing
+pub mod FieldValues
+pub mod Numbers
+pub mod Runs
+pub mod SizeLines
+pub mod Fronts
+pub mod ChunkSteps
+pub mod MessageLemmas
+pub mod ChunkLoop
+pub mod RequestLemmas
+pub mod DecimalLemmas
+pub mod ReplyRoundTrip
+pub mod RequestRoundTrip

@@ -5,3 +5,17 @@ pub mod Whole
 pub mod Tally
 pub mod Written
 pub mod Sending
+pub mod Fields
+pub mod Framing
+pub mod Lone
+pub mod Chunks
+pub mod Body
+pub mod Heads
+pub mod Messages
+pub mod Verdicts
+pub mod Steps
+pub mod Judging
+pub mod Starts
+pub mod Reading
+pub mod RoundTrip
+pub mod RoundTripRequest

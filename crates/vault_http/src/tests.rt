@@ -43,7 +43,7 @@ impl Write for Full {
     }
 }
 
-fn source(
+pub(crate) fn source(
     alloc: Global,
     bytes: &[u8],
     pieces: &[usize],
@@ -189,7 +189,7 @@ fn counts_failures(rt: HostRuntime) -> Result<(), Fail> {
     Ok(())
 }
 
-fn request(
+pub(crate) fn request(
     alloc: Global,
     method: Method,
     path: &[u8],
@@ -210,7 +210,7 @@ fn request(
     })
 }
 
-const RENEWAL: &[u8] = b"POST /v1/auth/token/renew-self HTTP/1.1\r\n\
+pub(crate) const RENEWAL: &[u8] = b"POST /v1/auth/token/renew-self HTTP/1.1\r\n\
 Host: 127.0.0.1:8200\r\n\
 X-Vault-Token: s.web1\r\n\
 Content-Type: application/json\r\n\
@@ -219,13 +219,13 @@ Connection: close\r\n\
 \r\n\
 {\"increment\":60}";
 
-const LOOKUP: &[u8] = b"GET /v1/auth/token/lookup-self HTTP/1.1\r\n\
+pub(crate) const LOOKUP: &[u8] = b"GET /v1/auth/token/lookup-self HTTP/1.1\r\n\
 Host: 127.0.0.1:8200\r\n\
 X-Vault-Token: s.web1\r\n\
 Connection: close\r\n\
 \r\n";
 
-const DENIAL: &[u8] = b"HTTP/1.1 403 Forbidden\r\n\
+pub(crate) const DENIAL: &[u8] = b"HTTP/1.1 403 Forbidden\r\n\
 Content-Type: application/json\r\n\
 Content-Length: 32\r\n\
 Connection: close\r\n\

@@ -1,0 +1,10 @@
+-- A set of texts as a test.
+use Rattle.std.specs.Prelude.{ℕ, Bool, List, Vec}
+use Rattle.std.specs.BTreeSet.{BTreeSet, contains_by}
+use Rattle.std.specs.Cmp.Lexicographic.{slice_cmp}
+use Rattle.std.specs.Ordering.{nat_cmp}
+use Rattle.std.specs.declared.alloc.Global.{Global}
+
+-- the set has a text of these bytes
+abbrev pub has : BTreeSet (Vec ℕ Global) → List ℕ → Bool
+has s q = contains_by (λ k. slice_cmp nat_cmp q k.items) s

@@ -1,0 +1,174 @@
+ghost use Rattle.std.specs.Prelude.{◌≡◌, ◌<◌, ◌++◌, ◌∷◌, [], length};
+ghost use Rattle.toml.specs.View.{items_view, table_view};
+ghost use Rattle.keep_inventory.specs.Answers.{Gives};
+ghost use Rattle.keep_inventory.specs.Intake.{Changes, nothing, pushed, distinct, with_token, with_lease};
+ghost use Rattle.keep_inventory.specs.Inventory.{token_entered, lease_entered, entered_by};
+
+use crate::fault::InvFault;
+use crate::key::Key;
+use crate::register::Register;
+use crate::row::{Row, lease_row, token_row};
+use crate::terms::Terms;
+use keep_moment::{Span, Text};
+use keep_tree::{Entry, Forest, TreeFault};
+use std::alloc::Global;
+use std::marker::Model;
+use toml::{Table, Value};
+
+/// An inventory while its tables are read. After a fault it is of no more use.
+#[derive(Debug, Drop)]
+pub struct Draft {
+    pub forest: Forest,
+    pub secrets: Register,
+    pub lease_ids: Register,
+    pub terms: Vec<Terms>,
+}
+
+impl Model for Draft {
+    ghost use Rattle.keep_inventory.specs.Intake.{Intake};
+
+    ghost Value = { Intake };
+
+    ghost view = { λ d. record { grove = d.forest; secrets = d.secrets; lease_ids = d.lease_ids; terms = d.terms.items } };
+}
+
+impl Draft {
+    /// No entry, in a forest of that margin. It takes no memory.
+    pub fn new(alloc: Global, margin: u32) -> Draft
+        requires least { 0 < margin }
+        requires most { margin < 3601 }
+        ensures { result ≡ nothing margin }
+    {
+        Draft {
+            forest: Forest::with_margin(alloc, margin),
+            secrets: Register::new(alloc),
+            lease_ids: Register::new(alloc),
+            terms: Vec::new(alloc),
+        }
+    }
+
+    /// Enters the tables of the tokens, in the order written.
+    pub fn enter_tokens(
+        &mut self,
+        alloc: Global,
+        system_max: Span,
+        tokens: &[Value],
+    ) -> Result<(), InvFault>
+        ensures { Changes (entered_by (token_entered system_max) Key.Token self.old (items_view tokens.now)) self.new result }
+    {
+        for token in tokens {
+            let Some(table) = token.as_table() else {
+                return Err(InvFault::BadValue(None, Key::Token));
+            };
+            self.enter_token(alloc, system_max, table)?;
+        }
+        Ok(())
+    }
+
+    /// Enters the tables of the leases, in the order written.
+    pub fn enter_leases(
+        &mut self,
+        alloc: Global,
+        system_max: Span,
+        leases: &[Value],
+    ) -> Result<(), InvFault>
+        ensures { Changes (entered_by (lease_entered system_max) Key.Lease self.old (items_view leases.now)) self.new result }
+    {
+        for lease in leases {
+            let Some(table) = lease.as_table() else {
+                return Err(InvFault::BadValue(None, Key::Lease));
+            };
+            self.enter_lease(alloc, system_max, table)?;
+        }
+        Ok(())
+    }
+
+    // Enters the table of one token.
+    #[tactic(auto, unfolding(crate::specs::Inventory::token_entered))]
+    fn enter_token(
+        &mut self,
+        alloc: Global,
+        system_max: Span,
+        table: &Table,
+    ) -> Result<(), InvFault>
+        ensures { Changes (token_entered system_max self.old (table_view table.now)) self.new result }
+    {
+        let row = token_row(alloc, system_max, &self.forest, table)?;
+        self.add_token(alloc, row)
+    }
+
+    // Enters the table of one lease.
+    #[tactic(auto, unfolding(crate::specs::Inventory::lease_entered))]
+    fn enter_lease(
+        &mut self,
+        alloc: Global,
+        system_max: Span,
+        table: &Table,
+    ) -> Result<(), InvFault>
+        ensures { Changes (lease_entered system_max self.old (table_view table.now)) self.new result }
+    {
+        let row = lease_row(alloc, system_max, &self.forest, table)?;
+        self.add_lease(alloc, row)
+    }
+
+    // Adds the row of a token.
+    #[tactic(auto, unfolding(crate::specs::Intake::with_token))]
+    fn add_token(&mut self, alloc: Global, row: Row) -> Result<(), InvFault>
+        ensures { Changes (with_token self.old row) self.new result }
+    {
+        let index = self.forest.len();
+        push(&mut self.forest, row.entry)?;
+        keep(alloc, &mut self.secrets, Key::Secret, index, row.credential)?;
+        self.terms.push(row.terms)?;
+        Ok(())
+    }
+
+    // Adds the row of a lease.
+    #[tactic(auto, unfolding(crate::specs::Intake::with_lease))]
+    fn add_lease(&mut self, alloc: Global, row: Row) -> Result<(), InvFault>
+        ensures { Changes (with_lease self.old row) self.new result }
+    {
+        let index = self.forest.len();
+        push(&mut self.forest, row.entry)?;
+        keep(
+            alloc,
+            &mut self.lease_ids,
+            Key::LeaseId,
+            index,
+            row.credential,
+        )?;
+        self.terms.push(row.terms)?;
+        Ok(())
+    }
+}
+
+// Appends an entry, or names why the forest refuses it.
+#[tactic(auto, unfolding(crate::specs::Intake::pushed))]
+fn push(forest: &mut Forest, entry: Entry) -> Result<(), InvFault>
+    ensures { Changes (pushed forest.old entry) forest.new result }
+{
+    let index = forest.len();
+    match forest.push(entry) {
+        Ok(_) => Ok(()),
+        Err(TreeFault::OutOfMemory) => Err(InvFault::OutOfMemory),
+        Err(fault) => Err(InvFault::Tree(index, fault)),
+    }
+}
+
+// Keeps the credential of the entry at an index, which none of its kind before it may have.
+#[tactic(auto, unfolding(crate::specs::Intake::distinct))]
+fn keep(
+    alloc: Global,
+    register: &mut Register,
+    key: Key,
+    index: u32,
+    credential: Text,
+) -> Result<(), InvFault>
+    ensures { Changes (distinct key index register.old credential) register.new result }
+{
+    if register.add(alloc, credential)? {
+        Ok(())
+    } else {
+        Err(InvFault::BadValue(Some(index), key))
+    }
+}

@@ -1,0 +1,67 @@
+ghost use Rattle.std.specs.Prelude.{◌≡◌, ◌<◌, ◌++◌, ◌∷◌, [], not, length, IfOk, OnErr};
+ghost use Rattle.keep_inventory.specs.Intake.{holds};
+ghost use Rattle.keep_inventory.specs.Stock.{credential_at};
+
+use keep_moment::Text;
+use std::alloc::{AllocError, Global};
+use std::collections::BTreeSet;
+use std::marker::Model;
+
+/// Texts in the order in which they came, with a look-up that tells whether a text came before.
+#[derive(Debug, Drop)]
+pub struct Register {
+    texts: Vec<Text>,
+    found: BTreeSet<Vec<u8>>,
+}
+
+impl Model for Register {
+    ghost use Rattle.std.specs.Prelude.{◌≡◌, List, ℕ};
+    ghost use Rattle.keep_inventory.specs.Intake.{holds};
+    ghost use Rattle.keep_inventory.specs.Found.{has};
+
+    ghost Value = { List (List ℕ) };
+
+    ghost view = { λ r. r.texts.items };
+
+    ghost invariant = { λ r. (q : List ℕ) → has r.found q ≡ holds r.texts.items q };
+}
+
+impl Register {
+    /// No text. It takes no memory.
+    pub fn new(alloc: Global) -> Register
+        ensures { result ≡ [] }
+    {
+        Register {
+            texts: Vec::new(alloc),
+            found: BTreeSet::new(alloc),
+        }
+    }
+
+    /// The number of texts.
+    pub fn len(&self) -> usize
+        ensures { result ≡ length self.now }
+    {
+        self.texts.len()
+    }
+
+    /// The text at an index.
+    pub fn get(&self, index: usize) -> &[u8]
+        requires { index < length self.now }
+        ensures { result.now ≡ credential_at self.now index }
+    {
+        self.texts[index].list()
+    }
+
+    /// Appends a text, and says whether it is none of those before it.
+    pub fn add(&mut self, alloc: Global, text: Text) -> Result<bool, AllocError>
+        ensures fresh { IfOk result (λ fresh. fresh ≡ not (holds self.old text)) }
+        ensures added { IfOk result (λ fresh. self.new ≡ self.old ++ text ∷ []) }
+        ensures unchanged { OnErr result (self.new ≡ self.old) }
+    {
+        let key = Vec::from_slice(alloc, text.list())?;
+        self.texts.reserve(1)?;
+        let fresh = self.found.insert(key)?;
+        self.texts.push(text).unwrap();
+        Ok(fresh)
+    }
+}

@@ -1,0 +1,5 @@
+use Rattle.keep_rule.proofs.Keeping.{forced_is_least}
+use Rattle.keep_rule.proofs.laws.forced_law.Goals as goal
+
+pub returns : goal.returns
+returns c = forced_is_least

@@ -1,0 +1,5 @@
+use Rattle.keep_rule.proofs.Keeping.{one_least}
+use Rattle.keep_rule.proofs.laws.unique_law.Goals as goal
+
+pub returns : goal.returns
+returns c = one_least

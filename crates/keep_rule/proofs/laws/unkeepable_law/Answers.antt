@@ -1,0 +1,5 @@
+use Rattle.keep_rule.proofs.Keeping.{unkeepable}
+use Rattle.keep_rule.proofs.laws.unkeepable_law.Goals as goal
+
+pub returns : goal.returns
+returns c = unkeepable

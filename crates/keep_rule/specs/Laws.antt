@@ -1,0 +1,27 @@
+-- Laws: what no plan can do, and what a least one is. Each is the contract of a public function without a body.
+use Rattle.std.specs.Prelude.{◌≡◌, ℕ, List, None}
+use Rattle.keep_tree.specs.declared.entry.Entry.{Entry}
+use Rattle.keep_rule.specs.declared.wake.Wake.{Wake}
+use Rattle.keep_rule.specs.Forced.{AllForced}
+use Rattle.keep_rule.specs.Keeps.{Keeps}
+use Rattle.keep_rule.specs.Least.{IsLeastAndLatest}
+use Rattle.keep_rule.specs.Plans.{IsPlan, moments}
+use Rattle.keep_rule.specs.Unkeepable.{Unkeepable}
+
+-- where a pair is Unkeepable, no plan keeps
+abbrev pub UnkeepableLaw : Type 0
+UnkeepableLaw =
+    (es : List Entry) (margin s : ℕ) (ends : ℕ → ℕ) (entry needed : ℕ) → Unkeepable es margin s ends entry needed →
+    (plan : List Wake) → IsPlan s plan → Keeps es margin s ends plan → ⊥
+
+-- a plan that keeps, each of whose moments is Forced by some pair, has moments that are least and latest
+abbrev pub ForcedLaw : Type 0
+ForcedLaw =
+    (es : List Entry) (margin s : ℕ) (ends : ℕ → ℕ) (plan : List Wake) → IsPlan s plan → Keeps es margin s ends plan →
+    AllForced es margin s ends None (moments plan) → IsLeastAndLatest es margin s ends (moments plan)
+
+-- at most one list of moments is least and latest
+abbrev pub UniqueLaw : Type 0
+UniqueLaw =
+    (es : List Entry) (margin s : ℕ) (ends : ℕ → ℕ) (ts us : List ℕ) →
+    IsLeastAndLatest es margin s ends ts → IsLeastAndLatest es margin s ends us → ts ≡ us

@@ -1,0 +1,18 @@
+ghost use Rattle.keep_rule.specs.Laws.{ForcedLaw, UniqueLaw, UnkeepableLaw};
+
+/// The law of what cannot be kept: where an entry over a needed one cannot be led to that need by any renewal, no plan
+/// keeps. Its end can never pass its reach, and at the greater of start and reach the needed entry is gone.
+pub fn unkeepable_law()
+    ensures { UnkeepableLaw }
+{}
+
+/// The law of forced wake-ups: a plan that keeps, each of whose wake-ups some pair forces, is least and latest. Without a
+/// wake-up at a forced moment at the latest, the entry that forces it ends before a need that it carries.
+pub fn forced_law()
+    ensures { ForcedLaw }
+{}
+
+/// The law that there is one: at most one list of moments is least and latest.
+pub fn unique_law()
+    ensures { UniqueLaw }
+{}

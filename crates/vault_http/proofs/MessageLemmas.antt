@@ -1,0 +1,170 @@
+-- Judging a message by a part of it: what holds of its first bytes holds of every input that goes on from them.
+use Rattle.std.proofs.Common.{◌≡◌, ℕ, ◌+◌, ◌-◌, ◌<◌, ◌≤◌, inl, inr, Bool, true, false, IsTrue, List, [], ◌++◌, length, take, drop, refl, sym, ap, ◌∙◌, arith, append_assoc, append-nil, subst, length-append, length-drop, take-append-drop, Option, None, Some, IfSome, Result, Ok, Err}
+use Rattle.std.proofs.lemmas.List.{take_all, take-append-le, drop_at, length-take, take_rest}
+use Rattle.std.specs.Io.KnownBytes.{Consumes, IsAtEnd}
+use Rattle.httparse.specs.Grammar.{print_response, ReadsResponse, status_code}
+use Rattle.httparse.specs.Spans.{ResponseOverflows}
+use Rattle.vault_http.specs.declared.body.BodyFault.{BodyFault}
+use Rattle.vault_http.specs.declared.body.BodyFault.TheVariants as bodies
+use Rattle.vault_http.specs.declared.framing.Framing.{Framing}
+use Rattle.vault_http.specs.declared.framing.LengthFault.{LengthFault}
+use Rattle.vault_http.specs.declared.framing.LengthFault.TheVariants as lengths
+use Rattle.vault_http.specs.declared.http_fault.HttpFault.{HttpFault}
+use Rattle.vault_http.specs.declared.http_fault.HttpFault.TheVariants.{ReadFailed, BadHead, BadLength, BadChunk, Truncated, TooLong, TwoLengths, OutOfMemory}
+use Rattle.vault_http.specs.declared.reply.Reply.{Reply}
+use Rattle.vault_http.specs.Heads.{most_fields, FoundReply, framing_of_response}
+use Rattle.vault_http.specs.Judging.{IsUnread}
+use Rattle.vault_http.specs.Messages.{IsHeadless, IsOpenReply, IsBehind, is_informational, reply_of, IsReply, UnlessMemory, body_fault, length_fault}
+use Rattle.vault_http.specs.Reading.{Settles, CountsMessage}
+use Rattle.vault_http.specs.declared.verdict.Verdict.{Verdict}
+use Rattle.vault_http.specs.declared.verdict.Verdict.TheVariants.{More, Done}
+use Rattle.vault_http.specs.Verdicts.{IfDone}
+use Rattle.vault_http.proofs.Fronts.{take-grows}
+
+-- ---- no head
+
+-- no head is complete yet, in an input that goes on
+pub open_answer : (IsOpen Overflows : List ℕ → Type 0) (max : ℕ) (bytes more : List ℕ) (ended : Bool) (fault : HttpFault)
+    → IsUnread (length bytes) max ended (Some fault) → IsOpen (take max bytes) → (IsTrue ended → more ≡ []) → IsHeadless IsOpen Overflows max (bytes ++ more) fault
+open_answer IsOpen Overflows max bytes more ended ReadFailed u o end = absurd u
+open_answer IsOpen Overflows max bytes more ended BadHead u o end = absurd u
+open_answer IsOpen Overflows max bytes more ended BadLength u o end = absurd u
+open_answer IsOpen Overflows max bytes more ended BadChunk u o end = absurd u
+open_answer IsOpen Overflows max bytes more ended Truncated u o end =
+    let all : bytes ++ more ≡ bytes = ap (λ m. bytes ++ m) (end u.1) ∙ append-nil bytes in
+    (omega (arith, u.0, ap length all), subst IsOpen (take_all max bytes (omega (arith, u.0)) ∙ sym all) o)
+open_answer IsOpen Overflows max bytes more ended TooLong u o end =
+    (omega (arith, u, length-append bytes more), subst IsOpen (sym (take-append-le max bytes more u)) o)
+open_answer IsOpen Overflows max bytes more ended TwoLengths u o end = absurd u
+open_answer IsOpen Overflows max bytes more ended OutOfMemory u o end = absurd u
+
+pub unless : {A : Type 0} (a : Result A HttpFault) (P : Type 0) → P → UnlessMemory a P
+unless (Ok x) P p = p
+unless (Err OutOfMemory) P p = tt
+unless (Err fault) P p = p
+
+pub open_reply : (max : ℕ) (bytes more : List ℕ) (ended : Bool) (fault : HttpFault) → IsUnread (length bytes) max ended (Some fault) → IsOpenReply (take max bytes)
+    → (IsTrue ended → more ≡ []) → UnlessMemory {A = Reply} (Err fault) (IsReply max (bytes ++ more) (Err fault))
+open_reply max bytes more ended fault u o end =
+    unless {A = Reply} (Err fault) (IsReply max (bytes ++ more) (Err fault)) (inl (fault, open_answer IsOpenReply (ResponseOverflows most_fields) max bytes more ended fault u o end, refl))
+
+overflows_on : (front more : List ℕ) → ResponseOverflows most_fields front → ResponseOverflows most_fields (front ++ more)
+overflows_on front more over after h rest reads = over (more ++ after) h rest (subst (λ b. ReadsResponse b h rest) (append_assoc front more after) reads)
+
+pub refused_reply : (max : ℕ) (bytes more : List ℕ) → ResponseOverflows most_fields (take max bytes) → IsReply max (bytes ++ more) (Err BadHead)
+refused_reply max bytes more over =
+    inl (BadHead, subst (ResponseOverflows most_fields) (sym (take-grows max bytes more)) (overflows_on (take max bytes) (take (max - length bytes) more) over), refl)
+
+-- ---- a head
+
+-- a head within the first bytes is a head of the whole
+pub head_on : (max : ℕ) (bytes more printed rest : List ℕ) (len : ℕ) → take max bytes ≡ printed ++ rest → len ≡ length printed
+    → (bytes ++ more ≡ printed ++ (drop len bytes ++ more)) × (length printed ≤ max) × (length printed ≤ length bytes)
+head_on max bytes more printed rest len e count =
+    let whole : bytes ≡ printed ++ (rest ++ drop max bytes) = sym (take-append-drop max bytes) ∙ ap (λ t. t ++ drop max bytes) e ∙ append_assoc printed rest (drop max bytes) in
+    let left : drop len bytes ≡ rest ++ drop max bytes = ap (drop len) whole ∙ drop_at printed (rest ++ drop max bytes) len (sym count) in
+    let long : length (take max bytes) ≡ length printed + length rest = ap length e ∙ length-append printed rest in (
+      ap (λ t. t ++ more) whole ∙ append_assoc printed (rest ++ drop max bytes) more ∙ ap (λ t. printed ++ (t ++ more)) (sym left),
+      omega (arith, long, length-take max bytes),
+      omega (arith, long, length-take max bytes),
+    )
+
+pub headed_reply : (max : ℕ) (bytes more : List ℕ) (len status : ℕ) (framed : Result Framing LengthFault) (a : Result Reply HttpFault) → FoundReply (take max bytes) len status framed
+    → IsBehind (is_informational status) status framed (max - len) (drop len bytes ++ more) a → IsReply max (bytes ++ more) a
+headed_reply max bytes more len status framed a f behind =
+    let on = head_on max bytes more (print_response f.head) f.rest len f.reads.1 f.len_is in
+    let rest = drop len bytes ++ more in
+    let by_status = subst (λ s. IsBehind (is_informational s) s framed (max - len) rest a) f.status_is behind in
+    let by_framing = subst (λ g. IsBehind (is_informational (status_code f.head)) (status_code f.head) g (max - len) rest a) f.framing_is by_status in
+    let by_len = subst (λ k. IsBehind (is_informational (status_code f.head)) (status_code f.head) (framing_of_response f.head) (max - k) rest a) f.len_is by_framing in
+    inr (record { head = f.head; rest = rest; reads = (f.reads.0, on.0); few = f.few; within = on.1; behind = by_len })
+
+pub unless_map : {A : Type 0} (a : Result A HttpFault) (P Q : Type 0) → (P → Q) → UnlessMemory a P → UnlessMemory a Q
+unless_map (Ok x) P Q f p = f p
+unless_map (Err OutOfMemory) P Q f p = tt
+unless_map (Err fault) P Q f p = f p
+
+pub found_answer : (max : ℕ) (bytes : List ℕ) (len status : ℕ) (framed : Result Framing LengthFault) (ended : Bool) (v : Verdict (Result Reply HttpFault)) → FoundReply (take max bytes) len status framed
+    → IfDone v (λ a. (more : List ℕ) → (IsTrue ended → more ≡ [])
+    → UnlessMemory a (IsBehind (is_informational status) status framed (max - len) (take (length bytes - len) (drop len bytes) ++ more) a))
+    → IfDone v (λ a. (more : List ℕ) → (IsTrue ended → more ≡ []) → UnlessMemory a (IsReply max (bytes ++ more) a))
+found_answer max bytes len status framed ended (More n) f h = tt
+found_answer max bytes len status framed ended (Done a) f h = λ more end.
+    unless_map a (IsBehind (is_informational status) status framed (max - len) (take (length bytes - len) (drop len bytes) ++ more) a) (IsReply max (bytes ++ more) a)
+    (λ b. headed_reply max bytes more len status framed a f
+    (subst (λ t. IsBehind (is_informational status) status framed (max - len) (t ++ more) a) (take_rest bytes len) b)) (h more end)
+
+-- more than may be read leaves more than may be read behind the head
+pub over_rest : (max : ℕ) (bytes : List ℕ) (len : ℕ) → len ≤ max → max < length bytes → max - len < length (take (length bytes - len) (drop len bytes))
+over_rest max bytes len within over = omega (arith, ap length (take_rest bytes len), length-drop len bytes)
+
+-- ---- no answer but a failed read is `ReadFailed`
+
+pub not_length : (f : LengthFault) → length_fault f ≡ ReadFailed → ⊥
+not_length lengths.BadLength e = cc
+not_length lengths.TwoLengths e = cc
+
+pub not_body : (f : BodyFault) → body_fault f ≡ ReadFailed → ⊥
+not_body bodies.TooLong e = cc
+not_body bodies.Truncated e = cc
+not_body bodies.BadChunk e = cc
+not_body bodies.OutOfMemory e = cc
+
+pub not_headless : (IsOpen Overflows : List ℕ → Type 0) (max : ℕ) (bytes : List ℕ) (fault : HttpFault) → IsHeadless IsOpen Overflows max bytes fault → fault ≡ ReadFailed → ⊥
+not_headless IsOpen Overflows max bytes ReadFailed h e = h
+not_headless IsOpen Overflows max bytes BadHead h e = cc
+not_headless IsOpen Overflows max bytes BadLength h e = cc
+not_headless IsOpen Overflows max bytes BadChunk h e = cc
+not_headless IsOpen Overflows max bytes Truncated h e = cc
+not_headless IsOpen Overflows max bytes TooLong h e = cc
+not_headless IsOpen Overflows max bytes TwoLengths h e = cc
+not_headless IsOpen Overflows max bytes OutOfMemory h e = cc
+
+not_reply_of : (status : ℕ) (body : Result (List ℕ) BodyFault) → reply_of status body ≡ Err ReadFailed → ⊥
+not_reply_of status (Ok b) e = cc
+not_reply_of status (Err f) e = not_body f (cc)
+
+not_behind : (b : Bool) (status : ℕ) (framed : Result Framing LengthFault) (room : ℕ) (rest : List ℕ) → IsBehind b status framed room rest (Err ReadFailed) → ⊥
+not_behind true status framed room rest e = cc
+not_behind false status (Err f) room rest e = not_length f (cc)
+not_behind false status (Ok f) room rest h = not_reply_of status h.0 (sym h.2)
+
+pub not_read_failed : (max : ℕ) (bytes : List ℕ) → IsReply max bytes (Err ReadFailed) → ⊥
+not_read_failed max bytes (inl h) = not_headless IsOpenReply (ResponseOverflows most_fields) max bytes h.0 h.1 (cc (h.2))
+not_read_failed max bytes (inr h) = not_behind (is_informational (status_code h.head)) (status_code h.head) (framing_of_response h.head) (max - length (print_response h.head)) h.rest h.behind
+
+-- ---- reading
+
+module _ {A : Type 0} (IsAnswer : List ℕ → Result A HttpFault → Type 0) where
+  settle : (whole : List ℕ) (a : Result A HttpFault) (before now : ℕ) → UnlessMemory a (IsAnswer whole a) → Settles (IsAnswer whole) before now a
+  settle whole (Ok x) before now h = h
+  settle whole (Err OutOfMemory) before now h = tt
+  settle whole (Err ReadFailed) before now h = tt
+  settle whole (Err TooLong) before now h = inl h
+  settle whole (Err BadHead) before now h = h
+  settle whole (Err BadLength) before now h = h
+  settle whole (Err BadChunk) before now h = h
+  settle whole (Err Truncated) before now h = h
+  settle whole (Err TwoLengths) before now h = h
+
+  -- an answer that stands for every input that goes on is that of the whole input
+  pub settled : (whole left : Option (List ℕ)) (bytes : List ℕ) (ended : Bool) (a : Result A HttpFault) (before now : ℕ)
+      → Consumes whole left bytes → (ended ≡ true → IsAtEnd left)
+      → ((more : List ℕ) → (IsTrue ended → more ≡ []) → UnlessMemory a (IsAnswer (bytes ++ more) a))
+      → IfSome whole (λ w. Settles (IsAnswer w) before now a)
+  settled None left bytes ended a before now given end judged = tt
+  settled (Some w) None bytes ended a before now given end judged = absurd given
+  settled (Some w) (Some l) bytes ended a before now given end judged =
+      settle w a before now (subst (λ t. UnlessMemory a (IsAnswer t a)) (sym given) (judged l end))
+
+  -- no read failed where it is told otherwise
+  pub counted : (a : Result A HttpFault) (bytes : List ℕ) (before now : ℕ) → (IsAnswer bytes (Err ReadFailed) → ⊥) → UnlessMemory a (IsAnswer bytes a) → now ≡ before → CountsMessage a before now
+  counted (Ok x) bytes before now not_failed h e = e
+  counted (Err ReadFailed) bytes before now not_failed h e = absurd (not_failed h)
+  counted (Err BadHead) bytes before now not_failed h e = e
+  counted (Err BadLength) bytes before now not_failed h e = e
+  counted (Err BadChunk) bytes before now not_failed h e = e
+  counted (Err Truncated) bytes before now not_failed h e = e
+  counted (Err TooLong) bytes before now not_failed h e = e
+  counted (Err TwoLengths) bytes before now not_failed h e = e
+  counted (Err OutOfMemory) bytes before now not_failed h e = e

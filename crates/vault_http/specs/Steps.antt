@@ -1,0 +1,30 @@
+-- What a walk over the chunks of a body finds at the front of a text.
+use Rattle.std.specs.Prelude.{◌≡◌, ℕ, ◌+◌, ◌≤◌, ◌⊎◌, List, [], ◌∷◌, ◌++◌, length, take, drop, Ok, Err}
+use Rattle.vault_http.specs.declared.body.BodyFault.TheVariants.{Truncated}
+use Rattle.vault_http.specs.declared.chunk.Ending.{Ending}
+use Rattle.vault_http.specs.declared.chunk.Ending.TheVariants as ending
+use Rattle.vault_http.specs.declared.chunk.Line.{Line}
+use Rattle.vault_http.specs.declared.chunk.Line.TheVariants as line
+use Rattle.vault_http.specs.declared.chunk.Step.{Step}
+use Rattle.vault_http.specs.declared.chunk.Step.TheVariants as step
+use Rattle.vault_http.specs.Chunks.{line_end, IsSize, size, HasPart, MayHave, NeverHas, Chunk, IsChunk, print_chunk, StopsAt}
+
+-- CR LF: a front of it, none whatever follows, or all of it
+abbrev pub IsEnding : List ℕ → Ending → Type 0
+IsEnding text ending.Open = (text ≡ []) ⊎ (text ≡ 13 ∷ [])
+IsEnding text ending.Bad = (more rest : List ℕ) → text ++ more ≡ line_end ++ rest → ⊥
+IsEnding text ending.Whole = text ≡ line_end ++ drop 2 text
+
+-- the line of a size: a front of it, none whatever follows, or all of it
+abbrev pub IsLine : List ℕ → Line → Type 0
+IsLine text line.Open = MayHave IsSize text
+IsLine text line.Bad = NeverHas IsSize text
+IsLine text (line.Size n value) = HasPart IsSize text (take n text) (drop (n + 2) text) × (value ≡ size (take n text)) × (n + 2 ≤ length text)
+
+-- a chunk: a front of it, a whole one, the last one, or none whatever follows
+abbrev pub IsStep : List ℕ → ℕ → Step → Type 0
+IsStep text room (step.Open needed) = (length text ≤ room) × StopsAt room text (Err Truncated)
+IsStep text room (step.Chunk start n) = (c : Chunk) × (rest : List ℕ) × IsChunk c × (text ≡ print_chunk c ++ rest) × (length (print_chunk c) ≤ room)
+    × (length c.digits + 2 ≡ start) × (length c.payload ≡ n)
+IsStep text room step.Last = (more : List ℕ) → StopsAt room (text ++ more) (Ok [])
+IsStep text room (step.Fault fault) = (more : List ℕ) → StopsAt room (text ++ more) (Err fault)

@@ -1,0 +1,13 @@
+-- A verdict on the bytes read so far.
+use Rattle.vault_http.specs.declared.verdict.Verdict.{Verdict}
+use Rattle.vault_http.specs.declared.verdict.Verdict.TheVariants.{More, Done}
+
+-- it is an answer
+abbrev pub IsDone : {T : Type 0} → Verdict T → Type 0
+IsDone (More n) = ⊥
+IsDone (Done answer) = Unit {0}
+
+-- P of the answer, if it is one
+abbrev pub IfDone : {T : Type 0} → Verdict T → (T → Type 0) → Type 0
+IfDone (More n) P = Unit {0}
+IfDone (Done answer) P = P answer

@@ -1,0 +1,94 @@
+ghost use Rattle.std.specs.Prelude.{◌≡◌, ℕ, ◌<◌, ◌⊎◌, List, [], ◌++◌, length, IfSome, IsTrue};
+ghost use Rattle.std.specs.Io.KnownBytes.{Keeps};
+ghost use Rattle.vault_http.specs.Messages.{IsReply, UnlessMemory};
+ghost use Rattle.vault_http.specs.Reading.{Settles, CountsMessage};
+ghost use Rattle.vault_http.specs.Verdicts.{IsDone, IfDone};
+
+use crate::judging::judge_reply;
+use crate::one_read::{MOST_READS, MOST_ROOM, read_more, zeros};
+use crate::verdict::Verdict;
+use crate::{HttpFault, Reply, Source};
+use std::alloc::Global;
+
+/// Reads one reply of at most `max` bytes, its head included. What stands behind it is not looked at, and the answer is
+/// given as soon as the bytes hold it. It makes at most 4,096 reads, each with room for 65,536 bytes, or for what is left
+/// up to one byte past `max` where that is less.
+///
+/// Where the source tells its bytes, does not fail, and hands them and its end out in at most 4,096 reads, the answer is
+/// that of the bytes, however they are cut. `ReadFailed`: a read failed. The other faults are those of the bytes;
+/// `TooLong` is also that 4,096 reads did not do.
+pub fn read_reply<R: Source>(alloc: Global, reader: &mut R, max: usize) -> Result<Reply, HttpFault>
+    ensures answer { IfSome (R.remaining reader.old) (λ bytes.
+        Settles (IsReply max bytes) (R.reads_left reader.old) (R.reads_left reader.new) result) }
+    ensures written { Keeps (R.written reader.old) (R.written reader.new) }
+    ensures count { CountsMessage result (R.failed_calls reader.old) (R.failed_calls reader.new) }
+{
+    let mut room = zeros(alloc, MOST_ROOM)?;
+    let mut bytes = Vec::new(alloc);
+    reply_from(alloc, reader, &mut room, &mut bytes, max)
+}
+
+/// Reads a reply behind `bytes`, which are empty.
+fn reply_from<R: Source>(
+    alloc: Global,
+    reader: &mut R,
+    room: &mut [u8],
+    bytes: &mut Vec<u8>,
+    max: usize,
+) -> Result<Reply, HttpFault>
+    requires room { length room.old ≡ 65536 }
+    requires none { bytes.old.items ≡ [] }
+    ensures answer { IfSome (R.remaining reader.old) (λ whole.
+        Settles (IsReply max whole) (R.reads_left reader.old) (R.reads_left reader.new) result) }
+    ensures written { Keeps (R.written reader.old) (R.written reader.new) }
+    ensures count { CountsMessage result (R.failed_calls reader.old) (R.failed_calls reader.new) }
+{
+    let mut due = 0;
+    for _ in 0..MOST_READS {
+        let before = bytes.len();
+        let some = read_more(reader, room, bytes, max)?;
+        match reply_when_due(alloc, bytes, max, !some, before, due) {
+            Verdict::Done(answer) => return answer,
+            Verdict::More(next) => due = next,
+        }
+    }
+    Err(HttpFault::TooLong)
+}
+
+/// Judges a reply where that can be of use.
+fn reply_when_due(
+    alloc: Global,
+    bytes: &[u8],
+    max: usize,
+    ended: bool,
+    before: usize,
+    due: usize,
+) -> Verdict<Result<Reply, HttpFault>>
+    ensures answer { IfDone result (λ a. (more : List ℕ) → (IsTrue ended → more ≡ [])
+        → UnlessMemory a (IsReply max (bytes.now ++ more) a)) }
+    ensures decides { (IsTrue ended ⊎ (max < length bytes.now)) → IsDone result }
+{
+    if !ended && bytes.len() <= max && !is_due(bytes, before, due) {
+        return Verdict::More(due);
+    }
+    judge_reply(alloc, bytes, max, ended)
+}
+
+/// Whether it can be of use to judge the bytes again: as many have come as were waited for, or an empty line among those
+/// behind `before`, which may end a head or a body in chunks.
+pub(crate) fn is_due(bytes: &[u8], before: usize, due: usize) -> bool {
+    if bytes.len() >= due {
+        return true;
+    }
+    let from = before.saturating_sub(2).min(bytes.len());
+    let mut last = 0;
+    for byte in &bytes[from..] {
+        if *byte == b'\n' && last == b'\n' {
+            return true;
+        }
+        if *byte != b'\r' {
+            last = *byte;
+        }
+    }
+    false
+}

@@ -1,0 +1,421 @@
+use crate::tests::{LOOKUP, RENEWAL, request, source};
+use crate::{
+    Device, HttpFault, MemorySink, Reply, Request, read_reply, read_request, write_reply,
+    write_request,
+};
+use http::Method;
+use keep_moment::Text;
+use std::alloc::Global;
+use std::test::Fail;
+
+/// Reads a reply from its bytes, handed out in pieces of these lengths.
+fn reply_of(
+    alloc: Global,
+    bytes: &[u8],
+    pieces: &[usize],
+    max: usize,
+) -> Result<Result<Reply, HttpFault>, Fail> {
+    let mut source = source(alloc, bytes, pieces, None)?;
+    Ok(read_reply(alloc, &mut source, max))
+}
+
+const GRANT: &[u8] = b"{\"auth\":{\"lease_duration\":60,\"renewable\":true}}";
+
+const COUNTED: &[u8] = b"HTTP/1.1 200 OK\r\nContent-Length: 47\r\n\r\n\
+{\"auth\":{\"lease_duration\":60,\"renewable\":true}}";
+
+const CHUNKED: &[u8] = b"HTTP/1.1 200 OK\r\nTransfer-Encoding: chunked\r\n\r\n\
+2f\r\n{\"auth\":{\"lease_duration\":60,\"renewable\":true}}\r\n0\r\n\r\n";
+
+const TO_END: &[u8] = b"HTTP/1.1 200 OK\r\n\r\n\
+{\"auth\":{\"lease_duration\":60,\"renewable\":true}}";
+
+#[test]
+fn reads_one_reply_however_it_is_framed_and_cut(rt: HostRuntime) -> Result<(), Fail> {
+    let alloc = rt.alloc();
+    for text in [COUNTED, CHUNKED, TO_END] {
+        for cut in 0..text.len() {
+            let reply = reply_of(alloc, text, &[cut + 1], 1048576)?
+                .ok()
+                .ok_or("read")?;
+            assert_eq!(rt; reply.status, 200);
+            assert_eq!(rt; reply.body.list(), GRANT);
+        }
+        let ones = vec![in alloc; 1usize; 200]?;
+        let reply = reply_of(alloc, text, &ones, 1048576)?.ok().ok_or("read")?;
+        assert_eq!(rt; reply.body.list(), GRANT);
+    }
+    Ok(())
+}
+
+#[test]
+fn refuses_replies(rt: HostRuntime) -> Result<(), Fail> {
+    let alloc = rt.alloc();
+    let cases: [(&[u8], usize, HttpFault); 22] = [
+        (&COUNTED[..COUNTED.len() - 1], 1048576, HttpFault::Truncated),
+        (&CHUNKED[..CHUNKED.len() - 1], 1048576, HttpFault::Truncated),
+        (b"", 1048576, HttpFault::Truncated),
+        (COUNTED, 20, HttpFault::TooLong),
+        (CHUNKED, 20, HttpFault::TooLong),
+        (TO_END, 20, HttpFault::TooLong),
+        (COUNTED, COUNTED.len() - 1, HttpFault::TooLong),
+        (CHUNKED, CHUNKED.len() - 1, HttpFault::TooLong),
+        (TO_END, TO_END.len() - 1, HttpFault::TooLong),
+        (
+            b"HTTP/1.1 200 OK\r\nContent-Length: 4x\r\n\r\nbody",
+            1048576,
+            HttpFault::BadLength,
+        ),
+        (
+            b"HTTP/1.1 200 OK\r\nContent-Length: 1000000000000000\r\n\r\n",
+            1048576,
+            HttpFault::BadLength,
+        ),
+        (
+            b"HTTP/1.1 200 OK\r\nContent-Length: 2\r\nContent-Length: 2\r\n\r\nok",
+            1048576,
+            HttpFault::BadLength,
+        ),
+        (
+            b"HTTP/1.1 200 OK\r\nContent-Length: 999999999999999\r\n\r\n",
+            1048576,
+            HttpFault::TooLong,
+        ),
+        (
+            b"HTTP/1.1 200 OK\r\nTransfer-Encoding: chunked\r\n\r\nzz\r\n",
+            1048576,
+            HttpFault::BadChunk,
+        ),
+        (
+            b"HTTP/1.1 200 OK\r\nTransfer-Encoding: chunked\r\n\r\nfffffffff\r\n",
+            1048576,
+            HttpFault::BadChunk,
+        ),
+        (
+            b"HTTP/1.1 200 OK\r\nTransfer-Encoding: chunked\r\n\r\n2\r\nokx\r\n",
+            1048576,
+            HttpFault::BadChunk,
+        ),
+        (
+            b"HTTP/1.1 200 OK\r\nTransfer-Encoding: chunked\r\n\r\n0\r\nTrailer: x\r\n\r\n",
+            1048576,
+            HttpFault::BadChunk,
+        ),
+        (
+            b"HTTP/1.1 200 OK\r\nTransfer-Encoding: chunked\r\nContent-Length: 2\r\n\r\n",
+            1048576,
+            HttpFault::TwoLengths,
+        ),
+        (
+            b"HTTP/1.1 200 OK\r\nTransfer-Encoding: gzip\r\n\r\n",
+            1048576,
+            HttpFault::BadLength,
+        ),
+        (
+            b"HTTP/1.1 100 Continue\r\n\r\n",
+            1048576,
+            HttpFault::BadHead,
+        ),
+        (b"HTTP/1.1 99 x\r\n\r\n", 1048576, HttpFault::BadHead),
+        (b"hello", 1048576, HttpFault::BadHead),
+    ];
+    for (text, max, fault) in cases {
+        assert_eq!(rt; reply_of(alloc, text, &[], max)?.err(), Some(fault));
+        assert_eq!(rt;
+            reply_of(alloc, text, &[1, 1, 1, 7, 2], max)?.err(),
+            Some(fault)
+        );
+    }
+    Ok(())
+}
+
+#[test]
+fn reads_other_replies(rt: HostRuntime) -> Result<(), Fail> {
+    let alloc = rt.alloc();
+    let cases: [(&[u8], u16, &[u8]); 6] = [
+        (
+            b"HTTP/1.1 204 No Content\r\nContent-Length: 5\r\n\r\n",
+            204,
+            b"",
+        ),
+        (b"HTTP/1.1 200 OK\r\n\r\n{}", 200, b"{}"),
+        (
+            b"HTTP/1.1 200 OK\r\ntransfer-encoding: Chunked\r\n\r\n1\r\n{\r\n1\r\n}\r\n0\r\n\r\nleft over",
+            200,
+            b"{}",
+        ),
+        (
+            b"HTTP/1.1 403 Forbidden\r\nContent-Length: 2\r\n\r\nno, and more",
+            403,
+            b"no",
+        ),
+        // As Vault sends a refusal and an answer without a body.
+        (
+            b"HTTP/1.1 403 Forbidden\r\nCache-Control: no-store\r\nContent-Type: application/json\r\n\
+Strict-Transport-Security: max-age=31536000; includeSubDomains\r\nDate: Sun, 22 Nov 2026 09:00:00 GMT\r\n\
+Content-Length: 33\r\nConnection: close\r\n\r\n{\"errors\":[\"permission denied\"]}\n",
+            403,
+            b"{\"errors\":[\"permission denied\"]}\n",
+        ),
+        (
+            b"HTTP/1.1 204 No Content\r\nCache-Control: no-store\r\nContent-Type: application/json\r\n\
+Date: Sun, 22 Nov 2026 09:00:00 GMT\r\n\r\n",
+            204,
+            b"",
+        ),
+    ];
+    for (text, status, body) in cases {
+        let reply = reply_of(alloc, text, &[], 1048576)?.ok().ok_or("read")?;
+        assert_eq!(rt; reply.status, status);
+        assert_eq!(rt; reply.body.list(), body);
+    }
+    Ok(())
+}
+
+#[test]
+fn reads_every_front_of_a_reply(rt: HostRuntime) -> Result<(), Fail> {
+    let alloc = rt.alloc();
+    for text in [COUNTED, CHUNKED] {
+        for len in 0..text.len() {
+            assert_eq!(rt;
+                reply_of(alloc, &text[..len], &[], 1048576)?.err(),
+                Some(HttpFault::Truncated)
+            );
+        }
+    }
+    let head = TO_END.len() - GRANT.len();
+    for len in 0..head {
+        assert_eq!(rt;
+            reply_of(alloc, &TO_END[..len], &[], 1048576)?.err(),
+            Some(HttpFault::Truncated)
+        );
+    }
+    for len in head..TO_END.len() {
+        let reply = reply_of(alloc, &TO_END[..len], &[], 1048576)?
+            .ok()
+            .ok_or("read")?;
+        assert_eq!(rt; reply.body.list(), &TO_END[head..len]);
+    }
+    Ok(())
+}
+
+#[test]
+fn fails_where_a_read_of_a_reply_fails(rt: HostRuntime) -> Result<(), Fail> {
+    let alloc = rt.alloc();
+    for (text, reads) in [(COUNTED, 5), (CHUNKED, 5), (TO_END, 6)] {
+        for call in 0..8 {
+            let mut source = source(alloc, text, &[1, 20, 3, 30], Some(call))?;
+            let got = read_reply(alloc, &mut source, 1048576);
+            if call < reads {
+                assert_eq!(rt; got.err(), Some(HttpFault::ReadFailed));
+                assert_eq!(rt; source.failures(), 1);
+            } else {
+                // The whole message was there before: its end was not waited for, and no later read was made.
+                let reply = got.ok().ok_or("read")?;
+                assert_eq!(rt; reply.body.list(), GRANT);
+                assert_eq!(rt; source.failures(), 0);
+            }
+        }
+    }
+    Ok(())
+}
+
+/// Reads a request from its bytes, handed out in pieces of these lengths.
+fn request_of(
+    alloc: Global,
+    bytes: &[u8],
+    pieces: &[usize],
+    max: usize,
+) -> Result<Result<Request, HttpFault>, Fail> {
+    let mut source = source(alloc, bytes, pieces, None)?;
+    Ok(read_request(alloc, &mut source, max))
+}
+
+#[test]
+fn reads_requests_of_others(rt: HostRuntime) -> Result<(), Fail> {
+    let alloc = rt.alloc();
+    // A head as curl, as the net/http of Go and as the http.client of Python send it, and two fields of the token.
+    let cases: [(&[u8], &str, &[u8], &[u8], &[u8]); 5] = [
+        (
+            b"GET /v1/auth/token/lookup-self HTTP/1.1\r\nHost: 127.0.0.1:8200\r\nUser-Agent: curl/8.5.0\r\nAccept: */*\r\n\
+X-Vault-Token: s.web1\r\n\r\n",
+            "GET",
+            b"/v1/auth/token/lookup-self",
+            b"s.web1",
+            b"",
+        ),
+        (
+            b"PUT /v1/auth/token/renew-self HTTP/1.1\r\nHost: 127.0.0.1:8200\r\nUser-Agent: Go-http-client/1.1\r\n\
+Content-Length: 16\r\nX-Vault-Request: true\r\nX-Vault-Token: s.web1\r\nAccept-Encoding: gzip\r\n\r\n{\"increment\":60}",
+            "PUT",
+            b"/v1/auth/token/renew-self",
+            b"s.web1",
+            b"{\"increment\":60}",
+        ),
+        (
+            b"POST /v1/sys/leases/renew HTTP/1.1\r\nHost: 127.0.0.1:8200\r\nAccept-Encoding: identity\r\nContent-Length: 2\r\n\
+x-vault-token: s.app\r\n\r\n{}",
+            "POST",
+            b"/v1/sys/leases/renew",
+            b"s.app",
+            b"{}",
+        ),
+        (
+            b"POST /v1/sys/leases/renew HTTP/1.1\r\nTransfer-Encoding: chunked\r\nx-vault-token: a\r\nX-Vault-Token: b\r\n\r\n\
+2\r\n{}\r\n0\r\n\r\n",
+            "POST",
+            b"/v1/sys/leases/renew",
+            b"a",
+            b"{}",
+        ),
+        (
+            b"DELETE /v1/x HTTP/1.0\r\n\r\nnot looked at",
+            "DELETE",
+            b"/v1/x",
+            b"",
+            b"",
+        ),
+    ];
+    for (text, method, path, token, body) in cases {
+        for pieces in [[].as_slice(), [1, 1, 40, 3].as_slice()] {
+            let request = request_of(alloc, text, pieces, 1048576)?
+                .ok()
+                .ok_or("read")?;
+            assert_eq!(rt; request.method.as_str(), method);
+            assert_eq!(rt; request.path.list(), path);
+            assert_eq!(rt;
+                request
+                    .token
+                    .as_ref()
+                    .map_or(b"".as_slice(), |token| token.list()),
+                token
+            );
+            assert_eq!(rt; request.body.list(), body);
+            assert_eq!(rt; request.port, 0);
+        }
+    }
+    Ok(())
+}
+
+#[test]
+fn refuses_requests(rt: HostRuntime) -> Result<(), Fail> {
+    let alloc = rt.alloc();
+    let cases: [(&[u8], usize, HttpFault); 8] = [
+        (b"GET /v1/abc", 1048576, HttpFault::Truncated),
+        (b"GET /v1/abc", 11, HttpFault::TooLong),
+        (b"GET  / HTTP/1.1\r\n\r\n", 1048576, HttpFault::BadHead),
+        (b"GET / HTTP/2.0\r\n\r\n", 1048576, HttpFault::BadHead),
+        (
+            b"POST / HTTP/1.1\r\nContent-Length: -1\r\n\r\n",
+            1048576,
+            HttpFault::BadLength,
+        ),
+        (
+            b"POST / HTTP/1.1\r\nContent-Length: 3\r\n\r\n{}",
+            1048576,
+            HttpFault::Truncated,
+        ),
+        (
+            b"POST / HTTP/1.1\r\nContent-Length: 0\r\nTransfer-Encoding: chunked\r\n\r\n",
+            1048576,
+            HttpFault::TwoLengths,
+        ),
+        (RENEWAL, RENEWAL.len() - 1, HttpFault::TooLong),
+    ];
+    for (text, max, fault) in cases {
+        assert_eq!(rt; request_of(alloc, text, &[], max)?.err(), Some(fault));
+        assert_eq!(rt;
+            request_of(alloc, text, &[1, 1, 1, 7, 2], max)?.err(),
+            Some(fault)
+        );
+    }
+    Ok(())
+}
+
+#[test]
+fn refuses_heads_of_many_fields(rt: HostRuntime) -> Result<(), Fail> {
+    let alloc = rt.alloc();
+    for (fields, is_read) in [(64, true), (65, false)] {
+        let mut text = Vec::from_slice(alloc, b"HTTP/1.1 204 No Content\r\n")?;
+        for _ in 0..fields {
+            text.extend_from_slice(b"A: b\r\n")?;
+        }
+        text.extend_from_slice(b"\r\n")?;
+        let got = reply_of(alloc, &text, &[], 1048576)?;
+        assert_eq!(rt; got.is_ok(), is_read);
+        if !is_read {
+            assert_eq!(rt; got.err(), Some(HttpFault::BadHead));
+        }
+    }
+    Ok(())
+}
+
+#[test]
+fn reads_every_front_of_a_request(rt: HostRuntime) -> Result<(), Fail> {
+    let alloc = rt.alloc();
+    for text in [RENEWAL, LOOKUP] {
+        for len in 0..text.len() {
+            assert_eq!(rt;
+                request_of(alloc, &text[..len], &[], 1048576)?.err(),
+                Some(HttpFault::Truncated)
+            );
+        }
+    }
+    Ok(())
+}
+
+#[test]
+fn fails_where_a_read_of_a_request_fails(rt: HostRuntime) -> Result<(), Fail> {
+    let alloc = rt.alloc();
+    for call in 0..7 {
+        let mut source = source(alloc, RENEWAL, &[1, 20, 3, 30], Some(call))?;
+        let got = read_request(alloc, &mut source, 1048576);
+        if call < 5 {
+            assert_eq!(rt; got.err(), Some(HttpFault::ReadFailed));
+            assert_eq!(rt; source.failures(), 1);
+        } else {
+            let request = got.ok().ok_or("read")?;
+            assert_eq!(rt; request.body.list(), b"{\"increment\":60}".as_slice());
+            assert_eq!(rt; source.failures(), 0);
+        }
+    }
+    Ok(())
+}
+
+#[test]
+fn reads_back_what_was_written(rt: HostRuntime) -> Result<(), Fail> {
+    let alloc = rt.alloc();
+    let sent = request(
+        alloc,
+        Method::POST,
+        b"/v1/sys/leases/renew",
+        b"s.web1",
+        b"{\"increment\":60}",
+    )?;
+    let mut sink = MemorySink::new(alloc, None);
+    assert_eq!(rt; write_request(alloc, &mut sink, &sent), Ok(()));
+    let got = request_of(alloc, sink.bytes(), &[], sink.bytes().len())?
+        .ok()
+        .ok_or("read")?;
+    assert_eq!(rt; got.method.as_str(), "POST");
+    assert_eq!(rt; got.path.list(), sent.path.list());
+    assert_eq!(rt;
+        got.token.as_ref().map(|token| token.list()),
+        Some(b"s.web1".as_slice())
+    );
+    assert_eq!(rt; got.body.list(), sent.body.list());
+    for status in [200, 400, 403, 404, 405, 429, 500, 503] {
+        let sent = Reply {
+            status,
+            body: Text::of(alloc, GRANT)?,
+        };
+        let mut sink = MemorySink::new(alloc, None);
+        assert_eq!(rt; write_reply(alloc, &mut sink, &sent), Ok(()));
+        let got = reply_of(alloc, sink.bytes(), &[], sink.bytes().len())?
+            .ok()
+            .ok_or("read")?;
+        assert_eq!(rt; got.status, status);
+        assert_eq!(rt; got.body.list(), GRANT);
+    }
+    Ok(())
+}

@@ -1,0 +1,5 @@
+use Rattle.vault_json.proofs.DurationLaw as laws
+use Rattle.vault_json.proofs.laws.durations_are_read.Goals as goal
+
+pub returns : goal.returns
+returns c = laws.durations_are_read

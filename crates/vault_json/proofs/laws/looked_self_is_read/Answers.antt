@@ -1,0 +1,5 @@
+use Rattle.vault_json.proofs.ReadBack as laws
+use Rattle.vault_json.proofs.laws.looked_self_is_read.Goals as goal
+
+pub returns : goal.returns
+returns c = laws.looked_self_is_read

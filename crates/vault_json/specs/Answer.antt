@@ -1,0 +1,29 @@
+-- A body's answer: a value, or the first fault. Definitions never answer want of memory, which only code can meet.
+use Rattle.std.specs.Prelude.{◌≡◌, Result, Ok, Err, Option, Some, None}
+use Rattle.vault_json.specs.declared.field.Field.{Field}
+use Rattle.vault_json.specs.declared.fault.ReplyFault.{ReplyFault}
+use Rattle.vault_json.specs.declared.fault.ReplyFault.TheVariants.{NotJson, Missing, BadField, Wrapped, OutOfMemory}
+
+-- one step after the other, up to the first fault
+infixl 10 ◌>>=◌
+abbrev pub ◌>>=◌ : {A B : Type 0} → Result A ReplyFault → (A → Result B ReplyFault) → Result B ReplyFault
+(Ok x) >>= f = f x
+(Err e) >>= f = Err e
+
+-- the answer is this fault; of want of memory nothing is said
+abbrev pub Fails : {Y : Type 0} → ReplyFault → Result Y ReplyFault → Type 0
+Fails OutOfMemory answer = Unit {0}
+Fails NotJson answer = answer ≡ Err NotJson
+Fails (Missing field) answer = answer ≡ Err (Missing field)
+Fails (BadField field) answer = answer ≡ Err (BadField field)
+Fails Wrapped answer = answer ≡ Err Wrapped
+
+-- what a call gave, seen by `view`, is the answer, unless memory ran out
+abbrev pub Gives : {X Y : Type 0} → (X → Y) → Result X ReplyFault → Result Y ReplyFault → Type 0
+Gives view (Ok x) answer = answer ≡ Ok (view x)
+Gives view (Err fault) answer = Fails fault answer
+
+-- a value that has no such reading is a bad field
+abbrev pub or_bad : {A : Type 0} → Field → Option A → Result A ReplyFault
+or_bad field None = Err (BadField field)
+or_bad field (Some x) = Ok x

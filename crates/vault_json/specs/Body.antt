@@ -1,0 +1,42 @@
+-- A body: a JSON object, as serde_json reads it (RFC 8259, nested at most 127 deep).
+use Rattle.std.specs.Prelude.{ℕ, List, codes, if◌then◌else◌, Result, Ok, Err, Option, Some, None}
+use Rattle.std.specs.Str.{is_utf8}
+use Rattle.serde_json.specs.Data.{Data, null, boolean, number, string, array, object}
+use Rattle.serde_json.specs.Find.{get}
+use Rattle.serde_json.specs.Read.{read}
+use Rattle.vault_json.specs.Answer.{◌>>=◌}
+use Rattle.vault_json.specs.Field.{present}
+use Rattle.vault_json.specs.declared.fault.ReplyFault.{ReplyFault}
+use Rattle.vault_json.specs.declared.fault.ReplyFault.TheVariants.{NotJson, Wrapped}
+
+-- the tree that the bytes are: none where they are not UTF-8 or no JSON
+abbrev pub tree_of : List ℕ → Option Data
+tree_of bytes = if is_utf8 bytes then read bytes else None
+
+abbrev pub or_not_json : Option Data → Result Data ReplyFault
+or_not_json None = Err NotJson
+or_not_json (Some d) = Ok d
+
+abbrev pub an_object : Data → Result Data ReplyFault
+an_object null = Err NotJson
+an_object (boolean b) = Err NotJson
+an_object (number n) = Err NotJson
+an_object (string s) = Err NotJson
+an_object (array ds) = Err NotJson
+an_object (object ms) = Ok (object ms)
+
+-- the object that the bytes are: NotJson where they are no tree, or it is no object
+unfoldable pub body_of : List ℕ → Result Data ReplyFault
+body_of bytes = or_not_json (tree_of bytes) >>= an_object
+
+abbrev pub or_wrapped : Data → Option Data → Result Data ReplyFault
+or_wrapped d None = Ok d
+or_wrapped d (Some info) = Err Wrapped
+
+-- Vault, Response wrapping: a reply whose `wrap_info` is there and not null holds no answer.
+unfoldable pub unwrapped : Data → Result Data ReplyFault
+unwrapped d = or_wrapped d (present (get (codes "wrap_info") d))
+
+-- the object that a reply's bytes are; it is judged whether it is wrapped before any field is looked at
+unfoldable pub reply_of : List ℕ → Result Data ReplyFault
+reply_of bytes = body_of bytes >>= unwrapped

@@ -1,0 +1,10 @@
+pub mod Answer
+pub mod Duration
+pub mod Field
+pub mod Body
+pub mod Renewed
+pub mod Lookup
+pub mod Request
+pub mod Written
+pub mod Trees
+pub mod Laws

@@ -1,0 +1,43 @@
+-- The replies to a lookup.
+-- Vault, HTTP API: `auth/token`, "Lookup a token (self)"; `sys/leases`, "Read lease".
+use Rattle.std.specs.Prelude.{ℕ, List, false, Result, Ok}
+use Rattle.serde_json.specs.Data.{Data}
+use Rattle.serde_json.specs.Find.{as_bool, as_str}
+use Rattle.vault_json.specs.Answer.{◌>>=◌}
+use Rattle.vault_json.specs.Body.{reply_of}
+use Rattle.vault_json.specs.Duration.{duration_of}
+use Rattle.vault_json.specs.Field.{required, optional, object_of, timestamp_of, date_of}
+use Rattle.vault_json.specs.declared.field.Field.TheVariants.{CreationTime, Data as DataField, ExplicitMaxTtl, Id, IssueTime, Orphan, Period, Renewable, Ttl}
+use Rattle.vault_json.specs.declared.fault.ReplyFault.{ReplyFault}
+use Rattle.vault_json.specs.declared.lookup.Lookup.{Lookup}
+use Rattle.vault_json.specs.declared.lookup.Lookup.TheVariants.{Token, Lease}
+
+-- what an object says of a token, in its object `data`
+unfoldable pub looked_self_in : Data → Result Lookup ReplyFault
+looked_self_in body = do
+  about ← required DataField object_of body
+  ttl ← required Ttl duration_of about
+  created ← required CreationTime timestamp_of about
+  explicit_max ← optional ExplicitMaxTtl 0 duration_of about
+  orphan ← optional Orphan false as_bool about
+  renewable ← optional Renewable false as_bool about
+  period ← optional Period 0 duration_of about
+  Ok (Token ttl created explicit_max orphan renewable period)
+
+-- Body and answer, of the reply to a token's lookup
+unfoldable pub lookup_self_answer : List ℕ → Result Lookup ReplyFault
+lookup_self_answer bytes = reply_of bytes >>= looked_self_in
+
+-- what an object says of a lease, in its object `data`, or at its top level where it has none
+unfoldable pub looked_lease_in : Data → Result Lookup ReplyFault
+looked_lease_in body = do
+  about ← optional DataField body object_of body
+  id ← required Id as_str about
+  issued ← required IssueTime date_of about
+  renewable ← optional Renewable false as_bool about
+  ttl ← required Ttl duration_of about
+  Ok (Lease id issued renewable ttl)
+
+-- Body and answer, of the reply to a lease's lookup
+unfoldable pub lookup_lease_answer : List ℕ → Result Lookup ReplyFault
+lookup_lease_answer bytes = reply_of bytes >>= looked_lease_in

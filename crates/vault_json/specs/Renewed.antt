@@ -1,0 +1,37 @@
+-- The replies to a renewal.
+-- Vault, HTTP API: `auth/token`, "Renew a token (self)"; `sys/leases`, "Renew lease".
+use Rattle.std.specs.Prelude.{ℕ, List, false, Result, Ok}
+use Rattle.serde_json.specs.Data.{Data}
+use Rattle.serde_json.specs.Find.{as_bool, as_str}
+use Rattle.vault_json.specs.Answer.{◌>>=◌}
+use Rattle.vault_json.specs.Body.{reply_of}
+use Rattle.vault_json.specs.Duration.{duration_of}
+use Rattle.vault_json.specs.Field.{required, optional, object_of}
+use Rattle.vault_json.specs.declared.field.Field.TheVariants.{Auth, LeaseDuration, LeaseId, Renewable}
+use Rattle.vault_json.specs.declared.fault.ReplyFault.{ReplyFault}
+use Rattle.vault_json.specs.declared.renewed.Renewed.{Renewed}
+use Rattle.vault_json.specs.declared.renewed.RenewedLease.{RenewedLease}
+
+-- what an object says of a token's renewal, in its object `auth`
+unfoldable pub renewed_in : Data → Result Renewed ReplyFault
+renewed_in body = do
+  auth ← required Auth object_of body
+  seconds ← required LeaseDuration duration_of auth
+  renewable ← optional Renewable false as_bool auth
+  Ok (record { seconds = seconds; renewable = renewable })
+
+-- what an object says of a lease's renewal, at its top level
+unfoldable pub renewed_lease_in : Data → Result RenewedLease ReplyFault
+renewed_lease_in body = do
+  lease_id ← required LeaseId as_str body
+  seconds ← required LeaseDuration duration_of body
+  renewable ← optional Renewable false as_bool body
+  Ok (record { lease_id = lease_id; seconds = seconds; renewable = renewable })
+
+-- Body and answer, of the reply to a token's renewal
+unfoldable pub renew_self_answer : List ℕ → Result Renewed ReplyFault
+renew_self_answer bytes = reply_of bytes >>= renewed_in
+
+-- Body and answer, of the reply to a lease's renewal
+unfoldable pub renew_lease_answer : List ℕ → Result RenewedLease ReplyFault
+renew_lease_answer bytes = reply_of bytes >>= renewed_lease_in

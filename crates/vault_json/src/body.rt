@@ -1,0 +1,56 @@
+ghost use Rattle.std.specs.Prelude.{◌≡◌, ◌<◌, length, IsUtf8, option_map, codes};
+ghost use Rattle.serde_json.specs.View.{view};
+ghost use Rattle.vault_json.specs.Answer.{Gives};
+ghost use Rattle.vault_json.specs.Body.{body_of, reply_of, tree_of, or_not_json, unwrapped};
+
+use crate::fault::ReplyFault;
+use crate::field::present;
+use serde_json::Value;
+use std::alloc::Global;
+
+/// The object that a body's bytes are.
+#[tactic(auto, unfolding(crate::specs::Body::body_of))]
+pub(crate) fn body(alloc: Global, bytes: &[u8]) -> Result<Value, ReplyFault>
+    ensures { Gives (λ v. view v) result (body_of bytes.now) }
+{
+    let value = tree(alloc, bytes)?;
+    if value.is_object() {
+        Ok(value)
+    } else {
+        Err(ReplyFault::NotJson)
+    }
+}
+
+/// The tree that a body's bytes are, as serde_json reads it.
+fn tree(alloc: Global, bytes: &[u8]) -> Result<Value, ReplyFault>
+    ensures { Gives (λ v. view v) result (or_not_json (tree_of bytes.now)) }
+{
+    let Ok(text) = std::str::from_utf8(bytes) else {
+        return Err(ReplyFault::NotJson);
+    };
+    match Value::from_str(alloc, text) {
+        Ok(value) => Ok(value),
+        Err(error) if error.is_memory() => Err(ReplyFault::OutOfMemory),
+        Err(_) => Err(ReplyFault::NotJson),
+    }
+}
+
+/// The object that a reply's bytes are, where the reply is not wrapped.
+#[tactic(auto, unfolding(crate::specs::Body::reply_of))]
+pub(crate) fn reply(alloc: Global, bytes: &[u8]) -> Result<Value, ReplyFault>
+    ensures { Gives (λ v. view v) result (reply_of bytes.now) }
+{
+    let body = body(alloc, bytes)?;
+    unwrapped(&body)?;
+    Ok(body)
+}
+
+#[tactic(auto, unfolding(crate::specs::Body::unwrapped))]
+fn unwrapped(body: &Value) -> Result<(), ReplyFault>
+    ensures { Gives (λ _. view body.now) result (unwrapped (view body.now)) }
+{
+    match present(body.get("wrap_info")) {
+        None => Ok(()),
+        Some(_) => Err(ReplyFault::Wrapped),
+    }
+}
