@@ -68,7 +68,7 @@ fn judge_counted(
     } else if ended {
         Verdict::Done(Err(BodyFault::Truncated))
     } else {
-        Verdict::More(n)
+        Verdict::More(n - rest.len())
     }
 }
 

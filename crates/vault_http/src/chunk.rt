@@ -37,7 +37,7 @@ pub(crate) enum Line {
 /// What stands at the front of a text as a chunk.
 #[derive(Clone, Copy, Debug, PartialEq, Eq)]
 pub(crate) enum Step {
-    /// The text stops within it. It is no use to ask again with fewer bytes than this.
+    /// The text stops within it. It is no use to ask again before so many bytes are there.
     Open(usize),
     /// A chunk, whose bytes begin here and are so many.
     Chunk(usize, usize),
@@ -76,7 +76,7 @@ pub(crate) fn judge_chunks(
                 if ended {
                     return Verdict::Done(Err(BodyFault::Truncated));
                 }
-                return Verdict::More(at.saturating_add(needed));
+                return Verdict::More(at.saturating_add(needed).saturating_sub(text.len()));
             }
         }
     }

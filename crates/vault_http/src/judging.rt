@@ -27,7 +27,7 @@ pub(crate) fn judge_reply(
     match reply_head(front_of(bytes, max)) {
         ReplyHead::Open => match unread(bytes.len(), max, ended) {
             Some(fault) => Verdict::Done(Err(fault)),
-            None => Verdict::More(bytes.len().saturating_mul(2)),
+            None => Verdict::More(bytes.len()),
         },
         ReplyHead::Refused => Verdict::Done(Err(HttpFault::BadHead)),
         ReplyHead::Found(len, status, framing) => {

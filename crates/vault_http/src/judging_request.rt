@@ -32,7 +32,7 @@ pub(crate) fn judge_request(
     match request_head(front_of(bytes, max)) {
         RequestFront::Open => match unread(bytes.len(), max, ended) {
             Some(fault) => Verdict::Done(Err(fault)),
-            None => Verdict::More(bytes.len().saturating_mul(2)),
+            None => Verdict::More(bytes.len()),
         },
         RequestFront::Refused => Verdict::Done(Err(HttpFault::BadHead)),
         RequestFront::Found(len, start, framing) => {

@@ -54,7 +54,7 @@ fn request_from<R: Source>(
         let some = read_more(reader, room, bytes, max)?;
         match request_when_due(alloc, bytes, max, !some, before, due) {
             Verdict::Done(answer) => return answer,
-            Verdict::More(next) => due = next,
+            Verdict::More(wanted) => due = bytes.len().saturating_add(wanted),
         }
     }
     Err(HttpFault::TooLong)
@@ -74,7 +74,7 @@ fn request_when_due(
     ensures decides { (IsTrue ended ⊎ (max < length bytes.now)) → IsDone result }
 {
     if !ended && bytes.len() <= max && !is_due(bytes, before, due) {
-        return Verdict::More(due);
+        return Verdict::More(due.saturating_sub(bytes.len()));
     }
     judge_request(alloc, bytes, max, ended)
 }
