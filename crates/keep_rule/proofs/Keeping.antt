@@ -18,7 +18,7 @@ use Rattle.keep_rule.specs.Unkeepable.{Unkeepable}
 use Rattle.keep_rule.proofs.Stuck.{AllStuck, IsStuck, gone}
 
 -- each wake-up from s on is stuck where that holds of each moment from s on
-stuck_from : (es : List Entry) (margin s i b : ℕ) → ((t : ℕ) → s ≤ t → IsStuck es margin i b t) → (ws : List Wake) → IsPlan s ws → AllStuck es margin i b ws
+pub stuck_from : (es : List Entry) (margin s i b : ℕ) → ((t : ℕ) → s ≤ t → IsStuck es margin i b t) → (ws : List Wake) → IsPlan s ws → AllStuck es margin i b ws
 stuck_from es margin s i b each [] plan = tt
 stuck_from es margin s i b each (w ∷ ws) plan =
     let l : s ≤ w.at = plan.0 in
@@ -72,7 +72,7 @@ NoLater [] (u ∷ us) = ⊥
 NoLater (t ∷ ts) (u ∷ us) = (t ≤ u) × NoLater ts us
 
 -- wake-ups at prev or before, of which there is none where there is no prev
-abbrev DoneBy : Option ℕ → List Wake → Type 0
+abbrev pub DoneBy : Option ℕ → List Wake → Type 0
 DoneBy prev [] = Unit {0}
 DoneBy None (w ∷ ws) = ⊥
 DoneBy (Some t) (w ∷ ws) = (w.at ≤ t) × DoneBy (Some t) ws
@@ -99,13 +99,13 @@ late_stuck es margin ends t u i h =
     ]
 
 -- what is done by prev leads no end past the bound of prev
-done_stuck : (es : List Entry) (margin : ℕ) (ends : ℕ → ℕ) (prev : Option ℕ) (i : ℕ) (done : List Wake) → DoneBy prev done → AllStuck es margin i (bound es ends prev i) done
+pub done_stuck : (es : List Entry) (margin : ℕ) (ends : ℕ → ℕ) (prev : Option ℕ) (i : ℕ) (done : List Wake) → DoneBy prev done → AllStuck es margin i (bound es ends prev i) done
 done_stuck es margin ends prev i [] by = tt
 done_stuck es margin ends None i (w ∷ ws) by = absurd by
 done_stuck es margin ends (Some t) i (w ∷ ws) by = (late_stuck es margin ends t w.at i by.0, done_stuck es margin ends (Some t) i ws by.1)
 
 -- an end is at most its bound
-end_below_bound : (es : List Entry) (ends : ℕ → ℕ) (prev : Option ℕ) (i : ℕ) → ends i ≤ bound es ends prev i
+pub end_below_bound : (es : List Entry) (ends : ℕ → ℕ) (prev : Option ℕ) (i : ℕ) → ends i ≤ bound es ends prev i
 unfolding bound latest_end
 end_below_bound es ends None i = omega arith
 end_below_bound es ends (Some t) i = by_test (entry_at es i).renewable (ends i) (renewal (entry_at es i) t) where
@@ -117,12 +117,12 @@ end_below_bound es ends (Some t) i = by_test (entry_at es i).renewable (ends i) 
 after_stuck : (es : List Entry) (margin i b u : ℕ) (ws : List Wake) → b ≤ u + margin → IsPlan (u + 1) ws → AllStuck es margin i b ws
 after_stuck es margin i b u ws due plan = stuck_from es margin (u + 1) i b (λ t h. inr (inl (omega arith))) ws plan
 
-append_stuck : (es : List Entry) (margin i b : ℕ) (xs ys : List Wake) → AllStuck es margin i b xs → AllStuck es margin i b ys → AllStuck es margin i b (xs ++ ys)
+pub append_stuck : (es : List Entry) (margin i b : ℕ) (xs ys : List Wake) → AllStuck es margin i b xs → AllStuck es margin i b ys → AllStuck es margin i b (xs ++ ys)
 append_stuck es margin i b [] ys a c = c
 append_stuck es margin i b (x ∷ xs) ys a c = (a.0, append_stuck es margin i b xs ys a.1 c)
 
 -- a wake-up more that is done
-done_more : (prev : Option ℕ) (u : ℕ) (done : List Wake) (w : Wake) → DoneBy prev done → ((t : ℕ) → prev ≡ Some t → t ≤ u) → w.at ≤ u → DoneBy (Some u) (done ++ w ∷ [])
+pub done_more : (prev : Option ℕ) (u : ℕ) (done : List Wake) (w : Wake) → DoneBy prev done → ((t : ℕ) → prev ≡ Some t → t ≤ u) → w.at ≤ u → DoneBy (Some u) (done ++ w ∷ [])
 done_more prev u [] w by le h = (h, tt)
 done_more None u (v ∷ done) w by le h = absurd by
 done_more (Some t) u (v ∷ done) w by le h = let l : t ≤ u = le t refl in let k : v.at ≤ t = by.0 in (omega arith, done_more (Some t) u done w by.1 le h)

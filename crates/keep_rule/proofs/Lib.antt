@@ -4,3 +4,4 @@ pub mod Walk
 pub mod Rounds
 pub mod Stuck
 pub mod Keeping
+pub mod Asking

@@ -6,4 +6,6 @@ pub mod Replay
 pub mod Unkeepable
 pub mod Forced
 pub mod Least
+pub mod Asks
+pub mod Schedule
 pub mod Laws

@@ -1,4 +1,5 @@
 pub mod Entries
 pub mod Chains
 pub mod Placed
+pub mod Carrying
 pub mod Names

@@ -1,4 +1,5 @@
 pub mod Forest
 pub mod Over
+pub mod Carried
 pub mod Push
 pub mod Renewal
