@@ -1,6 +1,6 @@
 mod faulty;
 
-use crate::{InvFault, Inventory, Terms, read};
+use crate::{InvFault, Inventory, Key, Terms, read};
 use faulty::FAULTY;
 use keep_moment::{Moment, Name};
 use keep_tree::{Entry, Kind};
@@ -15,15 +15,20 @@ const WEB: &str =
 const TOKEN_AND_LEASE: &str =
     "[[lease]]\nname = \"L\"\ntoken = \"T\"\nissued = \"1970-01-01T00:16:40Z\"\nend = \"1970-01-01T01:17:40+01:00\"\nincrement = 60\nmax_ttl = 9000\nneed = \"1970-01-01t00:20:00.9z\"\nlease_id = \"db/creds/app/1\"\n\n[[token]]\nname = \"T\"\nissued = 1000\nend = 1100\nincrement = 100\nmax_ttl = 150\nsecret = \"s.1234\"\n";
 
-#[test]
-fn faults_in_order(rt: HostRuntime) {
-    for (text, fault) in FAULTY {
+// Each text is refused with the fault beside it.
+fn refuses<R: AllocGlobal + Abort>(rt: &R, rows: &[(&str, InvFault)]) {
+    for (text, fault) in rows {
         assert_eq!(rt;
             read(rt.alloc(), text.as_bytes()).err(),
-            Some(fault),
+            Some(*fault),
             "{text}"
         );
     }
+}
+
+#[test]
+fn faults_in_order(rt: HostRuntime) {
+    refuses(&rt, &FAULTY);
     assert_eq!(rt; read(rt.alloc(), b"# \xff").err(), Some(InvFault::NotToml));
 }
 
@@ -193,15 +198,78 @@ fn steps_and_ceilings(rt: HostRuntime) -> Result<(), Fail> {
     Ok(())
 }
 
-// Each front of the web example is read as an inventory of at most one token, or refused by name.
+// For which lengths a front of the web example is refused, both ends counted, and with which fault.
+const REFUSED_FRONTS: [(usize, usize, InvFault); 11] = [
+    (1, 8, InvFault::NotToml),
+    (9, 10, InvFault::MissingKey(0, Key::Name)),
+    (11, 21, InvFault::NotToml),
+    (22, 23, InvFault::MissingKey(0, Key::Issued)),
+    (24, 32, InvFault::NotToml),
+    (33, 37, InvFault::MissingKey(0, Key::End)),
+    (38, 43, InvFault::NotToml),
+    (44, 48, InvFault::MissingKey(0, Key::Increment)),
+    (49, 60, InvFault::NotToml),
+    (64, 73, InvFault::NotToml),
+    (79, 85, InvFault::NotToml),
+];
+
+// For which lengths a front of the web example is read, both ends counted, and the token's step, ceiling and need.
+const READ_FRONTS: [(usize, usize, u32, u64, u64); 10] = [
+    (61, 61, 6, 2765800, 0),
+    (62, 63, 60, 2765800, 0),
+    (74, 74, 60, 1009, 0),
+    (75, 75, 60, 1090, 0),
+    (76, 76, 60, 1900, 0),
+    (77, 78, 60, 10000, 0),
+    (86, 86, 60, 10000, 1),
+    (87, 87, 60, 10000, 12),
+    (88, 88, 60, 10000, 120),
+    (89, 90, 60, 10000, 1200),
+];
+
+fn refuses_front<R: AllocGlobal + Abort>(rt: &R, length: usize, fault: InvFault) {
+    let front = WEB.as_bytes().get(..length);
+    assert!(rt; front.is_some());
+    assert_eq!(rt;
+        read(rt.alloc(), front.unwrap_or_default()).err(),
+        Some(fault),
+        "{length}"
+    );
+}
+
+fn reads_front<R: AllocGlobal + Abort>(
+    rt: &R,
+    length: usize,
+    step: u32,
+    ceiling: u64,
+    need: u64,
+) -> Result<(), Fail> {
+    let inventory = read(rt.alloc(), WEB.as_bytes().get(..length).ok_or("a front")?)?;
+    assert!(rt; inventory.forest().len() == 1);
+    assert_eq!(rt; inventory.forest().get(0).step, step, "{length}");
+    assert_eq!(rt;
+        inventory.forest().get(0).ceiling,
+        Some(ceiling),
+        "{length}"
+    );
+    assert_eq!(rt; inventory.forest().get(0).need, need, "{length}");
+    Ok(())
+}
+
+// Each front of the web example is refused by its fault, or read as the token that it holds.
 #[test]
-fn prefixes_of_the_web_example(rt: HostRuntime) {
-    for length in 0..WEB.len() {
-        match read(rt.alloc(), &WEB.as_bytes()[..length]) {
-            Ok(inventory) => assert!(rt; inventory.forest().len() <= 1),
-            Err(InvFault::NotToml | InvFault::MissingKey(0, _) | InvFault::UnknownKey(Some(0))) =>
-                {}
-            Err(other) => assert_eq!(rt; other, InvFault::NotToml, "{length}"),
+fn fronts_of_the_web_example(rt: HostRuntime) -> Result<(), Fail> {
+    assert!(rt; WEB.len() == 90);
+    assert!(rt; read(rt.alloc(), b"")?.forest().is_empty());
+    for (from, to, fault) in REFUSED_FRONTS {
+        for length in from..=to {
+            refuses_front(&rt, length, fault);
         }
     }
+    for (from, to, step, ceiling, need) in READ_FRONTS {
+        for length in from..=to {
+            reads_front(&rt, length, step, ceiling, need)?;
+        }
+    }
+    Ok(())
 }
