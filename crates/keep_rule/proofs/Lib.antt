@@ -5,3 +5,4 @@ pub mod Rounds
 pub mod Stuck
 pub mod Keeping
 pub mod Asking
+pub mod Examples
