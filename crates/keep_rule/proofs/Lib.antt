@@ -7,3 +7,6 @@ pub mod Keeping
 pub mod Asking
 pub mod Timely
 pub mod Enough
+pub mod Next
+pub mod Schedule
+pub mod Existence
