@@ -39,7 +39,7 @@ fails_somewhere p (x ∷ xs) e =
       | inr fails ↦ (x, or_left (x == x) (list_any (λ b. b == x) xs) (grind (arith, nat_tests)), fails)
     ]
 
-short_over : (es : List Entry) (ends : ℕ → ℕ) (m i : ℕ) → all_last es ends m i ≡ false → (a : ℕ) × Over es a i × (ends a < m)
+pub short_over : (es : List Entry) (ends : ℕ → ℕ) (m i : ℕ) → all_last es ends m i ≡ false → (a : ℕ) × Over es a i × (ends a < m)
 unfolding all_last is_over
 short_over es ends m i e =
     let found = fails_somewhere (λ a. nat_le m (ends a)) (chain es i) e in
@@ -53,15 +53,15 @@ Covers margin (Some next) need end = (need ≤ end) ⊎ (next + margin ≤ end)
 abbrev pub IsSafe : List Entry → ℕ → ℕ → (ℕ → ℕ) → Option ℕ → Type 0
 IsSafe es margin s ends next = (i : ℕ) → Covers margin next (carried es s i) (ends i)
 
-covers_more : (margin : ℕ) (next : Option ℕ) (need end later : ℕ) → end ≤ later → Covers margin next need end → Covers margin next need later
+pub covers_more : (margin : ℕ) (next : Option ℕ) (need end later : ℕ) → end ≤ later → Covers margin next need end → Covers margin next need later
 covers_more margin None need end later h c = omega arith
 covers_more margin (Some next) need end later h c = elim c [ inl lasts ↦ inl (omega arith) | inr granted ↦ inr (omega arith) ]
 
-covers_need : (margin : ℕ) (next : Option ℕ) (need end : ℕ) → need ≤ end → Covers margin next need end
+pub covers_need : (margin : ℕ) (next : Option ℕ) (need end : ℕ) → need ≤ end → Covers margin next need end
 covers_need margin None need end h = h
 covers_need margin (Some next) need end h = inl h
 
-covers_not_due : (margin : ℕ) (next : Option ℕ) (need end : ℕ) → is_due margin next end ≡ false → Covers margin next need end
+pub covers_not_due : (margin : ℕ) (next : Option ℕ) (need end : ℕ) → is_due margin next end ≡ false → Covers margin next need end
 covers_not_due margin None need end e = absurd cc
 covers_not_due margin (Some next) need end e = inr (let t : nat_lt end (next + margin) ≡ false = e in grind (arith, nat_tests))
 
@@ -97,7 +97,7 @@ is_asked_in p (suc n) a i low high e =
     ]
 
 -- the Asks stay within the entries
-asks_within : (p : ℕ → Bool) (n a m : ℕ) → a + n ≤ m → asks_past m (filter p (range_with_len a n)) ≡ false
+pub asks_within : (p : ℕ → Bool) (n a m : ℕ) → a + n ≤ m → asks_past m (filter p (range_with_len a n)) ≡ false
 unfolding asks_past
 asks_within p zero a m h = refl
 asks_within p (suc n) a m h =
@@ -113,7 +113,7 @@ unfolding is_wanted
 wanted_renewable es margin s e t next i wanted = and_left (entry_at es i).renewable _ wanted
 
 -- whether the wake-up that asks the Asks asks an index: exactly where that is wanted
-asks_wanted : (es : List Entry) (margin s : ℕ) (e : ℕ → ℕ) (t : ℕ) (next : Option ℕ) (i : ℕ) → is_asked (asking es margin s e t next) i ≡ is_wanted es margin s e t next i
+pub asks_wanted : (es : List Entry) (margin s : ℕ) (e : ℕ → ℕ) (t : ℕ) (next : Option ℕ) (i : ℕ) → is_asked (asking es margin s e t next) i ≡ is_wanted es margin s e t next i
 unfolding is_asked asks
 asks_wanted es margin s e t next i =
     let p = is_wanted es margin s e t next in
@@ -133,7 +133,7 @@ asks_wanted es margin s e t next i =
       not_asked false f h = sym h
 
 -- an entry that is asked has the end of its renewal, which is later than its end was
-asked_end : (es : List Entry) (margin s : ℕ) (e : ℕ → ℕ) (t : ℕ) (next : Option ℕ) (i : ℕ) → is_wanted es margin s e t next i ≡ true → (renewed es margin e t i ≡ renewal (entry_at es i) t) × (e i < renewal (entry_at es i) t)
+pub asked_end : (es : List Entry) (margin s : ℕ) (e : ℕ → ℕ) (t : ℕ) (next : Option ℕ) (i : ℕ) → is_wanted es margin s e t next i ≡ true → (renewed es margin e t i ≡ renewal (entry_at es i) t) × (e i < renewal (entry_at es i) t)
 unfolding is_wanted renewed
 asked_end es margin s e t next i wanted =
     let granted = is_granted es margin e t i in

@@ -6,3 +6,8 @@ pub mod Stuck
 pub mod Keeping
 pub mod Asking
 pub mod Examples
+pub mod Timely
+pub mod Enough
+pub mod Next
+pub mod Schedule
+pub mod Existence
