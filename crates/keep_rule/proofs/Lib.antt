@@ -5,3 +5,5 @@ pub mod Rounds
 pub mod Stuck
 pub mod Keeping
 pub mod Asking
+pub mod Joining
+pub mod LaterStart

@@ -9,3 +9,4 @@ pub mod Least
 pub mod Asks
 pub mod Schedule
 pub mod Laws
+pub mod LawsOfRounds
