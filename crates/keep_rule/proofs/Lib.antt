@@ -5,5 +5,7 @@ pub mod Rounds
 pub mod Stuck
 pub mod Keeping
 pub mod Asking
+pub mod Timely
+pub mod Enough
 pub mod Joining
 pub mod LaterStart

@@ -2,6 +2,9 @@
 use Rattle.std.specs.Prelude.{◌≡◌, ℕ, List, None}
 use Rattle.keep_tree.specs.declared.entry.Entry.{Entry}
 use Rattle.keep_rule.specs.declared.wake.Wake.{Wake}
+use Rattle.keep_tree.specs.Forest.{Grove}
+use Rattle.keep_tree.specs.Push.{IsForest}
+use Rattle.keep_rule.specs.Asks.{with_asks}
 use Rattle.keep_rule.specs.Forced.{AllForced}
 use Rattle.keep_rule.specs.Keeps.{Keeps}
 use Rattle.keep_rule.specs.Least.{IsLeastAndLatest}
@@ -25,3 +28,9 @@ abbrev pub UniqueLaw : Type 0
 UniqueLaw =
     (es : List Entry) (margin s : ℕ) (ends : ℕ → ℕ) (ts us : List ℕ) →
     IsLeastAndLatest es margin s ends ts → IsLeastAndLatest es margin s ends us → ts ≡ us
+
+-- where any requests keep at given moments, the Asks do
+abbrev pub EnoughLaw : Type 0
+EnoughLaw =
+    (g : Grove) (s : ℕ) (ends : ℕ → ℕ) (plan : List Wake) → IsForest g → IsPlan s plan → Keeps g.entries g.margin s ends plan →
+    Keeps g.entries g.margin s ends (with_asks g.entries g.margin s ends (moments plan))

@@ -1,4 +1,4 @@
-ghost use Rattle.keep_rule.specs.Laws.{ForcedLaw, UniqueLaw, UnkeepableLaw};
+ghost use Rattle.keep_rule.specs.Laws.{EnoughLaw, ForcedLaw, UniqueLaw, UnkeepableLaw};
 
 /// The law of what cannot be kept: where an entry over a needed one cannot be led to that need by any renewal, no plan
 /// keeps. Its end can never pass its reach, and at the greater of start and reach the needed entry is gone.
@@ -15,4 +15,10 @@ pub fn forced_law()
 /// The law that there is one: at most one list of moments is least and latest.
 pub fn unique_law()
     ensures { UniqueLaw }
+{}
+
+/// The law of enough: where any requests keep at given moments, the Asks do. An entry that the Asks leave out is covered
+/// without a renewal until the next moment, and the Asks shorten no end.
+pub fn enough_law()
+    ensures { EnoughLaw }
 {}

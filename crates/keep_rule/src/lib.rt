@@ -14,7 +14,7 @@ mod rule;
 mod tests;
 mod wake;
 
-pub use laws::{forced_law, unique_law, unkeepable_law};
+pub use laws::{enough_law, forced_law, unique_law, unkeepable_law};
 pub use laws_of_rounds::{later_start_law, same_asks_law, same_requests_law};
 pub use replay::{ends_after, keeps};
 pub use rule::{granted_end, reach};
