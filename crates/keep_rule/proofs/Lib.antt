@@ -9,3 +9,6 @@ pub mod Timely
 pub mod Enough
 pub mod Joining
 pub mod LaterStart
+pub mod Tail
+pub mod FewestTimes
+pub mod FewestRequests

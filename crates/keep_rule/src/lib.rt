@@ -15,7 +15,10 @@ mod tests;
 mod wake;
 
 pub use laws::{enough_law, forced_law, unique_law, unkeepable_law};
-pub use laws_of_rounds::{later_start_law, same_asks_law, same_requests_law};
+pub use laws_of_rounds::{
+    fewest_requests_law, fewest_times_law, later_start_law, same_asks_law, same_requests_law,
+    tail_law,
+};
 pub use replay::{ends_after, keeps};
 pub use rule::{granted_end, reach};
 pub use wake::{Wake, WakeFault};
