@@ -82,7 +82,7 @@ unfolding capped
 capped_later None t u h = h
 capped_later (Some c) t u h = omega arith
 
-renewal_later : (e : Entry) (t u : ℕ) → t ≤ u → renewal e t ≤ renewal e u
+pub renewal_later : (e : Entry) (t u : ℕ) → t ≤ u → renewal e t ≤ renewal e u
 unfolding renewal
 renewal_later e t u h = capped_later e.ceiling (t + e.step) (u + e.step) (omega arith)
 

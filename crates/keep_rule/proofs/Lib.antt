@@ -11,3 +11,8 @@ pub mod Enough
 pub mod Next
 pub mod Schedule
 pub mod Existence
+pub mod Joining
+pub mod LaterStart
+pub mod Tail
+pub mod FewestTimes
+pub mod FewestRequests

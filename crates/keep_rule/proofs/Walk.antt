@@ -81,7 +81,7 @@ ends_before es margin ends n m w ws r h =
     let late : nat_le w.at m ≡ false = grind (arith, nat_tests) in
     ap (ends_after es margin ends) (ap (λ b. cond b (w ∷ filter (λ x. nat_le x.at m) ws) (filter (λ x. nat_le x.at m) ws)) late ∙ none_before n w.at m ws r h)
 
-ends_from : (es : List Entry) (margin : ℕ) (ends : ℕ → ℕ) (m : ℕ) (w : Wake) (ws : List Wake) → w.at ≤ m → ends_at es margin ends (w ∷ ws) m ≡ ends_at es margin (after es margin ends w) ws m
+pub ends_from : (es : List Entry) (margin : ℕ) (ends : ℕ → ℕ) (m : ℕ) (w : Wake) (ws : List Wake) → w.at ≤ m → ends_at es margin ends (w ∷ ws) m ≡ ends_at es margin (after es margin ends w) ws m
 unfolding ends_at ends_after
 ends_from es margin ends m w ws h =
     let due : nat_le w.at m ≡ true = grind (arith, nat_tests) in

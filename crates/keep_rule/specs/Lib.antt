@@ -9,3 +9,5 @@ pub mod Least
 pub mod Asks
 pub mod Schedule
 pub mod Laws
+pub mod Requests
+pub mod LawsOfRounds

@@ -2,11 +2,12 @@
 //!
 //! The contract for the layers above: `granted_end` is the renewal rule, `ends_after` its fold over wake-ups, `keeps`
 //! whether every entry lives until its need, `reach` how far renewals can lead; each exactly by the definitions of
-//! `specs/`, against which every planner and checker is judged. The laws of these definitions stand in `laws`. Begin with
-//! `wake`.
+//! `specs/`, against which every planner and checker is judged. The laws of these definitions stand in `laws` and
+//! `laws_of_rounds`. Begin with `wake`.
 #![tactic(auto)]
 
 mod laws;
+mod laws_of_rounds;
 mod replay;
 mod rule;
 #[cfg(test)]
@@ -14,6 +15,10 @@ mod tests;
 mod wake;
 
 pub use laws::{enough_law, existence_law, forced_law, schedule_law, unique_law, unkeepable_law};
+pub use laws_of_rounds::{
+    fewest_requests_law, fewest_times_law, later_start_law, same_asks_law, same_requests_law,
+    tail_law,
+};
 pub use replay::{ends_after, keeps};
 pub use rule::{granted_end, reach};
 pub use wake::{Wake, WakeFault};

@@ -1,0 +1,5 @@
+use Rattle.keep_rule.proofs.LaterStart.{later_start}
+use Rattle.keep_rule.proofs.laws_of_rounds.later_start_law.Goals as goal
+
+pub returns : goal.returns
+returns c = later_start

@@ -1,0 +1,5 @@
+use Rattle.keep_rule.proofs.LaterStart.{same_asks}
+use Rattle.keep_rule.proofs.laws_of_rounds.same_asks_law.Goals as goal
+
+pub returns : goal.returns
+returns c = same_asks

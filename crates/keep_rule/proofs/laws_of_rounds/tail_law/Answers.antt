@@ -1,0 +1,6 @@
+use Rattle.keep_rule.proofs.Enough.{enough}
+use Rattle.keep_rule.proofs.Tail.{tail}
+use Rattle.keep_rule.proofs.laws_of_rounds.tail_law.Goals as goal
+
+pub returns : goal.returns
+returns c = tail enough
