@@ -7,6 +7,9 @@ pub mod Keeping
 pub mod Asking
 pub mod Timely
 pub mod Enough
+pub mod Next
+pub mod Schedule
+pub mod Existence
 pub mod Joining
 pub mod LaterStart
 pub mod Tail
