@@ -1,31 +1,18 @@
--- Asking no sooner than needed serves: a list of moments at which any requests keep is kept with its Asks.
-use Rattle.std.proofs.Common.{◌≡◌, ◌==◌, ◌≢◌, ℕ, zero, suc, ◌+◌, ◌<◌, ◌≤◌, ◌⊎◌, ◌&&◌, ◌||◌, ◌++◌, Bool, true, false, cond, List, [], ◌∷◌, Option, Some, None, filter, length, map, max, nat_le, nat_lt, refl, sym, ap, ◌∙◌, subst, arith, inl, inr}
+-- The Asks: which entries are asked, what an entry that is asked gets, and when an end covers what its entry carries.
+use Rattle.std.proofs.Common.{◌≡◌, ◌==◌, ℕ, zero, suc, ◌+◌, ◌<◌, ◌≤◌, ◌⊎◌, ◌&&◌, ◌||◌, Bool, true, false, cond, List, [], ◌∷◌, Option, Some, None, filter, length, nat_le, nat_lt, refl, sym, ap, ◌∙◌, subst, arith, inl, inr}
 use Rattle.std.proofs.lemmas.Bool.{cases_Bool, cases_eq, cases_lt, cond-true, cond-false}
 use Rattle.std.proofs.lemmas.Bool.Decides.{nat_tests}
-use Rattle.std.proofs.lemmas.List.{append_assoc}
 use Rattle.std.specs.List.{list_all, list_any, range_with_len}
-use Rattle.keep_moment.specs.declared.moment.TheConstants.{LAST}
 use Rattle.keep_tree.specs.declared.entry.Entry.{Entry}
-use Rattle.keep_tree.specs.Forest.{Grove, entry_at}
+use Rattle.keep_tree.specs.Forest.{entry_at}
 use Rattle.keep_tree.specs.Over.{Over, chain, is_over}
-use Rattle.keep_tree.specs.Push.{IsForest}
 use Rattle.keep_tree.specs.Renewal.{all_last, is_granted, renewal, renewed}
-use Rattle.keep_tree.proofs.Chains.{ParentsFirst, cases_Option, over_child, over_root, over_self}
 use Rattle.keep_tree.proofs.Entries.{entry_at_past}
-use Rattle.keep_tree.proofs.Placed.{parents_first}
-use Rattle.keep_rule.specs.declared.wake.Wake.{Wake}
-use Rattle.keep_rule.specs.Asks.{asking, asks, first_of, is_due, is_wanted, with_asks}
+use Rattle.keep_rule.specs.Asks.{asking, asks, is_due, is_wanted}
 use Rattle.keep_tree.specs.Carried.{carried}
-use Rattle.keep_rule.specs.Ends.{after, is_asked}
-use Rattle.keep_rule.specs.Forced.{bound, latest_end}
-use Rattle.keep_rule.specs.Keeps.{Alive, Keeps}
-use Rattle.keep_rule.specs.Plans.{IsPlan, asks_past, moments}
-use Rattle.keep_rule.specs.Replay.{KeptBetween}
-use Rattle.keep_tree.proofs.Carrying.{and_left, and_right, carried_at_least, carried_is_of, carried_up, or_left, or_parts, or_right}
-use Rattle.keep_rule.proofs.Keeping.{DoneBy, append_stuck, done_more, done_stuck, end_below_bound, stuck_from}
-use Rattle.keep_rule.proofs.Lists.{need_within}
-use Rattle.keep_rule.proofs.Stuck.{AllStuck, IsStuck, gone}
-use Rattle.keep_rule.proofs.Walk.{Rises, keeps_cons, keeps_nil}
+use Rattle.keep_rule.specs.Ends.{is_asked}
+use Rattle.keep_rule.specs.Plans.{asks_past}
+use Rattle.keep_tree.proofs.Carrying.{and_left, and_right, or_left, or_parts, or_right}
 
 -- where not all last, one does not
 fails_somewhere : (p : ℕ → Bool) (xs : List ℕ) → list_all p xs ≡ false → (a : ℕ) × (list_any (λ b. b == a) xs ≡ true) × (p a ≡ false)

@@ -1,5 +1,5 @@
 -- The law of enough: where any requests keep at given moments, the Asks do, since a plan that keeps comes in time.
-use Rattle.std.proofs.Common.{◌≡◌, ℕ, ◌+◌, ◌<◌, ◌≤◌, ◌⊎◌, ◌++◌, List, [], ◌∷◌, Option, Some, None, sym, subst, arith, inl, inr}
+use Rattle.std.proofs.Common.{◌≡◌, ℕ, ◌+◌, ◌<◌, ◌≤◌, ◌++◌, List, [], ◌∷◌, Option, Some, None, sym, subst, arith, inl, inr}
 use Rattle.std.proofs.lemmas.Bool.{cases_lt}
 use Rattle.std.proofs.lemmas.List.{append_assoc}
 use Rattle.keep_tree.specs.declared.entry.Entry.{Entry}
@@ -24,7 +24,7 @@ short_gone es margin s ends prev done ws i by short stuck keeps =
     (append_stuck es margin i (bound es ends prev i) done ws (done_stuck es margin ends prev i done by) stuck) keeps
 
 -- the moments of a plan that keeps come in time
-kept_is_timely :
+pub kept_is_timely :
     (es : List Entry) (margin s : ℕ) (ends : ℕ → ℕ) (ws : List Wake) (prev : Option ℕ) (from : ℕ) (done : List Wake) → DoneBy prev done → ((t : ℕ) → prev ≡ Some t → t ≤ from) →
     IsPlan from ws → Keeps es margin s ends (done ++ ws) → AllTimely es margin s ends prev (moments ws)
 kept_is_timely es margin s ends [] prev from done by le plan keeps =

@@ -1,20 +1,17 @@
 -- The laws of keeping: what cannot be kept, what cannot be put off, and that there is one least list of moments.
-use Rattle.std.proofs.Common.{◌≡◌, ◌==◌, ℕ, zero, suc, ◌+◌, ◌<◌, ◌≤◌, ◌⊎◌, ◌&&◌, ◌++◌, Bool, true, false, cond, List, [], ◌∷◌, Option, Some, None, length, map, max, min, nat_le, get_or, option_map, refl, sym, ap, ◌∙◌, subst, arith, inl, inr}
-use Rattle.std.proofs.lemmas.Bool.{cases_Bool, cases_lt, cond-true, cond-false}
+use Rattle.std.proofs.Common.{◌≡◌, ℕ, zero, suc, ◌+◌, ◌<◌, ◌≤◌, ◌&&◌, ◌++◌, Bool, true, false, cond, List, [], ◌∷◌, Option, Some, None, length, max, nat_le, get_or, option_map, refl, sym, ap, ◌∙◌, subst, arith, inl, inr}
+use Rattle.std.proofs.lemmas.Bool.{cases_Bool, cases_lt, cond-true}
 use Rattle.std.proofs.lemmas.Bool.Decides.{nat_tests}
 use Rattle.std.proofs.lemmas.List.{append_assoc, ext_get_or, length-map}
 use Rattle.keep_tree.specs.declared.entry.Entry.{Entry}
 use Rattle.keep_tree.specs.Forest.{entry_at}
-use Rattle.keep_tree.specs.Over.{Over}
 use Rattle.keep_tree.specs.Renewal.{capped, renewal}
 use Rattle.keep_rule.specs.declared.wake.Wake.{Wake}
-use Rattle.keep_rule.specs.Forced.{AllForced, Forced, bound, latest_end}
+use Rattle.keep_rule.specs.Forced.{AllForced, bound, latest_end}
 use Rattle.keep_rule.specs.Keeps.{Keeps}
 use Rattle.keep_rule.specs.Laws.{ForcedLaw, UniqueLaw, UnkeepableLaw}
-use Rattle.keep_rule.specs.Least.{IsLeastAndLatest}
 use Rattle.keep_rule.specs.Plans.{IsPlan, moments}
 use Rattle.keep_rule.specs.Reach.{reach, reach_of}
-use Rattle.keep_rule.specs.Unkeepable.{Unkeepable}
 use Rattle.keep_rule.proofs.Stuck.{AllStuck, IsStuck, gone}
 
 -- each wake-up from s on is stuck where that holds of each moment from s on

@@ -1,6 +1,6 @@
 -- The next moment behind a wake-up, where no pair is Unkeepable: it comes late enough, lies before LAST, comes in time for
 -- every entry, and is forced.
-use Rattle.std.proofs.Common.{◌≡◌, ◌≢◌, ℕ, zero, suc, ◌+◌, ◌-◌, ◌<◌, ◌≤◌, ◌⊎◌, ◌&&◌, Bool, true, false, cond, List, [], ◌∷◌, Option, Some, None, length, map, max, min, nat_le, option_map, refl, sym, ap, ◌∙◌, subst, arith, inl, inr}
+use Rattle.std.proofs.Common.{◌≡◌, ℕ, ◌+◌, ◌-◌, ◌<◌, ◌≤◌, ◌⊎◌, ◌&&◌, true, false, List, Option, Some, None, length, max, min, nat_le, option_map, refl, sym, ap, ◌∙◌, subst, arith, inl, inr}
 use Rattle.std.proofs.lemmas.Bool.{cases_Bool, cases_lt, cond-true, cond-false}
 use Rattle.std.proofs.lemmas.Bool.Decides.{nat_tests}
 use Rattle.keep_moment.specs.declared.moment.TheConstants.{LAST}
@@ -11,17 +11,11 @@ use Rattle.keep_tree.specs.Push.{IsForest}
 use Rattle.keep_tree.specs.Renewal.{capped, renewal}
 use Rattle.keep_tree.proofs.Carrying.{and_left, and_right, carried_is_of}
 use Rattle.keep_tree.proofs.Entries.{entry_at_past}
-use Rattle.keep_rule.specs.declared.wake.Wake.{Wake}
-use Rattle.keep_rule.specs.Asks.{asking, first_of, with_asks}
-use Rattle.keep_rule.specs.Ends.{after}
-use Rattle.keep_rule.specs.Forced.{AllForced, Forced, bound, latest_end}
+use Rattle.keep_rule.specs.Forced.{Forced, bound, latest_end}
 use Rattle.keep_rule.specs.Laws.{AllKeepable}
-use Rattle.keep_rule.specs.Least.{IsLeastAndLatest}
-use Rattle.keep_rule.specs.Plans.{IsPlan, moments}
 use Rattle.keep_rule.specs.Reach.{reach, reach_of}
-use Rattle.keep_rule.specs.Schedule.{IsNext, IsSchedule, RisesStrictly}
-use Rattle.keep_rule.specs.Unkeepable.{Unkeepable}
-use Rattle.keep_rule.proofs.Keeping.{IsRising, end_below_bound, forced_is_least}
+use Rattle.keep_rule.specs.Schedule.{IsNext}
+use Rattle.keep_rule.proofs.Keeping.{end_below_bound}
 use Rattle.keep_rule.proofs.Lists.{need_within}
 
 -- an entry that can be led to what it carries: it is renewable, its end leaves room for a renewal, and its ceiling lies

@@ -1,28 +1,18 @@
 -- The law of the schedule: where no pair is Unkeepable, its moments rise strictly, are each forced, are kept with their
 -- Asks, and are least and latest.
-use Rattle.std.proofs.Common.{◌≡◌, ◌≢◌, ℕ, zero, suc, ◌+◌, ◌-◌, ◌<◌, ◌≤◌, ◌⊎◌, ◌&&◌, Bool, true, false, cond, List, [], ◌∷◌, Option, Some, None, length, map, max, min, nat_le, option_map, refl, sym, ap, ◌∙◌, subst, arith, inl, inr}
-use Rattle.std.proofs.lemmas.Bool.{cases_Bool, cases_lt, cond-true, cond-false}
-use Rattle.std.proofs.lemmas.Bool.Decides.{nat_tests}
+use Rattle.std.proofs.Common.{◌≡◌, ℕ, ◌+◌, ◌<◌, ◌≤◌, List, [], ◌∷◌, Option, Some, None, refl, sym, ap, subst, arith}
 use Rattle.keep_moment.specs.declared.moment.TheConstants.{LAST}
 use Rattle.keep_tree.specs.declared.entry.Entry.{Entry}
-use Rattle.keep_tree.specs.Carried.{carried}
-use Rattle.keep_tree.specs.Forest.{Grove, entry_at}
+use Rattle.keep_tree.specs.Forest.{Grove}
 use Rattle.keep_tree.specs.Push.{IsForest}
-use Rattle.keep_tree.specs.Renewal.{capped, renewal}
-use Rattle.keep_tree.proofs.Carrying.{carried_is_of}
-use Rattle.keep_tree.proofs.Entries.{entry_at_past}
-use Rattle.keep_rule.specs.declared.wake.Wake.{Wake}
 use Rattle.keep_rule.specs.Asks.{asking, first_of, with_asks}
 use Rattle.keep_rule.specs.Ends.{after}
-use Rattle.keep_rule.specs.Forced.{AllForced, Forced, bound, latest_end}
+use Rattle.keep_rule.specs.Forced.{AllForced}
 use Rattle.keep_rule.specs.Laws.{AllKeepable, ScheduleLaw}
 use Rattle.keep_rule.specs.Least.{IsLeastAndLatest}
 use Rattle.keep_rule.specs.Plans.{IsPlan, moments}
-use Rattle.keep_rule.specs.Reach.{reach, reach_of}
-use Rattle.keep_rule.specs.Schedule.{IsNext, IsSchedule, RisesStrictly}
-use Rattle.keep_rule.specs.Unkeepable.{Unkeepable}
-use Rattle.keep_rule.proofs.Keeping.{IsRising, end_below_bound, forced_is_least}
-use Rattle.keep_rule.proofs.Lists.{need_within}
+use Rattle.keep_rule.specs.Schedule.{IsSchedule, RisesStrictly}
+use Rattle.keep_rule.proofs.Keeping.{IsRising, forced_is_least}
 use Rattle.keep_rule.proofs.Next.{Comes, next_comes}
 use Rattle.keep_rule.proofs.Timely.{AllTimely, timely_keeps}
 

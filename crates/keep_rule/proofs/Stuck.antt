@@ -1,5 +1,5 @@
 -- An end that cannot pass a bound: under wake-ups that come too late for it, or give no more than it, it stays below.
-use Rattle.std.proofs.Common.{◌≡◌, ◌==◌, ℕ, ◌+◌, ◌<◌, ◌≤◌, ◌⊎◌, ◌&&◌, Bool, true, false, cond, List, [], ◌∷◌, filter, max, nat_le, refl, sym, ap, ◌∙◌, subst, arith, inl, inr}
+use Rattle.std.proofs.Common.{◌≡◌, ℕ, ◌+◌, ◌<◌, ◌≤◌, ◌⊎◌, ◌&&◌, Bool, true, false, cond, List, [], ◌∷◌, filter, max, nat_le, refl, sym, subst, arith, inl, inr}
 use Rattle.std.proofs.lemmas.Bool.{cases_Bool, cases_lt, cond-true, cond-false}
 use Rattle.std.proofs.lemmas.Bool.Decides.{nat_tests}
 use Rattle.keep_tree.specs.declared.entry.Entry.{Entry}
@@ -9,7 +9,7 @@ use Rattle.keep_tree.specs.Renewal.{all_last, is_granted, renewal, renewed}
 use Rattle.keep_tree.proofs.Chains.{all_last_head}
 use Rattle.keep_rule.specs.declared.wake.Wake.{Wake}
 use Rattle.keep_rule.specs.Ends.{after, ends_after, is_asked}
-use Rattle.keep_rule.specs.Keeps.{Alive, Keeps, ends_at}
+use Rattle.keep_rule.specs.Keeps.{Keeps, ends_at}
 
 -- a wake-up at t leads no end of i that is at most b past b
 abbrev pub IsStuck : List Entry → ℕ → ℕ → ℕ → ℕ → Type 0

@@ -1,13 +1,11 @@
 -- The law of the tail: after a round with its Asks, the moments that are left are least and latest.
-use Rattle.std.proofs.Common.{◌≡◌, ℕ, suc, ◌+◌, ◌<◌, ◌≤◌, List, [], ◌∷◌, length, refl, sym, ap, subst, arith}
+use Rattle.std.proofs.Common.{◌≡◌, ℕ, suc, List, [], ◌∷◌, refl, sym, ap, subst, arith}
 use Rattle.keep_tree.specs.declared.entry.Entry.{Entry}
-use Rattle.keep_tree.specs.Forest.{Grove}
 use Rattle.keep_rule.specs.Asks.{asking, first_of, with_asks}
 use Rattle.keep_rule.specs.Ends.{after}
 use Rattle.keep_rule.specs.Keeps.{Keeps}
 use Rattle.keep_rule.specs.Laws.{EnoughLaw}
 use Rattle.keep_rule.specs.LawsOfRounds.{TailLaw}
-use Rattle.keep_rule.specs.Least.{IsLeastAndLatest}
 use Rattle.keep_rule.specs.Plans.{IsPlan, moments}
 use Rattle.keep_rule.proofs.Joining.{InOrder, keeps_joined, order_plan, plan_order}
 

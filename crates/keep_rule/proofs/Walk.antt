@@ -1,6 +1,6 @@
 -- A walk over the wake-ups: what is left to keep goes wake-up by wake-up.
 use Rattle.std.proofs.Common.{◌≡◌, ℕ, ◌+◌, ◌<◌, ◌≤◌, ◌↔◌, ◌&&◌, Bool, true, false, cond, List, [], ◌∷◌, Option, Some, None, length, filter, is_some, nat_le, nat_lt, refl, sym, ap, ◌∙◌, subst, arith, inl, inr, IsTrue}
-use Rattle.std.proofs.lemmas.Bool.{cases_Bool, cases_lt, cond-true, cond-false}
+use Rattle.std.proofs.lemmas.Bool.{cases_lt}
 use Rattle.std.proofs.lemmas.Bool.Decides.{nat_tests}
 use Rattle.keep_moment.specs.declared.moment.TheConstants.{LAST}
 use Rattle.keep_tree.specs.declared.entry.Entry.{Entry}
@@ -9,7 +9,7 @@ use Rattle.keep_rule.specs.declared.wake.Wake.{Wake}
 use Rattle.keep_rule.specs.declared.wake.WakeFault.{WakeFault}
 use Rattle.keep_rule.specs.declared.wake.WakeFault.TheVariants.{BeforeStart, Unordered, BadIndex}
 use Rattle.keep_rule.specs.Ends.{after, ends_after}
-use Rattle.keep_rule.specs.Keeps.{Alive, Keeps, ends_at}
+use Rattle.keep_rule.specs.Keeps.{Keeps, ends_at}
 use Rattle.keep_rule.specs.Plans.{asks_past, fault_at, fault_from, first_some, wake_fault}
 use Rattle.keep_rule.specs.Replay.{KeptBetween}
 

@@ -1,6 +1,6 @@
 -- Ends after: the ends that a list of wake-ups leaves, by the Renewal rule at each.
 -- Source: this project's own; the fold of the Renewal rule.
-use Rattle.std.specs.Prelude.{ℕ, Bool, if◌then◌else◌, List, [], ◌∷◌, length, map, slice_index, ◌==◌}
+use Rattle.std.specs.Prelude.{ℕ, Bool, if◌then◌else◌, List, [], ◌∷◌, length, map, ◌==◌}
 use Rattle.std.specs.List.{list_any, range_with_len}
 use Rattle.keep_tree.specs.declared.entry.Entry.{Entry}
 use Rattle.keep_tree.specs.Renewal.{renewed}

@@ -1,7 +1,7 @@
 -- Reach: how far renewals can lead an entry.
 -- Source: Vault, "Lease, renew, and revoke" (maximum TTL); Vault, "Tokens" (explicit max TTL, period). The margin is
 -- this project's own.
-use Rattle.std.specs.Prelude.{ℕ, ◌+◌, max, ◌&&◌, if◌then◌else◌, List, Option, Some, None, option_map, nat_le}
+use Rattle.std.specs.Prelude.{ℕ, ◌+◌, max, ◌&&◌, if◌then◌else◌, List, Option, Some, option_map, nat_le}
 use Rattle.keep_tree.specs.declared.entry.Entry.{Entry}
 use Rattle.keep_tree.specs.Forest.{entry_at}
 

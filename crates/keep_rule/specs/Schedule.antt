@@ -1,6 +1,6 @@
 -- Schedule: the moments each as late as the earliest bound that falls short allows.
 -- Source: this project's own, over Vault, "Lease, renew, and revoke" (the increment counts from the renewal; maximum TTL).
-use Rattle.std.specs.Prelude.{◌≡◌, ℕ, ◌+◌, ◌-◌, ◌≤◌, ◌<◌, List, [], ◌∷◌, Option, Some, None}
+use Rattle.std.specs.Prelude.{◌≡◌, ℕ, ◌+◌, ◌-◌, ◌≤◌, ◌<◌, List, [], ◌∷◌, Option, Some}
 use Rattle.keep_tree.specs.declared.entry.Entry.{Entry}
 use Rattle.keep_tree.specs.Carried.{carried}
 use Rattle.keep_rule.specs.Forced.{bound}

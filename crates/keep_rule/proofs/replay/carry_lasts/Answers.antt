@@ -1,6 +1,5 @@
-use Rattle.std.proofs.Common.{◌≡◌, ℕ, ◌<◌, ◌∙◌, ap, arith, get_or, length, min, subst, sym, ◌+◌, set, Some, None}
+use Rattle.std.proofs.Common.{ℕ, ◌<◌, ◌∙◌, ap, arith, length, subst, sym, ◌+◌, set}
 use Rattle.keep_tree.specs.declared.entry.Entry.{Entry}
-use Rattle.keep_tree.specs.Forest.{entry_at}
 use Rattle.keep_tree.proofs.Placed.{parents_first}
 use Rattle.keep_rule.specs.Replay.{shown}
 use Rattle.keep_rule.proofs.Rounds.{LastsBelow, lasts_child, lasts_root}

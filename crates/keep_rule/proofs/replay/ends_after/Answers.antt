@@ -1,13 +1,10 @@
-use Rattle.std.proofs.Common.{◌≡◌, ◌∙◌, ◌+◌, ◌<◌, ◌↔◌, ◌++◌, ◌∷◌, ℕ, IsTrue, ap, arith, drop, get_or, length, refl, subst, sym, take, vec_len}
+use Rattle.std.proofs.Common.{◌≡◌, ◌∙◌, ◌+◌, ◌∷◌, ap, arith, drop, length, subst, sym}
 use Rattle.std.proofs.lemmas.List.{drop_all}
-use Rattle.keep_moment.specs.declared.moment.TheConstants.{LAST}
-use Rattle.keep_tree.specs.Forest.{end_of, entry_at}
-use Rattle.keep_rule.specs.declared.wake.Wake.{Wake}
+use Rattle.keep_tree.specs.Forest.{end_of}
 use Rattle.keep_rule.specs.Ends.{after, ends_after, listed}
-use Rattle.keep_rule.specs.Keeps.{Keeps}
-use Rattle.keep_rule.specs.Replay.{KeptBetween, shown}
-use Rattle.keep_rule.proofs.Lists.{listed_shown, need_within, rewritten, unrolled}
-use Rattle.keep_rule.proofs.Walk.{Rises, ends_after_cons, ends_after_nil, kept_first, kept_last, kept_more, rises}
+use Rattle.keep_rule.specs.Replay.{shown}
+use Rattle.keep_rule.proofs.Lists.{listed_shown, rewritten, unrolled}
+use Rattle.keep_rule.proofs.Walk.{Rises, ends_after_cons, ends_after_nil, rises}
 use Rattle.keep_rule.proofs.replay.ends_after.Goals as goal
 
 pub loop-wake-init : goal.loop-wake-init

@@ -1,4 +1,4 @@
-use Rattle.std.proofs.Common.{◌≡◌, ◌↔◌, ℕ, IsTrue, drop, length, vec_len}
+use Rattle.std.proofs.Common.{◌≡◌, ◌↔◌, IsTrue, drop, length, vec_len}
 use Rattle.keep_tree.specs.Forest.{end_of}
 use Rattle.keep_rule.specs.Keeps.{Keeps}
 use Rattle.keep_rule.specs.Replay.{shown}

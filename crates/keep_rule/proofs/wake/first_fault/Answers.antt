@@ -1,7 +1,6 @@
-use Rattle.std.proofs.Common.{◌≡◌, ◌+◌, ◌∙◌, ◌<◌, None, Option, ap, arith, drop, is_some, length, sym, true, false}
+use Rattle.std.proofs.Common.{◌≡◌, ◌+◌, ◌∙◌, ap, arith, drop, is_some, sym, true, false}
 use Rattle.std.proofs.lemmas.List.{drop_all}
-use Rattle.keep_rule.specs.declared.wake.WakeFault.{WakeFault}
-use Rattle.keep_rule.specs.Plans.{fault_at, fault_from, first_some, wake_fault}
+use Rattle.keep_rule.specs.Plans.{fault_at, fault_from, wake_fault}
 use Rattle.keep_rule.proofs.Lists.{unrolled}
 use Rattle.keep_rule.proofs.Walk.{fault_from_cons, fault_from_nil, first_some_none, first_some_some}
 use Rattle.keep_rule.proofs.wake.first_fault.Goals as goal
