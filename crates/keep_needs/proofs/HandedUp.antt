@@ -76,7 +76,6 @@ handed_child es s i p loads h first within is_parent up heavier =
           (λ k _ in'. up.own k in') j in_es;
       child = λ c q from in_es is_child.
           let apart : c ≢ p = λ same. absurd (omega arith) in
-          let Goal : ℕ → Load → Type 0 = λ k l. (entry_at es c).parent ≡ Some k → IsAtMost (nth (set loads p h) c) l in
           subst (λ l. IsAtMost l (nth (set loads p h) q)) (sym (nth_set_other loads p c h apart)) (
           at_set (λ k l. (entry_at es c).parent ≡ Some k → IsAtMost (nth loads c) l) loads p h there
           (λ its. elim (cases_eq c i) [

@@ -50,8 +50,8 @@ impl Carried {
     }
 }
 
-/// What each entry of the forest carries from `start` on. It costs one pass over the entries. The only error is want of
-/// memory.
+/// What each entry of the forest carries from `start` on. The work is in proportion to the number of entries, however deep
+/// they stand. The only error is want of memory.
 ///
 /// Source: Vault, "Tokens" (a token's end ends its children and its leases); needs are this project's own.
 pub fn carry(alloc: Global, forest: &Forest, start: Moment) -> Result<Carried, NeedsFault>

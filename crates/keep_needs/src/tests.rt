@@ -4,8 +4,8 @@ use keep_tree::{Entry, Forest, Kind};
 use std::alloc::Global;
 use std::test::Fail;
 
-// An entry by its parent and its need. What has a parent is a child token of it.
-type Row = (Option<u32>, u64);
+// An entry by its kind, its parent and its need.
+type Row = (Kind, Option<u32>, u64);
 
 // What an entry carries, and whose need it is.
 type Carries = (u64, Option<u32>);
@@ -13,11 +13,11 @@ type Carries = (u64, Option<u32>);
 fn forest_of(alloc: Global, rows: &[Row]) -> Result<Forest, Fail> {
     let mut forest = Forest::new(alloc);
     for (i, row) in rows.iter().enumerate() {
-        let (parent, need) = *row;
+        let (kind, parent, need) = *row;
         let name = format!(in alloc; "e{i}")?;
         forest.push(Entry {
             name: Name::of(alloc, name.as_bytes())?,
-            kind: Kind::Token,
+            kind,
             parent,
             end: 1060,
             renewable: true,
@@ -27,6 +27,18 @@ fn forest_of(alloc: Global, rows: &[Row]) -> Result<Forest, Fail> {
         })?;
     }
     Ok(forest)
+}
+
+fn token(need: u64) -> Row {
+    (Kind::Token, None, need)
+}
+
+fn child(parent: u32, need: u64) -> Row {
+    (Kind::Token, Some(parent), need)
+}
+
+fn lease(token: u32, need: u64) -> Row {
+    (Kind::Lease, Some(token), need)
 }
 
 // What each of these entries carries from the start 1000 on.
@@ -45,22 +57,22 @@ fn carried_from_1000(alloc: Global, rows: &[Row]) -> Result<Vec<Carries>, Fail> 
 #[test]
 fn carries_the_greatest_need_and_names_the_lowest(rt: HostRuntime) -> Result<(), Fail> {
     let alloc = rt.alloc();
-    let cases = [
+    let cases: [(&[Row], &[Carries]); 5] = [
         (
-            [(None, 0), (Some(0), 1200)].as_slice(),
-            [(1200, Some(1)), (1200, Some(1))].as_slice(),
+            &[token(0), lease(0, 1200)],
+            &[(1200, Some(1)), (1200, Some(1))],
         ),
         (
-            &[(None, 1200), (Some(0), 1200)],
+            &[token(1200), child(0, 1200)],
             &[(1200, Some(0)), (1200, Some(1))],
         ),
         (
             &[
-                (None, 0),
-                (Some(0), 0),
-                (Some(0), 0),
-                (Some(2), 1300),
-                (Some(1), 1300),
+                token(0),
+                child(0, 0),
+                child(0, 0),
+                lease(2, 1300),
+                lease(1, 1300),
             ],
             &[
                 (1300, Some(3)),
@@ -71,7 +83,7 @@ fn carries_the_greatest_need_and_names_the_lowest(rt: HostRuntime) -> Result<(),
             ],
         ),
         (
-            &[(None, 999), (Some(0), 1000), (None, 1001), (Some(2), 0)],
+            &[token(999), lease(0, 1000), token(1001), lease(2, 0)],
             &[(0, None), (0, None), (1001, Some(2)), (0, None)],
         ),
         (&[], &[]),
@@ -92,9 +104,9 @@ fn carries_the_greatest_need_and_names_the_lowest(rt: HostRuntime) -> Result<(),
 fn a_deep_chain_carries_its_last_need(rt: HostRuntime) -> Result<(), Fail> {
     let alloc = rt.alloc();
     let mut rows = Vec::new(alloc);
-    rows.push((None, 1100))?;
+    rows.push(token(1100))?;
     for i in 1..64u32 {
-        rows.push((Some(i - 1), if i == 63 { 1200 } else { 0 }))?;
+        rows.push(child(i - 1, if i == 63 { 1200 } else { 0 }))?;
     }
     let carried = carried_from_1000(alloc, &rows)?;
     assert_eq!(rt; carried.len(), 64);

@@ -63,7 +63,7 @@ fn forest_of(alloc: Global, rows: &[Row]) -> Result<Forest, Fail> {
     Ok(forest)
 }
 
-// From the start 1000: a token and its lease, under a low ceiling and one that serves; a token that ends at the start; one
+// From the start 1000: a token and its lease, under a low ceiling and one that serves; tokens that end at the start; one
 // that cannot be renewed, beside the token that is needed and over it.
 #[test]
 fn names_the_lowest_that_falls_short(rt: HostRuntime) -> Result<(), Fail> {
@@ -79,6 +79,14 @@ fn names_the_lowest_that_falls_short(rt: HostRuntime) -> Result<(), Fail> {
         (&enough, None),
         (&[token(None, 1000, true, 1100)], Some((0, 0))),
         (&[token(None, 1000, true, 1000)], None),
+        (
+            &[
+                token(None, 1000, true, 1000),
+                token(None, 1000, true, 1100),
+                token(None, 1000, true, 1100),
+            ],
+            Some((1, 1)),
+        ),
         (
             &[token(None, 1060, false, 0), token(None, 1300, true, 1200)],
             None,
