@@ -6,7 +6,8 @@ use Rattle.keep_tree.specs.Carried.{carried}
 use Rattle.keep_tree.specs.Forest.{Grove}
 use Rattle.keep_tree.specs.Push.{IsForest}
 use Rattle.keep_rule.specs.Forced.{bound}
-use Rattle.keep_rule.specs.Laws.{AllKeepable, ExistenceLaw}
+use Rattle.keep_rule.specs.Laws.{ExistenceLaw}
+use Rattle.keep_rule.specs.Unkeepable.{AllKeepable}
 use Rattle.keep_rule.specs.Schedule.{IsNext, IsSchedule}
 use Rattle.keep_rule.proofs.Keeping.{end_below_bound}
 use Rattle.keep_rule.proofs.Next.{Comes, can_be_led, next_comes, renewable_within}

@@ -12,7 +12,7 @@ use Rattle.keep_tree.specs.Renewal.{capped, renewal}
 use Rattle.keep_tree.proofs.Carrying.{and_left, and_right, carried_is_of}
 use Rattle.keep_tree.proofs.Entries.{entry_at_past}
 use Rattle.keep_rule.specs.Forced.{Forced, bound, latest_end}
-use Rattle.keep_rule.specs.Laws.{AllKeepable}
+use Rattle.keep_rule.specs.Unkeepable.{AllKeepable}
 use Rattle.keep_rule.specs.Reach.{reach, reach_of}
 use Rattle.keep_rule.specs.Schedule.{IsNext}
 use Rattle.keep_rule.proofs.Keeping.{end_below_bound}

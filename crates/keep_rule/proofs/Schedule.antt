@@ -8,7 +8,8 @@ use Rattle.keep_tree.specs.Push.{IsForest}
 use Rattle.keep_rule.specs.Asks.{asking, first_of, with_asks}
 use Rattle.keep_rule.specs.Ends.{after}
 use Rattle.keep_rule.specs.Forced.{AllForced}
-use Rattle.keep_rule.specs.Laws.{AllKeepable, ScheduleLaw}
+use Rattle.keep_rule.specs.Laws.{ScheduleLaw}
+use Rattle.keep_rule.specs.Unkeepable.{AllKeepable}
 use Rattle.keep_rule.specs.Least.{IsLeastAndLatest}
 use Rattle.keep_rule.specs.Plans.{IsPlan, moments}
 use Rattle.keep_rule.specs.Schedule.{IsSchedule, RisesStrictly}

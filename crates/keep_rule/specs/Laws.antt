@@ -10,7 +10,7 @@ use Rattle.keep_rule.specs.Keeps.{Keeps}
 use Rattle.keep_rule.specs.Least.{IsLeastAndLatest}
 use Rattle.keep_rule.specs.Plans.{IsPlan, moments}
 use Rattle.keep_rule.specs.Schedule.{IsSchedule, RisesStrictly}
-use Rattle.keep_rule.specs.Unkeepable.{Unkeepable}
+use Rattle.keep_rule.specs.Unkeepable.{AllKeepable, Unkeepable}
 
 -- where a pair is Unkeepable, no plan keeps
 abbrev pub UnkeepableLaw : Type 0
@@ -35,10 +35,6 @@ abbrev pub EnoughLaw : Type 0
 EnoughLaw =
     (g : Grove) (s : ℕ) (ends : ℕ → ℕ) (plan : List Wake) → IsForest g → IsPlan s plan → Keeps g.entries g.margin s ends plan →
     Keeps g.entries g.margin s ends (with_asks g.entries g.margin s ends (moments plan))
-
--- no pair is Unkeepable
-abbrev pub AllKeepable : Grove → ℕ → (ℕ → ℕ) → Type 0
-AllKeepable g s ends = (entry needed : ℕ) → Unkeepable g.entries g.margin s ends entry needed → ⊥
 
 -- where no pair is Unkeepable, there is a schedule
 abbrev pub ExistenceLaw : Type 0

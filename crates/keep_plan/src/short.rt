@@ -1,0 +1,40 @@
+ghost use Rattle.std.specs.Prelude.{◌≡◌, ◌<◌, length, MatchOption};
+ghost use Rattle.keep_tree.specs.Carried.{carried};
+ghost use Rattle.keep_tree.specs.Forest.{end_of};
+ghost use Rattle.keep_rule.specs.Reach.{reach};
+ghost use Rattle.keep_needs.specs.Carried.{IsCarried};
+ghost use Rattle.keep_rule.specs.Unkeepable.{AllKeepable};
+ghost use Rattle.keep_plan.specs.Shortfall.{IsShortfall, falls_short};
+
+use crate::pair::Shortfall;
+use keep_moment::Moment;
+use keep_needs::Carried;
+use keep_rule::reach;
+use keep_tree::Forest;
+
+/// The lowest entry that no renewal from `start` on leads to a need that it carries, with the entry that has its carried
+/// need; `None` exactly where there is none. `carried` is what the entries of this forest carry from this start on.
+///
+/// Source: Vault, "Lease, renew, and revoke" (maximum TTL); Vault, "Tokens" (a token's end ends its children and leases).
+pub fn shortfall(forest: &Forest, carried: &Carried, start: Moment) -> Option<Shortfall>
+    requires { IsCarried forest.now start carried.now }
+    ensures { MatchOption result (AllKeepable forest.now start (end_of forest.now.entries)) (λ pair. IsShortfall forest.now start pair.entry pair.needed) }
+{
+    for entry in 0..forest.len() {
+        if falls_short(reach(forest, entry, start), carried.need(entry)) {
+            let needed = carried.from(entry)?;
+            return Some(Shortfall { entry, needed });
+        }
+    }
+    None
+}
+
+/// Whether this reach, `None` for no limit, is less than the need.
+fn falls_short(reach: Option<u64>, need: u64) -> bool
+    ensures { result ≡ falls_short reach need }
+{
+    match reach {
+        None => false,
+        Some(most) => most < need,
+    }
+}
