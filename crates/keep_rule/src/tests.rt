@@ -1,5 +1,7 @@
 ghost use Rattle.std.specs.Prelude.{◌≤◌};
 
+mod foretold;
+
 use crate::{Wake, WakeFault, ends_after, granted_end, keeps, reach};
 use keep_moment::{Moment, Name};
 use keep_tree::{Entry, Forest, Indices, Kind};
