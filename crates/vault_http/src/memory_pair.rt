@@ -1,5 +1,7 @@
-ghost use Rattle.std.specs.Prelude.{◌≡◌, ℕ, ◌+◌, ◌-◌, ◌^◌, ◌<◌, ◌≤◌, min, true, Some};
-ghost use Rattle.vault_http.specs.Memory.{reads_needed};
+ghost use Rattle.std.specs.Prelude.{◌≡◌, true, Some, IsOkUnless};
+ghost use Rattle.vault_http.specs.declared.fault.SinkFault.TheVariants as faults;
+ghost use Rattle.vault_http.specs.Failures.{Counts};
+ghost use Rattle.vault_http.specs.Memory.{IsCall, is_failed, reads_needed, failures_of};
 
 use crate::{Device, Failed, MemorySink, MemorySource, Sink, SinkFault, Source};
 use std::marker::Model;
@@ -36,7 +38,7 @@ impl MemoryPair {
 }
 
 impl Device for MemoryPair {
-    ghost failed_calls = { λ p. min (p.source.calls.failures + p.sink.calls.failures) (2 ^ 64 - 1) };
+    ghost failed_calls = { failures_of };
 
     ghost remaining = { λ p. Some p.source.bytes };
 
@@ -62,7 +64,15 @@ impl Sink for MemoryPair {
         self.sink.write_some(piece)
     }
 
-    fn flush(&mut self) -> Result<(), SinkFault> {
+    fn flush(&mut self) -> Result<(), SinkFault>
+        ensures source { self.new.source ≡ self.old.source }
+        ensures bytes { self.new.sink.bytes ≡ self.old.sink.bytes }
+        ensures memory { IsOkUnless result faults.Failed }
+        ensures count { Counts result (failures_of self.old) (failures_of self.new) }
+
+        // It counts as a call of the sink, and the call named fails.
+        ensures calls { IsCall (is_failed result) self.old.sink.calls self.new.sink.calls }
+    {
         self.sink.flush()
     }
 }
