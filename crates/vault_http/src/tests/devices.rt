@@ -151,14 +151,18 @@ fn joins_a_source_and_a_sink(rt: HostRuntime) -> Result<(), Fail> {
 }
 
 #[test]
-fn counts_failures(rt: HostRuntime) -> Result<(), Fail> {
+fn counts_no_failure_of_a_reader_that_goes_well(rt: HostRuntime) -> Result<(), Fail> {
     let alloc = rt.alloc();
     let bytes: &[u8] = b"text";
     let mut reader = Counted::new(bytes);
     let text = read_all(alloc, &mut reader, 16).ok().ok_or("read")?;
     assert_eq!(rt; text.list(), b"text".as_slice());
     assert_eq!(rt; reader.failures(), 0);
+    Ok(())
+}
 
+#[test]
+fn counts_each_failure(rt: HostRuntime) {
     let mut room = [0u8; 4];
     let mut broken = Counted::new(Broken);
     assert_eq!(rt; broken.read_some(&mut room), Err(Failed));
@@ -166,10 +170,12 @@ fn counts_failures(rt: HostRuntime) -> Result<(), Fail> {
     assert_eq!(rt; broken.flush(), Err(SinkFault::Failed));
     assert_eq!(rt; broken.failures(), 3);
     let Broken = broken.into_inner();
+}
 
+#[test]
+fn counts_a_write_that_takes_nothing(rt: HostRuntime) {
     let mut full = Counted::new(Full);
     assert_eq!(rt; write_all(&mut full, b""), Ok(()));
     assert_eq!(rt; write_all(&mut full, b"x"), Err(SinkFault::Failed));
     assert_eq!(rt; full.failures(), 1);
-    Ok(())
 }
