@@ -20,3 +20,10 @@ IsBody Empty room rest body = body ≡ Ok []
 IsBody (Counted n) room rest body = body ≡ counted_body n room rest
 IsBody Chunked room rest body = IsChunked room rest body
 IsBody ToEnd room rest body = body ≡ open_body room rest
+
+-- the body is not all there: it would be cut off, were these bytes the last; one to the end of the input never is before it
+abbrev pub IsCutOff : Framing → ℕ → List ℕ → Type 0
+IsCutOff Empty room rest = ⊥
+IsCutOff (Counted n) room rest = counted_body n room rest ≡ Err Truncated
+IsCutOff Chunked room rest = IsChunked room rest (Err Truncated)
+IsCutOff ToEnd room rest = Unit {0}

@@ -1,5 +1,5 @@
 -- What the devices in memory hold, and what a call of a source in memory does.
-use Rattle.std.specs.Prelude.{◌≡◌, ℕ, ◌+◌, ◌-◌, ◌/◌, List, [], ◌∷◌, length, drop, min, max, Bool, true, false, Option, None, Some, Result, Ok, Err}
+use Rattle.std.specs.Prelude.{◌≡◌, ℕ, ◌+◌, ◌-◌, ◌/◌, ◌^◌, List, [], ◌∷◌, length, drop, min, max, Bool, true, false, Option, None, Some, Result, Ok, Err}
 use Rattle.vault_http.specs.declared.fault.Failed.{Failed}
 use Rattle.vault_http.specs.declared.fault.SinkFault.{SinkFault}
 use Rattle.vault_http.specs.declared.fault.SinkFault.TheVariants as faults
@@ -59,3 +59,7 @@ pub record Collected : Type 0 where
 pub record Pair : Type 0 where
   pub source : Supply
   pub sink : Collected
+
+-- the calls of both that failed, up to the greatest number that is counted
+abbrev pub failures_of : Pair → ℕ
+failures_of p = min (p.source.calls.failures + p.sink.calls.failures) (2 ^ 64 - 1)

@@ -11,3 +11,8 @@ IsDone (Done answer) = Unit {0}
 abbrev pub IfDone : {T : Type 0} → Verdict T → (T → Type 0) → Type 0
 IfDone (More n) P = Unit {0}
 IfDone (Done answer) P = P answer
+
+-- P, if there is no answer yet
+abbrev pub IfMore : {T : Type 0} → Verdict T → Type 0 → Type 0
+IfMore (More n) P = P
+IfMore (Done answer) P = Unit {0}

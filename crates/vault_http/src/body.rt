@@ -1,8 +1,8 @@
-ghost use Rattle.std.specs.Prelude.{◌≡◌, ℕ, ◌+◌, ◌<◌, ◌≤◌, ◌⊎◌, List, [], ◌++◌, length, IsTrue, Ok};
-ghost use Rattle.vault_http.specs.declared.body.BodyFault.TheVariants.{OutOfMemory};
-ghost use Rattle.vault_http.specs.Body.{IsBody, counted_body, open_body};
+ghost use Rattle.std.specs.Prelude.{◌≡◌, ℕ, ◌+◌, ◌<◌, ◌≤◌, ◌⊎◌, List, [], ◌++◌, length, IsTrue, Ok, Err};
+ghost use Rattle.vault_http.specs.declared.body.BodyFault.TheVariants.{Truncated, OutOfMemory};
+ghost use Rattle.vault_http.specs.Body.{IsBody, IsCutOff, counted_body, open_body};
 ghost use Rattle.vault_http.specs.Messages.{UnlessBodyMemory};
-ghost use Rattle.vault_http.specs.Verdicts.{IsDone, IfDone};
+ghost use Rattle.vault_http.specs.Verdicts.{IsDone, IfDone, IfMore};
 
 use crate::chunk::judge_chunks;
 use crate::framing::Framing;
@@ -27,7 +27,8 @@ impl From<AllocError> for BodyFault {
     }
 }
 
-/// Judges the bytes behind a head, of which `room` may be read; `ended` says that the input ends behind them.
+/// Judges the bytes behind a head, of which `room` may be read; `ended` says that the input ends behind them. More bytes
+/// are waited for only where the body is not all there.
 pub(crate) fn judge_body(
     alloc: Global,
     rest: &[u8],
@@ -38,6 +39,7 @@ pub(crate) fn judge_body(
     ensures answer { IfDone result (λ a. (more : List ℕ) → (IsTrue ended → more ≡ [])
         → UnlessBodyMemory a (IsBody framing room (rest.now ++ more) a)) }
     ensures decides { (IsTrue ended ⊎ (room < length rest.now)) → IsDone result }
+    ensures waits { IfMore result (IsCutOff framing room rest.now) }
 {
     match framing {
         Framing::Empty => Verdict::Done(copied(alloc, &rest[..0])),
@@ -58,6 +60,7 @@ fn judge_counted(
     ensures answer { IfDone result (λ a. (more : List ℕ) → (IsTrue ended → more ≡ [])
         → UnlessBodyMemory a (a ≡ counted_body n room (rest.now ++ more))) }
     ensures decides { (IsTrue ended ⊎ (room < length rest.now)) → IsDone result }
+    ensures waits { IfMore result (counted_body n room rest.now ≡ Err Truncated) }
 {
     if n > room as u64 {
         return Verdict::Done(Err(BodyFault::TooLong));

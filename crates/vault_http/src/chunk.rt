@@ -1,8 +1,9 @@
-ghost use Rattle.std.specs.Prelude.{◌≡◌, ℕ, ◌+◌, ◌-◌, ◌<◌, ◌≤◌, ◌⊎◌, List, [], ◌++◌, length, take, drop, take_while, IsTrue};
+ghost use Rattle.std.specs.Prelude.{◌≡◌, ℕ, ◌+◌, ◌-◌, ◌<◌, ◌≤◌, ◌⊎◌, List, [], ◌++◌, length, take, drop, take_while, IsTrue, Err};
+ghost use Rattle.vault_http.specs.declared.body.BodyFault.TheVariants.{Truncated};
 ghost use Rattle.vault_http.specs.Chunks.{IsChunked};
 ghost use Rattle.vault_http.specs.Framing.{is_digit};
 ghost use Rattle.vault_http.specs.Messages.{UnlessBodyMemory};
-ghost use Rattle.vault_http.specs.Verdicts.{IsDone, IfDone};
+ghost use Rattle.vault_http.specs.Verdicts.{IsDone, IfDone, IfMore};
 ghost use Rattle.vault_http.specs.Steps.{IsEnding, IsLine, IsStep};
 
 use crate::body::BodyFault;
@@ -11,6 +12,9 @@ use crate::front::front_of;
 use crate::verdict::Verdict;
 use keep_moment::Text;
 use std::alloc::Global;
+
+/// The most digits of a size.
+const MOST_DIGITS: usize = 8;
 
 /// Whether CR LF stands at the front of a text.
 #[derive(Clone, Copy, Debug, PartialEq, Eq)]
@@ -57,6 +61,7 @@ pub(crate) fn judge_chunks(
     ensures answer { IfDone result (λ a. (more : List ℕ) → (IsTrue ended → more ≡ [])
         → UnlessBodyMemory a (IsChunked room (text.now ++ more) a)) }
     ensures decides { (IsTrue ended ⊎ (room < length text.now)) → IsDone result }
+    ensures waits { IfMore result (IsChunked room text.now (Err Truncated)) }
 {
     let mut body = Vec::new(alloc);
     let mut at = 0;
@@ -145,7 +150,7 @@ pub(crate) fn size_line(text: &[u8]) -> Line
     ensures { IsLine text.now result }
 {
     let n = digits_at(text);
-    if n > 8 {
+    if n > MOST_DIGITS {
         return Line::Bad;
     }
     if n == 0 {

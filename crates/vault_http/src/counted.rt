@@ -1,5 +1,7 @@
-ghost use Rattle.std.specs.Prelude.{◌≡◌};
-ghost use Rattle.vault_http.specs.Failures.{one_more};
+ghost use Rattle.std.specs.Prelude.{◌≡◌, ◌<◌, ◌≤◌, length, IfOk, IsOkUnless};
+ghost use Rattle.std.specs.Io.KnownBytes.{ReadConsumes, WriteAppends};
+ghost use Rattle.vault_http.specs.declared.fault.SinkFault.TheVariants as faults;
+ghost use Rattle.vault_http.specs.Failures.{one_more, Counts, CountsRead};
 
 use crate::{Device, Failed, Sink, SinkFault, Source};
 use std::io::{Read, Write};
@@ -57,7 +59,13 @@ impl<S> Device for Counted<S> {
 }
 
 impl<S: Read> Source for Counted<S> {
-    fn read_some(&mut self, buf: &mut [u8]) -> Result<usize, Failed> {
+    fn read_some(&mut self, buf: &mut [u8]) -> Result<usize, Failed>
+        ensures bound { IfOk result (λ n. n ≤ length buf.new) }
+        ensures count { CountsRead result self.old.failures self.new.failures }
+
+        // What the reader itself hands out, where its bytes are known.
+        ensures inner { ReadConsumes (S.remaining self.old.inner) (S.remaining self.new.inner) result buf.new }
+    {
         match self.inner.read(buf) {
             Ok(n) => Ok(n),
             Err(_) => Err(self.fail()),
@@ -66,7 +74,14 @@ impl<S: Read> Source for Counted<S> {
 }
 
 impl<S: Write> Sink for Counted<S> {
-    fn write_some(&mut self, piece: &[u8]) -> Result<usize, SinkFault> {
+    fn write_some(&mut self, piece: &[u8]) -> Result<usize, SinkFault>
+        ensures bound { IfOk result (λ n. (n ≤ length piece.now) × (0 < length piece.now → 0 < n)) }
+        ensures memory { IsOkUnless result faults.Failed }
+        ensures count { Counts result self.old.failures self.new.failures }
+
+        // What the writer itself takes, where its bytes are known.
+        ensures inner { WriteAppends (S.contents self.old.inner) (S.contents self.new.inner) result piece.now }
+    {
         match self.inner.write(piece) {
             Ok(n) if n > 0 || piece.is_empty() => Ok(n),
             _ => Err(self.fail().into()),

@@ -49,6 +49,4 @@ pub use write_whole::write_all;
 pub use writing::{SendFault, write_reply, write_request};
 
 #[cfg(test)]
-mod reading_tests;
-#[cfg(test)]
 mod tests;

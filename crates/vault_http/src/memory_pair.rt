@@ -1,5 +1,9 @@
-ghost use Rattle.std.specs.Prelude.{◌≡◌, ℕ, ◌+◌, ◌-◌, ◌^◌, ◌<◌, ◌≤◌, min, true, Some};
-ghost use Rattle.vault_http.specs.Memory.{reads_needed};
+ghost use Rattle.std.specs.Prelude.{◌≡◌, ◌<◌, ◌≤◌, ◌⊎◌, ◌++◌, length, true, Some, is_err, IfOk, IsOkUnless, MatchResult};
+ghost use Rattle.std.specs.Io.KnownBytes.{ReadConsumes};
+ghost use Rattle.vault_http.specs.declared.fault.SinkFault.TheVariants as faults;
+ghost use Rattle.vault_http.specs.Failures.{Counts, CountsRead};
+ghost use Rattle.vault_http.specs.Memory.{IsCall, IsRead, is_failed, reads_needed, failures_of};
+ghost use Rattle.vault_http.specs.Room.{most_room};
 
 use crate::{Device, Failed, MemorySink, MemorySource, Sink, SinkFault, Source};
 use std::marker::Model;
@@ -36,7 +40,7 @@ impl MemoryPair {
 }
 
 impl Device for MemoryPair {
-    ghost failed_calls = { λ p. min (p.source.calls.failures + p.sink.calls.failures) (2 ^ 64 - 1) };
+    ghost failed_calls = { failures_of };
 
     ghost remaining = { λ p. Some p.source.bytes };
 
@@ -52,17 +56,46 @@ impl Device for MemoryPair {
 }
 
 impl Source for MemoryPair {
-    fn read_some(&mut self, buf: &mut [u8]) -> Result<usize, Failed> {
+    fn read_some(&mut self, buf: &mut [u8]) -> Result<usize, Failed>
+        ensures bound { IfOk result (λ n. n ≤ length buf.new) }
+        ensures bytes { ReadConsumes (Some self.old.source.bytes) (Some self.new.source.bytes) result buf.new }
+        ensures pace { IfOk result (λ n. 0 < n → (n < length buf.new) ⊎ (most_room ≤ length buf.new)
+            → (reads_needed self.new.source < reads_needed self.old.source) × (0 < reads_needed self.new.source)) }
+        ensures sink { self.new.sink ≡ self.old.sink }
+        ensures count { CountsRead result (failures_of self.old) (failures_of self.new) }
+
+        // As the source does alone.
+        ensures calls { IsCall (is_err result) self.old.source.calls self.new.source.calls }
+        ensures pieces { IsRead result self.old.source self.new.source (length buf.new) }
+    {
         self.source.read_some(buf)
     }
 }
 
 impl Sink for MemoryPair {
-    fn write_some(&mut self, piece: &[u8]) -> Result<usize, SinkFault> {
+    fn write_some(&mut self, piece: &[u8]) -> Result<usize, SinkFault>
+        ensures bound { IfOk result (λ n. (n ≤ length piece.now) × (0 < length piece.now → 0 < n)) }
+        ensures source { self.new.source ≡ self.old.source }
+        ensures count { Counts result (failures_of self.old) (failures_of self.new) }
+
+        // As the sink does alone.
+        ensures bytes { MatchResult result
+            (λ n. (n ≡ length piece.now) × (self.new.sink.bytes ≡ self.old.sink.bytes ++ piece.now))
+            (λ _. self.new.sink.bytes ≡ self.old.sink.bytes) }
+        ensures calls { IsCall (is_failed result) self.old.sink.calls self.new.sink.calls }
+    {
         self.sink.write_some(piece)
     }
 
-    fn flush(&mut self) -> Result<(), SinkFault> {
+    fn flush(&mut self) -> Result<(), SinkFault>
+        ensures source { self.new.source ≡ self.old.source }
+        ensures count { Counts result (failures_of self.old) (failures_of self.new) }
+
+        // As the sink does alone.
+        ensures bytes { self.new.sink.bytes ≡ self.old.sink.bytes }
+        ensures memory { IsOkUnless result faults.Failed }
+        ensures calls { IsCall (is_failed result) self.old.sink.calls self.new.sink.calls }
+    {
         self.sink.flush()
     }
 }

@@ -51,3 +51,12 @@ returns-then-ended-clause-answer c =
     let here = subst (λ t. StopsAt (c.args.room - at) t (Err Truncated)) (take_rest text at) c.in-Open.ensures.1 in
     chunks_end text at c.loop-start.body.items c.args.room (Err Truncated) (Err Truncated) more i.so_far i.within i.fits
     (subst (λ t. StopsAt (c.args.room - at) t (Err Truncated)) (sym all) here) refl
+
+pub returns-in-Open-clause-waits : goal.returns-in-Open-clause-waits
+returns-in-Open-clause-waits c =
+    let i = c.loop-start.invariant in
+    let at = c.loop-start.at in
+    let text = c.args.text.now in
+    let here = subst (λ t. StopsAt (c.args.room - at) t (Err Truncated)) (take_rest text at ∙ sym (append-nil (drop at text))) c.in-Open.ensures.1 in
+    subst (λ t. IsChunked c.args.room t (Err Truncated)) (append-nil text)
+    (chunks_end text at c.loop-start.body.items c.args.room (Err Truncated) (Err Truncated) [] i.so_far i.within i.fits here refl)

@@ -7,8 +7,8 @@ use Rattle.vault_http.specs.Steps.{IsEnding}
 use Rattle.vault_http.proofs.SizeLines.{too_many, none_yet, no_digit, open_line, bad_line, whole_line, no_number}
 use Rattle.vault_http.proofs.chunk.size_line.Goals as goal
 
-pub returns-then-n-gt8 : goal.returns-then-n-gt8
-returns-then-n-gt8 c = too_many c.args.text.now c.digits_at-n.result c.digits_at-n.ensures c.if-n-gt8.true
+pub returns-then-n-gt-MOST_DIGITS : goal.returns-then-n-gt-MOST_DIGITS
+returns-then-n-gt-MOST_DIGITS c = too_many c.args.text.now c.digits_at-n.result c.digits_at-n.ensures c.if-n-gt-MOST_DIGITS.true
 
 pub returns-then-is_empty : goal.returns-then-is_empty
 returns-then-is_empty c = none_yet c.args.text.now (nil_from_length c.args.text.now (eqb-true _ _ (sym c.if-is_empty.ensures)))
@@ -20,7 +20,7 @@ returns-else-is_empty c =
 pub returns-in-Open : goal.returns-in-Open
 returns-in-Open c =
     let some : 0 < c.digits_at-n.result = omega (arith, c.if-n-eq0.false) in
-    open_line c.args.text.now c.digits_at-n.result c.digits_at-n.ensures some c.if-n-gt8.false
+    open_line c.args.text.now c.digits_at-n.result c.digits_at-n.ensures some c.if-n-gt-MOST_DIGITS.false
     (subst (λ t. IsEnding t ending.Open) (take_rest c.args.text.now c.digits_at-n.result) c.in-Open.ensures)
 
 pub returns-in-Bad : goal.returns-in-Bad
@@ -31,7 +31,7 @@ returns-in-Bad c =
 pub returns-in-Some : goal.returns-in-Some
 returns-in-Some c =
     let some : 0 < c.digits_at-n.result = omega (arith, c.if-n-eq0.false) in
-    whole_line c.args.text.now c.digits_at-n.result c.in-Some.size c.digits_at-n.ensures some c.if-n-gt8.false
+    whole_line c.args.text.now c.digits_at-n.result c.in-Some.size c.digits_at-n.ensures some c.if-n-gt-MOST_DIGITS.false
     (subst (λ t. IsEnding t ending.Whole) (take_rest c.args.text.now c.digits_at-n.result) c.in-Whole.ensures)
     c.in-Some.ensures
 
