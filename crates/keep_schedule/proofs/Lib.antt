@@ -1,0 +1,4 @@
+pub mod Leading
+pub mod Lists
+pub mod Groups
+pub mod Stretches

@@ -1,0 +1,4 @@
+pub mod Forces
+pub mod Runs
+pub mod Terms
+pub mod Groups
