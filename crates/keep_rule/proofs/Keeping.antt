@@ -132,7 +132,7 @@ later_plan : (s u : ℕ) (w : Wake) (ws : List Wake) → IsPlan s (w ∷ ws) →
 later_plan s u w ws plan h = (omega arith, plan.1)
 
 -- moments of which none is before t, and none less than the one in front of it
-abbrev IsRising : ℕ → List ℕ → Type 0
+abbrev pub IsRising : ℕ → List ℕ → Type 0
 IsRising t [] = Unit {0}
 IsRising t (u ∷ us) = (t ≤ u) × IsRising u us
 
@@ -163,7 +163,7 @@ no_later es margin s ends (u ∷ us) prev low from done (w ∷ rest) by plan ris
           )
     ]
 
-plan_rises : (s : ℕ) (ws : List Wake) → IsPlan s ws → IsRising s (moments ws)
+pub plan_rises : (s : ℕ) (ws : List Wake) → IsPlan s ws → IsRising s (moments ws)
 plan_rises s [] plan = tt
 plan_rises s (w ∷ ws) plan = (plan.0, plan_rises w.at ws plan.1.1)
 

@@ -5,3 +5,8 @@ pub mod Rounds
 pub mod Stuck
 pub mod Keeping
 pub mod Asking
+pub mod Timely
+pub mod Enough
+pub mod Next
+pub mod Schedule
+pub mod Existence

@@ -1,4 +1,4 @@
-ghost use Rattle.keep_rule.specs.Laws.{ForcedLaw, UniqueLaw, UnkeepableLaw};
+ghost use Rattle.keep_rule.specs.Laws.{EnoughLaw, ExistenceLaw, ForcedLaw, ScheduleLaw, UniqueLaw, UnkeepableLaw};
 
 /// The law of what cannot be kept: where an entry over a needed one cannot be led to that need by any renewal, no plan
 /// keeps. Its end can never pass its reach, and at the greater of start and reach the needed entry is gone.
@@ -15,4 +15,22 @@ pub fn forced_law()
 /// The law that there is one: at most one list of moments is least and latest.
 pub fn unique_law()
     ensures { UniqueLaw }
+{}
+
+/// The law of enough: where any requests keep at given moments, the Asks do. An entry that the Asks leave out is covered
+/// without a renewal until the next moment, and the Asks shorten no end.
+pub fn enough_law()
+    ensures { EnoughLaw }
+{}
+
+/// The law of existence: where no pair of entries is unkeepable, there is a schedule. The next moment always comes a step
+/// less the margin behind the one before, or later, and before some need; so the moments come to an end.
+pub fn existence_law()
+    ensures { ExistenceLaw }
+{}
+
+/// The law of the schedule: where no pair of entries is unkeepable, the moments of a schedule rise strictly, each is
+/// forced by some pair, they are kept with their Asks, and they are least and latest.
+pub fn schedule_law()
+    ensures { ScheduleLaw }
 {}

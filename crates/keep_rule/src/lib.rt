@@ -13,7 +13,7 @@ mod rule;
 mod tests;
 mod wake;
 
-pub use laws::{forced_law, unique_law, unkeepable_law};
+pub use laws::{enough_law, existence_law, forced_law, schedule_law, unique_law, unkeepable_law};
 pub use replay::{ends_after, keeps};
 pub use rule::{granted_end, reach};
 pub use wake::{Wake, WakeFault};

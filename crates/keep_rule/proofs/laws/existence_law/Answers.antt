@@ -1,0 +1,5 @@
+use Rattle.keep_rule.proofs.Existence.{there_is_one}
+use Rattle.keep_rule.proofs.laws.existence_law.Goals as goal
+
+pub returns : goal.returns
+returns c = there_is_one

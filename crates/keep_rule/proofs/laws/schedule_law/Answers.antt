@@ -1,0 +1,5 @@
+use Rattle.keep_rule.proofs.Schedule.{schedule_is_best}
+use Rattle.keep_rule.proofs.laws.schedule_law.Goals as goal
+
+pub returns : goal.returns
+returns c = schedule_is_best
