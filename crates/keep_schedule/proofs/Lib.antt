@@ -3,3 +3,5 @@ pub mod Lists
 pub mod Groups
 pub mod Stretches
 pub mod Bridge
+pub mod Lines
+pub mod Taking

@@ -2,4 +2,6 @@ pub mod Forces
 pub mod Runs
 pub mod Terms
 pub mod Groups
-pub mod Outlook
+pub mod Prospect
+pub mod Line
+pub mod Courses

@@ -6,9 +6,13 @@
 #![tactic(auto)]
 
 mod force;
+mod line;
+mod outlook;
 mod run;
+mod scan;
 mod schedule;
 
 pub use force::Force;
 pub use run::Run;
+pub use scan::ScanSchedule;
 pub use schedule::Schedule;
