@@ -1,7 +1,7 @@
 pub mod Forces
 pub mod Runs
 pub mod Terms
-pub mod Groups
 pub mod Prospect
-pub mod Line
 pub mod Courses
+pub mod Line
+pub mod Groups

@@ -6,6 +6,7 @@
 #![tactic(auto)]
 
 mod force;
+mod groups;
 mod line;
 mod outlook;
 mod run;
