@@ -6,3 +6,5 @@ pub mod Bridge
 pub mod Lines
 pub mod Taking
 pub mod Moves
+pub mod Extending
+pub mod Queueing

@@ -10,7 +10,7 @@ use Rattle.keep_schedule.specs.declared.groups.Next.{Next}
 use Rattle.keep_schedule.specs.declared.groups.Next.TheVariants.{Done, Joined, Waiting}
 use Rattle.keep_schedule.specs.declared.groups.Turn.TheVariants.{Comes, Leaves}
 use Rattle.keep_schedule.specs.Groups.{Grouped, HasJoined, IsFiled, IsFront, IsGrouped, IsHead, IsKeyed, IsSettled, IsTurn, Joins, Settles, Shrinks, Waits, size}
-use Rattle.keep_schedule.specs.Line.{IsFirst, Lined, Spot, spot}
+use Rattle.keep_schedule.specs.Line.{FirstOf, IsFirst, Lined, Spot, spot}
 use Rattle.keep_schedule.specs.Terms.{Ahead, Terms, deadline}
 use Rattle.keep_schedule.proofs.Lines.{contains_cons, contains_head, contains_more}
 
@@ -71,6 +71,13 @@ left t n v f old new grouped done moved room waits =
       omega arith,
     )
 
+pub joins_was : (t : Terms) (f i : ℕ) (old new : List Spot) → IsPermutation (spot (t.step f) f ∷ old) new → Contains new (spot (t.step i) i) → (f ≡ i) ⊎ Contains old (spot (t.step i) i)
+joins_was t f i old new added j =
+    elim (contains_cons (spot (t.step i) i) (spot (t.step f) f) old (Contains-permutation new (spot (t.step f) f ∷ old) (spot (t.step i) i) (IsPermutation-sym (spot (t.step f) f ∷ old) new added) j)) [
+      | inl same ↦ inl (ap (λ (x : Spot). x.0.1) same)
+      | inr rest ↦ inr rest
+    ]
+
 -- the first that waits has its end reached, and joined
 pub joined :
     (t : Terms) (n v f : ℕ) (old new : Groups) → IsGrouped t n (Some v) old → f < n → t.end f ≤ v + t.step f →
@@ -104,13 +111,7 @@ joined t n v f old new grouped within reached moved added room =
         };
       },
       omega arith,
-    ) where
-      joins_was : (t : Terms) (f i : ℕ) (old new : List Spot) → IsPermutation (spot (t.step f) f ∷ old) new → Contains new (spot (t.step i) i) → (f ≡ i) ⊎ Contains old (spot (t.step i) i)
-      joins_was t f i old new added j =
-          elim (contains_cons (spot (t.step i) i) (spot (t.step f) f) old (Contains-permutation new (spot (t.step f) f ∷ old) (spot (t.step i) i) (IsPermutation-sym (spot (t.step f) f ∷ old) new added) j)) [
-            | inl same ↦ inl (ap (λ (x : Spot). x.0.1) same)
-            | inr rest ↦ inr rest
-          ]
+    )
 
 pub shrinks_more : (t : Terms) (n v : ℕ) (first old new : Groups) → Shrinks t n v first old → IsGrouped t n (Some v) new → size new < size old → Shrinks t n v first new
 shrinks_more t n v first old new shrinks grouped less =
@@ -145,3 +146,9 @@ turn_joined t n v f first old new shrinks turn reached moved added room =
     let e = done.1 in
     let less : size new < size old = omega arith in
     (shrinks_more t n v first old new shrinks done.0 less, less)
+
+-- the key of the first of a line
+pub first_key : (key : ℕ → ℕ) (n h : ℕ) (spots : List Spot) → IsKeyed key n spots → FirstOf spots (Some h) → IsFirst spots (spot (key h) h)
+first_key key n h spots keyed (k, first) =
+    let is : k ≡ key h = (All-contains (λ (y : Spot). (y.0.0 ≡ key y.0.1) × (y.0.1 < n)) spots (spot k h) keyed first.among).0 in
+    subst (λ l. IsFirst spots (spot l h)) is first

@@ -5,3 +5,5 @@ pub mod Prospect
 pub mod Courses
 pub mod Line
 pub mod Groups
+pub mod Stretches
+pub mod Queues

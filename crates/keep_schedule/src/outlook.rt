@@ -1,10 +1,11 @@
-ghost use Rattle.std.specs.Prelude.{◌≡◌, ℕ, ◌<◌, ◌^◌, length};
+ghost use Rattle.std.specs.Prelude.{◌≡◌, ℕ, ◌<◌, ◌≤◌, ◌^◌, length};
+ghost use Rattle.keep_moment.specs.declared.moment.TheConstants.{LAST};
 ghost use Rattle.keep_tree.specs.Forest.{end_of};
 ghost use Rattle.keep_rule.specs.Laws.{AllKeepable};
 ghost use Rattle.keep_needs.specs.Carried.{IsCarried};
 ghost use Rattle.keep_schedule.specs.Courses.{IsWithin};
 ghost use Rattle.keep_schedule.specs.Prospect.{IsInSight, terms_of};
-ghost use Rattle.keep_schedule.specs.Terms.{deadline};
+ghost use Rattle.keep_schedule.specs.Terms.{IsSound, deadline};
 
 use keep_moment::Moment;
 use keep_needs::Carried;
@@ -50,7 +51,8 @@ impl<'a> Outlook<'a> {
 
     #[tactic(auto, unfolding(crate::specs::Prospect::terms_of, keep_tree::specs::Forest::end_of))]
     pub(crate) fn margin(&self) -> u64
-        ensures { result ≡ (terms_of self.now).margin }
+        ensures value { result ≡ (terms_of self.now).margin }
+        ensures sound { IsSound (terms_of self.now) }
     {
         self.forest.margin() as u64
     }
@@ -58,7 +60,8 @@ impl<'a> Outlook<'a> {
     #[tactic(auto, unfolding(crate::specs::Prospect::terms_of, keep_tree::specs::Forest::end_of))]
     pub(crate) fn end(&self, index: u32) -> u64
         requires { index < length self.now.loads }
-        ensures { result ≡ (terms_of self.now).end index }
+        ensures value { result ≡ (terms_of self.now).end index }
+        ensures sound { IsSound (terms_of self.now) }
     {
         self.forest.get(index).end
     }
@@ -76,7 +79,8 @@ impl<'a> Outlook<'a> {
     #[tactic(auto, unfolding(crate::specs::Prospect::terms_of, keep_tree::specs::Forest::end_of))]
     pub(crate) fn need(&self, index: u32) -> u64
         requires { index < length self.now.loads }
-        ensures { result ≡ (terms_of self.now).need index }
+        ensures value { result ≡ (terms_of self.now).need index }
+        ensures within { result ≤ LAST }
     {
         self.carried.need(index)
     }
