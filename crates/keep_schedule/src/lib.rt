@@ -1,0 +1,28 @@
+//! The schedule: the wake-ups that no plan can put off, one after the other.
+//!
+//! The contract for the layers above: a [`Schedule`] stands for the list of the wake-ups to come, and `next` gives its
+//! head. The list of a new one is that of the forces of the forest (`AreForces` of `specs/`), whose moments are least and
+//! latest. Begin with `force`.
+#![tactic(auto)]
+
+mod fault;
+mod force;
+mod groups;
+mod laws;
+mod line;
+mod outlook;
+mod queue;
+mod run;
+mod scan;
+mod schedule;
+mod stretch;
+#[cfg(test)]
+mod tests;
+
+pub use fault::ScheduleFault;
+pub use force::Force;
+pub use laws::forces_law;
+pub use queue::QueueSchedule;
+pub use run::Run;
+pub use scan::ScanSchedule;
+pub use schedule::Schedule;
