@@ -4,7 +4,7 @@ use Rattle.std.proofs.lemmas.Bool.{cases_lt}
 use Rattle.keep_tree.specs.Forest.{Grove, end_of, entry_at}
 use Rattle.keep_tree.specs.Push.{IsForest}
 use Rattle.keep_tree.proofs.Carrying.{carried_at_least}
-use Rattle.keep_rule.specs.Laws.{AllKeepable}
+use Rattle.keep_rule.specs.Unkeepable.{AllKeepable}
 use Rattle.keep_rule.specs.Reach.{reach}
 use Rattle.keep_needs.specs.Carried.{CarriedNeed, IsCarried, load_at}
 use Rattle.keep_schedule.proofs.Bridge.{carried_past}

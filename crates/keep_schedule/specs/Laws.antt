@@ -2,7 +2,7 @@
 use Rattle.std.specs.Prelude.{◌≡◌, ℕ, List, None}
 use Rattle.keep_tree.specs.Forest.{Grove, end_of}
 use Rattle.keep_tree.specs.Push.{IsForest}
-use Rattle.keep_rule.specs.Laws.{AllKeepable}
+use Rattle.keep_rule.specs.Unkeepable.{AllKeepable}
 use Rattle.keep_rule.specs.Least.{IsLeastAndLatest}
 use Rattle.keep_rule.specs.Schedule.{RisesStrictly}
 use Rattle.keep_schedule.specs.declared.force.Force.{Force}

@@ -1,6 +1,6 @@
 ghost use Rattle.std.specs.Prelude.{◌≤◌, IsTrue};
 ghost use Rattle.keep_tree.specs.Forest.{end_of};
-ghost use Rattle.keep_rule.specs.Laws.{AllKeepable};
+ghost use Rattle.keep_rule.specs.Unkeepable.{AllKeepable};
 ghost use Rattle.keep_needs.specs.Carried.{IsCarried};
 
 use crate::{Force, QueueSchedule, Run, ScanSchedule, Schedule};
