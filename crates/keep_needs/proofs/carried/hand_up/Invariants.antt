@@ -1,0 +1,9 @@
+use Rattle.std.proofs.Common.{◌≡◌, ℕ, length}
+use Rattle.keep_needs.specs.Loads.{AllOwn, IsHandedUp}
+use Rattle.keep_needs.proofs.carried.hand_up.Given as goal
+
+abbrev pub invariant-loop-index : goal.invariant-loop-index
+invariant-loop-index l = record {
+  count : length l.loads ≡ length l.forest.entries;
+  handed : (s : ℕ) → AllOwn l.forest.entries s l.fn.loads → IsHandedUp l.forest.entries s l.index l.loads;
+}

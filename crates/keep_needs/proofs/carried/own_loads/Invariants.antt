@@ -1,0 +1,9 @@
+use Rattle.std.proofs.Common.{◌≡◌, ℕ, ◌<◌, vec_len}
+use Rattle.keep_needs.specs.Loads.{nth, own_load}
+use Rattle.keep_needs.proofs.carried.own_loads.Given as goal
+
+abbrev pub invariant-loop-from : goal.invariant-loop-from
+invariant-loop-from l = record {
+  count : vec_len l.loads ≡ l.from;
+  each : (k : ℕ) → k < l.from → nth l.loads.items k ≡ own_load l.forest.entries l.start k;
+}

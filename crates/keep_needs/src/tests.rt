@@ -1,0 +1,105 @@
+use crate::carry;
+use keep_moment::{Moment, Name};
+use keep_tree::{Entry, Forest, Kind};
+use std::alloc::Global;
+use std::test::Fail;
+
+// An entry by its parent and its need. What has a parent is a child token of it.
+type Row = (Option<u32>, u64);
+
+// What an entry carries, and whose need it is.
+type Carries = (u64, Option<u32>);
+
+fn forest_of(alloc: Global, rows: &[Row]) -> Result<Forest, Fail> {
+    let mut forest = Forest::new(alloc);
+    for (i, row) in rows.iter().enumerate() {
+        let (parent, need) = *row;
+        let name = format!(in alloc; "e{i}")?;
+        forest.push(Entry {
+            name: Name::of(alloc, name.as_bytes())?,
+            kind: Kind::Token,
+            parent,
+            end: 1060,
+            renewable: true,
+            step: 60,
+            ceiling: None,
+            need,
+        })?;
+    }
+    Ok(forest)
+}
+
+// What each of these entries carries from the start 1000 on.
+fn carried_from_1000(alloc: Global, rows: &[Row]) -> Result<Vec<Carries>, Fail> {
+    let forest = forest_of(alloc, rows)?;
+    let carried = carry(alloc, &forest, Moment::new(1000).ok_or("a moment")?)?;
+    let mut all = Vec::new(alloc);
+    for index in 0..forest.len() {
+        all.push((carried.need(index), carried.from(index)))?;
+    }
+    Ok(all)
+}
+
+// A token with its lease; equal needs of a token and its child, and of two branches, where the lower index is the child
+// of the later branch; needs before, at and after the start; no entry.
+#[test]
+fn carries_the_greatest_need_and_names_the_lowest(rt: HostRuntime) -> Result<(), Fail> {
+    let alloc = rt.alloc();
+    let cases = [
+        (
+            [(None, 0), (Some(0), 1200)].as_slice(),
+            [(1200, Some(1)), (1200, Some(1))].as_slice(),
+        ),
+        (
+            &[(None, 1200), (Some(0), 1200)],
+            &[(1200, Some(0)), (1200, Some(1))],
+        ),
+        (
+            &[
+                (None, 0),
+                (Some(0), 0),
+                (Some(0), 0),
+                (Some(2), 1300),
+                (Some(1), 1300),
+            ],
+            &[
+                (1300, Some(3)),
+                (1300, Some(4)),
+                (1300, Some(3)),
+                (1300, Some(3)),
+                (1300, Some(4)),
+            ],
+        ),
+        (
+            &[(None, 999), (Some(0), 1000), (None, 1001), (Some(2), 0)],
+            &[(0, None), (0, None), (1001, Some(2)), (0, None)],
+        ),
+        (&[], &[]),
+    ];
+    for (i, case) in cases.iter().enumerate() {
+        let (rows, want) = *case;
+        assert_eq!(rt;
+            carried_from_1000(alloc, rows)?.as_slice(),
+            want,
+            "case {i}"
+        );
+    }
+    Ok(())
+}
+
+// The need of the last entry of a chain of 64 goes up to the root, past the root's own.
+#[test]
+fn a_deep_chain_carries_its_last_need(rt: HostRuntime) -> Result<(), Fail> {
+    let alloc = rt.alloc();
+    let mut rows = Vec::new(alloc);
+    rows.push((None, 1100))?;
+    for i in 1..64u32 {
+        rows.push((Some(i - 1), if i == 63 { 1200 } else { 0 }))?;
+    }
+    let carried = carried_from_1000(alloc, &rows)?;
+    assert_eq!(rt; carried.len(), 64);
+    for got in &carried {
+        assert_eq!(rt; *got, (1200, Some(63)));
+    }
+    Ok(())
+}
