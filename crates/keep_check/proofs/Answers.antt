@@ -54,7 +54,7 @@ forced_parts es margin s ends prev t entry needed yes' =
       due = (let l : nat_le x (t + margin) ≡ true = three.1 in grind (arith, nat_tests));
     }
 
-forced_tests : (es : List Entry) (margin s : ℕ) (ends : ℕ → ℕ) (prev : Option ℕ) (t entry needed : ℕ) → Forced es margin s ends prev t entry needed → is_forced es margin s ends prev t entry needed ≡ true
+pub forced_tests : (es : List Entry) (margin s : ℕ) (ends : ℕ → ℕ) (prev : Option ℕ) (t entry needed : ℕ) → Forced es margin s ends prev t entry needed → is_forced es margin s ends prev t entry needed ≡ true
 unfolding is_forced
 forced_tests es margin s ends prev t entry needed f =
     let need = (entry_at es needed).need in
@@ -154,6 +154,9 @@ rises_parts s (Some u) t yes' =
     let h : u < t = grind (arith, nat_tests) in
     (grind (arith, nat_tests), omega arith)
 
+pub first_rises : (s : ℕ) (prev : Option ℕ) (t : ℕ) → rises s prev t ≡ true → s ≤ t
+first_rises s prev t yes' = (rises_parts s prev t yes').0
+
 -- the first of two tests that fails gives a fault
 no_fault : (a b : Bool) (c d : Cause) (rest : Option Cause) → cond a (cond b rest (Some c)) (Some d) ≡ None → (a ≡ true) × ((b ≡ true) × (rest ≡ None))
 no_fault true true c d rest none = (refl, (refl, none))
@@ -207,7 +210,7 @@ yes_of_walk g s rs fit answer =
     subst (IsLeastAndLatest es g.margin s (end_of es)) same
     (forced_is_least es g.margin s (end_of es) plan order (λ i. answer.1 i) (subst (AllForced es g.margin s (end_of es) None) (sym same) walk.1))
 
-yes_of_body : (g : Grove) (s : ℕ) (b : Body) → CanBeJudged g b → IsBodyAnswer g s b Yes → Holds g s b
+pub yes_of_body : (g : Grove) (s : ℕ) (b : Body) → CanBeJudged g b → IsBodyAnswer g s b Yes → Holds g s b
 yes_of_body g s (body.Runs rs) fit answer = yes_of_walk g s rs fit.0 answer
 yes_of_body g s (body.Unkeepable entry needed) fit answer = unkeepable g.entries g.margin s (end_of g.entries) entry needed answer
 

@@ -1,3 +1,8 @@
-pub mod Own
-pub mod Kept
+pub mod OwnEnds
+pub mod Keeping
 pub mod Answers
+pub mod Run
+pub mod Longs
+pub mod OwnRuns
+pub mod Lasts
+pub mod Judged

@@ -27,7 +27,7 @@ use Rattle.keep_rule.proofs.Timely.{after_unwanted, after_wanted, asks_grow}
 use Rattle.keep_rule.proofs.Walk.{ends_from}
 use Rattle.keep_check.specs.Kept.{KeptTo, own, own_after, own_end}
 use Rattle.keep_check.specs.Laws.{KeptLaw}
-use Rattle.keep_check.proofs.Own.{OwnTimely, own_late, own_least, own_stuck, own_timely_first, own_yes}
+use Rattle.keep_check.proofs.OwnEnds.{OwnTimely, own_late, own_least, own_stuck, own_timely_first, own_yes}
 
 -- Before the first wake-up no end has changed.
 
