@@ -1,4 +1,5 @@
 pub mod OwnEnds
+pub mod Bounded
 pub mod Keeping
 pub mod Answers
 pub mod Run

@@ -12,6 +12,8 @@ mod fit;
 mod gaps;
 mod kept;
 mod laws;
+#[cfg(test)]
+mod tests;
 mod walk;
 
 pub use answer::{Answer, Cause, CheckFault};
