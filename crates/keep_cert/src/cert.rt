@@ -1,0 +1,28 @@
+use crate::runs::Runs;
+use keep_moment::Moment;
+
+/// Which of the two forms of text a certificate has.
+#[derive(Clone, Copy, Debug, PartialEq, Eq)]
+pub enum Version {
+    /// A line for each wake-up.
+    One,
+    /// A line for each run of wake-ups.
+    Two,
+}
+
+/// What a certificate claims of a forest.
+#[derive(Debug, Drop)]
+pub enum Body {
+    /// These wake-ups are least and latest; each run names the pair of entries that forces its wake-ups.
+    Runs(Runs),
+    /// No plan keeps: `entry` cannot be led to the need of `needed`, which it is over.
+    Unkeepable { entry: u32, needed: u32 },
+}
+
+/// A certificate: what a planner claims from a start on.
+#[derive(Debug, Drop)]
+pub struct Cert {
+    pub version: Version,
+    pub start: Moment,
+    pub body: Body,
+}

@@ -1,0 +1,141 @@
+-- No plan at some moments leads an end past that of the entry asked by itself at each of them.
+use Rattle.std.proofs.Common.{◌≡◌, ℕ, ◌+◌, ◌<◌, ◌≤◌, ◌⊎◌, ◌&&◌, Bool, true, false, cond, List, [], ◌∷◌, Option, Some, None, filter, max, nat_le, nat_lt, refl, sym, ap, ◌∙◌, subst, arith, inl, inr}
+use Rattle.std.proofs.lemmas.Bool.{cases_Bool, cases_lt, cond-true, cond-false}
+use Rattle.std.proofs.lemmas.Bool.Decides.{nat_tests}
+use Rattle.keep_tree.specs.declared.entry.Entry.{Entry}
+use Rattle.keep_tree.specs.Carried.{carried}
+use Rattle.keep_tree.specs.Forest.{Grove, entry_at}
+use Rattle.keep_tree.specs.Over.{Over}
+use Rattle.keep_tree.specs.Push.{IsForest}
+use Rattle.keep_tree.specs.Renewal.{all_last, is_granted, renewal, renewed}
+use Rattle.keep_tree.proofs.Carrying.{and_left, and_right, carried_at_least, over_up}
+use Rattle.keep_tree.proofs.Chains.{ParentsFirst, all_last_head}
+use Rattle.keep_tree.proofs.Placed.{parents_first}
+use Rattle.keep_rule.specs.declared.wake.Wake.{Wake}
+use Rattle.keep_rule.specs.Asks.{asking, first_of, is_due, is_wanted, with_asks}
+use Rattle.keep_rule.specs.Ends.{after, ends_after}
+use Rattle.keep_rule.specs.Forced.{bound, latest_end}
+use Rattle.keep_rule.specs.Keeps.{ends_at}
+use Rattle.keep_rule.specs.Plans.{moments}
+use Rattle.keep_rule.specs.Schedule.{RisesStrictly}
+use Rattle.keep_rule.proofs.Asking.{Covers, asked_end, covers_more, covers_need, covers_not_due, short_over}
+use Rattle.keep_rule.proofs.Keeping.{IsRising}
+use Rattle.keep_rule.proofs.Stuck.{IsStuck}
+use Rattle.keep_rule.proofs.Tail.{moments_with_asks}
+use Rattle.keep_rule.proofs.Timely.{after_unwanted, after_wanted, asks_grow}
+use Rattle.keep_rule.proofs.Walk.{ends_from}
+use Rattle.keep_check.specs.Kept.{KeptTo, own, own_after, own_end}
+use Rattle.keep_check.proofs.OwnEnds.{OwnTimely, own_late, own_least, own_stuck, own_timely_first, own_yes}
+
+-- Before the first wake-up no end has changed.
+
+none_yet : (from m : ℕ) (ws : List Wake) → IsRising from (moments ws) → m < from → filter (λ w. nat_le w.at m) ws ≡ []
+none_yet from m [] rising h = refl
+none_yet from m (w ∷ ws) rising h =
+    let l : from ≤ w.at = rising.0 in
+    let late : nat_le w.at m ≡ false = grind (arith, nat_tests) in
+    ap (λ b. cond b (w ∷ filter (λ x. nat_le x.at m) ws) (filter (λ x. nat_le x.at m) ws)) late ∙ none_yet w.at m ws rising.1 (omega arith)
+
+pub ends_unchanged : (es : List Entry) (margin from m : ℕ) (e : ℕ → ℕ) (ws : List Wake) → IsRising from (moments ws) → m < from → ends_at es margin e ws m ≡ e
+unfolding ends_at ends_after
+ends_unchanged es margin from m e ws rising h = ap (ends_after es margin e) (none_yet from m ws rising h)
+
+pub asks_rise :
+    (es : List Entry) (margin s : ℕ) (e : ℕ → ℕ) (t : ℕ) (ts : List ℕ) → IsRising t ts →
+    IsRising t (moments (asking es margin s e t (first_of ts) ∷ with_asks es margin s (after es margin e (asking es margin s e t (first_of ts))) ts))
+asks_rise es margin s e t ts rising =
+    subst (λ us. IsRising t (t ∷ us)) (sym (moments_with_asks es margin s (after es margin e (asking es margin s e t (first_of ts))) ts)) (omega arith, rising)
+
+-- From kept to own ends: no plan with these moments leads an end past the own end.
+
+abbrev StuckAt : List Entry → ℕ → ℕ → ℕ → List ℕ → Type 0
+StuckAt es margin i b [] = Unit {0}
+StuckAt es margin i b (t ∷ ts) = IsStuck es margin i b t × StuckAt es margin i b ts
+
+own_holds : (es : List Entry) (margin i end low : ℕ) (ts : List ℕ) → IsRising low ts → StuckAt es margin i (own_end (entry_at es i) margin end ts) ts
+unfolding own_end
+own_holds es margin i end low [] rising = tt
+own_holds es margin i end low (t ∷ ts) rising =
+    let e = entry_at es i in
+    let now = own_after e margin end t in
+    let last = own_end e margin now ts in
+    let here : IsStuck es margin i last t = elim (cases_Bool e.renewable) [
+      | inr fixed ↦ inl fixed
+      | inl renewable ↦ elim (cases_lt end (t + margin)) [
+        | inl late ↦
+            let stays : last ≡ end = ap (λ n. own_end e margin n ts) (own_late e margin end t late) ∙ own_stuck e margin end t ts rising.1 late in
+            inr (inl (omega (arith, stays)))
+        | inr near ↦
+            let is = own_yes e margin end t renewable near in
+            let least = own_least e margin now ts in
+            inr (inr (omega (arith, is, least)))
+      ]
+    ] in
+    (here, own_holds es margin i now t ts rising.1)
+
+granted_in_time : (es : List Entry) (margin : ℕ) (e : ℕ → ℕ) (t a : ℕ) → is_granted es margin e t a ≡ true → ((entry_at es a).renewable ≡ true) × (t + margin ≤ e a)
+unfolding is_granted
+granted_in_time es margin e t a granted = (
+  and_left (entry_at es a).renewable (all_last es e (t + margin) a) granted,
+  elim (cases_lt (e a) (t + margin)) [
+    | inr last ↦ last
+    | inl early ↦ absurd (
+        let all = and_right (entry_at es a).renewable (all_last es e (t + margin) a) granted in
+        let none : all_last es e (t + margin) a ≡ false = all_last_head es e (t + margin) a (let l : nat_le (t + margin) (e a) ≡ false = grind (arith, nat_tests) in l) in
+        cc)
+  ],
+)
+
+-- what the Asks ask is granted
+wanted_granted : (es : List Entry) (margin s : ℕ) (e : ℕ → ℕ) (t : ℕ) (next : Option ℕ) (a : ℕ) → is_wanted es margin s e t next a ≡ true → is_granted es margin e t a ≡ true
+unfolding renewed
+wanted_granted es margin s e t next a wanted =
+    let new = asked_end es margin s e t next a wanted in
+    elim (cases_Bool (is_granted es margin e t a)) [
+      | inl granted ↦ granted
+      | inr refused ↦ absurd (let same = cond-false (is_granted es margin e t a) (renewal (entry_at es a) t) (e a) refused in let is = new.0 in let more = new.1 in omega (arith, same, is))
+    ]
+
+round_below : (es : List Entry) (margin s : ℕ) (e : ℕ → ℕ) (t : ℕ) (next : Option ℕ) (a b : ℕ) → e a ≤ b → IsStuck es margin a b t → after es margin e (asking es margin s e t next) a ≤ b
+round_below es margin s e t next a b below stuck =
+    elim (cases_Bool (is_wanted es margin s e t next a)) [
+      | inr unwanted ↦ let is = after_unwanted es margin s e t next a unwanted in omega arith
+      | inl wanted ↦
+          let is = after_wanted es margin s e t next a wanted in
+          let granted = granted_in_time es margin e t a (wanted_granted es margin s e t next a wanted) in
+          let near : t + margin ≤ e a = granted.1 in
+          let renewable = granted.0 in
+          elim stuck [
+            | inl fixed ↦ absurd cc
+            | inr other ↦ elim other [ inl late ↦ absurd (omega arith) | inr small ↦ omega arith ]
+          ]
+    ]
+
+-- so no end passes a bound at which the moments find it stuck
+asks_below :
+    (es : List Entry) (margin s a b : ℕ) (ts : List ℕ) (e : ℕ → ℕ) (low : ℕ) → IsRising low ts → e a ≤ b → StuckAt es margin a b ts → (m : ℕ) → ends_at es margin e (with_asks es margin s e ts) m a ≤ b
+unfolding with_asks ends_at ends_after
+asks_below es margin s a b [] e low rising below stuck m = below
+asks_below es margin s a b (t ∷ ts) e low rising below stuck m =
+    let w = asking es margin s e t (first_of ts) in
+    let rest = with_asks es margin s (after es margin e w) ts in
+    elim (cases_lt m t) [
+      | inl before ↦ subst (λ (f : ℕ → ℕ). f a ≤ b) (sym (ends_unchanged es margin t m e (w ∷ rest) (asks_rise es margin s e t ts rising.1) before)) below
+      | inr due ↦
+          subst (λ (f : ℕ → ℕ). f a ≤ b) (sym (ends_from es margin e m w rest due))
+          (asks_below es margin s a b ts (after es margin e w) t rising.1 (round_below es margin s e t (first_of ts) a b below stuck.0) stuck.1 m)
+    ]
+
+pub kept_lasts :
+    (es : List Entry) (margin s : ℕ) (ends : ℕ → ℕ) (ts : List ℕ) → IsRising s ts → (i n : ℕ) → s < n → KeptTo es margin s ends (with_asks es margin s ends ts) i n →
+    (a : ℕ) → Over es a i → n ≤ own_end (entry_at es a) margin (ends a) ts
+kept_lasts es margin s ends ts rising i n later kept a over =
+    let b = own_end (entry_at es a) margin (ends a) ts in
+    elim (cases_lt b n) [
+      | inr lasts ↦ lasts
+      | inl short ↦
+          let m = max s b in
+          let past : m < ends_at es margin ends (with_asks es margin s ends ts) m a = kept m (omega arith) (omega arith) a over in
+          let low = asks_below es margin s a b ts ends s rising (own_least (entry_at es a) margin (ends a) ts) (own_holds es margin a (ends a) s ts rising) m in
+          absurd (omega arith)
+    ]

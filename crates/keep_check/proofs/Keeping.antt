@@ -1,0 +1,199 @@
+-- The law of keeping entry by entry: an entry is kept with the Asks exactly where each entry over it, asked by itself,
+-- lasts until its need.
+use Rattle.std.proofs.Common.{◌≡◌, ℕ, ◌+◌, ◌<◌, ◌≤◌, ◌⊎◌, ◌&&◌, Bool, true, false, cond, List, [], ◌∷◌, Option, Some, None, filter, max, nat_le, nat_lt, refl, sym, ap, ◌∙◌, subst, arith, inl, inr}
+use Rattle.std.proofs.lemmas.Bool.{cases_Bool, cases_lt, cond-true, cond-false}
+use Rattle.std.proofs.lemmas.Bool.Decides.{nat_tests}
+use Rattle.keep_tree.specs.declared.entry.Entry.{Entry}
+use Rattle.keep_tree.specs.Carried.{carried}
+use Rattle.keep_tree.specs.Forest.{Grove, entry_at}
+use Rattle.keep_tree.specs.Over.{Over}
+use Rattle.keep_tree.specs.Push.{IsForest}
+use Rattle.keep_tree.specs.Renewal.{all_last, is_granted, renewal, renewed}
+use Rattle.keep_tree.proofs.Carrying.{and_left, and_right, carried_at_least, over_up}
+use Rattle.keep_tree.proofs.Chains.{ParentsFirst, all_last_head}
+use Rattle.keep_tree.proofs.Placed.{parents_first}
+use Rattle.keep_rule.specs.declared.wake.Wake.{Wake}
+use Rattle.keep_rule.specs.Asks.{asking, first_of, is_due, is_wanted, with_asks}
+use Rattle.keep_rule.specs.Ends.{after, ends_after}
+use Rattle.keep_rule.specs.Forced.{bound, latest_end}
+use Rattle.keep_rule.specs.Keeps.{ends_at}
+use Rattle.keep_rule.specs.Plans.{moments}
+use Rattle.keep_rule.specs.Schedule.{RisesStrictly}
+use Rattle.keep_rule.proofs.Asking.{Covers, asked_end, covers_more, covers_need, covers_not_due, short_over}
+use Rattle.keep_rule.proofs.Keeping.{IsRising}
+use Rattle.keep_rule.proofs.Stuck.{IsStuck}
+use Rattle.keep_rule.proofs.Tail.{moments_with_asks}
+use Rattle.keep_rule.proofs.Timely.{after_unwanted, after_wanted, asks_grow}
+use Rattle.keep_rule.proofs.Walk.{ends_from}
+use Rattle.keep_check.specs.Kept.{KeptTo, own, own_after, own_end}
+use Rattle.keep_check.specs.Laws.{KeptLaw}
+use Rattle.keep_check.proofs.OwnEnds.{OwnTimely, own_late, own_least, own_stuck, own_timely_first, own_yes}
+use Rattle.keep_check.proofs.Bounded.{asks_rise, ends_unchanged, kept_lasts}
+
+-- From own ends to kept: until n, each entry over i is covered from round to round.
+
+-- each entry over i has an end that covers it until n
+abbrev CoversOver : List Entry → ℕ → ℕ → ℕ → (ℕ → ℕ) → Option ℕ → Type 0
+CoversOver es margin i n e next = (a : ℕ) → Over es a i → Covers margin next n (e a)
+
+-- at each moment and behind the last, the bounds that the moment before leaves do so
+abbrev TimelyOver : List Entry → ℕ → ℕ → ℕ → (ℕ → ℕ) → Option ℕ → List ℕ → Type 0
+TimelyOver es margin i n ends prev [] = CoversOver es margin i n (bound es ends prev) None
+TimelyOver es margin i n ends prev (t ∷ ts) = CoversOver es margin i n (bound es ends prev) (Some t) × TimelyOver es margin i n ends (Some t) ts
+
+timely_over : (es : List Entry) (margin i n : ℕ) (ends : ℕ → ℕ) (prev : Option ℕ) (ts : List ℕ) → ((a : ℕ) → Over es a i → OwnTimely (entry_at es a) margin (ends a) n prev ts) → TimelyOver es margin i n ends prev ts
+unfolding bound
+timely_over es margin i n ends prev [] each = each
+timely_over es margin i n ends prev (t ∷ ts) each = (λ a over. (each a over).0, timely_over es margin i n ends (Some t) ts (λ a over. (each a over).1))
+
+timely_first : (es : List Entry) (margin i n : ℕ) (ends : ℕ → ℕ) (prev : Option ℕ) (ts : List ℕ) → TimelyOver es margin i n ends prev ts → CoversOver es margin i n (bound es ends prev) (first_of ts)
+timely_first es margin i n ends prev [] timely = timely
+timely_first es margin i n ends prev (t ∷ ts) timely = timely.0
+
+bound_at_most : (es : List Entry) (ends : ℕ → ℕ) (t a m : ℕ) → ends a ≤ m → renewal (entry_at es a) t ≤ m → bound es ends (Some t) a ≤ m
+unfolding bound latest_end
+bound_at_most es ends t a m end new = by_test (entry_at es a).renewable (ends a) (renewal (entry_at es a) t) end new where
+  by_test : (b : Bool) (x y : ℕ) → x ≤ m → y ≤ m → cond b (max x y) x ≤ m
+  by_test true x y p q = omega arith
+  by_test false x y p q = p
+
+bound_fixed : (es : List Entry) (ends : ℕ → ℕ) (t a : ℕ) → (entry_at es a).renewable ≡ false → bound es ends (Some t) a ≡ ends a
+unfolding bound latest_end
+bound_fixed es ends t a fixed = cond-false (entry_at es a).renewable (max (ends a) (renewal (entry_at es a) t)) (ends a) fixed
+
+-- where an end over a comes too soon for a renewal at t, a lasts until n
+lasts_under : (es : List Entry) → ParentsFirst es → (margin i n t : ℕ) (e : ℕ → ℕ) → CoversOver es margin i n e (Some t) → (a b : ℕ) → Over es a i → Over es b a → e b < t + margin → n ≤ e a
+lasts_under es first margin i n t e safe a b over up short =
+    elim (safe b (over_up es first (i + 1) b a i (omega arith) up over)) [
+      | inl lasts ↦ elim (safe a over) [ inl here ↦ here | inr granted ↦ omega arith ]
+      | inr granted ↦ absurd (omega arith)
+    ]
+
+-- a test of five that fails, fails at one of them
+fails_at : (a b c d e : Bool) (P : Type 0) → a && (b && (c && (d && e))) ≡ false → (a ≡ false → P) → (b ≡ false → P) → (c ≡ false → P) → (d ≡ false → P) → (e ≡ false → P) → P
+fails_at false b c d e P h p q r s t = p refl
+fails_at true false c d e P h p q r s t = q refl
+fails_at true true false d e P h p q r s t = r refl
+fails_at true true true false e P h p q r s t = s refl
+fails_at true true true true e P h p q r s t = t h
+
+-- an end that a request at t would not make later is at least the bound that t leaves, or lasts until n
+no_gain :
+    (es : List Entry) → ParentsFirst es → (margin i n : ℕ) (ends e : ℕ → ℕ) → ((k : ℕ) → ends k ≤ e k) → (t : ℕ) → CoversOver es margin i n e (Some t) →
+    (a : ℕ) → Over es a i → nat_lt (e a) (renewed es margin e t a) ≡ false → (bound es ends (Some t) a ≤ e a) ⊎ (n ≤ e a)
+unfolding renewed is_granted
+no_gain es first margin i n ends e grown t safe a over none =
+    let less : renewed es margin e t a ≤ e a = grind (arith, nat_tests) in
+    let from : ends a ≤ e a = grown a in
+    elim (cases_Bool (entry_at es a).renewable) [
+      | inr fixed ↦ inl (let is = bound_fixed es ends t a fixed in omega arith)
+      | inl renewable ↦ elim (cases_Bool (all_last es e (t + margin) a)) [
+        | inl all ↦
+            let granted : (entry_at es a).renewable && all_last es e (t + margin) a ≡ true = ap (λ b. b && all_last es e (t + margin) a) renewable ∙ all in
+            let is = cond-true ((entry_at es a).renewable && all_last es e (t + margin) a) (renewal (entry_at es a) t) (e a) granted in
+            inl (bound_at_most es ends t a (e a) from (subst (λ x. x ≤ e a) is less))
+        | inr not_all ↦
+            let short = short_over es e (t + margin) a not_all in
+            inr (lasts_under es first margin i n t e safe a short.0 over short.1 short.2)
+      ]
+    ]
+
+-- an entry over i that the Asks leave out is covered without a renewal
+still_covered :
+    (es : List Entry) → ParentsFirst es → (margin s : ℕ) → 0 < margin → (i : ℕ) → s < (entry_at es i).need → (ends e : ℕ → ℕ) → ((k : ℕ) → ends k ≤ e k) → (t : ℕ) (next : Option ℕ) →
+    CoversOver es margin i (entry_at es i).need e (Some t) → CoversOver es margin i (entry_at es i).need (bound es ends (Some t)) next →
+    (a : ℕ) → Over es a i → is_wanted es margin s e t next a ≡ false → Covers margin next (entry_at es i).need (e a)
+unfolding is_wanted
+still_covered es first margin s above i later ends e grown t next safe bounds a over unwanted =
+    let n = (entry_at es i).need in
+    fails_at (entry_at es a).renewable (all_last es e (t + 1) a) (nat_lt (e a) (carried es s a)) (nat_lt (e a) (renewed es margin e t a)) (is_due margin next (e a))
+    (Covers margin next n (e a)) unwanted
+    (λ fixed.
+    let is = bound_fixed es ends t a fixed in
+    let from : ends a ≤ e a = grown a in
+    covers_more margin next n (bound es ends (Some t) a) (e a) (omega arith) (bounds a over))
+    (λ gone.
+    let short = short_over es e (t + 1) a gone in
+    covers_need margin next n (e a) (lasts_under es first margin i n t e safe a short.0 over short.1 (omega (arith, short.2))))
+    (λ lasts.
+    let carries = carried_at_least es s a i over later in
+    let last : carried es s a ≤ e a = grind (arith, nat_tests) in
+    covers_need margin next n (e a) (omega arith))
+    (λ none. elim (no_gain es first margin i n ends e grown t safe a over none) [
+      | inl high ↦ covers_more margin next n (bound es ends (Some t) a) (e a) high (bounds a over)
+      | inr lasts ↦ covers_need margin next n (e a) lasts
+    ])
+    (λ waits. covers_not_due margin next n (e a) waits)
+
+-- ends that cover until t do, after its Asks, cover until the next moment, where the bounds that t leaves do
+round_covers :
+    (es : List Entry) → ParentsFirst es → (margin s : ℕ) → 0 < margin → (i : ℕ) → s < (entry_at es i).need → (ends e : ℕ → ℕ) → ((k : ℕ) → ends k ≤ e k) → (t : ℕ) (next : Option ℕ) →
+    CoversOver es margin i (entry_at es i).need e (Some t) → CoversOver es margin i (entry_at es i).need (bound es ends (Some t)) next →
+    CoversOver es margin i (entry_at es i).need (after es margin e (asking es margin s e t next)) next
+round_covers es first margin s above i later ends e grown t next safe bounds a over =
+    let n = (entry_at es i).need in
+    elim (cases_Bool (is_wanted es margin s e t next a)) [
+      | inl wanted ↦
+          let is = after_wanted es margin s e t next a wanted in
+          let new = (asked_end es margin s e t next a wanted).1 in
+          let from : ends a ≤ e a = grown a in
+          let high = bound_at_most es ends t a (renewal (entry_at es a) t) (omega arith) (omega arith) in
+          subst (Covers margin next n) (sym is) (covers_more margin next n (bound es ends (Some t) a) (renewal (entry_at es a) t) high (bounds a over))
+      | inr unwanted ↦
+          subst (Covers margin next n) (sym (after_unwanted es margin s e t next a unwanted))
+          (still_covered es first margin s above i later ends e grown t next safe bounds a over unwanted)
+    ]
+
+covered_at : (margin t n m end : ℕ) → m < n → m < t → Covers margin (Some t) n end → m < end
+covered_at margin t n m end need before covers = elim covers [ inl lasts ↦ omega arith | inr granted ↦ omega arith ]
+
+kept_from :
+    (g : Grove) → IsForest g → (s i : ℕ) → s < (entry_at g.entries i).need → (ends : ℕ → ℕ) (ts : List ℕ) (prev : Option ℕ) (from : ℕ) (e : ℕ → ℕ) → ((k : ℕ) → ends k ≤ e k) → IsRising from ts →
+    CoversOver g.entries g.margin i (entry_at g.entries i).need e (first_of ts) → TimelyOver g.entries g.margin i (entry_at g.entries i).need ends prev ts →
+    KeptTo g.entries g.margin from e (with_asks g.entries g.margin s e ts) i (entry_at g.entries i).need
+unfolding with_asks ends_at ends_after
+kept_from g forest s i later ends [] prev from e grown rising safe timely m start need a over =
+    let lasts : (entry_at g.entries i).need ≤ e a = safe a over in omega arith
+kept_from g forest s i later ends (t ∷ ts) prev from e grown rising safe timely m start need a over =
+    let es = g.entries in
+    let margin = g.margin in
+    let w = asking es margin s e t (first_of ts) in
+    let rest = with_asks es margin s (after es margin e w) ts in
+    elim (cases_lt m t) [
+      | inl before ↦
+          subst (λ (f : ℕ → ℕ). m < f a) (sym (ends_unchanged es margin t m e (w ∷ rest) (asks_rise es margin s e t ts rising.1) before)) (covered_at margin t (entry_at es i).need m (e a) need before (safe a over))
+      | inr due ↦
+          let grows : (k : ℕ) → ends k ≤ after es margin e w k = λ k. let l : ends k ≤ e k = grown k in let up = asks_grow es margin s e t (first_of ts) k in omega arith in
+          let round = round_covers es (parents_first g forest) margin s forest.margin_above i later ends e grown t (first_of ts) safe
+          (timely_first es margin i (entry_at es i).need ends (Some t) ts timely.1) in
+          subst (λ (f : ℕ → ℕ). m < f a) (sym (ends_from es margin e m w rest due))
+          (kept_from g forest s i later ends ts (Some t) t (after es margin e w) grows rising.1 round timely.1 m due need a over)
+    ]
+
+bound_none : (es : List Entry) (margin i n : ℕ) (ends : ℕ → ℕ) (next : Option ℕ) → CoversOver es margin i n (bound es ends None) next → CoversOver es margin i n ends next
+unfolding bound latest_end
+bound_none es margin i n ends next safe = safe
+
+lasts_kept :
+    (g : Grove) → IsForest g → (s i : ℕ) → s < (entry_at g.entries i).need → (ends : ℕ → ℕ) (ts : List ℕ) → IsRising s ts →
+    ((a : ℕ) → Over g.entries a i → (entry_at g.entries i).need ≤ own_end (entry_at g.entries a) g.margin (ends a) ts) →
+    KeptTo g.entries g.margin s ends (with_asks g.entries g.margin s ends ts) i (entry_at g.entries i).need
+lasts_kept g forest s i later ends ts rising lasts =
+    let es = g.entries in
+    let n = (entry_at es i).need in
+    let timely = timely_over es g.margin i n ends None ts (λ a over. own_timely_first (entry_at es a) g.margin (ends a) n s ts rising (lasts a over)) in
+    kept_from g forest s i later ends ts None s ends (λ k. omega arith) rising (bound_none es g.margin i n ends (first_of ts) (timely_first es g.margin i n ends None ts timely)) timely
+
+-- strictly rising moments rise
+pub rising_strictly : (s : ℕ) (ts : List ℕ) → RisesStrictly s ts → IsRising s ts
+rising_strictly s [] rises = tt
+rising_strictly s (t ∷ ts) rises = (rises.0, weaker t ts rises.1) where
+  weaker : (u : ℕ) (us : List ℕ) → RisesStrictly (u + 1) us → IsRising u us
+  weaker u [] r = tt
+  weaker u (v ∷ vs) r = let l : u + 1 ≤ v = r.0 in (omega arith, weaker v vs r.1)
+
+pub kept_law : KeptLaw
+unfolding own
+kept_law g s ends ts forest rises i later =
+    let rising = rising_strictly s ts rises in
+    (λ kept. kept_lasts g.entries g.margin s ends ts rising i (entry_at g.entries i).need later kept, λ lasts. lasts_kept g forest s i later ends ts rising lasts)

@@ -1,0 +1,134 @@
+-- The end of an entry that is asked by itself: how it grows, where it stays, and that it is the bound of the last moment
+-- that came in time.
+use Rattle.std.proofs.Common.{◌≡◌, ℕ, ◌+◌, ◌<◌, ◌≤◌, ◌&&◌, Bool, true, false, cond, List, [], ◌∷◌, Option, Some, None, max, nat_le, refl, sym, ap, ◌∙◌, subst, arith, inl, inr}
+use Rattle.std.proofs.lemmas.Bool.{cases_Bool, cases_lt, cond-true, cond-false}
+use Rattle.std.proofs.lemmas.Bool.Decides.{nat_tests}
+use Rattle.keep_tree.specs.declared.entry.Entry.{Entry}
+use Rattle.keep_tree.specs.Renewal.{renewal}
+use Rattle.keep_rule.specs.Forced.{latest_end}
+use Rattle.keep_rule.proofs.Asking.{Covers}
+use Rattle.keep_rule.proofs.Keeping.{IsRising, renewal_later}
+use Rattle.keep_check.specs.Kept.{own_after, own_end}
+
+and_false : (a b : Bool) → b ≡ false → a && b ≡ false
+and_false true b e = e
+and_false false b e = refl
+
+both : (a b : Bool) → a ≡ true → b ≡ true → a && b ≡ true
+both true true p q = refl
+both true false p q = absurd cc
+both false b p q = absurd cc
+
+pub own_yes : (e : Entry) (margin end t : ℕ) → e.renewable ≡ true → t + margin ≤ end → own_after e margin end t ≡ max end (renewal e t)
+unfolding own_after
+own_yes e margin end t renewable near =
+    cond-true (e.renewable && nat_le (t + margin) end) (max end (renewal e t)) end
+    (both e.renewable (nat_le (t + margin) end) renewable (let l : nat_le (t + margin) end ≡ true = grind (arith, nat_tests) in l))
+
+pub own_late : (e : Entry) (margin end t : ℕ) → end < t + margin → own_after e margin end t ≡ end
+unfolding own_after
+own_late e margin end t late =
+    cond-false (e.renewable && nat_le (t + margin) end) (max end (renewal e t)) end
+    (and_false e.renewable (nat_le (t + margin) end) (let l : nat_le (t + margin) end ≡ false = grind (arith, nat_tests) in l))
+
+pub own_fixed : (e : Entry) (margin end t : ℕ) → e.renewable ≡ false → own_after e margin end t ≡ end
+unfolding own_after
+own_fixed e margin end t fixed = ap (λ b. cond (b && nat_le (t + margin) end) (max end (renewal e t)) end) fixed
+
+pub own_grows : (e : Entry) (margin end t : ℕ) → end ≤ own_after e margin end t
+own_grows e margin end t =
+    elim (cases_Bool e.renewable) [
+      | inr fixed ↦ let is = own_fixed e margin end t fixed in omega arith
+      | inl renewable ↦ elim (cases_lt end (t + margin)) [
+        | inl late ↦ let is = own_late e margin end t late in omega arith
+        | inr near ↦ let is = own_yes e margin end t renewable near in omega arith
+      ]
+    ]
+
+pub own_least : (e : Entry) (margin end : ℕ) (ts : List ℕ) → end ≤ own_end e margin end ts
+unfolding own_end
+own_least e margin end [] = omega arith
+own_least e margin end (t ∷ ts) =
+    let here = own_grows e margin end t in
+    let rest = own_least e margin (own_after e margin end t) ts in
+    omega arith
+
+-- an end that the next moment finds too near stays
+pub own_stuck : (e : Entry) (margin end low : ℕ) (ts : List ℕ) → IsRising low ts → end < low + margin → own_end e margin end ts ≡ end
+unfolding own_end
+own_stuck e margin end low [] rising late = refl
+own_stuck e margin end low (t ∷ ts) rising late =
+    let l : low ≤ t = rising.0 in
+    ap (λ n. own_end e margin n ts) (own_late e margin end t (omega arith)) ∙ own_stuck e margin end t ts rising.1 (omega arith)
+
+pub own_all_fixed : (e : Entry) (margin end : ℕ) (ts : List ℕ) → e.renewable ≡ false → own_end e margin end ts ≡ end
+unfolding own_end
+own_all_fixed e margin end [] fixed = refl
+own_all_fixed e margin end (t ∷ ts) fixed = ap (λ n. own_end e margin n ts) (own_fixed e margin end t fixed) ∙ own_all_fixed e margin end ts fixed
+
+-- for one entry: at each of these moments the bound that the moment before leaves covers it until n; and behind the last
+abbrev pub OwnTimely : Entry → ℕ → ℕ → ℕ → Option ℕ → List ℕ → Type 0
+OwnTimely e margin end n prev [] = Covers margin None n (latest_end e end prev)
+OwnTimely e margin end n prev (t ∷ ts) = Covers margin (Some t) n (latest_end e end prev) × OwnTimely e margin end n (Some t) ts
+
+-- moments behind prev: they rise from it
+abbrev pub RisingBehind : Option ℕ → List ℕ → Type 0
+RisingBehind None ts = (low : ℕ) × IsRising low ts
+RisingBehind (Some t) ts = IsRising t ts
+
+pub rising_behind : (prev : Option ℕ) (t : ℕ) (ts : List ℕ) → RisingBehind prev (t ∷ ts) → IsRising t ts
+rising_behind None t ts rising = rising.1.1
+rising_behind (Some u) t ts rising = rising.1
+
+-- the bound after t is that before it, or what a renewal at t gives
+next_bound : (e : Entry) (end : ℕ) (prev : Option ℕ) (t : ℕ) (ts : List ℕ) → RisingBehind prev (t ∷ ts) → e.renewable ≡ true → max (latest_end e end prev) (renewal e t) ≡ latest_end e end (Some t)
+unfolding latest_end
+next_bound e end None t ts rising renewable = sym (cond-true e.renewable (max end (renewal e t)) end renewable)
+next_bound e end (Some u) t ts rising renewable =
+    let before = cond-true e.renewable (max end (renewal e u)) end renewable in
+    let after = cond-true e.renewable (max end (renewal e t)) end renewable in
+    let later = renewal_later e u t rising.0 in
+    omega (arith, before, after, later)
+
+fixed_bound : (e : Entry) (end : ℕ) (prev : Option ℕ) → e.renewable ≡ false → latest_end e end prev ≡ end
+unfolding latest_end
+fixed_bound e end None fixed = refl
+fixed_bound e end (Some u) fixed = cond-false e.renewable (max end (renewal e u)) end fixed
+
+bound_grows : (e : Entry) (end : ℕ) (prev : Option ℕ) (t : ℕ) (ts : List ℕ) → RisingBehind prev (t ∷ ts) → latest_end e end prev ≤ latest_end e end (Some t)
+bound_grows e end prev t ts rising =
+    elim (cases_Bool e.renewable) [
+      | inl renewable ↦ let is = next_bound e end prev t ts rising renewable in omega arith
+      | inr fixed ↦ let before = fixed_bound e end prev fixed in let after = fixed_bound e end (Some t) fixed in omega arith
+    ]
+
+-- a bound that has come to n covers all that comes
+own_enough : (e : Entry) (margin end n : ℕ) (prev : Option ℕ) (ts : List ℕ) → RisingBehind prev ts → n ≤ latest_end e end prev → OwnTimely e margin end n prev ts
+own_enough e margin end n prev [] rising lasts = lasts
+own_enough e margin end n prev (t ∷ ts) rising lasts =
+    let grows = bound_grows e end prev t ts rising in
+    (inl lasts, own_enough e margin end n (Some t) ts (rising_behind prev t ts rising) (omega arith))
+
+-- so an entry that, asked by itself, lasts until n is covered until n
+pub own_timely : (e : Entry) (margin end n : ℕ) (prev : Option ℕ) (ts : List ℕ) → RisingBehind prev ts → n ≤ own_end e margin (latest_end e end prev) ts → OwnTimely e margin end n prev ts
+unfolding own_end
+own_timely e margin end n prev [] rising lasts = lasts
+own_timely e margin end n prev (t ∷ ts) rising lasts =
+    let now = latest_end e end prev in
+    let risen = rising_behind prev t ts rising in
+    elim (cases_lt now (t + margin)) [
+      | inl late ↦
+          let stays : own_end e margin (own_after e margin now t) ts ≡ now = ap (λ m. own_end e margin m ts) (own_late e margin now t late) ∙ own_stuck e margin now t ts risen late in
+          own_enough e margin end n prev (t ∷ ts) rising (omega (arith, stays, lasts))
+      | inr near ↦
+          let Lasts : ℕ → Type 0 = λ m. n ≤ own_end e margin m ts in
+          let next : own_after e margin now t ≡ latest_end e end (Some t) = elim (cases_Bool e.renewable) [
+            | inl renewable ↦ own_yes e margin now t renewable near ∙ next_bound e end prev t ts rising renewable
+            | inr fixed ↦ own_fixed e margin now t fixed ∙ fixed_bound e end prev fixed ∙ sym (fixed_bound e end (Some t) fixed)
+          ] in
+          (inr near, own_timely e margin end n (Some t) ts risen (subst Lasts next lasts))
+    ]
+
+pub own_timely_first : (e : Entry) (margin end n s : ℕ) (ts : List ℕ) → IsRising s ts → n ≤ own_end e margin end ts → OwnTimely e margin end n None ts
+unfolding latest_end
+own_timely_first e margin end n s ts rising lasts = own_timely e margin end n None ts (s, rising) lasts

@@ -1,0 +1,15 @@
+use Rattle.std.proofs.Common.{◌≡◌, vec_len}
+use Rattle.keep_tree.specs.Forest.{end_of}
+use Rattle.keep_rule.proofs.Rounds.{LastsBelow}
+use Rattle.keep_schedule.specs.Forces.{moments_of}
+use Rattle.keep_schedule.specs.Runs.{all_wakes}
+use Rattle.keep_check.specs.Kept.{own}
+use Rattle.keep_check.specs.Steps.{AllLast}
+use Rattle.keep_check.proofs.kept.first_short.Given as goal
+
+abbrev pub invariant-loop-index : goal.invariant-loop-index
+invariant-loop-index l = record {
+  count : vec_len l.lasts ≡ l.index;
+  least : LastsBelow l.forest.entries (own l.forest.entries l.forest.margin (end_of l.forest.entries) (moments_of (all_wakes l.runs))) l.lasts.items l.index;
+  last : AllLast l.forest l.start (own l.forest.entries l.forest.margin (end_of l.forest.entries) (moments_of (all_wakes l.runs))) l.index;
+}

@@ -1,0 +1,20 @@
+use Rattle.std.proofs.Common.{◌≡◌, ◌+◌, ◌-◌, ◌*◌, ◌<◌, ◌⊎◌, arith, subst}
+use Rattle.keep_check.proofs.OwnRuns.{stops_at_ceiling, stops_at_last, stops_early}
+use Rattle.keep_check.proofs.kept.more_in_time.Goals as goal
+
+pub returns-then-entry-gap-clause-stops : goal.returns-then-entry-gap-clause-stops
+returns-then-entry-gap-clause-stops c =
+    let r = c.args.run.now in
+    stops_early c.args.entry.now c.args.margin c.args.end r.step r.first c.gaps_within.result (r.count - 1) c.if-entry-gap.true c.requires.first c.gaps_within.ensures.within c.gaps_within.ensures.stop
+
+pub returns-in-Some-clause-stops : goal.returns-in-Some-clause-stops
+returns-in-Some-clause-stops c =
+    let r = c.args.run.now in
+    stops_at_ceiling c.args.entry.now c.args.margin c.args.end r.step r.first c.gaps_within-in-Some.result (r.count - 1) c.in-Some.ceiling c.if-entry-gap.false c.in-Some.is c.requires.first
+    (omega (arith, c.gaps_within-in-Some.ensures.within, c.max.ensures))
+    (subst (λ m. (c.gaps_within-in-Some.result ≡ r.count - 1) ⊎ (m - c.args.margin < r.first + c.gaps_within-in-Some.result * r.step + r.step)) c.max.ensures c.gaps_within-in-Some.ensures.stop)
+
+pub returns-in-None-clause-stops : goal.returns-in-None-clause-stops
+returns-in-None-clause-stops c =
+    let r = c.args.run.now in
+    stops_at_last c.args.entry.now c.args.margin c.args.end r.step r.first (r.count - 1) c.if-entry-gap.false c.in-None.is

@@ -1,0 +1,5 @@
+use Rattle.keep_check.proofs.Answers.{one_answer}
+use Rattle.keep_check.proofs.laws.answer_law.Goals as goal
+
+pub returns : goal.returns
+returns c = one_answer

@@ -1,0 +1,5 @@
+use Rattle.keep_check.proofs.Answers.{yes_holds}
+use Rattle.keep_check.proofs.laws.yes_law.Goals as goal
+
+pub returns : goal.returns
+returns c = yes_holds

@@ -1,0 +1,10 @@
+use Rattle.std.proofs.Common.{ℕ, ◌+◌, ◌≤◌, drop}
+use Rattle.keep_check.specs.declared.fit.TheConstants.{LIMIT}
+use Rattle.keep_check.specs.Fit.{AllFit, counted}
+use Rattle.keep_check.proofs.tests.fit_count.Given as goal
+
+abbrev pub invariant-loop-run : goal.invariant-loop-run
+invariant-loop-run l = record {
+  few : l.count ≤ LIMIT;
+  rest : AllFit l.entries (drop l.run-index l.runs) → l.count + counted (drop l.run-index l.runs) ≤ LIMIT → AllFit l.entries l.runs × (counted l.runs ≤ LIMIT);
+}

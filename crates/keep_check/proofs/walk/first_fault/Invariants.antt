@@ -1,0 +1,17 @@
+use Rattle.std.proofs.Common.{◌≡◌, ◌+◌, ◌≤◌, IfSome, drop, length}
+use Rattle.keep_moment.specs.declared.moment.TheConstants.{LAST}
+use Rattle.keep_tree.specs.Forest.{end_of}
+use Rattle.keep_schedule.specs.Runs.{all_wakes}
+use Rattle.keep_check.specs.Answer.{first_fault}
+use Rattle.keep_check.specs.Fit.{AllFit, counted}
+use Rattle.keep_check.specs.Walk.{fault}
+use Rattle.keep_check.proofs.walk.first_fault.Given as goal
+
+-- what the whole walk finds is what the walk from here finds
+abbrev pub invariant-loop-run : goal.invariant-loop-run
+invariant-loop-run l = record {
+  walk : fault l.forest.entries l.forest.margin l.start (end_of l.forest.entries) l.previous l.count (all_wakes (drop l.run-index l.runs)) ≡ first_fault l.forest l.start (all_wakes l.runs);
+  fit : AllFit (length l.forest.entries) (drop l.run-index l.runs);
+  number : l.count + counted (drop l.run-index l.runs) ≡ 1 + counted l.runs;
+  room : IfSome l.previous (λ t. t ≤ LAST);
+}

@@ -1,0 +1,50 @@
+-- Laws of the checker. Each is the contract of a public function without a body.
+use Rattle.std.specs.Prelude.{◌≡◌, ◌↔◌, ℕ, ◌≤◌, ◌<◌, List, Option, true}
+use Rattle.keep_tree.specs.declared.entry.Entry.{Entry}
+use Rattle.keep_tree.specs.Forest.{Grove, end_of, entry_at}
+use Rattle.keep_tree.specs.Over.{Over}
+use Rattle.keep_tree.specs.Push.{IsForest}
+use Rattle.keep_rule.specs.declared.wake.Wake.{Wake}
+use Rattle.keep_rule.specs.Asks.{with_asks}
+use Rattle.keep_rule.specs.Forced.{Forced}
+use Rattle.keep_rule.specs.Keeps.{Keeps}
+use Rattle.keep_rule.specs.Least.{IsLeastAndLatest}
+use Rattle.keep_rule.specs.Plans.{IsPlan}
+use Rattle.keep_rule.specs.Schedule.{RisesStrictly}
+use Rattle.keep_schedule.specs.Forces.{moments_of}
+use Rattle.keep_schedule.specs.Runs.{all_wakes}
+use Rattle.keep_cert.specs.declared.cert.Body.{Body}
+use Rattle.keep_cert.specs.declared.cert.Body.TheVariants as body
+use Rattle.keep_cert.specs.declared.cert.Cert.{Cert}
+use Rattle.keep_check.specs.declared.answer.Answer.{Answer}
+use Rattle.keep_check.specs.declared.answer.Answer.TheVariants.{Yes}
+use Rattle.keep_check.specs.Answer.{IsAnswer}
+use Rattle.keep_check.specs.Fit.{CanBeJudged}
+use Rattle.keep_check.specs.Kept.{KeptTo, own}
+use Rattle.keep_check.specs.Walk.{is_forced}
+
+-- moments with their Asks keep an entry exactly where each entry over it, asked by itself, lasts until its need
+abbrev pub KeptLaw : Type 0
+KeptLaw =
+    (g : Grove) (s : ℕ) (ends : ℕ → ℕ) (ts : List ℕ) → IsForest g → RisesStrictly s ts → (i : ℕ) → s < (entry_at g.entries i).need →
+    KeptTo g.entries g.margin s ends (with_asks g.entries g.margin s ends ts) i (entry_at g.entries i).need
+    ↔ ((a : ℕ) → Over g.entries a i → (entry_at g.entries i).need ≤ own g.entries g.margin ends ts a)
+
+-- the test of a wake-up's force is Forced
+abbrev pub ForcedTestLaw : Type 0
+ForcedTestLaw =
+    (es : List Entry) (margin s : ℕ) (ends : ℕ → ℕ) (prev : Option ℕ) (t entry needed : ℕ) →
+    (is_forced es margin s ends prev t entry needed ≡ true) ↔ Forced es margin s ends prev t entry needed
+
+-- at most one answer to a certificate is right
+abbrev pub AnswerLaw : Type 0
+AnswerLaw = (g : Grove) (c : Cert) (x y : Answer) → IsAnswer g c x → IsAnswer g c y → x ≡ y
+
+-- what a certificate claims: its moments are least and latest, or no plan keeps
+abbrev pub Holds : Grove → ℕ → Body → Type 0
+Holds g s (body.Runs rs) = IsLeastAndLatest g.entries g.margin s (end_of g.entries) (moments_of (all_wakes rs))
+Holds g s (body.Unkeepable entry needed) = (plan : List Wake) → IsPlan s plan → Keeps g.entries g.margin s (end_of g.entries) plan → ⊥
+
+-- what gets Yes holds
+abbrev pub YesLaw : Type 0
+YesLaw = (g : Grove) (c : Cert) → CanBeJudged g c.body → IsAnswer g c Yes → Holds g c.start c.body

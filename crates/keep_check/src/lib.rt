@@ -1,0 +1,22 @@
+//! The independent checker: whether what a certificate claims of a forest holds.
+//!
+//! The contract for the layers above: `check` answers what a walk over the wake-ups that the runs mean answers, wake-up by
+//! wake-up (`IsAnswer` of `specs/`), and its Yes says that they are least and latest, or that no plan keeps (`yes_law`).
+//! It costs runs times entries, whatever the number of wake-ups, and calls nothing of the planner. Begin with `checker`.
+#![tactic(auto)]
+
+mod answer;
+mod bound;
+mod checker;
+mod fit;
+mod gaps;
+mod kept;
+mod laws;
+#[cfg(test)]
+mod tests;
+mod walk;
+
+pub use answer::{Answer, Cause, CheckFault};
+pub use checker::check;
+pub use fit::LIMIT;
+pub use laws::{answer_law, forced_test_law, kept_law, yes_law};
