@@ -1,0 +1,5 @@
+pub mod Answers
+pub mod Numbers
+pub mod Pieces
+pub mod CertificateText
+pub mod Reading

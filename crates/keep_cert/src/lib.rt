@@ -2,7 +2,15 @@
 #![tactic(auto)]
 
 mod cert;
+mod fault;
+mod number;
+mod pieces;
+mod reader;
+mod run_line;
+mod run_lines;
 mod runs;
 
-pub use cert::{Body, Cert, Version};
+pub use cert::{Body, Cert, LIMIT, MAX_LINES, Version};
+pub use fault::CertFault;
+pub use reader::read;
 pub use runs::Runs;
