@@ -1,6 +1,6 @@
 -- Certificate text: how a certificate over a forest is written, in both versions, and which certificates there are.
 -- Source: this project's own.
-use Rattle.std.specs.Prelude.{◌≡◌, ◌↔◌, ℕ, ◌+◌, ◌-◌, ◌*◌, ◌<◌, ◌≤◌, List, [], ◌∷◌, ◌++◌, codes, decimal, flat_map, length}
+use Rattle.std.specs.Prelude.{◌≡◌, ◌↔◌, ℕ, ◌+◌, ◌-◌, ◌*◌, ◌<◌, ◌≤◌, List, [], ◌∷◌, ◌++◌, All, codes, decimal, flat_map, length}
 use Rattle.std.specs.List.{join_with_byte}
 use Rattle.keep_moment.specs.declared.moment.TheConstants.{LAST}
 use Rattle.keep_tree.specs.declared.entry.Entry.{Entry}
@@ -86,3 +86,13 @@ IsCertificate es c = (c.start ≤ LAST) × IsBody c.version es c.body
 pub record Writes (es : List Entry) (text : List ℕ) (c : Cert) : Type 0 where
   pub certificate : IsCertificate es c
   pub spelled : text ≡ certificate_text es c
+
+-- the indices of a run are those of n entries
+pub record IsAmong (n : ℕ) (r : Run) : Type 0 where
+  pub entry : r.entry < n
+  pub needed : r.needed < n
+
+-- the indices of a body are those of these entries, and its wake-ups are at most LIMIT
+abbrev pub CanBeWritten : List Entry → Body → Type 0
+CanBeWritten es (Runs rs) = All (IsAmong (length es)) rs × (counted rs ≤ LIMIT)
+CanBeWritten es (Unkeepable entry needed) = (entry < length es) × (needed < length es)

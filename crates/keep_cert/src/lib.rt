@@ -9,8 +9,10 @@ mod reader;
 mod run_line;
 mod run_lines;
 mod runs;
+mod writer;
 
 pub use cert::{Body, Cert, LIMIT, MAX_LINES, Version};
 pub use fault::CertFault;
 pub use reader::read;
 pub use runs::Runs;
+pub use writer::text_of;
