@@ -61,7 +61,7 @@ turn v es found line rest =
     then (run_line v (length found + 3) es (counted found) line >>= λ run. runs_of v es (found ++ run ∷ []) rest)
     else (ending (length found + 3) (counted found) line rest >>= λ u. Ok found)
 
-ok_same : {A : Type 0} (x y : A) → ◌≡◌ {A = Result A CertFault} (Ok x) (Ok y) → x ≡ y
+pub ok_same : {A : Type 0} (x y : A) → ◌≡◌ {A = Result A CertFault} (Ok x) (Ok y) → x ≡ y
 ok_same x y e = cc
 
 turned : (v : Version) (es : List Entry) (found : List Run) (ls : List (List ℕ)) (line : List ℕ) (rest : List (List ℕ))

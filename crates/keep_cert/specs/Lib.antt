@@ -3,3 +3,4 @@ pub mod Numbers
 pub mod Pieces
 pub mod CertificateText
 pub mod Reading
+pub mod Laws

@@ -1,5 +1,6 @@
 ghost use Rattle.std.specs.Prelude.{◌≡◌, ◌≤◌, [], List, ℕ, IfOk};
 ghost use Rattle.keep_cert.specs.Answers.{Gives};
+ghost use Rattle.keep_cert.specs.CertificateText.{Writes};
 ghost use Rattle.keep_cert.specs.Pieces.{lines};
 ghost use Rattle.keep_cert.specs.Reading.{version_of, header_of, start_of, unkeepable_of, body_of, certificate_of};
 ghost use Rattle.keep_cert.specs.declared.cert.Version.{Version};
@@ -15,8 +16,15 @@ use keep_moment::Moment;
 use keep_tree::Forest;
 use std::alloc::Global;
 
-/// The certificate that a text writes over a forest, in version 1 or 2.
+/// The certificate that a text writes over a forest, in version 1 or 2. A line `wake` of version 1 is a run of one
+/// wake-up.
+///
+/// # Errors
+///
+/// The fault of the first line at fault, as [`CertFault`] says, or `OutOfMemory` where a growth was refused. The laws of
+/// [`certificates_are_read_back`](crate::certificates_are_read_back) say that each certificate's text is read as it.
 pub fn read(alloc: Global, forest: &Forest, text: &[u8]) -> Result<Cert, CertFault>
+    ensures found { IfOk result (λ c. Writes forest.now.entries text.now c) }
     ensures exact { Gives (λ c. c) result (certificate_of forest.now.entries text.now) }
 {
     read_exactly(alloc, forest, text)
