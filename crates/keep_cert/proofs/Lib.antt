@@ -1,0 +1,10 @@
+pub mod Answering
+pub mod Cutting
+pub mod Digits
+pub mod Turns
+pub mod Found
+pub mod FoundLines
+pub mod FoundRuns
+pub mod Words
+pub mod ReadBack
+pub mod ReadBackAll

@@ -1,0 +1,6 @@
+pub mod Answers
+pub mod Numbers
+pub mod Pieces
+pub mod CertificateText
+pub mod Reading
+pub mod Laws

@@ -1,0 +1,163 @@
+-- What is written is read: numbers, names, and the lines of runs and wake-ups.
+use Rattle.std.proofs.Common.{◌≡◌, ◌≢◌, ℕ, ◌+◌, ◌-◌, ◌*◌, ◌^◌, ◌<◌, ◌≤◌, ◌↔◌, Bool, true, false, not, ◌&&◌, ◌||◌, ◌==◌, cond, if◌then◌else◌, List, [], ◌∷◌, ◌++◌, append_assoc, bytes_eq, codes, decimal, flat_map, get_or, length, length-append, nat_le, nat_lt, Result, Ok, Err, Some, refl, sym, ap, ◌∙◌, subst, arith, inl, inr, lt-ltb}
+use Rattle.std.proofs.Math.Nat.{mul-le-mul_right}
+use Rattle.std.proofs.lemmas.Bool.{and_from, cases_Bool, cases_eq, cond-false, cond-true, eq-eqb, eqb-true, le-leb, ne_eqb, not_from_false, or_left, or_right}
+use Rattle.std.proofs.lemmas.Fmt.{decimal_digit, decimal_nonempty, digits_decimal, digits_value-decimal, first_decimal}
+use Rattle.std.specs.Bool.{beq}
+use Rattle.std.specs.Char.{is_ascii_digit}
+use Rattle.std.specs.List.{join_with_byte, list_all}
+use Rattle.std.specs.Option.{ok_or}
+use Rattle.std.specs.Str.Parse.{digits_value}
+use Rattle.keep_moment.specs.declared.moment.TheConstants.{LAST}
+use Rattle.keep_tree.specs.declared.entry.Entry.{Entry}
+use Rattle.keep_tree.specs.Forest.{Grove, entry_at, index_named}
+use Rattle.keep_tree.specs.Push.{IsForest}
+use Rattle.keep_schedule.specs.declared.run.Run.{Run}
+use Rattle.keep_cert.specs.declared.cert.Version.{Version}
+use Rattle.keep_cert.specs.declared.cert.Version.TheVariants.{One, Two}
+use Rattle.keep_cert.specs.declared.cert.TheConstants.{LIMIT}
+use Rattle.keep_cert.specs.declared.fault.CertFault.TheVariants.{BadLine, BadNumber, UnknownName}
+use Rattle.keep_cert.specs.CertificateText.{IsRun, line_text, name_of, run_text}
+use Rattle.keep_cert.specs.Numbers.{is_spelled, number_at, number_of}
+use Rattle.keep_cert.specs.Pieces.{four, four_words, keyword, pieces, six, six_words, three, three_words, two, two_words}
+use Rattle.keep_cert.specs.Reading.{entry_named, is_run, right, run_keyword, run_line, run_of, wake_of}
+use Rattle.keep_cert.proofs.Digits.{own}
+use Rattle.keep_cert.proofs.Turns.{value_on}
+use Rattle.keep_cert.proofs.Words.{AreWords, IsWord, decimal_is_word, keyword_back, keyword_test, name_is_word, words_back}
+
+one_zero : (k : ℕ) → k < 2 ^ 64 → (not (get_or (decimal k) 0 0 == 48) || (length (decimal k) == 1)) ≡ true
+one_zero k small =
+    elim (cases_eq k 0) [
+      | inl zero_is ↦
+          let alone : length (decimal k) ≡ 1 = ap length (decimal_digit k (omega (arith, zero_is))) in
+          or_right (not (get_or (decimal k) 0 0 == 48)) _ (eq-eqb _ _ alone)
+      | inr some ↦
+          let front = first_decimal k (omega (arith, some)) small in
+          or_left (not (get_or (decimal k) 0 0 == 48)) (length (decimal k) == 1) (not_from_false (get_or (decimal k) 0 0 == 48) (ne_eqb (get_or (decimal k) 0 0) 48 (λ e. omega (arith, e, front))))
+    ]
+
+pub number_back : (n k : ℕ) → k ≤ LAST → number_at n (decimal k) ≡ Ok k
+unfolding number_at number_of is_spelled
+number_back n k few =
+    let small : k < 2 ^ 64 = omega (arith, few) in
+    let value : digits_value 10 (decimal k) ≡ k = digits_value-decimal own k small in
+    let spelled = and_from (list_all is_ascii_digit (decimal k)) _ (digits_decimal own k small)
+    (and_from (nat_lt 0 (length (decimal k))) _ (lt-ltb _ _ (decimal_nonempty k small)) (one_zero k small)) in
+    let within : nat_le (digits_value 10 (decimal k)) LAST ≡ true = le-leb _ _ (subst (λ x. x ≤ LAST) (sym value) few) in
+    ap (λ o. ok_or o (BadNumber n)) (cond-true _ _ _ (and_from (is_spelled (decimal k)) _ spelled within) ∙ ap Some value)
+
+module _ (g : Grove) (f : IsForest g) where
+  pub entry_back : (n i : ℕ) → i < length g.entries → entry_named n g.entries (name_of g.entries i) ≡ Ok i
+  unfolding entry_named name_of
+  entry_back n i inside = ap (λ o. ok_or o (UnknownName n)) ((f.placed i inside).alone)
+
+  pub name_word : (i : ℕ) → i < length g.entries → IsWord (name_of g.entries i)
+  unfolding name_of
+  name_word i inside = name_is_word _ ((f.placed i inside).named)
+
+-- ---- lines of wake-ups and runs
+
+abbrev wake_tail : List Entry → Run → List (List ℕ)
+wake_tail es r = decimal r.first ∷ name_of es r.entry ∷ name_of es r.needed ∷ []
+
+abbrev run_tail : List Entry → Run → List (List ℕ)
+run_tail es r = decimal r.first ∷ decimal r.step ∷ decimal r.count ∷ name_of es r.entry ∷ name_of es r.needed ∷ []
+
+abbrev pub run_words : Version → List Entry → Run → List (List ℕ)
+run_words One es r = codes "wake" ∷ wake_tail es r
+run_words Two es r = codes "run" ∷ run_tail es r
+
+pub run_text_is : (v : Version) (es : List Entry) (r : Run) → run_text v es r ≡ line_text (run_words v es r)
+unfolding run_text
+run_text_is One es r = refl
+run_text_is Two es r = refl
+
+abbrev pub run_as_line : Version → List Entry → Run → List ℕ
+run_as_line v es r = join_with_byte 32 (run_words v es r)
+
+-- the numbers of a run that may be
+pub record AreSmall (r : Run) : Type 0 where
+  pub first : r.first ≤ LAST
+  pub step : r.step ≤ LAST
+  pub count : r.count ≤ LAST
+
+step_within : (first step count : ℕ) → (step ≡ 0) ↔ (count ≡ 1) → 0 < count → first + (count - 1) * step ≤ LAST → step ≤ LAST
+step_within first step count lone some within =
+    elim (cases_eq count 1) [
+      | inl one ↦ omega (arith, lone.1 one)
+      | inr more ↦
+          let two : 1 ≤ count - 1 = omega (arith, more, some) in
+          let times : 1 * step ≤ (count - 1) * step = mul-le-mul_right step two in
+          omega (arith, times, within)
+    ]
+
+pub run_small : (v : Version) (es : List Entry) (r : Run) → IsRun v es r → r.count ≤ LIMIT → AreSmall r
+run_small v es r h few = record { first = omega (arith, h.within); step = step_within r.first r.step r.count h.lone h.some h.within; count = omega (arith, few) }
+
+module _ (g : Grove) (f : IsForest g) where
+  pub run_words_are : (v : Version) (r : Run) → IsRun v g.entries r → r.count ≤ LIMIT → AreWords (run_words v g.entries r)
+  run_words_are One r h few =
+      let s = run_small One g.entries r h few in
+      (record { spaces = refl; feeds = refl }, (decimal_is_word r.first (omega (arith, s.first)), (name_word g f r.entry h.entry, (name_word g f r.needed h.needed, tt))))
+  run_words_are Two r h few =
+      let s = run_small Two g.entries r h few in
+      (record { spaces = refl; feeds = refl }, (decimal_is_word r.first (omega (arith, s.first)), (decimal_is_word r.step (omega (arith, s.step)), (decimal_is_word r.count (omega (arith, s.count)), (name_word g f r.entry h.entry, (name_word g f r.needed h.needed, tt))))))
+
+both_same : (a b : Bool) → (a ≡ true) ↔ (b ≡ true) → beq a b ≡ true
+both_same true true h = refl
+both_same true false h = let e = h.0 refl in cc
+both_same false true h = let e = h.1 refl in cc
+both_same false false h = refl
+
+is_run_back : (before first step count : ℕ) → before + count ≤ LIMIT → 0 < count → (step ≡ 0) ↔ (count ≡ 1) → first + (count - 1) * step ≤ LAST → is_run before first step count ≡ true
+unfolding is_run
+is_run_back before first step count few some lone within =
+    and_from _ _ (le-leb _ _ few) (and_from _ _ (lt-ltb _ _ some)
+    (and_from _ _ (both_same (step == 0) (count == 1) (λ h. eq-eqb _ _ (lone.0 (eqb-true _ _ h)), λ h. eq-eqb _ _ (lone.1 (eqb-true _ _ h)))) (le-leb _ _ within)))
+
+module _ (g : Grove) (f : IsForest g) (n before : ℕ) (r : Run) where
+  wake_back : IsRun One g.entries r → r.count ≤ LIMIT → wake_of n g.entries (run_as_line One g.entries r) ≡ Ok r
+  unfolding wake_of four_words
+  wake_back h few =
+      let es = g.entries in
+      let s = run_small One es r h few in
+      let words = words_back (codes "wake") (wake_tail g.entries r) (run_words_are g f One r h few) in
+      let count_is : r.count ≡ 1 = h.form in
+      let step_is : r.step ≡ 0 = h.lone.1 count_is in
+      value_on (four_words n (run_as_line One es r)) _ (codes "wake", decimal r.first, name_of es r.entry, name_of es r.needed) (ap (λ ws. ok_or (four ws) (BadLine n)) words)
+      ∙ value_on (number_at n (decimal r.first)) _ r.first (number_back n r.first s.first)
+      ∙ value_on (entry_named n es (name_of es r.entry)) _ r.entry (entry_back g f n r.entry h.entry)
+      ∙ value_on (entry_named n es (name_of es r.needed)) _ r.needed (entry_back g f n r.needed h.needed)
+      ∙ ap (λ (k : ℕ). Ok (record { first = r.first; step = k; count = 1; entry = r.entry; needed = r.needed })) (sym step_is)
+      ∙ ap (λ (k : ℕ). Ok (record { first = r.first; step = r.step; count = k; entry = r.entry; needed = r.needed })) (sym count_is)
+
+  run_back : IsRun Two g.entries r → r.count ≤ LIMIT → before + r.count ≤ LIMIT → run_of n g.entries before (run_as_line Two g.entries r) ≡ Ok r
+  unfolding run_of six_words
+  run_back h few room =
+      let es = g.entries in
+      let s = run_small Two es r h few in
+      let words = words_back (codes "run") (run_tail g.entries r) (run_words_are g f Two r h few) in
+      let fits = is_run_back before r.first r.step r.count room h.some h.lone h.within in
+      value_on (six_words n (run_as_line Two es r)) _ (codes "run", decimal r.first, decimal r.step, decimal r.count, name_of es r.entry, name_of es r.needed) (ap (λ ws. ok_or (six ws) (BadLine n)) words)
+      ∙ value_on (number_at n (decimal r.first)) _ r.first (number_back n r.first s.first)
+      ∙ value_on (number_at n (decimal r.step)) _ r.step (number_back n r.step s.step)
+      ∙ value_on (number_at n (decimal r.count)) _ r.count (number_back n r.count s.count)
+      ∙ value_on (right n (is_run before r.first r.step r.count)) _ tt (ap (right n) fits)
+      ∙ value_on (entry_named n es (name_of es r.entry)) _ r.entry (entry_back g f n r.entry h.entry)
+      ∙ value_on (entry_named n es (name_of es r.needed)) _ r.needed (entry_back g f n r.needed h.needed)
+
+pub run_line_back : (g : Grove) → IsForest g → (v : Version) (n before : ℕ) (r : Run) → IsRun v g.entries r → before + r.count ≤ LIMIT
+    → run_line v n g.entries before (run_as_line v g.entries r) ≡ Ok r
+unfolding run_line
+run_line_back g f One n before r h room = wake_back g f n before r h (omega (arith, room))
+run_line_back g f Two n before r h room = run_back g f n before r h (omega (arith, room)) room
+
+pub run_keyword_back : (g : Grove) → IsForest g → (v : Version) (r : Run) → IsRun v g.entries r → r.count ≤ LIMIT → bytes_eq (keyword (run_as_line v g.entries r)) (run_keyword v) ≡ true
+unfolding run_keyword
+run_keyword_back g f One r h few = keyword_test _ (codes "wake") _ (words_back (codes "wake") (wake_tail g.entries r) (run_words_are g f One r h few))
+run_keyword_back g f Two r h few = keyword_test _ (codes "run") _ (words_back (codes "run") (run_tail g.entries r) (run_words_are g f Two r h few))
+
+-- no line of a run begins with another word
+pub run_is_not : (g : Grove) → IsForest g → (v : Version) (r : Run) → IsRun v g.entries r → r.count ≤ LIMIT → bytes_eq (keyword (run_as_line v g.entries r)) (codes "unkeepable") ≡ false
+run_is_not g f One r h few = ap (λ w. bytes_eq w (codes "unkeepable")) (keyword_back _ (codes "wake") _ (words_back (codes "wake") (wake_tail g.entries r) (run_words_are g f One r h few)))
+run_is_not g f Two r h few = ap (λ w. bytes_eq w (codes "unkeepable")) (keyword_back _ (codes "run") _ (words_back (codes "run") (run_tail g.entries r) (run_words_are g f Two r h few)))

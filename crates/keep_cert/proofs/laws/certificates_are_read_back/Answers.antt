@@ -1,0 +1,9 @@
+use Rattle.keep_cert.proofs.FoundRuns.{read_is_written}
+use Rattle.keep_cert.proofs.ReadBackAll.{written_is_read}
+use Rattle.keep_cert.proofs.laws.certificates_are_read_back.Goals as goal
+
+pub returns-clause-found : goal.returns-clause-found
+returns-clause-found c = read_is_written
+
+pub returns-clause-only : goal.returns-clause-only
+returns-clause-only c = written_is_read

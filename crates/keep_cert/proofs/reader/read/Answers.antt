@@ -1,0 +1,5 @@
+use Rattle.keep_cert.proofs.FoundRuns.{found_writes}
+use Rattle.keep_cert.proofs.reader.read.Goals as goal
+
+pub returns-clause-found : goal.returns-clause-found
+returns-clause-found c = found_writes c.args.forest.now.entries c.args.text.now c.read_exactly.result c.read_exactly.ensures

@@ -1,0 +1,15 @@
+-- The lines from here on, behind the runs that were found, are the whole from the start.
+use Rattle.std.proofs.Common.{◌≡◌, ◌≤◌, ◌*◌, [], length}
+use Rattle.keep_cert.specs.declared.cert.TheConstants.{LIMIT}
+use Rattle.keep_cert.specs.CertificateText.{counted}
+use Rattle.keep_cert.specs.Pieces.{lines}
+use Rattle.keep_cert.specs.Reading.{runs_of}
+use Rattle.keep_cert.proofs.run_lines.runs_of.Given as goal
+
+abbrev pub invariant-loop-read : goal.invariant-loop-read
+invariant-loop-read l = record {
+  whole : runs_of l.version l.forest.entries l.runs.items (lines l.rest) ≡ runs_of l.version l.forest.entries [] (lines l.text);
+  found : length l.runs.items ≡ l.read;
+  total : l.total ≡ counted l.runs.items;
+  within : l.total ≤ l.read * LIMIT;
+}

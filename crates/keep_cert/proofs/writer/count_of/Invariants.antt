@@ -1,0 +1,6 @@
+use Rattle.std.proofs.Common.{◌≡◌, ◌+◌, drop}
+use Rattle.keep_cert.specs.CertificateText.{counted}
+use Rattle.keep_cert.proofs.writer.count_of.Given as goal
+
+abbrev pub invariant-loop-run : goal.invariant-loop-run
+invariant-loop-run l = l.total + counted (drop l.run-index l.runs) ≡ counted l.runs

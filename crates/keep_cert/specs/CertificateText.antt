@@ -1,0 +1,98 @@
+-- Certificate text: how a certificate over a forest is written, in both versions, and which certificates there are.
+-- Source: this project's own.
+use Rattle.std.specs.Prelude.{◌≡◌, ◌↔◌, ℕ, ◌+◌, ◌-◌, ◌*◌, ◌<◌, ◌≤◌, List, [], ◌∷◌, ◌++◌, All, codes, decimal, flat_map, length}
+use Rattle.std.specs.List.{join_with_byte}
+use Rattle.keep_moment.specs.declared.moment.TheConstants.{LAST}
+use Rattle.keep_tree.specs.declared.entry.Entry.{Entry}
+use Rattle.keep_tree.specs.Forest.{entry_at}
+use Rattle.keep_schedule.specs.declared.run.Run.{Run}
+use Rattle.keep_cert.specs.declared.cert.Body.{Body}
+use Rattle.keep_cert.specs.declared.cert.Body.TheVariants.{Runs, Unkeepable}
+use Rattle.keep_cert.specs.declared.cert.Cert.{Cert}
+use Rattle.keep_cert.specs.declared.cert.Version.{Version}
+use Rattle.keep_cert.specs.declared.cert.Version.TheVariants.{One, Two}
+use Rattle.keep_cert.specs.declared.cert.TheConstants.{LIMIT, MAX_LINES}
+
+-- ---- the text
+
+-- a line: its words, parted by one space, and a line feed
+unfoldable pub line_text : List (List ℕ) → List ℕ
+line_text words = join_with_byte 32 words ++ 10 ∷ []
+
+-- the name of the entry at an index
+unfoldable pub name_of : List Entry → ℕ → List ℕ
+name_of es i = (entry_at es i).name
+
+unfoldable pub header_text : Version → List ℕ
+header_text One = codes "leasekeep-plan 1\n"
+header_text Two = codes "leasekeep-plan 2\n"
+
+unfoldable pub start_text : ℕ → List ℕ
+start_text start = line_text (codes "start" ∷ decimal start ∷ [])
+
+-- version 1 has a line for a wake-up, version 2 for a run
+unfoldable pub run_text : Version → List Entry → Run → List ℕ
+run_text One es r = line_text (codes "wake" ∷ decimal r.first ∷ name_of es r.entry ∷ name_of es r.needed ∷ [])
+run_text Two es r = line_text (codes "run" ∷ decimal r.first ∷ decimal r.step ∷ decimal r.count ∷ name_of es r.entry ∷ name_of es r.needed ∷ [])
+
+-- how many wake-ups the runs have
+abbrev pub counted : List Run → ℕ
+counted [] = 0
+counted (r ∷ rs) = r.count + counted rs
+
+unfoldable pub end_text : ℕ → List ℕ
+end_text count = line_text (codes "end" ∷ decimal count ∷ [])
+
+unfoldable pub unkeepable_text : List Entry → ℕ → ℕ → List ℕ
+unkeepable_text es entry needed = line_text (codes "unkeepable" ∷ name_of es entry ∷ name_of es needed ∷ [])
+
+unfoldable pub body_text : Version → List Entry → Body → List ℕ
+body_text v es (Runs rs) = flat_map (run_text v es) rs ++ end_text (counted rs)
+body_text v es (Unkeepable entry needed) = unkeepable_text es entry needed
+
+-- the one text of a certificate
+unfoldable pub certificate_text : List Entry → Cert → List ℕ
+certificate_text es c = header_text c.version ++ (start_text c.start ++ body_text c.version es c.body)
+
+-- ---- what it says
+
+-- version 1 knows runs of one wake-up alone
+abbrev pub HasForm : Version → Run → Type 0
+HasForm One r = r.count ≡ 1
+HasForm Two r = Unit {0}
+
+-- a run of these entries: it has a wake-up, a step only where it has more than one, and its last moment is at most LAST
+pub record IsRun (v : Version) (es : List Entry) (r : Run) : Type 0 where
+  pub entry : r.entry < length es
+  pub needed : r.needed < length es
+  pub some : 0 < r.count
+  pub lone : (r.step ≡ 0) ↔ (r.count ≡ 1)
+  pub within : r.first + (r.count - 1) * r.step ≤ LAST
+  pub form : HasForm v r
+
+abbrev pub AreRuns : Version → List Entry → List Run → Type 0
+AreRuns v es [] = Unit {0}
+AreRuns v es (r ∷ rs) = IsRun v es r × AreRuns v es rs
+
+-- runs that a certificate can have, or a pair of entries
+abbrev pub IsBody : Version → List Entry → Body → Type 0
+IsBody v es (Runs rs) = AreRuns v es rs × ((length rs ≤ MAX_LINES) × (counted rs ≤ LIMIT))
+IsBody v es (Unkeepable entry needed) = (entry < length es) × (needed < length es)
+
+abbrev pub IsCertificate : List Entry → Cert → Type 0
+IsCertificate es c = (c.start ≤ LAST) × IsBody c.version es c.body
+
+-- the text writes this certificate over these entries
+pub record Writes (es : List Entry) (text : List ℕ) (c : Cert) : Type 0 where
+  pub certificate : IsCertificate es c
+  pub spelled : text ≡ certificate_text es c
+
+-- the indices of a run are those of n entries
+pub record IsAmong (n : ℕ) (r : Run) : Type 0 where
+  pub entry : r.entry < n
+  pub needed : r.needed < n
+
+-- the indices of a body are those of these entries, and its wake-ups are at most LIMIT
+abbrev pub CanBeWritten : List Entry → Body → Type 0
+CanBeWritten es (Runs rs) = All (IsAmong (length es)) rs × (counted rs ≤ LIMIT)
+CanBeWritten es (Unkeepable entry needed) = (entry < length es) × (needed < length es)

@@ -1,0 +1,40 @@
+ghost use Rattle.std.specs.Prelude.{[]};
+ghost use Rattle.keep_cert.specs.Answers.{Gives};
+ghost use Rattle.keep_cert.specs.Pieces.{lines};
+ghost use Rattle.keep_cert.specs.Reading.{runs_of};
+
+use crate::cert::{MAX_LINES, Version};
+use crate::fault::CertFault;
+use crate::pieces::{begins, line_at};
+use crate::run_line::{ending, run_keyword, run_line};
+use keep_schedule::Run;
+use keep_tree::Forest;
+use std::alloc::Global;
+
+/// The runs of the lines behind `start`, the third line first.
+pub(crate) fn runs_of(
+    alloc: Global,
+    forest: &Forest,
+    version: Version,
+    text: &[u8],
+) -> Result<Vec<Run>, CertFault>
+    ensures { Gives (λ runs. runs.items) result (runs_of version forest.now.entries [] (lines text.now)) }
+{
+    let mut runs = Vec::new(alloc);
+    let mut total = 0;
+    let mut rest = text;
+    for read in 0..MAX_LINES {
+        let (line, behind) = line_at(read + 3, rest)?;
+        if !begins(line, run_keyword(version)) {
+            ending(read + 3, total, line, behind)?;
+            return Ok(runs);
+        }
+        let run = run_line(forest, version, read + 3, total, line)?;
+        runs.push(run)?;
+        total += run.count;
+        rest = behind;
+    }
+    let (line, behind) = line_at(MAX_LINES + 3, rest)?;
+    ending(MAX_LINES + 3, total, line, behind)?;
+    Ok(runs)
+}
