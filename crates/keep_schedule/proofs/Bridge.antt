@@ -1,10 +1,9 @@
 -- From a forest to its terms: where no pair is unkeepable, the forces of the forest are those that lead by its terms.
-use Rattle.std.proofs.Common.{◌≡◌, ◌==◌, ℕ, zero, suc, ◌+◌, ◌-◌, ◌<◌, ◌≤◌, ◌⊎◌, ◌&&◌, ◌||◌, Bool, true, false, cond, List, [], ◌∷◌, length, max, min, nat_le, option_map, Option, Some, None, refl, sym, ap, ◌∙◌, subst, arith, inl, inr}
+use Rattle.std.proofs.Common.{◌≡◌, ◌==◌, ℕ, zero, suc, ◌+◌, ◌-◌, ◌<◌, ◌≤◌, true, List, [], ◌∷◌, length, max, Option, Some, None, refl, sym, ap, ◌∙◌, subst, arith, inl, inr}
 use Rattle.std.specs.Option.{unwrap_or}
-use Rattle.std.proofs.lemmas.Bool.{cases_Bool, cases_lt, cond-true, cond-false}
+use Rattle.std.proofs.lemmas.Bool.{cases_lt, cond-true}
 use Rattle.std.proofs.lemmas.Bool.Decides.{nat_tests}
 use Rattle.std.proofs.lemmas.List.{get_or_past}
-use Rattle.keep_moment.specs.declared.moment.TheConstants.{LAST}
 use Rattle.keep_tree.specs.declared.entry.Entry.{Entry}
 use Rattle.keep_tree.specs.Carried.{IsFrom, carried}
 use Rattle.keep_tree.specs.Forest.{Grove, end_of, entry_at}
@@ -16,23 +15,17 @@ use Rattle.keep_tree.proofs.Chains.{ParentsFirst, cases_Option, over_child, over
 use Rattle.keep_tree.proofs.Entries.{entry_at_past}
 use Rattle.keep_tree.proofs.Placed.{parents_first}
 use Rattle.keep_rule.specs.Forced.{bound, latest_end}
-use Rattle.keep_rule.specs.Reach.{reach, reach_of}
+use Rattle.keep_rule.specs.Unkeepable.{AllKeepable}
 use Rattle.keep_rule.specs.Schedule.{IsSchedule}
-use Rattle.keep_rule.specs.Unkeepable.{AllKeepable, Unkeepable}
 use Rattle.keep_rule.proofs.Keeping.{end_below_bound}
 use Rattle.keep_rule.proofs.Lists.{need_within}
+use Rattle.keep_rule.proofs.Next.{can_be_led}
 use Rattle.keep_needs.specs.Carried.{CarriedNeed, IsCarried, NamesFrom, load_at}
 use Rattle.keep_schedule.specs.declared.force.Force.{Force}
-use Rattle.keep_schedule.specs.Forces.{AreForces, IsForce, moments_of}
+use Rattle.keep_schedule.specs.Forces.{AreForces, moments_of}
 use Rattle.keep_schedule.specs.Prospect.{IsInSight, Prospect, terms_of}
-use Rattle.keep_schedule.specs.Terms.{Ahead, AreLed, IsSound, Leads, Terms, deadline}
-use Rattle.keep_schedule.proofs.Leading.{ahead, end_below_deadline, one_led, short_before}
-
--- an entry that carries a need past its end can be renewed, ends late enough for that, and may be led to its need
-pub record IsAble (es : List Entry) (margin s i : ℕ) : Type 0 where
-  pub renewable : (entry_at es i).renewable ≡ true
-  pub in_time : s + margin ≤ end_of es i
-  pub ceiling : (c : ℕ) → (entry_at es i).ceiling ≡ Some c → carried es s i ≤ c
+use Rattle.keep_schedule.specs.Terms.{AreLed, IsSound, Terms, deadline}
+use Rattle.keep_schedule.proofs.Leading.{ahead}
 
 -- the entry whose need is carried
 pub carrier : (es : List Entry) (s i : ℕ) → 0 < carried es s i → (f : ℕ) × Over es i f × (s < (entry_at es f).need) × ((entry_at es f).need ≡ carried es s i)
@@ -41,40 +34,6 @@ carrier es s i some =
     let most = carried_at_least es s i found.0 found.1 found.2 in
     let more : carried es s i - 1 < (entry_at es found.0).need = found.3 in
     (found.0, found.1, found.2, (let e : (entry_at es found.0).need ≡ carried es s i = omega arith in e))
-
-pub able : (g : Grove) (s : ℕ) → AllKeepable g s (end_of g.entries) → (i : ℕ) → end_of g.entries i < carried g.entries s i → IsAble g.entries g.margin s i
-unfolding reach reach_of
-able g s keepable i short =
-    let es = g.entries in
-    let e = entry_at es i in
-    let end = end_of es i in
-    let found = carrier es s i (omega arith) in
-    let is : (entry_at es found.0).need ≡ carried es s i = found.3 in
-    let within : (most : ℕ) → reach es g.margin s (end_of es) i ≡ Some most → carried es s i ≤ most =
-    λ most reaches. elim (cases_lt most (carried es s i)) [
-      | inl less ↦ absurd (keepable i found.0 (record { over = found.1; later = found.2; most = most; reaches = reaches; short = (let l : most < (entry_at es found.0).need = omega arith in l) }))
-      | inr more ↦ more
-    ] in
-    let by_test : (b : Bool) → e.renewable && nat_le (s + g.margin) end ≡ b → cond b (option_map (λ c. max end c) e.ceiling) (Some end) ≡ reach es g.margin s (end_of es) i =
-    λ b is'. ap (λ x. cond x (option_map (λ c. max end c) e.ceiling) (Some end)) (sym is') in
-    elim (cases_Bool e.renewable) [
-      | inl renewable ↦
-          elim (cases_lt end (s + g.margin)) [
-            | inl early ↦ absurd (
-                let test : nat_le (s + g.margin) end ≡ false = grind (arith, nat_tests) in
-                let k = within end (sym (by_test false (ap (λ b. b && nat_le (s + g.margin) end) renewable ∙ test))) in omega arith)
-            | inr late ↦
-                let test : nat_le (s + g.margin) end ≡ true = grind (arith, nat_tests) in
-                let open' = by_test true (ap (λ b. b && nat_le (s + g.margin) end) renewable ∙ test) in
-                record {
-                  renewable = renewable;
-                  in_time = late;
-                  ceiling = λ c is'. let k = within (max end c) (sym open' ∙ ap (option_map (λ c. max end c)) is') in omega arith;
-                }
-          ]
-      | inr fixed ↦ absurd (
-          let k = within end (sym (by_test false (ap (λ b. b && nat_le (s + g.margin) end) fixed))) in omega arith)
-    ]
 
 capped_short : (c : Option ℕ) (x need : ℕ) → ((m : ℕ) → c ≡ Some m → need ≤ m) → (capped c x < need → capped c x ≡ x) × (x < need → capped c x ≡ x)
 unfolding capped
@@ -113,14 +72,14 @@ same_bound g s t shows keepable (Some v) i =
     let below = end_below_bound es (end_of es) (Some v) i in (
       λ h.
           let short : end_of es i < carried es s i = omega arith in
-          let ok = able g s keepable i short in
+          let ok = can_be_led g s (end_of g.entries) keepable i short in
           let is = bound_after es v i ok.renewable in
           let c = capped_short (entry_at es i).ceiling (v + (entry_at es i).step) (carried es s i) ok.ceiling in
           let k = c.0 (omega arith) in
           omega arith,
       λ h.
           let short : end_of es i < carried es s i = omega arith in
-          let ok = able g s keepable i short in
+          let ok = can_be_led g s (end_of g.entries) keepable i short in
           let is = bound_after es v i ok.renewable in
           let c = capped_short (entry_at es i).ceiling (v + (entry_at es i).step) (carried es s i) ok.ceiling in
           let k = c.1 (omega arith) in
@@ -272,7 +231,7 @@ sound_of g s t shows forest keepable = record {
       let end = shows.end i in
       let need = shows.need i in
       let margin = shows.margin in
-      let k = (able g s keepable i (omega arith)).in_time in
+      let k = (can_be_led g s (end_of g.entries) keepable i (omega arith)).room in
       omega arith;
   need = λ i.
       let need = shows.need i in

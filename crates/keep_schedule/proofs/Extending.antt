@@ -1,19 +1,17 @@
 -- Extending a stretch: until when one that has joined leads, and how many wake-ups that is.
-use Rattle.std.proofs.Common.{◌≡◌, ℕ, zero, suc, ◌+◌, ◌-◌, ◌*◌, ◌/◌, ◌<◌, ◌≤◌, ◌⊎◌, List, [], ◌∷◌, Option, Some, None, refl, sym, ap, ◌∙◌, subst, arith, inl, inr}
+use Rattle.std.proofs.Common.{◌≡◌, ℕ, zero, suc, ◌+◌, ◌-◌, ◌*◌, ◌/◌, ◌<◌, ◌≤◌, Some, sym, ap, ◌∙◌, subst, arith, inl, inr}
 use Rattle.std.proofs.Math.Nat.{div-mul-le_self, mul-le-mul_right}
-use Rattle.std.proofs.lemmas.Bool.{cases_eq, cases_lt}
-use Rattle.std.specs.List.{All, Contains}
+use Rattle.std.proofs.lemmas.Bool.{cases_lt}
 use Rattle.keep_moment.specs.declared.moment.TheConstants.{LAST}
 use Rattle.keep_schedule.specs.declared.groups.Groups.{Groups}
 use Rattle.keep_schedule.specs.declared.groups.Next.{Next}
-use Rattle.keep_schedule.specs.declared.groups.Next.TheVariants.{Done, Joined, Waiting}
-use Rattle.keep_schedule.specs.Groups.{Grouped, IsFiled, IsGrouped, IsHead, IsSettled, Joins, Settles, Shrinks, Waits, size}
-use Rattle.keep_schedule.specs.Line.{FirstOf, IsFirst, Spot, spot}
-use Rattle.keep_schedule.specs.Stretches.{IsOther, LeadsAll, Stretches}
-use Rattle.keep_schedule.specs.Terms.{Ahead, IsSound, Leads, Terms, deadline}
+use Rattle.keep_schedule.specs.Groups.{IsGrouped, IsHead, Joins, Settles, Waits}
+use Rattle.keep_schedule.specs.Line.{FirstOf}
+use Rattle.keep_schedule.specs.Stretches.{Stretches}
+use Rattle.keep_schedule.specs.Terms.{Ahead, IsSound, Leads, Terms}
 use Rattle.keep_schedule.proofs.Grouping.{join_leads, later}
 use Rattle.keep_schedule.proofs.Leading.{ahead}
-use Rattle.keep_schedule.proofs.Moves.{first_key, none_ahead, shrinks_none}
+use Rattle.keep_schedule.proofs.Moves.{first_key, none_ahead}
 
 pub in_reach : (j u last d : ℕ) → last < u → 0 < d → j < (u - last - 1) / d + 1 → last + j * d < u
 in_reach j u last d later gains within =
@@ -95,12 +93,3 @@ stretched t n f first most more last u c d v old mid new next next' sound short 
     } where
       shifted : (first last more d k j : ℕ) → last ≡ first + more * d → k ≡ more + j → first + k * d ≡ last + j * d
       shifted first last more d k j is split = let e : k * d ≡ (more + j) * d = ap (λ m. m * d) split in omega arith
-
-pub stretch_none : (t : Terms) (n f first most : ℕ) (old new : Groups) (next : Next) → first ≤ LAST → 0 < most → Settles t n first old new next → Stretches t n f first most old new 0 first next
-stretch_none t n f first most old new next moment some settles = record {
-  within = some;
-  ends = (let e : first ≡ first + 0 * (t.step f - t.margin) = omega arith in e);
-  moment = moment;
-  leads = λ k h. absurd (omega arith);
-  settles = settles;
-}

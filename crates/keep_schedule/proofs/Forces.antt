@@ -5,14 +5,14 @@ use Rattle.std.proofs.lemmas.Bool.Decides.{nat_tests}
 use Rattle.keep_tree.specs.declared.entry.Entry.{Entry}
 use Rattle.keep_tree.specs.Carried.{IsFrom, carried}
 use Rattle.keep_tree.specs.Forest.{end_of, entry_at}
-use Rattle.keep_tree.specs.Over.{Over, is_over}
+use Rattle.keep_tree.specs.Over.{is_over}
 use Rattle.keep_tree.proofs.Carrying.{and_left, and_right}
 use Rattle.keep_rule.specs.Forced.{bound}
 use Rattle.keep_rule.specs.Schedule.{IsNext, IsSchedule}
 use Rattle.keep_rule.proofs.Existence.{there_is_one}
 use Rattle.keep_rule.proofs.Schedule.{schedule_is_best}
 use Rattle.keep_schedule.specs.declared.force.Force.{Force}
-use Rattle.keep_schedule.specs.Forces.{AreForces, IsForce, moments_of}
+use Rattle.keep_schedule.specs.Forces.{AreForced, AreForces, IsForce, moments_of}
 use Rattle.keep_schedule.specs.Laws.{ForcesLaw}
 use Rattle.keep_schedule.proofs.Bridge.{carrier, forces_schedule, one_from}
 use Rattle.keep_schedule.proofs.Leading.{same_force}
@@ -98,6 +98,24 @@ forces_exist es margin s ends prev (t ∷ ts) schedule =
     let rest = forces_exist es margin s ends (Some t) ts schedule.1 in
     (first.0 ∷ rest.0, (first.1.0, subst (λ v. AreForces es margin s ends (Some v) rest.0) (sym first.1.1) rest.1))
 
+forces_forced : (es : List Entry) (margin s : ℕ) (ends : ℕ → ℕ) (prev : Option ℕ) (xs : List Force) → AreForces es margin s ends prev xs → AreForced es margin s ends prev xs
+forces_forced es margin s ends prev [] forces = tt
+forces_forced es margin s ends prev (x ∷ xs) forces =
+    let short = forces.0.short in
+    let need : (entry_at es x.needed).need ≡ carried es s x.entry = forces.0.from.need in
+    let found = carrier es s x.entry (omega arith) in
+    let later : s < (entry_at es found.0).need = found.2 in
+    let is : (entry_at es found.0).need ≡ carried es s x.entry = found.3 in
+    let moment = forces.0.moment in (
+      record {
+        over = forces.0.from.over;
+        later = (let l : s < (entry_at es x.needed).need = omega arith in l);
+        short = (let l : bound es ends prev x.entry < (entry_at es x.needed).need = omega arith in l);
+        due = (let l : bound es ends prev x.entry ≤ x.at + margin = omega arith in l);
+      },
+      forces_forced es margin s ends (Some x.at) xs forces.1,
+    )
+
 -- where no pair is unkeepable, there is one list of forces, and its moments are least and latest
 pub forces_are_best : ForcesLaw
 forces_are_best g s forest keepable =
@@ -106,4 +124,4 @@ forces_are_best g s forest keepable =
     let schedule = there_is_one g s ends forest keepable in
     let forces = forces_exist es g.margin s ends None schedule.0 schedule.1 in
     let best = schedule_is_best g s ends forest keepable (moments_of forces.0) (forces_schedule es g.margin s ends None forces.0 forces.1) in
-    (forces.0, (forces.1, (λ ys are. one_list es g.margin s ends None ys forces.0 are forces.1, (best.0, best.1.1.1))))
+    (forces.0, (forces.1, (λ ys are. one_list es g.margin s ends None ys forces.0 are forces.1, (forces_forced es g.margin s ends None forces.0 forces.1, (best.0, best.1.1.1)))))

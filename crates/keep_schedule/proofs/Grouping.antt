@@ -1,8 +1,8 @@
 -- The groups of a queue: those bound by their present end wait, those bound by their step have joined.
-use Rattle.std.proofs.Common.{◌≡◌, ℕ, zero, suc, ◌+◌, ◌-◌, ◌<◌, ◌≤◌, ◌⊎◌, max, Option, Some, None, refl, sym, ap, ◌∙◌, subst, arith, inl, inr}
-use Rattle.std.proofs.lemmas.Bool.{cases_eq, cases_lt}
-use Rattle.keep_schedule.specs.Terms.{Ahead, IsSound, Leads, Terms, deadline}
-use Rattle.keep_schedule.specs.Groups.{Grouped, IsFront, IsHead}
+use Rattle.std.proofs.Common.{ℕ, ◌+◌, ◌<◌, ◌≤◌, Option, Some, None, arith, inl, inr}
+use Rattle.std.proofs.lemmas.Bool.{cases_lt}
+use Rattle.keep_schedule.specs.Terms.{Ahead, Leads, Terms, deadline}
+use Rattle.keep_schedule.specs.Groups.{Grouped}
 use Rattle.keep_schedule.proofs.Leading.{ahead}
 
 -- what is grouped stays so at a later wake-up

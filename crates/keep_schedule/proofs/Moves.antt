@@ -1,17 +1,15 @@
 -- Moves between the groups: one that has reached its need leaves, one whose end a wake-up reaches joins.
-use Rattle.std.proofs.Common.{◌≡◌, ◌≢◌, ℕ, zero, suc, ◌+◌, ◌-◌, ◌*◌, ◌<◌, ◌≤◌, ◌⊎◌, List, [], ◌∷◌, length, Option, Some, None, refl, sym, ap, ◌∙◌, subst, arith, inl, inr}
-use Rattle.std.proofs.lemmas.Bool.{cases_eq, cases_lt}
+use Rattle.std.proofs.Common.{◌≡◌, ◌≢◌, ℕ, ◌+◌, ◌<◌, ◌≤◌, ◌⊎◌, List, ◌∷◌, length, Some, refl, sym, ap, subst, arith, inl, inr}
+use Rattle.std.proofs.lemmas.Bool.{cases_eq}
 use Rattle.std.proofs.lemmas.List.Elements.{All-cons, All-contains, All-tail}
 use Rattle.std.proofs.lemmas.List.Sorted.{All-permutation, Contains-permutation, IsPermutation-sym, length_permutation}
-use Rattle.std.specs.List.{All, Contains}
+use Rattle.std.specs.List.{Contains}
 use Rattle.std.specs.List.Sorted.{IsPermutation}
 use Rattle.keep_schedule.specs.declared.groups.Groups.{Groups}
-use Rattle.keep_schedule.specs.declared.groups.Next.{Next}
-use Rattle.keep_schedule.specs.declared.groups.Next.TheVariants.{Done, Joined, Waiting}
 use Rattle.keep_schedule.specs.declared.groups.Turn.TheVariants.{Comes, Leaves}
-use Rattle.keep_schedule.specs.Groups.{Grouped, HasJoined, IsFiled, IsFront, IsGrouped, IsHead, IsKeyed, IsSettled, IsTurn, Joins, Settles, Shrinks, Waits, size}
+use Rattle.keep_schedule.specs.Groups.{IsGrouped, IsKeyed, IsTurn, Shrinks, size}
 use Rattle.keep_schedule.specs.Line.{FirstOf, IsFirst, Lined, Spot, spot}
-use Rattle.keep_schedule.specs.Terms.{Ahead, Terms, deadline}
+use Rattle.keep_schedule.specs.Terms.{Ahead, Terms}
 use Rattle.keep_schedule.proofs.Lines.{contains_cons, contains_head, contains_more}
 
 -- what stays in a line that another leaves
@@ -118,16 +116,9 @@ shrinks_more t n v first old new shrinks grouped less =
     let f = shrinks.fewer in
     record { grouped = grouped; fewer = omega arith; same = λ e. absurd (omega arith) }
 
-pub shrinks_none : (t : Terms) (n v : ℕ) (g : Groups) → IsGrouped t n (Some v) g → Shrinks t n v g g
-shrinks_none t n v g grouped = record { grouped = grouped; fewer = omega arith; same = λ e. (refl, refl) }
-
 -- none stands ahead of the first
 pub none_ahead : (key : ℕ → ℕ) (f : ℕ) (spots : List Spot) → IsFirst spots (spot (key f) f) → (i : ℕ) → Contains spots (spot (key i) i) → Ahead (key f) f (key i) i
 none_ahead key f spots first i among = All-contains (λ (y : Spot). Ahead (key f) f y.0.0 y.0.1) spots (spot (key i) i) first.ahead among
-
-pub settled_waiting : (t : Terms) (n v h : ℕ) (g : Groups) → IsFirst g.waits.spots (spot (t.end h) h) × ((h < n) × ((i : ℕ) → Joins t g i → Ahead (t.end h) h (v + t.step i) i)) → v + t.step h < t.end h → IsSettled t n v g (Waiting h)
-settled_waiting t n v h g turn unjoined =
-    (turn.1.0, (turn.0, record { waiting = turn.0.among; unjoined = unjoined; waits = none_ahead t.end h g.waits.spots turn.0; joins = turn.1.1 }))
 
 pub turn_left :
     (t : Terms) (n v f : ℕ) (first old new : Groups) → Shrinks t n v first old → IsTurn t n v old (Leaves f) →

@@ -1,9 +1,9 @@
 -- A queue of deadlines: how it begins, what it keeps, and what taking a run from it gives.
-use Rattle.std.proofs.Common.{◌≡◌, ℕ, zero, suc, ◌+◌, ◌-◌, ◌*◌, ◌<◌, ◌≤◌, ◌⊎◌, ◌++◌, max, List, [], ◌∷◌, length, Option, Some, None, refl, sym, ap, ◌∙◌, subst, arith, inl, inr, add-one}
+use Rattle.std.proofs.Common.{◌≡◌, ℕ, suc, ◌+◌, ◌-◌, ◌*◌, ◌<◌, ◌≤◌, ◌⊎◌, ◌++◌, List, [], ◌∷◌, length, Option, Some, None, refl, sym, ap, ◌∙◌, subst, arith, inl, inr, add-one}
 use Rattle.std.proofs.lemmas.Bool.{cases_eq, cases_lt}
 use Rattle.std.proofs.lemmas.List.Elements.{All-cons, All-nil}
 use Rattle.std.proofs.lemmas.List.Sorted.{All-permutation, Contains-permutation, IsPermutation-sym}
-use Rattle.std.specs.List.{All, Contains}
+use Rattle.std.specs.List.{Contains}
 use Rattle.std.specs.List.Sorted.{IsPermutation}
 use Rattle.keep_moment.specs.declared.moment.TheConstants.{LAST}
 use Rattle.keep_schedule.specs.declared.force.Force.{Force}
@@ -11,30 +11,21 @@ use Rattle.keep_schedule.specs.declared.groups.Groups.{Groups}
 use Rattle.keep_schedule.specs.declared.groups.Next.{Next}
 use Rattle.keep_schedule.specs.declared.groups.Next.TheVariants.{Done, Joined, Waiting}
 use Rattle.keep_schedule.specs.declared.run.Run.{Run}
-use Rattle.keep_schedule.specs.Courses.{Course, IsToCome}
-use Rattle.keep_schedule.specs.Groups.{Grouped, IsFiled, IsGrouped, IsHead, IsKeyed, Joins, Settles, Waits, size}
-use Rattle.keep_schedule.specs.Line.{FirstOf, IsFirst, Lined, Spot, spot}
+use Rattle.keep_schedule.specs.Courses.{IsToCome}
+use Rattle.keep_schedule.specs.Groups.{IsGrouped, IsKeyed, Joins, Settles, Waits}
+use Rattle.keep_schedule.specs.Line.{FirstOf, Lined, Spot, spot}
 use Rattle.keep_schedule.specs.Prospect.{Prospect, terms_of}
-use Rattle.keep_schedule.specs.Queues.{Fills, IsBegun, IsDue, IsLasting, IsReady, runs_left}
+use Rattle.keep_schedule.specs.Queues.{Fills, IsBegun, IsDue, IsReady}
 use Rattle.keep_schedule.specs.Runs.{GivesHead, GivesRun, IsFirstRun, wakes, wakes_of}
 use Rattle.keep_schedule.specs.Stretches.{IsOther, Stretches}
 use Rattle.keep_schedule.specs.Terms.{Ahead, AreLed, IsSound, Leads, Terms, deadline}
 use Rattle.keep_schedule.proofs.Bridge.{need_past}
 use Rattle.keep_schedule.proofs.Grouping.{first_leads, join_leads, later, none_lacks, wait_leads}
-use Rattle.keep_schedule.proofs.Leading.{ahead, end_below_deadline, one_leads, one_led, same_force, short_before}
+use Rattle.keep_schedule.proofs.Leading.{end_below_deadline, one_leads, one_led, same_force, short_before}
 use Rattle.keep_schedule.proofs.Lines.{contains_cons, contains_head, contains_more}
 use Rattle.keep_schedule.proofs.Lists.{IsEnded, no_longer}
 use Rattle.keep_schedule.proofs.Moves.{first_key, first_within, joined, joins_was, none_ahead}
 use Rattle.keep_schedule.proofs.Stretches.{led_run, run_led}
-
-pub fills_none : (t : Terms) (n : ℕ) (l : Lined) → l ≡ record { spots = []; room = n } → Fills t n 0 l
-fills_none t n l is = subst (Fills t n 0) (sym is) (record {
-  keyed = All-nil (λ (y : Spot). (y.0.0 ≡ t.end y.0.1) × (y.0.1 < n));
-  short = λ i among. absurd (let l = among.1 in omega arith);
-  all = λ i h. absurd (omega arith);
-  count = omega arith;
-  room = omega arith;
-})
 
 pub fills_added : (t : Terms) (n k : ℕ) (old new : Lined) → Fills t n k old → k < n → t.end k < t.need k → IsPermutation (spot (t.end k) k ∷ old.spots) new.spots → old.room ≤ new.room → length new.spots ≡ length old.spots + 1 → Fills t n (k + 1) new
 fills_added t n k old new fills within short added room longer =

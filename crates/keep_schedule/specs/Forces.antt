@@ -3,7 +3,7 @@
 use Rattle.std.specs.Prelude.{◌≡◌, ℕ, ◌-◌, ◌≤◌, ◌<◌, List, [], ◌∷◌, Option, Some}
 use Rattle.keep_tree.specs.declared.entry.Entry.{Entry}
 use Rattle.keep_tree.specs.Carried.{IsFrom, carried}
-use Rattle.keep_rule.specs.Forced.{bound}
+use Rattle.keep_rule.specs.Forced.{Forced, bound}
 use Rattle.keep_schedule.specs.declared.force.Force.{Force}
 
 -- behind a wake-up at prev, x is the next: of all entries whose bound falls short of their carried need, its entry has the
@@ -19,6 +19,11 @@ pub record IsForce (es : List Entry) (margin s : ℕ) (ends : ℕ → ℕ) (prev
 abbrev pub AreForces : List Entry → ℕ → ℕ → (ℕ → ℕ) → Option ℕ → List Force → Type 0
 AreForces es margin s ends prev [] = (i : ℕ) → carried es s i ≤ bound es ends prev i
 AreForces es margin s ends prev (x ∷ xs) = IsForce es margin s ends prev x × AreForces es margin s ends (Some x.at) xs
+
+-- each wake-up is Forced by the pair that it names
+abbrev pub AreForced : List Entry → ℕ → ℕ → (ℕ → ℕ) → Option ℕ → List Force → Type 0
+AreForced es margin s ends prev [] = Unit {0}
+AreForced es margin s ends prev (x ∷ xs) = Forced es margin s ends prev x.at x.entry x.needed × AreForced es margin s ends (Some x.at) xs
 
 abbrev pub moments_of : List Force → List ℕ
 moments_of [] = []

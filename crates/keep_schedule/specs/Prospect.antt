@@ -1,6 +1,6 @@
 -- Prospect: the terms that a forest and its carried needs give.
 -- Source: this project's own.
-use Rattle.std.specs.Prelude.{◌≡◌, ℕ, List, length, unwrap_or}
+use Rattle.std.specs.Prelude.{◌≡◌, List, length, unwrap_or}
 use Rattle.keep_tree.specs.Forest.{Grove, end_of, entry_at}
 use Rattle.keep_needs.specs.Carried.{CarriedNeed, load_at}
 use Rattle.keep_schedule.specs.Terms.{IsSound, Terms}

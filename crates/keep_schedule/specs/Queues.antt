@@ -1,8 +1,7 @@
 -- Queues: how far a queue of deadlines has come.
 -- Source: this project's own.
-use Rattle.std.specs.Prelude.{◌≡◌, ℕ, ◌+◌, ◌-◌, ◌*◌, ◌≤◌, ◌<◌, List, [], length, Option, Some, None}
-use Rattle.std.specs.List.{All, Contains}
-use Rattle.keep_moment.specs.declared.moment.TheConstants.{LAST}
+use Rattle.std.specs.Prelude.{◌≡◌, ℕ, ◌+◌, ◌-◌, ◌≤◌, ◌<◌, length, Option, Some}
+use Rattle.std.specs.List.{Contains}
 use Rattle.keep_schedule.specs.declared.groups.Groups.{Groups}
 use Rattle.keep_schedule.specs.declared.groups.Next.{Next}
 use Rattle.keep_schedule.specs.declared.groups.Next.TheVariants.{Done, Joined, Waiting}

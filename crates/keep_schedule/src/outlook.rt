@@ -31,8 +31,8 @@ impl<'a> Model for Outlook<'a> {
 }
 
 impl<'a> Outlook<'a> {
-    /// The outlook from `start` on a forest of which no pair is unkeepable.
-    #[tactic(auto, using(crate::proofs::Bridge::in_sight))]
+    /// The outlook on a forest of which no pair is unkeepable from the start on. The start itself stands in the needs that
+    /// are carried.
     pub(crate) fn new(forest: &'a Forest, carried: &'a Carried, _start: Moment) -> Outlook<'a>
         requires carried { IsCarried forest.now _start carried.now }
         requires keepable { AllKeepable forest.now _start (end_of forest.now.entries) }

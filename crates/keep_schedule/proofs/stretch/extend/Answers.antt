@@ -1,4 +1,4 @@
-use Rattle.std.proofs.Common.{◌≡◌, ◌+◌, ◌-◌, ◌*◌, ◌/◌, ◌<◌, ◌≤◌, length, arith}
+use Rattle.std.proofs.Common.{◌≡◌, ◌+◌, ◌-◌, ◌*◌, ◌/◌, ◌≤◌, length, arith}
 use Rattle.keep_schedule.specs.Prospect.{terms_of}
 use Rattle.keep_schedule.proofs.Extending.{grouped_later, in_room, reach_moment, stretched}
 use Rattle.keep_schedule.proofs.stretch.extend.Goals as goal

@@ -1,7 +1,6 @@
-use Rattle.std.proofs.Common.{◌≡◌, ◌+◌, ◌<◌, ◌≤◌, Some, length, subst, arith}
+use Rattle.std.proofs.Common.{◌+◌, Some, length, subst, arith}
 use Rattle.keep_schedule.specs.Line.{FirstOf}
 use Rattle.keep_schedule.specs.Prospect.{terms_of}
-use Rattle.keep_schedule.specs.Terms.{Ahead}
 use Rattle.keep_schedule.proofs.Extending.{until_front}
 use Rattle.keep_schedule.proofs.Leading.{ahead}
 use Rattle.keep_schedule.proofs.Moves.{first_key}

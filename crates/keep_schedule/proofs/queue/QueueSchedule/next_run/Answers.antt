@@ -1,5 +1,4 @@
-use Rattle.std.proofs.Common.{◌≡◌, ◌+◌, ◌-◌, ◌<◌, ◌⊎◌, None, Some, length, subst, sym, inl, inr, arith}
-use Rattle.keep_schedule.specs.declared.groups.Next.TheVariants.{Done}
+use Rattle.std.proofs.Common.{◌≡◌, ◌+◌, ◌-◌, ◌<◌, ◌⊎◌, None, Some, length, subst, inl, inr, arith}
 use Rattle.keep_schedule.specs.Courses.{IsToCome}
 use Rattle.keep_schedule.specs.Prospect.{terms_of}
 use Rattle.keep_schedule.specs.Queues.{IsReady, Queue}

@@ -1,4 +1,4 @@
-use Rattle.std.proofs.Common.{◌≡◌, ◌≤◌, Some, subst, refl, arith, rules}
+use Rattle.std.proofs.Common.{◌≡◌, subst, refl, rules}
 use Rattle.keep_schedule.specs.declared.force.Force.{Force}
 use Rattle.keep_schedule.specs.Courses.{IsToCome}
 use Rattle.keep_schedule.specs.Runs.{GivesRun}

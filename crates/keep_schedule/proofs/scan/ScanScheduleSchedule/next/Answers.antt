@@ -1,4 +1,4 @@
-use Rattle.std.proofs.Common.{◌≡◌, ◌-◌, [], ◌∷◌, None, Some, subst, rules}
+use Rattle.std.proofs.Common.{◌≡◌, ◌-◌, None, Some, subst, rules}
 use Rattle.keep_schedule.specs.declared.force.Force.{Force}
 use Rattle.keep_schedule.specs.Courses.{Course, IsLeader, IsToCome}
 use Rattle.keep_schedule.specs.Prospect.{terms_of}
