@@ -148,13 +148,6 @@ last_rises : (t : ℕ) (ts : List ℕ) → IsRising t ts → t ≤ last_behind t
 last_rises t [] rising = omega arith
 last_rises t (u ∷ us) rising = let l : t ≤ u = rising.0 in let r = last_rises u us rising.1 in omega arith
 
-renewal_most : (e : Entry) (t : ℕ) → renewal e t ≤ t + e.step
-unfolding renewal capped
-renewal_most e t = by_ceiling e.ceiling where
-  by_ceiling : (c : Option ℕ) → capped c (t + e.step) ≤ t + e.step
-  by_ceiling None = omega arith
-  by_ceiling (Some n) = omega arith
-
 own_bridged :
     (e : Entry) (margin end gap : ℕ) → e.renewable ≡ true → gap + margin ≤ e.step → (t : ℕ) (us : List ℕ) → IsRising t us → AllBridged gap t us →
     own_end e margin (max end (renewal e t)) us ≡ max end (renewal e (last_behind t us))
