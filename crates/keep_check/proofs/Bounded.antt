@@ -1,31 +1,26 @@
 -- No plan at some moments leads an end past that of the entry asked by itself at each of them.
-use Rattle.std.proofs.Common.{◌≡◌, ℕ, ◌+◌, ◌<◌, ◌≤◌, ◌⊎◌, ◌&&◌, Bool, true, false, cond, List, [], ◌∷◌, Option, Some, None, filter, max, nat_le, nat_lt, refl, sym, ap, ◌∙◌, subst, arith, inl, inr}
-use Rattle.std.proofs.lemmas.Bool.{cases_Bool, cases_lt, cond-true, cond-false}
+use Rattle.std.proofs.Common.{◌≡◌, ℕ, ◌+◌, ◌<◌, ◌≤◌, true, false, cond, List, [], ◌∷◌, Option, filter, max, nat_le, refl, sym, ap, ◌∙◌, subst, arith, inl, inr}
+use Rattle.std.proofs.lemmas.Bool.{cases_Bool, cases_lt, cond-false}
 use Rattle.std.proofs.lemmas.Bool.Decides.{nat_tests}
 use Rattle.keep_tree.specs.declared.entry.Entry.{Entry}
-use Rattle.keep_tree.specs.Carried.{carried}
-use Rattle.keep_tree.specs.Forest.{Grove, entry_at}
+use Rattle.keep_tree.specs.Forest.{entry_at}
 use Rattle.keep_tree.specs.Over.{Over}
-use Rattle.keep_tree.specs.Push.{IsForest}
 use Rattle.keep_tree.specs.Renewal.{all_last, is_granted, renewal, renewed}
-use Rattle.keep_tree.proofs.Carrying.{and_left, and_right, carried_at_least, over_up}
-use Rattle.keep_tree.proofs.Chains.{ParentsFirst, all_last_head}
-use Rattle.keep_tree.proofs.Placed.{parents_first}
+use Rattle.keep_tree.proofs.Carrying.{and_left, and_right}
+use Rattle.keep_tree.proofs.Chains.{all_last_head}
 use Rattle.keep_rule.specs.declared.wake.Wake.{Wake}
-use Rattle.keep_rule.specs.Asks.{asking, first_of, is_due, is_wanted, with_asks}
+use Rattle.keep_rule.specs.Asks.{asking, first_of, is_wanted, with_asks}
 use Rattle.keep_rule.specs.Ends.{after, ends_after}
-use Rattle.keep_rule.specs.Forced.{bound, latest_end}
 use Rattle.keep_rule.specs.Keeps.{ends_at}
 use Rattle.keep_rule.specs.Plans.{moments}
-use Rattle.keep_rule.specs.Schedule.{RisesStrictly}
-use Rattle.keep_rule.proofs.Asking.{Covers, asked_end, covers_more, covers_need, covers_not_due, short_over}
+use Rattle.keep_rule.proofs.Asking.{asked_end}
 use Rattle.keep_rule.proofs.Keeping.{IsRising}
 use Rattle.keep_rule.proofs.Stuck.{IsStuck}
 use Rattle.keep_rule.proofs.Tail.{moments_with_asks}
-use Rattle.keep_rule.proofs.Timely.{after_unwanted, after_wanted, asks_grow}
+use Rattle.keep_rule.proofs.Timely.{after_unwanted, after_wanted}
 use Rattle.keep_rule.proofs.Walk.{ends_from}
-use Rattle.keep_check.specs.Kept.{KeptTo, own, own_after, own_end}
-use Rattle.keep_check.proofs.OwnEnds.{OwnTimely, own_late, own_least, own_stuck, own_timely_first, own_yes}
+use Rattle.keep_check.specs.Kept.{KeptTo, own_after, own_end}
+use Rattle.keep_check.proofs.OwnEnds.{own_late, own_least, own_stuck, own_yes}
 
 -- Before the first wake-up no end has changed.
 

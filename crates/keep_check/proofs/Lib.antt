@@ -7,3 +7,4 @@ pub mod Longs
 pub mod OwnRuns
 pub mod Lasts
 pub mod Judged
+pub mod Spans

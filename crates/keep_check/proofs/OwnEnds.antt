@@ -4,11 +4,13 @@ use Rattle.std.proofs.Common.{◌≡◌, ℕ, ◌+◌, ◌<◌, ◌≤◌, ◌&&
 use Rattle.std.proofs.lemmas.Bool.{cases_Bool, cases_lt, cond-true, cond-false}
 use Rattle.std.proofs.lemmas.Bool.Decides.{nat_tests}
 use Rattle.keep_tree.specs.declared.entry.Entry.{Entry}
-use Rattle.keep_tree.specs.Renewal.{renewal}
+use Rattle.keep_tree.specs.Renewal.{capped, renewal}
 use Rattle.keep_rule.specs.Forced.{latest_end}
 use Rattle.keep_rule.proofs.Asking.{Covers}
 use Rattle.keep_rule.proofs.Keeping.{IsRising, renewal_later}
+use Rattle.keep_check.specs.declared.span.Span.{Span}
 use Rattle.keep_check.specs.Kept.{own_after, own_end}
+use Rattle.keep_check.specs.Steps.{AllBridged, HasSpan, last_behind}
 
 and_false : (a b : Bool) → b ≡ false → a && b ≡ false
 and_false true b e = e
@@ -132,3 +134,52 @@ own_timely e margin end n prev (t ∷ ts) rising lasts =
 pub own_timely_first : (e : Entry) (margin end n s : ℕ) (ts : List ℕ) → IsRising s ts → n ≤ own_end e margin end ts → OwnTimely e margin end n None ts
 unfolding latest_end
 own_timely_first e margin end n s ts rising lasts = own_timely e margin end n None ts (s, rising) lasts
+
+-- where a step bridges every gap, and the first moment comes in time, the last moment decides
+
+reached : (e : Entry) (t v : ℕ) → renewal e t < t + e.step → t ≤ v → renewal e v ≡ renewal e t
+unfolding renewal capped
+reached e t v short later = by_ceiling e.ceiling short where
+  by_ceiling : (c : Option ℕ) → capped c (t + e.step) < t + e.step → capped c (v + e.step) ≡ capped c (t + e.step)
+  by_ceiling None h = absurd (omega arith)
+  by_ceiling (Some c) h = omega arith
+
+last_rises : (t : ℕ) (ts : List ℕ) → IsRising t ts → t ≤ last_behind t ts
+last_rises t [] rising = omega arith
+last_rises t (u ∷ us) rising = let l : t ≤ u = rising.0 in let r = last_rises u us rising.1 in omega arith
+
+own_bridged :
+    (e : Entry) (margin end gap : ℕ) → e.renewable ≡ true → gap + margin ≤ e.step → (t : ℕ) (us : List ℕ) → IsRising t us → AllBridged gap t us →
+    own_end e margin (max end (renewal e t)) us ≡ max end (renewal e (last_behind t us))
+unfolding own_end
+own_bridged e margin end gap renewable step t [] rising bridged = refl
+own_bridged e margin end gap renewable step t (u ∷ us) rising bridged =
+    let now = max end (renewal e t) in
+    let l : t ≤ u = rising.0 in
+    let near : u ≤ t + gap = bridged.0 in
+    elim (cases_lt now (u + margin)) [
+      | inr granted ↦
+          let is = own_yes e margin now u renewable granted in
+          let later = renewal_later e t u l in
+          let next : own_after e margin now u ≡ max end (renewal e u) = omega (arith, is, later) in
+          ap (λ m. own_end e margin m us) next ∙ own_bridged e margin end gap renewable step u us rising.1 bridged.1
+      | inl late ↦
+          let stays = ap (λ m. own_end e margin m us) (own_late e margin now u late) ∙ own_stuck e margin now u us rising.1 late in
+          let up = last_rises u us rising.1 in
+          let same = reached e t (last_behind u us) (omega arith) (omega arith) in
+          stays ∙ sym (ap (max end) same)
+    ]
+
+pub own_by_span :
+    (e : Entry) (margin end low : ℕ) (x : Span) (ts : List ℕ) → e.renewable ≡ true → x.gap + margin ≤ e.step → HasSpan ts x → IsRising low ts → x.first + margin ≤ end →
+    max end (renewal e x.last) ≡ own_end e margin end ts
+unfolding own_end
+own_by_span e margin end low x ts renewable step span rising first =
+    let us = span.later in
+    let risen : IsRising low (x.first ∷ us) = subst (IsRising low) span.starts rising in
+    let bridged : AllBridged x.gap x.first (x.first ∷ us) = subst (AllBridged x.gap x.first) span.starts span.bridged in
+    let last : x.last ≡ last_behind x.first us = span.ends ∙ ap (last_behind x.first) span.starts in
+    ap (λ m. max end (renewal e m)) last
+    ∙ sym (own_bridged e margin end x.gap renewable step x.first us risen.1 bridged.1)
+    ∙ sym (ap (λ m. own_end e margin m us) (own_yes e margin end x.first renewable first))
+    ∙ sym (ap (own_end e margin end) span.starts)

@@ -24,7 +24,8 @@ use std::alloc::{AllocError, Global};
 /// Of runs it is the answer of a walk over the wake-ups that they mean: for each in turn, whether it is at or after the
 /// start and after the one before it, and whether the named pair forces it; then, for each entry by rising index, whether
 /// it is kept when each wake-up asks its Asks. Of a pair, whether it is unkeepable. Yes says that the moments are least
-/// and latest, or that no plan keeps. It costs runs times entries, whatever the number of wake-ups.
+/// and latest, or that no plan keeps. It costs runs times entries at most, whatever the number of wake-ups: a pass over
+/// the runs, and one more for each entry whose step does not bridge the greatest distance between neighbouring moments.
 ///
 /// The certificate's indices are those of entries, its runs have at least one wake-up each and at most [`LIMIT`] in all,
 /// and no moment is after `keep_moment::LAST`: all of this is so for a certificate that was read from a text.

@@ -2,7 +2,7 @@
 //!
 //! The contract for the layers above: `check` answers what a walk over the wake-ups that the runs mean answers, wake-up by
 //! wake-up (`IsAnswer` of `specs/`), and its Yes says that they are least and latest, or that no plan keeps (`yes_law`).
-//! It costs runs times entries, whatever the number of wake-ups, and calls nothing of the planner. Begin with `checker`.
+//! It costs runs times entries at most, whatever the number of wake-ups, and calls nothing of the planner. Begin with `checker`.
 #![tactic(auto)]
 
 mod answer;
@@ -12,6 +12,7 @@ mod fit;
 mod gaps;
 mod kept;
 mod laws;
+mod span;
 #[cfg(test)]
 mod tests;
 mod walk;

@@ -5,7 +5,7 @@ use Rattle.keep_schedule.specs.Forces.{moments_of}
 use Rattle.keep_schedule.specs.Runs.{all_wakes}
 use Rattle.keep_check.specs.Fit.{AllFit}
 use Rattle.keep_check.specs.Kept.{own, own_end}
-use Rattle.keep_check.proofs.kept.own_end.Given as goal
+use Rattle.keep_check.proofs.kept.own_end_by_runs.Given as goal
 
 -- the own end from here is the whole own end
 abbrev pub invariant-loop-run : goal.invariant-loop-run
