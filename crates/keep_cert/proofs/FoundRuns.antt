@@ -1,5 +1,5 @@
 -- What is read is written: all lines of a certificate.
-use Rattle.std.proofs.Common.{◌≡◌, ℕ, ◌+◌, ◌<◌, ◌≤◌, Bool, true, false, ◌&&◌, cond, if◌then◌else◌, List, [], ◌∷◌, ◌++◌, append_assoc, bytes_eq, codes, flat_map, length, length-append, nat_lt, Result, Ok, Err, refl, sym, ap, ◌∙◌, subst, arith, ltb-true, inl, inr, All, IfOk}
+use Rattle.std.proofs.Common.{◌≡◌, ℕ, ◌+◌, ◌≤◌, true, ◌&&◌, List, [], ◌∷◌, ◌++◌, append_assoc, bytes_eq, codes, flat_map, length, length-append, nat_lt, Result, Ok, Err, refl, sym, ap, ◌∙◌, subst, arith, ltb-true, inl, inr, All, IfOk}
 use Rattle.std.proofs.lemmas.Bool.{and_parts, cases_Bool, cond-false, cond-true}
 use Rattle.std.proofs.lemmas.List.{append-nil}
 use Rattle.std.proofs.lemmas.List.Elements.{All-cons, All-nil}
@@ -16,14 +16,13 @@ use Rattle.keep_cert.specs.declared.cert.Version.{Version}
 use Rattle.keep_cert.specs.declared.cert.Version.TheVariants.{One, Two}
 use Rattle.keep_cert.specs.declared.cert.TheConstants.{LIMIT, MAX_LINES}
 use Rattle.keep_cert.specs.declared.fault.CertFault.{CertFault}
-use Rattle.keep_cert.specs.declared.fault.CertFault.TheVariants.{BadHeader, Trailing}
-use Rattle.keep_cert.specs.Answers.{◌>>=◌, Gives}
-use Rattle.keep_cert.specs.CertificateText.{AreRuns, CanBeWritten, IsAmong, IsBody, IsCertificate, IsRun, Writes, body_text, certificate_text, counted, end_text, header_text, line_text, name_of, run_text, start_text, unkeepable_text}
-use Rattle.keep_cert.specs.Numbers.{number_at}
+use Rattle.keep_cert.specs.declared.fault.CertFault.TheVariants.{BadHeader}
+use Rattle.keep_cert.specs.Answers.{Gives}
+use Rattle.keep_cert.specs.CertificateText.{AreRuns, CanBeWritten, IsAmong, IsBody, IsRun, Writes, body_text, certificate_text, counted, end_text, header_text, name_of, run_text, start_text, unkeepable_text}
 use Rattle.keep_cert.specs.Pieces.{keyword, line_at, lines, pieces, three, three_words, two, two_words}
 use Rattle.keep_cert.specs.Reading.{body_of, certificate_of, ending, entry_named, header_of, nothing_behind, run_keyword, run_line, runs_of, start_of, unkeepable_of, version_of}
 use Rattle.keep_cert.proofs.Found.{entry_found, keyword_is, line_from_words, number_spelled, some_from_ok, step_ok, three_is, two_is}
-use Rattle.keep_cert.proofs.FoundLines.{IsRunLine, RoomFor, end_found, if_ok, nothing_found, run_line_found}
+use Rattle.keep_cert.proofs.FoundLines.{RoomFor, end_found, if_ok, nothing_found, run_line_found}
 use Rattle.keep_cert.proofs.Turns.{counted_push, ok_same}
 
 -- the text whose lines these are
