@@ -1,9 +1,8 @@
 -- The pieces of a text: what the code that cuts it finds, in the words of `pieces`.
-use Rattle.std.proofs.Common.{◌≡◌, ◌≢◌, ℕ, ◌+◌, ◌<◌, ◌≤◌, Bool, true, false, cond, List, [], ◌∷◌, ◌++◌, length, take, drop, get_or, Option, Some, None, Ok, Err, refl, sym, ap, ◌∙◌, subst, arith, All, ◌==◌, ltb-true, ltb-false}
-use Rattle.std.proofs.lemmas.Bool.{cases_Bool}
+use Rattle.std.proofs.Common.{◌≡◌, ◌≢◌, ℕ, ◌+◌, ◌≤◌, Bool, true, false, cond, List, [], ◌∷◌, length, take, drop, Some, None, Ok, Err, refl, ap, subst, arith, ◌==◌, ltb-true, ltb-false}
 use Rattle.std.proofs.lemmas.List.Splits.{slice_split_first, slice_split_none, length-slice_split}
 use Rattle.std.proofs.lemmas.List.Sums.{fails_before_first}
-use Rattle.std.specs.List.{count_by, position, position_or_len, slice_split}
+use Rattle.std.specs.List.{position_or_len, slice_split}
 use Rattle.std.specs.Option.{option_map}
 use Rattle.keep_cert.specs.declared.fault.CertFault.TheVariants.{BadLine, Truncated}
 use Rattle.keep_cert.specs.Pieces.{cut_off, first_place, line_at, pieces, two, three, four, six}

@@ -1,15 +1,14 @@
 -- What is read is written: the lines of runs and wake-ups, and the last line.
-use Rattle.std.proofs.Common.{◌≡◌, ℕ, ◌+◌, ◌-◌, ◌*◌, ◌<◌, ◌≤◌, ◌↔◌, Bool, true, false, ◌&&◌, ◌==◌, List, [], ◌∷◌, ◌++◌, bytes_eq, codes, decimal, length, nat_le, nat_lt, if◌then◌else◌, Result, Ok, Err, refl, sym, ap, ◌∙◌, subst, arith, ltb-true, ⊎_elim}
-use Rattle.std.proofs.lemmas.Bool.{and_parts, cases_Bool, cond-false, cond-true, eq-eqb, eqb-true, leb-true}
+use Rattle.std.proofs.Common.{◌≡◌, ℕ, ◌+◌, ◌≤◌, ◌↔◌, Bool, true, false, ◌==◌, List, [], ◌∷◌, ◌++◌, bytes_eq, codes, decimal, nat_le, nat_lt, if◌then◌else◌, Result, Ok, Err, refl, ap, ◌∙◌, subst, arith, ltb-true}
+use Rattle.std.proofs.lemmas.Bool.{and_parts, eq-eqb, eqb-true, leb-true}
 use Rattle.std.specs.Bool.{beq}
-use Rattle.keep_moment.specs.declared.moment.TheConstants.{LAST}
 use Rattle.keep_tree.specs.declared.entry.Entry.{Entry}
 use Rattle.keep_schedule.specs.declared.run.Run.{Run}
 use Rattle.keep_cert.specs.declared.cert.Version.{Version}
 use Rattle.keep_cert.specs.declared.cert.Version.TheVariants.{One, Two}
 use Rattle.keep_cert.specs.declared.cert.TheConstants.{LIMIT}
 use Rattle.keep_cert.specs.declared.fault.CertFault.{CertFault}
-use Rattle.keep_cert.specs.CertificateText.{IsRun, end_text, line_text, name_of, run_text}
+use Rattle.keep_cert.specs.CertificateText.{IsRun, end_text, name_of, run_text}
 use Rattle.keep_cert.specs.Numbers.{number_at}
 use Rattle.keep_cert.specs.Pieces.{four, four_words, keyword, pieces, six, six_words, two, two_words}
 use Rattle.keep_cert.specs.Reading.{end_of_runs, ending, entry_named, is_run, nothing_behind, right, run_keyword, run_line, run_of, wake_of}

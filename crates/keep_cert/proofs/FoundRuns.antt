@@ -1,7 +1,8 @@
 -- What is read is written: all lines of a certificate.
-use Rattle.std.proofs.Common.{◌≡◌, ℕ, ◌+◌, ◌<◌, ◌≤◌, Bool, true, false, ◌&&◌, cond, if◌then◌else◌, List, [], ◌∷◌, ◌++◌, append_assoc, bytes_eq, codes, flat_map, length, length-append, nat_lt, Result, Ok, Err, refl, sym, ap, ◌∙◌, subst, arith, ltb-true, inl, inr, IfOk}
+use Rattle.std.proofs.Common.{◌≡◌, ℕ, ◌+◌, ◌≤◌, true, ◌&&◌, List, [], ◌∷◌, ◌++◌, append_assoc, bytes_eq, codes, flat_map, length, length-append, nat_lt, Result, Ok, Err, refl, sym, ap, ◌∙◌, subst, arith, ltb-true, inl, inr, All, IfOk}
 use Rattle.std.proofs.lemmas.Bool.{and_parts, cases_Bool, cond-false, cond-true}
 use Rattle.std.proofs.lemmas.List.{append-nil}
+use Rattle.std.proofs.lemmas.List.Elements.{All-cons, All-nil}
 use Rattle.std.proofs.lemmas.List.Splits.{join_with_byte-slice_split}
 use Rattle.std.specs.Cmp.Lexicographic.{bytes_decides}
 use Rattle.std.specs.List.{join_with_byte}
@@ -15,14 +16,13 @@ use Rattle.keep_cert.specs.declared.cert.Version.{Version}
 use Rattle.keep_cert.specs.declared.cert.Version.TheVariants.{One, Two}
 use Rattle.keep_cert.specs.declared.cert.TheConstants.{LIMIT, MAX_LINES}
 use Rattle.keep_cert.specs.declared.fault.CertFault.{CertFault}
-use Rattle.keep_cert.specs.declared.fault.CertFault.TheVariants.{BadHeader, Trailing}
-use Rattle.keep_cert.specs.Answers.{◌>>=◌, Gives}
-use Rattle.keep_cert.specs.CertificateText.{AreRuns, IsBody, IsCertificate, IsRun, Writes, body_text, certificate_text, counted, end_text, header_text, line_text, name_of, run_text, start_text, unkeepable_text}
-use Rattle.keep_cert.specs.Numbers.{number_at}
+use Rattle.keep_cert.specs.declared.fault.CertFault.TheVariants.{BadHeader}
+use Rattle.keep_cert.specs.Answers.{Gives}
+use Rattle.keep_cert.specs.CertificateText.{AreRuns, CanBeWritten, IsAmong, IsBody, IsRun, Writes, body_text, certificate_text, counted, end_text, header_text, name_of, run_text, start_text, unkeepable_text}
 use Rattle.keep_cert.specs.Pieces.{keyword, line_at, lines, pieces, three, three_words, two, two_words}
 use Rattle.keep_cert.specs.Reading.{body_of, certificate_of, ending, entry_named, header_of, nothing_behind, run_keyword, run_line, runs_of, start_of, unkeepable_of, version_of}
 use Rattle.keep_cert.proofs.Found.{entry_found, keyword_is, line_from_words, number_spelled, some_from_ok, step_ok, three_is, two_is}
-use Rattle.keep_cert.proofs.FoundLines.{IsRunLine, RoomFor, end_found, if_ok, nothing_found, run_line_found}
+use Rattle.keep_cert.proofs.FoundLines.{RoomFor, end_found, if_ok, nothing_found, run_line_found}
 use Rattle.keep_cert.proofs.Turns.{counted_push, ok_same}
 
 -- the text whose lines these are
@@ -193,3 +193,16 @@ read_is_written es text c e =
 pub found_writes : (es : List Entry) (text : List ℕ) (r : Result Cert CertFault) → Gives (λ c. c) r (certificate_of es text) → IfOk r (λ c. Writes es text c)
 found_writes es text (Ok c) h = read_is_written es text c h
 found_writes es text (Err e) h = tt
+
+among : (v : Version) (es : List Entry) (rs : List Run) → AreRuns v es rs → All (IsAmong (length es)) rs
+among v es [] each = All-nil (IsAmong (length es))
+among v es (r ∷ rs) each = All-cons (IsAmong (length es)) r rs (record { entry = each.0.entry; needed = each.0.needed }) (among v es rs each.1)
+
+can_be_written : (v : Version) (es : List Entry) (body : Body) → IsBody v es body → CanBeWritten es body
+can_be_written v es (Runs rs) h = (among v es rs h.0, h.1.1)
+can_be_written v es (Unkeepable entry needed) h = h
+
+-- what was read can be written
+pub found_can_be_written : (es : List Entry) (text : List ℕ) (r : Result Cert CertFault) → Gives (λ c. c) r (certificate_of es text) → IfOk r (λ c. CanBeWritten es c.body)
+found_can_be_written es text (Ok c) h = can_be_written c.version es c.body ((read_is_written es text c h).certificate.1)
+found_can_be_written es text (Err e) h = tt

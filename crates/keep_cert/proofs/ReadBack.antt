@@ -1,7 +1,7 @@
 -- What is written is read: numbers, names, and the lines of runs and wake-ups.
-use Rattle.std.proofs.Common.{◌≡◌, ◌≢◌, ℕ, ◌+◌, ◌-◌, ◌*◌, ◌^◌, ◌<◌, ◌≤◌, ◌↔◌, Bool, true, false, not, ◌&&◌, ◌||◌, ◌==◌, cond, if◌then◌else◌, List, [], ◌∷◌, ◌++◌, append_assoc, bytes_eq, codes, decimal, flat_map, get_or, length, length-append, nat_le, nat_lt, Result, Ok, Err, Some, refl, sym, ap, ◌∙◌, subst, arith, inl, inr, lt-ltb}
+use Rattle.std.proofs.Common.{◌≡◌, ℕ, ◌+◌, ◌-◌, ◌*◌, ◌^◌, ◌<◌, ◌≤◌, ◌↔◌, Bool, true, false, not, ◌||◌, ◌==◌, List, [], ◌∷◌, bytes_eq, codes, decimal, get_or, length, nat_le, nat_lt, Ok, Some, refl, sym, ap, ◌∙◌, subst, arith, inl, inr, lt-ltb}
 use Rattle.std.proofs.Math.Nat.{mul-le-mul_right}
-use Rattle.std.proofs.lemmas.Bool.{and_from, cases_Bool, cases_eq, cond-false, cond-true, eq-eqb, eqb-true, le-leb, ne_eqb, not_from_false, or_left, or_right}
+use Rattle.std.proofs.lemmas.Bool.{and_from, cases_eq, cond-true, eq-eqb, eqb-true, le-leb, ne_eqb, not_from_false, or_left, or_right}
 use Rattle.std.proofs.lemmas.Fmt.{decimal_digit, decimal_nonempty, digits_decimal, digits_value-decimal, first_decimal}
 use Rattle.std.specs.Bool.{beq}
 use Rattle.std.specs.Char.{is_ascii_digit}
@@ -10,7 +10,7 @@ use Rattle.std.specs.Option.{ok_or}
 use Rattle.std.specs.Str.Parse.{digits_value}
 use Rattle.keep_moment.specs.declared.moment.TheConstants.{LAST}
 use Rattle.keep_tree.specs.declared.entry.Entry.{Entry}
-use Rattle.keep_tree.specs.Forest.{Grove, entry_at, index_named}
+use Rattle.keep_tree.specs.Forest.{Grove}
 use Rattle.keep_tree.specs.Push.{IsForest}
 use Rattle.keep_schedule.specs.declared.run.Run.{Run}
 use Rattle.keep_cert.specs.declared.cert.Version.{Version}
@@ -19,7 +19,7 @@ use Rattle.keep_cert.specs.declared.cert.TheConstants.{LIMIT}
 use Rattle.keep_cert.specs.declared.fault.CertFault.TheVariants.{BadLine, BadNumber, UnknownName}
 use Rattle.keep_cert.specs.CertificateText.{IsRun, line_text, name_of, run_text}
 use Rattle.keep_cert.specs.Numbers.{is_spelled, number_at, number_of}
-use Rattle.keep_cert.specs.Pieces.{four, four_words, keyword, pieces, six, six_words, three, three_words, two, two_words}
+use Rattle.keep_cert.specs.Pieces.{four, four_words, keyword, six, six_words}
 use Rattle.keep_cert.specs.Reading.{entry_named, is_run, right, run_keyword, run_line, run_of, wake_of}
 use Rattle.keep_cert.proofs.Digits.{own}
 use Rattle.keep_cert.proofs.Turns.{value_on}

@@ -1,5 +1,5 @@
 -- What is written is read: all lines of a certificate.
-use Rattle.std.proofs.Common.{◌≡◌, ℕ, ◌+◌, ◌^◌, ◌<◌, ◌≤◌, Bool, true, false, List, [], ◌∷◌, ◌++◌, append_assoc, bytes_eq, codes, decimal, flat_map, length, length-append, Result, Ok, refl, sym, ap, ◌∙◌, subst, arith, if◌then◌else◌}
+use Rattle.std.proofs.Common.{◌≡◌, ℕ, ◌+◌, ◌<◌, ◌≤◌, false, List, [], ◌∷◌, ◌++◌, append_assoc, bytes_eq, codes, decimal, flat_map, length, length-append, Ok, refl, sym, ap, ◌∙◌, subst, arith}
 use Rattle.std.proofs.lemmas.Bool.{cond-false, cond-true, eq-eqb}
 use Rattle.std.proofs.lemmas.List.{append-nil}
 use Rattle.std.specs.Option.{ok_or}
@@ -15,12 +15,10 @@ use Rattle.keep_cert.specs.declared.cert.Cert.{Cert}
 use Rattle.keep_cert.specs.declared.cert.Version.{Version}
 use Rattle.keep_cert.specs.declared.cert.Version.TheVariants.{One, Two}
 use Rattle.keep_cert.specs.declared.cert.TheConstants.{LIMIT, MAX_LINES}
-use Rattle.keep_cert.specs.declared.fault.CertFault.{CertFault}
 use Rattle.keep_cert.specs.declared.fault.CertFault.TheVariants.{BadLine}
-use Rattle.keep_cert.specs.Answers.{◌>>=◌}
 use Rattle.keep_cert.specs.CertificateText.{AreRuns, IsBody, IsRun, Writes, body_text, certificate_text, counted, end_text, header_text, line_text, name_of, run_text, start_text, unkeepable_text}
 use Rattle.keep_cert.specs.Numbers.{number_at}
-use Rattle.keep_cert.specs.Pieces.{keyword, line_at, lines, pieces, three, three_words, two, two_words}
+use Rattle.keep_cert.specs.Pieces.{keyword, line_at, pieces, three, three_words, two, two_words}
 use Rattle.keep_cert.specs.Reading.{body_of, certificate_of, end_of_runs, ending, entry_named, header_of, nothing_behind, right, run_keyword, runs_of, start_of, unkeepable_of, version_of}
 use Rattle.keep_cert.proofs.Cutting.{whole_line}
 use Rattle.keep_cert.proofs.ReadBack.{entry_back, name_word, number_back, run_as_line, run_is_not, run_keyword_back, run_line_back, run_text_is, run_words, run_words_are}

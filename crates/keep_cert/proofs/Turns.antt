@@ -1,5 +1,5 @@
 -- The lines that follow each other: for the code that reads the first line and the lines of runs.
-use Rattle.std.proofs.Common.{◌≡◌, ◌≢◌, ℕ, ◌+◌, ◌<◌, ◌≤◌, Bool, true, false, ◌&&◌, cond, if◌then◌else◌, List, [], ◌∷◌, ◌++◌, length, Result, Ok, Err, bytes_eq, nat_le, nat_lt, refl, sym, ap, ◌∙◌, subst, arith}
+use Rattle.std.proofs.Common.{◌≡◌, ◌≢◌, ℕ, ◌+◌, ◌<◌, ◌≤◌, true, false, ◌&&◌, if◌then◌else◌, List, [], ◌∷◌, ◌++◌, length, Result, Ok, Err, bytes_eq, nat_le, nat_lt, refl, sym, ap, ◌∙◌, subst, arith}
 use Rattle.std.proofs.lemmas.Bool.{and_from, and_left, and_parts, and_right, cond-false, cond-true, le-ltb, leb-true, lt-ltb}
 use Rattle.std.proofs.lemmas.List.Splits.{join_with_byte-slice_split}
 use Rattle.std.specs.List.{join_with_byte}
@@ -11,7 +11,7 @@ use Rattle.keep_cert.specs.declared.fault.CertFault.{CertFault}
 use Rattle.keep_cert.specs.declared.fault.CertFault.TheVariants.{BadHeader, Trailing}
 use Rattle.keep_cert.specs.Answers.{◌>>=◌}
 use Rattle.keep_cert.specs.CertificateText.{counted}
-use Rattle.keep_cert.specs.Pieces.{cut_off, keyword, line_at, pieces}
+use Rattle.keep_cert.specs.Pieces.{keyword, line_at, pieces}
 use Rattle.keep_cert.specs.Reading.{ending, header_of, is_run, nothing_behind, run_keyword, run_line, runs_of, version_of}
 use Rattle.keep_cert.proofs.Cutting.{has_piece}
 

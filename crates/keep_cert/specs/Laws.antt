@@ -4,7 +4,7 @@ use Rattle.keep_tree.specs.declared.entry.Entry.{Entry}
 use Rattle.keep_tree.specs.Forest.{Grove}
 use Rattle.keep_tree.specs.Push.{IsForest}
 use Rattle.keep_cert.specs.declared.cert.Cert.{Cert}
-use Rattle.keep_cert.specs.CertificateText.{IsCertificate, Writes, certificate_text}
+use Rattle.keep_cert.specs.CertificateText.{Writes}
 use Rattle.keep_cert.specs.Reading.{certificate_of}
 
 -- a text that is read writes the certificate

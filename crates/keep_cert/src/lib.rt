@@ -1,4 +1,8 @@
 //! Certificates: what a planner claims of a forest, and their text.
+//!
+//! The contract for the layers above: [`read`] gives the certificate that a text writes over a forest, in version 1 or 2,
+//! or the fault of its first line at fault; [`text_of`] writes version 2; and each certificate is read back from its text
+//! ([`certificates_are_read_back`]). Begin with `cert`, then `specs/CertificateText.antt`.
 #![tactic(auto)]
 
 mod cert;

@@ -1,6 +1,7 @@
 ghost use Rattle.std.specs.Prelude.{◌≡◌, ◌≤◌, ◌+◌, ◌-◌, ◌*◌, IfOk, length};
 ghost use Rattle.keep_cert.specs.Answers.{Gives};
 ghost use Rattle.keep_cert.specs.Pieces.{lines};
+ghost use Rattle.keep_cert.specs.declared.cert.TheConstants.{MAX_LINES};
 ghost use Rattle.keep_cert.specs.Reading.{entry_named, wake_of, run_of, is_run, run_keyword, run_line, nothing_behind, end_of_runs, ending};
 
 use crate::cert::{LIMIT, Version};
@@ -39,7 +40,7 @@ pub(crate) fn run_line(
     before: u64,
     line: &[u8],
 ) -> Result<Run, CertFault>
-    requires { before ≤ 1000000000000 }
+    requires { before ≤ MAX_LINES * LIMIT }
     ensures value { Gives (λ run. run) result (run_line version n forest.now.entries before line.now) }
     ensures within { IfOk result (λ run. run.count ≤ LIMIT) }
 {
@@ -71,7 +72,7 @@ fn wake_of(forest: &Forest, n: u64, line: &[u8]) -> Result<Run, CertFault>
 /// The line `run FIRST STEP COUNT ENTRY NEEDED`, behind so many wake-ups.
 #[tactic(auto, unfolding(crate::specs::Reading::run_of))]
 fn run_of(forest: &Forest, n: u64, before: u64, line: &[u8]) -> Result<Run, CertFault>
-    requires { before ≤ 1000000000000 }
+    requires { before ≤ MAX_LINES * LIMIT }
     ensures value { Gives (λ run. run) result (run_of n forest.now.entries before line.now) }
     ensures within { IfOk result (λ run. run.count ≤ LIMIT) }
 {
@@ -96,7 +97,7 @@ fn run_of(forest: &Forest, n: u64, before: u64, line: &[u8]) -> Result<Run, Cert
 /// Whether a run can have these numbers behind so many wake-ups.
 #[tactic(auto, unfolding(crate::specs::Reading::is_run))]
 fn is_run(before: u64, first: u64, step: u64, count: u64) -> bool
-    requires before { before ≤ 1000000000000 }
+    requires before { before ≤ MAX_LINES * LIMIT }
     requires first { first ≤ LAST }
     requires step { step ≤ LAST }
     requires count { count ≤ LAST }

@@ -66,12 +66,10 @@ fn reads_runs<R: AllocGlobal + Abort>(
     let cert = read(alloc, &forest, text.as_bytes())?;
     assert!(rt; cert.version == Version::Two, "{lines}");
     assert_eq!(rt; cert.start.get(), 1000, "{lines}");
-    match cert.body {
-        Body::Runs(found) => {
-            assert!(rt; found.list() == runs, "{lines}");
-            let written = text_of(alloc, &forest, cert.start, &Body::Runs(found))?;
-            assert!(rt; written.list() == text.as_bytes(), "{lines}");
-        }
+    let written = text_of(alloc, &forest, cert.start, &cert.body)?;
+    assert!(rt; written.list() == text.as_bytes(), "{lines}");
+    match &cert.body {
+        Body::Runs(found) => assert!(rt; found.list() == runs, "{lines}"),
         Body::Unkeepable { .. } => assert!(rt; false, "{lines}"),
     }
     Ok(())
@@ -196,7 +194,7 @@ fn wake_ups_are_read_as_runs_of_one(rt: HostRuntime) -> Result<(), Fail> {
         run(1118, 0, 1, 0, 0),
         run(1177, 0, 1, 0, 0),
     ];
-    match cert.body {
+    match &cert.body {
         Body::Runs(found) => assert!(rt; found.list() == wakes.as_slice()),
         Body::Unkeepable { .. } => assert!(rt; false),
     }

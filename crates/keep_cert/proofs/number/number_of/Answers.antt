@@ -1,4 +1,4 @@
-use Rattle.std.proofs.Common.{sym, ◌∙◌}
+use Rattle.std.proofs.Common.{sym}
 use Rattle.keep_cert.proofs.Digits.{spelled_digits}
 use Rattle.keep_cert.proofs.number.number_of.Goals as goal
 

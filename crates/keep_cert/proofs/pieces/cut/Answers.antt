@@ -1,4 +1,4 @@
-use Rattle.std.proofs.Common.{◌≡◌, ◌∷◌, ◌∙◌, ap, sym, take}
+use Rattle.std.proofs.Common.{◌∷◌, ◌∙◌, ap, sym, take}
 use Rattle.keep_cert.specs.Pieces.{pieces}
 use Rattle.keep_cert.proofs.Cutting.{cut_at, not_cut}
 use Rattle.keep_cert.proofs.pieces.cut.Goals as goal
