@@ -1,1 +1,4 @@
+pub mod Nexts
 pub mod Unkeepables
+pub mod Walking
+pub mod Wanted

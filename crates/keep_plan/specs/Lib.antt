@@ -1,1 +1,3 @@
+pub mod Living
+pub mod Planned
 pub mod Shortfall
