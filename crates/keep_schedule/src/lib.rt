@@ -5,10 +5,20 @@
 //! latest. Begin with `force`.
 #![tactic(auto)]
 
+mod fault;
 mod force;
+mod groups;
+mod line;
+mod outlook;
+mod queue;
 mod run;
+mod scan;
 mod schedule;
+mod stretch;
 
+pub use fault::ScheduleFault;
 pub use force::Force;
+pub use queue::QueueSchedule;
 pub use run::Run;
+pub use scan::ScanSchedule;
 pub use schedule::Schedule;
