@@ -16,7 +16,7 @@ use Rattle.keep_tree.proofs.Chains.{ParentsFirst, cases_Option, over_child, over
 use Rattle.keep_tree.proofs.Entries.{entry_at_past}
 use Rattle.keep_tree.proofs.Placed.{parents_first}
 use Rattle.keep_rule.specs.Forced.{bound, latest_end}
-use Rattle.keep_rule.specs.Laws.{AllKeepable}
+use Rattle.keep_rule.specs.Unkeepable.{AllKeepable}
 use Rattle.keep_rule.specs.Reach.{reach, reach_of}
 use Rattle.keep_rule.specs.Schedule.{IsSchedule}
 use Rattle.keep_rule.specs.Unkeepable.{Unkeepable}

@@ -8,7 +8,7 @@ use Rattle.keep_schedule.specs.Runs.{GivesHead}
 use Rattle.keep_schedule.specs.Terms.{Ahead, AreLed, IsSound, Leads, Terms, deadline}
 use Rattle.keep_tree.specs.Forest.{Grove, end_of}
 use Rattle.keep_tree.specs.Push.{IsForest}
-use Rattle.keep_rule.specs.Laws.{AllKeepable}
+use Rattle.keep_rule.specs.Unkeepable.{AllKeepable}
 use Rattle.keep_moment.specs.declared.moment.TheConstants.{LAST}
 use Rattle.keep_needs.specs.Carried.{CarriedNeed, IsCarried}
 use Rattle.keep_schedule.specs.Forces.{AreForces}

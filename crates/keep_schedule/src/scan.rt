@@ -1,6 +1,6 @@
 ghost use Rattle.std.specs.Prelude.{◌≡◌, ℕ, ◌<◌, ◌↔◌, List, length, None, IfSome, IsTrue};
 ghost use Rattle.keep_tree.specs.Forest.{end_of};
-ghost use Rattle.keep_rule.specs.Laws.{AllKeepable};
+ghost use Rattle.keep_rule.specs.Unkeepable.{AllKeepable};
 ghost use Rattle.keep_needs.specs.Carried.{IsCarried};
 ghost use Rattle.keep_schedule.specs.declared.force.Force.{Force};
 ghost use Rattle.keep_schedule.specs.Courses.{IsLeader, IsToCome, IsWithin, TakesLead};
