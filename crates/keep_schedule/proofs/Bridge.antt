@@ -36,7 +36,7 @@ pub record IsAble (es : List Entry) (margin s i : ℕ) : Type 0 where
   pub ceiling : (c : ℕ) → (entry_at es i).ceiling ≡ Some c → carried es s i ≤ c
 
 -- the entry whose need is carried
-carrier : (es : List Entry) (s i : ℕ) → 0 < carried es s i → (f : ℕ) × Over es i f × (s < (entry_at es f).need) × ((entry_at es f).need ≡ carried es s i)
+pub carrier : (es : List Entry) (s i : ℕ) → 0 < carried es s i → (f : ℕ) × Over es i f × (s < (entry_at es f).need) × ((entry_at es f).need ≡ carried es s i)
 carrier es s i some =
     let found = carried_is_of es s i (carried es s i - 1) (omega arith) in
     let most = carried_at_least es s i found.0 found.1 found.2 in
@@ -220,7 +220,7 @@ over_below es first (suc n) a f h over =
     (λ e. let k : f ≡ a = grind (arith, nat_tests) in omega arith)
     (λ up. let l = first f p is in let k = over_below es first n a p (omega arith) up in omega arith))
 
-carried_past : (g : Grove) (s i : ℕ) → IsForest g → length g.entries ≤ i → carried g.entries s i ≡ 0
+pub carried_past : (g : Grove) (s i : ℕ) → IsForest g → length g.entries ≤ i → carried g.entries s i ≡ 0
 carried_past g s i forest past =
     elim (cases_lt 0 (carried g.entries s i)) [
       | inl some ↦ absurd (

@@ -8,3 +8,5 @@ pub mod Taking
 pub mod Moves
 pub mod Extending
 pub mod Queueing
+pub mod Keepable
+pub mod Forces

@@ -7,3 +7,4 @@ pub mod Line
 pub mod Groups
 pub mod Stretches
 pub mod Queues
+pub mod Laws

@@ -8,6 +8,7 @@
 mod fault;
 mod force;
 mod groups;
+mod laws;
 mod line;
 mod outlook;
 mod queue;
@@ -15,9 +16,12 @@ mod run;
 mod scan;
 mod schedule;
 mod stretch;
+#[cfg(test)]
+mod tests;
 
 pub use fault::ScheduleFault;
 pub use force::Force;
+pub use laws::forces_law;
 pub use queue::QueueSchedule;
 pub use run::Run;
 pub use scan::ScanSchedule;

@@ -1,6 +1,7 @@
 ghost use Rattle.std.specs.Prelude.{◌≡◌, ℕ, ◌<◌, ◌≤◌, ◌^◌, length};
 ghost use Rattle.keep_moment.specs.declared.moment.TheConstants.{LAST};
 ghost use Rattle.keep_tree.specs.Forest.{end_of};
+ghost use Rattle.keep_tree.specs.Push.{IsForest};
 ghost use Rattle.keep_rule.specs.Unkeepable.{AllKeepable};
 ghost use Rattle.keep_needs.specs.Carried.{IsCarried};
 ghost use Rattle.keep_schedule.specs.Courses.{IsWithin};
@@ -35,7 +36,8 @@ impl<'a> Outlook<'a> {
     pub(crate) fn new(forest: &'a Forest, carried: &'a Carried, _start: Moment) -> Outlook<'a>
         requires carried { IsCarried forest.now _start carried.now }
         requires keepable { AllKeepable forest.now _start (end_of forest.now.entries) }
-        ensures { result ≡ record { grove = forest.now; loads = carried.now } }
+        ensures value { result ≡ record { grove = forest.now; loads = carried.now } }
+        ensures sound { IsForest forest.now }
     {
         let _entries = forest.len();
         Outlook { forest, carried }

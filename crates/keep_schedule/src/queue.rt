@@ -64,7 +64,6 @@ impl<'a> QueueSchedule<'a> {
         ensures list { IfOk result (λ q. (xs : List Force) → IsToCome q.course xs ↔ AreForces forest.now.entries forest.now.margin start (end_of forest.now.entries) None xs) }
         ensures runs { IfOk result (λ q. q.runs ≤ 2 * length forest.now.entries - 1) }
     {
-        let _entries = forest.len();
         let outlook = Outlook::new(forest, carried, start);
         let groups = Groups {
             waits: waiting(alloc, &outlook)?,

@@ -42,7 +42,6 @@ impl<'a> ScanSchedule<'a> {
         requires keepable { AllKeepable forest.now start (end_of forest.now.entries) }
         ensures { (xs : List Force) → IsToCome result xs ↔ AreForces forest.now.entries forest.now.margin start (end_of forest.now.entries) None xs }
     {
-        let _entries = forest.len();
         ScanSchedule {
             outlook: Outlook::new(forest, carried, start),
             last: None,

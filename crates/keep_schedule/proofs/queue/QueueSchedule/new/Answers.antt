@@ -22,4 +22,4 @@ invariant_of-result c =
 
 pub returns-clause-list : goal.returns-clause-list
 returns-clause-list c = λ xs.
-    comes_forces c.new-outlook.result c.args.forest.now c.args.carried.now c.args.start c.new-outlook.ensures c.len-entries.ensures.sound c.requires.carried c.requires.keepable xs
+    comes_forces c.new-outlook.result c.args.forest.now c.args.carried.now c.args.start c.new-outlook.ensures.value c.new-outlook.ensures.sound c.requires.carried c.requires.keepable xs
