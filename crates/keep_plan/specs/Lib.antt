@@ -1,3 +1,5 @@
-pub mod Living
 pub mod Planned
 pub mod Shortfall
+pub mod Decides
+pub mod Living
+pub mod Collecting

@@ -1,6 +1,8 @@
 ghost use Rattle.std.specs.Prelude.{◌≡◌};
 ghost use Rattle.keep_plan.specs.declared.fault.PlanFault.TheVariants.{OutOfMemory};
 
+use keep_needs::NeedsFault;
+use keep_schedule::ScheduleFault;
 use std::alloc::{AllocError, AllocFailed};
 use thiserror::Error;
 
@@ -24,6 +26,22 @@ impl<T: Drop> From<AllocFailed<T>> for PlanFault {
     ghost from_gives = { λ _ e. e ≡ OutOfMemory };
 
     fn from(_e: AllocFailed<T>) -> PlanFault {
+        PlanFault::OutOfMemory
+    }
+}
+
+impl From<NeedsFault> for PlanFault {
+    ghost from_gives = { λ _ e. e ≡ OutOfMemory };
+
+    fn from(_e: NeedsFault) -> PlanFault {
+        PlanFault::OutOfMemory
+    }
+}
+
+impl From<ScheduleFault> for PlanFault {
+    ghost from_gives = { λ _ e. e ≡ OutOfMemory };
+
+    fn from(_e: ScheduleFault) -> PlanFault {
         PlanFault::OutOfMemory
     }
 }
