@@ -65,7 +65,7 @@ too_long g s forest keepable comes tells over =
     let es = g.entries in
     let found = forces_are_best g s forest keepable in
     let long = over found.0 (tells found.0 found.1.0) in
-    let least = found.1.1.1.1 in
+    let least = found.1.1.1.1.1 in
     let same = length_moments found.0 in
     record {
       some = some_keeps g s forest keepable;
