@@ -1,4 +1,4 @@
-use Rattle.std.proofs.Common.{ℕ, ◌+◌, ◌≤◌, drop}
+use Rattle.std.proofs.Common.{◌+◌, ◌≤◌, drop}
 use Rattle.keep_check.specs.declared.fit.TheConstants.{LIMIT}
 use Rattle.keep_check.specs.Fit.{AllFit, counted}
 use Rattle.keep_check.proofs.tests.fit_count.Given as goal
