@@ -1,0 +1,5 @@
+pub mod Listed
+pub mod Living
+pub mod Loaded
+pub mod Replaced
+pub mod Texts
