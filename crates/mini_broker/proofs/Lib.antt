@@ -3,3 +3,4 @@ pub mod Living
 pub mod Loaded
 pub mod Replaced
 pub mod Texts
+pub mod Streamed

@@ -8,3 +8,4 @@ pub mod Subject
 pub mod Renewing
 pub mod Step
 pub mod Found
+pub mod Stream

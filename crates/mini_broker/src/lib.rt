@@ -16,10 +16,12 @@ mod row;
 mod serve;
 mod served;
 mod slot;
+mod stream;
 mod subject;
 mod table;
 
 pub use fault::{Fault, NumberedFault, SetFault};
 pub use row::Row;
 pub use served::{ServeFault, Served};
+pub use stream::{MOST_REQUEST, StreamFault};
 pub use table::Table;

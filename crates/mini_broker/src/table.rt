@@ -1,18 +1,21 @@
-ghost use Rattle.std.specs.Prelude.{◌≡◌, ◌++◌, ◌∷◌, [], None, Err, IfOk, IfSome, OnErr, OnOk, IsOkUnless, is_some, option_map};
+ghost use Rattle.std.specs.Prelude.{◌≡◌, ◌++◌, ◌∷◌, [], None, Err, IfErr, IfOk, IfSome, OnErr, OnOk, IsOkUnless, is_some, option_map};
 ghost use Rattle.mini_broker.specs.Rows.{rows_of, row_named};
 ghost use Rattle.mini_broker.specs.Sweep.{swept};
 ghost use Rattle.mini_broker.specs.Faults.{fault_refusal};
 ghost use Rattle.mini_broker.specs.Step.{Says, after_sweep, step};
+ghost use Rattle.mini_broker.specs.Stream.{CountsStream, Fails, Handles, IsStreamed, Leaves};
 
 use crate::fault::{Fault, NumberedFault, SetFault, fault_refusal};
-use crate::serve::answer;
+use crate::refusal::Refusal;
+use crate::serve::{answer, refuse};
 use crate::served::{ServeFault, Served};
 use crate::slot::{Slot, end_named, place_named, slots_of, sweep};
+use crate::stream::{MOST_REQUEST, StreamFault, send};
 use keep_inventory::Inventory;
 use keep_moment::Moment;
 use std::alloc::{AllocError, Global};
 use std::marker::Model;
-use vault_http::Request;
+use vault_http::{HttpFault, Request, Sink, Source, read_request};
 
 /// The tokens and leases of a broker, with the faults to come and the count of renewal requests.
 ///
@@ -105,5 +108,49 @@ impl Table {
             request,
         )?;
         Ok(served)
+    }
+
+    /// Reads one request of at most 1 MiB, serves it at `t`, and writes the reply, if there is one. A request that cannot
+    /// be read is refused with status 400, and is not counted; one that ends too soon gets no reply.
+    ///
+    /// `ReadFailed`: a read failed, and the table is as it was. `WriteFailed`: a write failed; the table is as serving the
+    /// request has left it. `OutOfMemory`: the table is as it was, or as serving has left it.
+    pub fn serve_stream<S: Source + Sink>(
+        &mut self,
+        t: Moment,
+        stream: &mut S,
+    ) -> Result<(), StreamFault>
+        ensures streamed { OnOk result (IsStreamed (record { remaining = S.remaining stream.old; reads_left = S.reads_left stream.old; old = S.written stream.old; new = S.written stream.new }) self.old t self.new) }
+        ensures left { IfErr result (λ fault. Leaves self.old t fault self.new) }
+        ensures count { CountsStream result (S.failed_calls stream.old) (S.failed_calls stream.new) }
+    {
+        let alloc = *self.slots.allocator();
+        let message = read_request(alloc, stream, MOST_REQUEST);
+        let served = self.handle(t, message)?;
+        send(alloc, stream, &served)
+    }
+
+    /// Serves a request that was read, and refuses one that was not.
+    fn handle(
+        &mut self,
+        t: Moment,
+        message: Result<Request, HttpFault>,
+    ) -> Result<Served, StreamFault>
+        ensures handled { IfOk result (λ served. Handles self.old t message self.new served) }
+        ensures failed { IfErr result (λ fault. Fails self.old t message fault self.new) }
+    {
+        match message {
+            Ok(request) => Ok(self.serve(t, &request)?),
+            Err(HttpFault::Truncated) => Ok(Served::Dropped),
+            Err(HttpFault::ReadFailed) => Err(StreamFault::ReadFailed),
+            Err(HttpFault::OutOfMemory) => Err(StreamFault::OutOfMemory),
+            Err(
+                HttpFault::BadHead
+                | HttpFault::BadLength
+                | HttpFault::BadChunk
+                | HttpFault::TooLong
+                | HttpFault::TwoLengths,
+            ) => Ok(refuse(*self.slots.allocator(), Refusal::BadRequest)?),
+        }
     }
 }
