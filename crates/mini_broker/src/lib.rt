@@ -19,6 +19,8 @@ mod slot;
 mod stream;
 mod subject;
 mod table;
+#[cfg(test)]
+mod tests;
 
 pub use fault::{Fault, NumberedFault, SetFault};
 pub use row::Row;
