@@ -4,3 +4,4 @@ pub mod Loaded
 pub mod Replaced
 pub mod Texts
 pub mod Streamed
+pub mod Swept

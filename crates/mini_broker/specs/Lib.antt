@@ -9,3 +9,4 @@ pub mod Renewing
 pub mod Step
 pub mod Found
 pub mod Stream
+pub mod Laws

@@ -39,6 +39,14 @@ Handles l t (Err https.BadChunk) after done = (Refuses BadRequest done) × (afte
 Handles l t (Err https.TooLong) after done = (Refuses BadRequest done) × (after ≡ l)
 Handles l t (Err https.TwoLengths) after done = (Refuses BadRequest done) × (after ≡ l)
 
+-- one message is read by its bytes, where the stream tells them, and it is handled
+pub record IsHandled (remaining : Option (List ℕ)) (reads_left : ℕ) (l : Ledger) (t : ℕ) (after : Ledger) : Type 0 where
+  pub message : Result Request HttpFault
+  pub left : ℕ
+  pub read : IfSome remaining (λ bytes. Settles (IsRequest MOST_REQUEST bytes) reads_left left message)
+  pub done : Served
+  pub handled : Handles l t message after done
+
 -- a stream before and after: its bytes to come, the reads that it needs at most, and what was written
 pub record Ends : Type 0 where
   pub remaining : Option (List ℕ)
@@ -46,24 +54,17 @@ pub record Ends : Type 0 where
   pub old : Option (List ℕ)
   pub new : Option (List ℕ)
 
--- one message is read by its bytes, it is handled, and what is sent for it is appended
+-- one message is handled, and what is sent for it is appended
 pub record IsStreamed (ends : Ends) (l : Ledger) (t : ℕ) (after : Ledger) : Type 0 where
-  pub message : Result Request HttpFault
-  pub left : ℕ
-  pub read : IfSome ends.remaining (λ bytes. Settles (IsRequest MOST_REQUEST bytes) ends.reads_left left message)
-  pub done : Served
-  pub handled : Handles l t message after done
-  pub sent : Appends ends.old ends.new (sent_of done)
+  pub done : IsHandled ends.remaining ends.reads_left l t after
+  pub sent : Appends ends.old ends.new (sent_of done.done)
 
--- the table is as it was, or as serving a request has left it
-abbrev pub IsLeft : Ledger → ℕ → Ledger → Type 0
-IsLeft l t after = (after ≡ l) ⊎ ((r : Request) × (after ≡ (step l t r).ledger))
-
--- what a fault leaves of the table
-abbrev pub Leaves : Ledger → ℕ → StreamFault → Ledger → Type 0
-Leaves l t streams.ReadFailed after = after ≡ l
-Leaves l t streams.WriteFailed after = IsLeft l t after
-Leaves l t streams.OutOfMemory after = IsLeft l t after ⊎ (after ≡ after_sweep l t)
+-- what a fault leaves of the table: what it was where a read failed, and what handling the message has left where a write
+-- failed. Memory may be wanting before, while and after a request is served
+abbrev pub Leaves : Ends → Ledger → ℕ → StreamFault → Ledger → Type 0
+Leaves ends l t streams.ReadFailed after = after ≡ l
+Leaves ends l t streams.WriteFailed after = IsHandled ends.remaining ends.reads_left l t after
+Leaves ends l t streams.OutOfMemory after = (after ≡ l) ⊎ IsHandled ends.remaining ends.reads_left l t after ⊎ (after ≡ after_sweep l t)
 
 -- one failure more where a read or a write failed, and else none
 abbrev pub CountsStream : {X : Type 0} → Result X StreamFault → ℕ → ℕ → Type 0

@@ -11,6 +11,7 @@ mod body;
 mod call;
 mod fault;
 mod grant;
+pub mod laws;
 mod refusal;
 mod row;
 mod serve;

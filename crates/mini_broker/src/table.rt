@@ -121,7 +121,7 @@ impl Table {
         stream: &mut S,
     ) -> Result<(), StreamFault>
         ensures streamed { OnOk result (IsStreamed (record { remaining = S.remaining stream.old; reads_left = S.reads_left stream.old; old = S.written stream.old; new = S.written stream.new }) self.old t self.new) }
-        ensures left { IfErr result (λ fault. Leaves self.old t fault self.new) }
+        ensures left { IfErr result (λ fault. Leaves (record { remaining = S.remaining stream.old; reads_left = S.reads_left stream.old; old = S.written stream.old; new = S.written stream.new }) self.old t fault self.new) }
         ensures count { CountsStream result (S.failed_calls stream.old) (S.failed_calls stream.new) }
     {
         let alloc = *self.slots.allocator();
