@@ -1,0 +1,5 @@
+use Rattle.mini_broker.proofs.Swept as swept
+use Rattle.mini_broker.proofs.laws.swept_rows_live.Goals as goal
+
+pub returns : goal.returns
+returns c = swept.swept_rows_live

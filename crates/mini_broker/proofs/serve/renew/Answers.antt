@@ -1,0 +1,10 @@
+use Rattle.std.proofs.Common.{subst, sym}
+use Rattle.mini_broker.specs.Found.{GrantNamesText}
+use Rattle.mini_broker.specs.Slots.{listed_rows}
+use Rattle.mini_broker.proofs.Texts.{grant_names_text}
+use Rattle.mini_broker.proofs.serve.renew.Goals as goal
+
+pub renewed-requires-clause-text : goal.renewed-requires-clause-text
+renewed-requires-clause-text c =
+    subst (GrantNamesText c.args.call) (sym c.in_ok-grant.ensures.granted)
+    (grant_names_text (listed_rows c.args.slots.now) c.args.t c.args.call c.args.request.now c.fault_at-fault.result)

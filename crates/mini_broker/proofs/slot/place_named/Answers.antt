@@ -1,0 +1,14 @@
+use Rattle.std.proofs.Common.{◌∙◌, ap, bytes_eq, option_map}
+use Rattle.mini_broker.specs.declared.row.Row.{Row}
+use Rattle.mini_broker.specs.Rows.{row_named}
+use Rattle.mini_broker.specs.Slots.{slot_at}
+use Rattle.mini_broker.proofs.Listed.{place_found, place_within}
+use Rattle.mini_broker.proofs.slot.place_named.Goals as goal
+
+pub returns-clause-row : goal.returns-clause-row
+unfolding row_named
+returns-clause-row c =
+    ap (option_map (λ i. (slot_at c.args.slots.now i).row)) c.first_named.ensures ∙ place_found (λ (r : Row). bytes_eq r.name c.args.name.now) c.args.slots.now
+
+pub returns-clause-within : goal.returns-clause-within
+returns-clause-within c = place_within (λ (r : Row). bytes_eq r.name c.args.name.now) c.args.slots.now c.first_named.result c.first_named.ensures

@@ -1,0 +1,7 @@
+use Rattle.std.proofs.Common.{◌≡◌, map}
+use Rattle.std.specs.List.{range_with_len}
+use Rattle.mini_broker.specs.Slots.{slot_of}
+use Rattle.mini_broker.proofs.slot.slots_of.Given as goal
+
+abbrev pub invariant-loop-index : goal.invariant-loop-index
+invariant-loop-index l = l.slots.items ≡ map (slot_of l.inventory) (range_with_len 0 l.index)

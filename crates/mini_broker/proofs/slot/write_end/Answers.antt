@@ -1,0 +1,13 @@
+use Rattle.std.proofs.Common.{◌≡◌, ◌∙◌, ap, get_or, set, sym}
+use Rattle.mini_broker.specs.declared.slot.Slot.{Slot}
+use Rattle.mini_broker.specs.Slots.{slot_at}
+use Rattle.mini_broker.proofs.Listed.{slot_read}
+use Rattle.mini_broker.proofs.slot.write_end.Goals as goal
+
+pub returns : goal.returns
+returns c =
+    let slots = c.args.slots.now in
+    let place = c.args.place in
+    let read : get_or slots place c.index-slots-place.result ≡ slot_at slots place =
+    sym c.index-slots-place.is ∙ slot_read slots place c.index-slots-place.result c.requires c.index-slots-place.is in
+    ap (λ (u : Slot). set slots place (record u { row = record u.row { end = c.args.end } })) read

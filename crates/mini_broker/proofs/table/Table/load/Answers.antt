@@ -1,0 +1,15 @@
+use Rattle.std.proofs.Common.{◌≡◌, ◌∙◌, [], ap, List}
+use Rattle.mini_broker.specs.declared.fault.NumberedFault.{NumberedFault}
+use Rattle.mini_broker.specs.declared.row.Row.{Row}
+use Rattle.mini_broker.specs.Ledger.{Ledger}
+use Rattle.mini_broker.specs.Rows.{rows_of}
+use Rattle.mini_broker.specs.Slots.{listed_rows}
+use Rattle.mini_broker.proofs.Loaded.{rows_of_slots}
+use Rattle.mini_broker.proofs.table.Table.load.Goals as goal
+
+ledgers : (rows rows' : List Row) (faults faults' : List NumberedFault) → rows ≡ rows' → faults ≡ faults' → ◌≡◌ {A = Ledger} (record { rows = rows; faults = faults; count = 0 }) (record { rows = rows'; faults = faults'; count = 0 })
+ledgers rows rows' faults faults' e f = ap (λ rs. record { rows = rs; faults = faults; count = 0 }) e ∙ ap (λ fs. record { rows = rows'; faults = fs; count = 0 }) f
+
+pub returns : goal.returns
+returns c =
+    ledgers _ _ _ _ (ap listed_rows c.in_ok-slots_of.ensures.slots ∙ rows_of_slots c.args.inventory.now) c.new.ensures.items

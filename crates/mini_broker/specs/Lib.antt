@@ -1,0 +1,12 @@
+pub mod Rows
+pub mod Sweep
+pub mod Faults
+pub mod Ledger
+pub mod Slots
+pub mod Request
+pub mod Subject
+pub mod Renewing
+pub mod Step
+pub mod Found
+pub mod Stream
+pub mod Laws

@@ -1,0 +1,92 @@
+-- A request served over a stream: what is read, what the table then is, and what is written.
+-- Source: RFC 9112 (the message that is read and the reply that is written); which unreadable request gets a reply is this
+-- project's own.
+use Rattle.std.specs.Prelude.{◌≡◌, ℕ, ◌⊎◌, List, [], Option, IfSome, Result, Ok, Err}
+use Rattle.std.specs.Io.KnownBytes.{Appends}
+use Rattle.vault_http.specs.declared.http_fault.HttpFault.{HttpFault}
+use Rattle.vault_http.specs.declared.http_fault.HttpFault.TheVariants as https
+use Rattle.vault_http.specs.declared.request.Request.{Request}
+use Rattle.vault_http.specs.declared.writing.SendFault.{SendFault}
+use Rattle.vault_http.specs.declared.writing.SendFault.TheVariants as sends
+use Rattle.vault_http.specs.Failures.{one_more}
+use Rattle.vault_http.specs.Messages.{IsRequest}
+use Rattle.vault_http.specs.Reading.{Settles}
+use Rattle.vault_http.specs.Written.{reply_text}
+use Rattle.mini_broker.specs.declared.refusal.Refusal.TheVariants.{BadRequest}
+use Rattle.mini_broker.specs.declared.served.Served.{Served}
+use Rattle.mini_broker.specs.declared.served.Served.TheVariants as served
+use Rattle.mini_broker.specs.declared.stream.StreamFault.{StreamFault}
+use Rattle.mini_broker.specs.declared.stream.StreamFault.TheVariants as streams
+use Rattle.mini_broker.specs.declared.stream.TheConstants.{MOST_REQUEST}
+use Rattle.mini_broker.specs.Ledger.{Ledger}
+use Rattle.mini_broker.specs.Step.{Refuses, Says, after_sweep, step}
+
+-- the bytes that are sent
+abbrev pub sent_of : Served → List ℕ
+sent_of (served.Reply reply) = reply_text reply
+sent_of served.Dropped = []
+
+-- what is done with a message: a request is served; one that ends too soon gets no reply; every other that cannot be read
+-- is refused, and is not counted
+abbrev pub Handles : Ledger → ℕ → Result Request HttpFault → Ledger → Served → Type 0
+Handles l t (Ok r) after done = (Says t (step l t r).answer done) × (after ≡ (step l t r).ledger)
+Handles l t (Err https.Truncated) after done = (done ≡ served.Dropped) × (after ≡ l)
+Handles l t (Err https.ReadFailed) after done = ⊥
+Handles l t (Err https.OutOfMemory) after done = ⊥
+Handles l t (Err https.BadHead) after done = (Refuses BadRequest done) × (after ≡ l)
+Handles l t (Err https.BadLength) after done = (Refuses BadRequest done) × (after ≡ l)
+Handles l t (Err https.BadChunk) after done = (Refuses BadRequest done) × (after ≡ l)
+Handles l t (Err https.TooLong) after done = (Refuses BadRequest done) × (after ≡ l)
+Handles l t (Err https.TwoLengths) after done = (Refuses BadRequest done) × (after ≡ l)
+
+-- one message is read by its bytes, where the stream tells them, and it is handled
+pub record IsHandled (remaining : Option (List ℕ)) (reads_left : ℕ) (l : Ledger) (t : ℕ) (after : Ledger) : Type 0 where
+  pub message : Result Request HttpFault
+  pub left : ℕ
+  pub read : IfSome remaining (λ bytes. Settles (IsRequest MOST_REQUEST bytes) reads_left left message)
+  pub done : Served
+  pub handled : Handles l t message after done
+
+-- a stream before and after: its bytes to come, the reads that it needs at most, and what was written
+pub record Ends : Type 0 where
+  pub remaining : Option (List ℕ)
+  pub reads_left : ℕ
+  pub old : Option (List ℕ)
+  pub new : Option (List ℕ)
+
+-- one message is handled, and what is sent for it is appended
+pub record IsStreamed (ends : Ends) (l : Ledger) (t : ℕ) (after : Ledger) : Type 0 where
+  pub done : IsHandled ends.remaining ends.reads_left l t after
+  pub sent : Appends ends.old ends.new (sent_of done.done)
+
+-- what a fault leaves of the table: what it was where a read failed, and what handling the message has left where a write
+-- failed. Memory may be wanting before, while and after a request is served
+abbrev pub Leaves : Ends → Ledger → ℕ → StreamFault → Ledger → Type 0
+Leaves ends l t streams.ReadFailed after = after ≡ l
+Leaves ends l t streams.WriteFailed after = IsHandled ends.remaining ends.reads_left l t after
+Leaves ends l t streams.OutOfMemory after = (after ≡ l) ⊎ IsHandled ends.remaining ends.reads_left l t after ⊎ (after ≡ after_sweep l t)
+
+-- one failure more where a read or a write failed, and else none
+abbrev pub CountsStream : {X : Type 0} → Result X StreamFault → ℕ → ℕ → Type 0
+CountsStream (Ok x) before now = now ≡ before
+CountsStream (Err streams.ReadFailed) before now = now ≡ one_more before
+CountsStream (Err streams.WriteFailed) before now = now ≡ one_more before
+CountsStream (Err streams.OutOfMemory) before now = now ≡ before
+
+-- what handling a message comes to where it fails
+abbrev pub Fails : Ledger → ℕ → Result Request HttpFault → StreamFault → Ledger → Type 0
+Fails l t message streams.ReadFailed after = (message ≡ Err https.ReadFailed) × (after ≡ l)
+Fails l t message streams.WriteFailed after = ⊥
+Fails l t message streams.OutOfMemory after = (message ≡ Err https.ReadFailed → ⊥) × ((after ≡ l) ⊎ (after ≡ after_sweep l t))
+
+-- a fault of sending
+abbrev pub stream_fault : SendFault → StreamFault
+stream_fault sends.WriteFailed = streams.WriteFailed
+stream_fault sends.OutOfMemory = streams.OutOfMemory
+
+-- the count of failures over the sending alone
+abbrev pub CountsSending : {X : Type 0} → Result X StreamFault → ℕ → ℕ → Type 0
+CountsSending (Ok x) before now = now ≡ before
+CountsSending (Err streams.ReadFailed) before now = ⊥
+CountsSending (Err streams.WriteFailed) before now = now ≡ one_more before
+CountsSending (Err streams.OutOfMemory) before now = now ≡ before

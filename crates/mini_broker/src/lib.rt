@@ -1,0 +1,30 @@
+//! A small broker for tests and rehearsals: the tokens and leases of an inventory as rows, served by Vault's rules, with
+//! faults by number.
+//!
+//! The contract for the layers above: a [`Table`] is its rows, its faults and its count of renewal requests
+//! (`specs/Ledger.antt`), and each call is one part of the Broker step, whose definitions stand in `specs/`. Begin with
+//! `row`, then `table`.
+#![tactic(auto)]
+
+mod asked;
+mod body;
+mod call;
+mod fault;
+mod grant;
+pub mod laws;
+mod refusal;
+mod row;
+mod serve;
+mod served;
+mod slot;
+mod stream;
+mod subject;
+mod table;
+#[cfg(test)]
+mod tests;
+
+pub use fault::{Fault, NumberedFault, SetFault};
+pub use row::Row;
+pub use served::{ServeFault, Served};
+pub use stream::{MOST_REQUEST, StreamFault};
+pub use table::Table;

@@ -1,0 +1,30 @@
+use keep_moment::{Moment, Name, Span, Text};
+use keep_tree::Kind;
+
+/// A token or a lease, as a broker lists it. Moments are seconds since 1970-01-01T00:00:00Z, durations seconds.
+///
+/// Source: Vault, "Tokens"; Vault, "Lease, renew, and revoke".
+#[derive(Debug, Drop)]
+pub struct Row {
+    /// The name, which no other row has.
+    pub name: Name,
+    pub kind: Kind,
+    /// The name of the token that this one is a child of, or that the lease belongs to; `None` for an orphan.
+    pub parent: Option<Name>,
+    /// The moment at which it ends unless it is renewed.
+    pub end: u64,
+    /// Whether it can be renewed at all.
+    pub renewable: bool,
+    /// How long after a renewal it ends where a request asks for nothing else.
+    pub step: Span,
+    /// The moment past which no renewal leads, `None` where there is none.
+    pub ceiling: Option<u64>,
+    /// The moment of its issue.
+    pub issued: Moment,
+    /// The period of a periodic token, else 0.
+    pub period: Span,
+    /// The explicit max TTL, 0 where none is set.
+    pub explicit_max: Span,
+    /// A token's own value, or a lease's id.
+    pub credential: Text,
+}

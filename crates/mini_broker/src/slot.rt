@@ -1,0 +1,172 @@
+ghost use Rattle.std.specs.Prelude.{◌≡◌, ◌<◌, true, false, IfOk, IfSome, length, option_map, bytes_eq, slice_set, ◌&&◌};
+ghost use Rattle.std.specs.List.{position};
+ghost use Rattle.keep_tree.specs.Forest.{entry_at};
+ghost use Rattle.keep_tree.specs.Push.{lacks_parent};
+ghost use Rattle.mini_broker.specs.Rows.{row_of, row_named};
+ghost use Rattle.mini_broker.specs.Renewing.{with_row};
+ghost use Rattle.mini_broker.specs.Sweep.{swept};
+ghost use Rattle.mini_broker.specs.Slots.{AreSlots, listed_rows, slot_of, slots_of, slot_at, is_listed, stands, swept_slots};
+
+use crate::row::Row;
+use keep_inventory::Inventory;
+use keep_moment::{Moment, Name};
+use std::alloc::{AllocError, Global};
+
+/// A row in its place, which is that of its entry in the forest. A row that has ended stays where it is, and is listed no
+/// more: so no other row moves.
+#[derive(Debug, Drop)]
+pub struct Slot {
+    pub row: Row,
+    /// The place of the row over this one.
+    pub over: Option<u32>,
+    pub listed: bool,
+}
+
+/// The slots of an inventory, one for each of its entries.
+pub(crate) fn slots_of(alloc: Global, inventory: &Inventory) -> Result<Vec<Slot>, AllocError>
+    ensures slots { IfOk result (λ slots. slots.items ≡ slots_of inventory.now) }
+    ensures sound { IfOk result (λ slots. AreSlots slots.items) }
+{
+    let mut slots = Vec::new(alloc);
+    for index in 0..inventory.forest().len() {
+        slots.push(slot_of(alloc, inventory, index)?)?;
+    }
+    Ok(slots)
+}
+
+/// The slot of an entry.
+#[tactic(auto, unfolding(crate::specs::Rows::row_of, crate::specs::Slots::slot_of))]
+fn slot_of(alloc: Global, inventory: &Inventory, index: u32) -> Result<Slot, AllocError>
+    requires { index < length inventory.now.grove.entries }
+    ensures { IfOk result (λ slot. slot ≡ slot_of inventory.now index) }
+{
+    let entry = inventory.forest().get(index);
+    let terms = inventory.terms(index);
+    let row = Row {
+        name: Name::of(alloc, entry.name.list())?,
+        kind: entry.kind,
+        parent: parent_of(alloc, inventory, entry.parent)?,
+        end: entry.end,
+        renewable: entry.renewable,
+        step: entry.step,
+        ceiling: entry.ceiling,
+        issued: terms.issued,
+        period: terms.period,
+        explicit_max: terms.explicit_max,
+        credential: Name::of(alloc, inventory.credential(index))?,
+    };
+    Ok(Slot {
+        row,
+        over: entry.parent,
+        listed: true,
+    })
+}
+
+/// The name of a parent, if there is one.
+fn parent_of(
+    alloc: Global,
+    inventory: &Inventory,
+    parent: Option<u32>,
+) -> Result<Option<Name>, AllocError>
+    requires { lacks_parent inventory.now.grove.entries parent ≡ false }
+    ensures { IfOk result (λ name. name ≡ option_map (λ p. (entry_at inventory.now.grove.entries p).name) parent) }
+{
+    match parent {
+        None => Ok(None),
+        Some(index) => Ok(Some(Name::of(alloc, inventory.forest().get(index).name.list())?)),
+    }
+}
+
+/// Lists no more each row that has ended at `t`, and each that stands under such a row. It is one pass: a row stands
+/// behind the one over it.
+pub(crate) fn sweep(slots: &mut [Slot], t: Moment)
+    requires { AreSlots slots.old }
+    ensures swept { slots.new ≡ swept_slots t slots.old }
+    ensures rows { listed_rows slots.new ≡ swept t (listed_rows slots.old) }
+    ensures sound { AreSlots slots.new }
+{
+    for at in 0..slots.len() {
+        relist(slots, at, t);
+    }
+}
+
+/// Judges one slot, where those before it were judged.
+fn relist(slots: &mut [Slot], at: usize, t: Moment)
+    requires within { at < length slots.old }
+    requires over { IfSome (slot_at slots.old at).over (λ p. p < length slots.old) }
+    ensures { slots.new ≡ slice_set slots.old at (record (slot_at slots.old at) { listed = stands slots.old t (slot_at slots.old at) }) }
+{
+    let listed = stands(slots, at, t);
+    slots[at].listed = listed;
+}
+
+/// Whether a slot stays listed, where those before it were judged.
+#[tactic(auto, unfolding(crate::specs::Slots::stands))]
+fn stands(slots: &[Slot], at: usize, t: Moment) -> bool
+    requires within { at < length slots.now }
+    requires over { IfSome (slot_at slots.now at).over (λ p. p < length slots.now) }
+    ensures { result ≡ stands slots.now t (slot_at slots.now at) }
+{
+    let slot = slot_in(slots, at);
+    slot.listed & (t.get() < slot.row.end) & is_listed(slots, slot.over)
+}
+
+/// Whether the slot over another is listed, where there is one.
+fn is_listed(slots: &[Slot], over: Option<u32>) -> bool
+    requires { IfSome over (λ p. p < length slots.now) }
+    ensures { result ≡ is_listed slots.now over }
+{
+    match over {
+        None => true,
+        Some(place) => slot_in(slots, place as usize).listed,
+    }
+}
+
+/// The slot in that place.
+pub(crate) fn slot_in(slots: &[Slot], place: usize) -> &Slot
+    requires { place < length slots.now }
+    ensures { result.now ≡ slot_at slots.now place }
+{
+    &slots[place]
+}
+
+/// The place of the listed row of that name.
+pub(crate) fn place_named(slots: &[Slot], name: &[u8]) -> Option<usize>
+    ensures row { option_map (λ i. (slot_at slots.now i).row) result ≡ row_named (listed_rows slots.now) name.now }
+    ensures within { IfSome result (λ i. (i < length slots.now) × ((slot_at slots.now i).listed ≡ true)) }
+{
+    first_named(slots, name)
+}
+
+fn first_named(slots: &[Slot], name: &[u8]) -> Option<usize>
+    ensures { result ≡ position (λ s. s.listed && bytes_eq s.row.name name.now) slots.now }
+{
+    slots
+        .iter()
+        .position(|slot| slot.listed && slot.row.name.list() == name)
+}
+
+/// The end of the listed row of that name.
+pub(crate) fn end_named(slots: &[Slot], name: &[u8]) -> Option<u64>
+    ensures { result ≡ option_map (λ r. r.end) (row_named (listed_rows slots.now) name.now) }
+{
+    let place = place_named(slots, name)?;
+    Some(slot_in(slots, place).row.end)
+}
+
+/// Gives the row in that place another end.
+pub(crate) fn set_end(slots: &mut [Slot], place: usize, end: u64)
+    requires sound { AreSlots slots.old }
+    requires within { place < length slots.old }
+    ensures rows { listed_rows slots.new ≡ with_row (listed_rows slots.old) (record (slot_at slots.old place).row { end = end }) }
+    ensures sound { AreSlots slots.new }
+{
+    write_end(slots, place, end);
+}
+
+fn write_end(slots: &mut [Slot], place: usize, end: u64)
+    requires { place < length slots.old }
+    ensures { slots.new ≡ slice_set slots.old place (record (slot_at slots.old place) { row = record (slot_at slots.old place).row { end = end } }) }
+{
+    slots[place].row.end = end;
+}

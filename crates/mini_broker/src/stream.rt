@@ -1,0 +1,71 @@
+ghost use Rattle.std.specs.Prelude.{◌≡◌, OnOk};
+ghost use Rattle.std.specs.Io.KnownBytes.{Appends};
+ghost use Rattle.mini_broker.specs.Stream.{CountsSending, sent_of, stream_fault};
+ghost use Rattle.mini_broker.specs.declared.stream.StreamFault.TheVariants as streams;
+
+use crate::served::{ServeFault, Served};
+use std::alloc::{AllocError, Global};
+use thiserror::Error;
+use vault_http::{SendFault, Sink, write_reply};
+
+/// The most bytes of a request, its head included.
+pub const MOST_REQUEST: usize = 1048576;
+
+/// Why a request was not read, served and answered.
+#[derive(Clone, Copy, Debug, PartialEq, Eq, Error)]
+pub enum StreamFault {
+    /// A read failed, and the device has counted it.
+    #[error("a read failed")]
+    ReadFailed,
+    /// A write failed, and the device has counted it.
+    #[error("a write failed")]
+    WriteFailed,
+    /// Memory ran out.
+    #[error("out of memory")]
+    OutOfMemory,
+}
+
+impl From<AllocError> for StreamFault {
+    ghost from_gives = { λ _ e. e ≡ streams.OutOfMemory };
+
+    fn from(_e: AllocError) -> StreamFault {
+        StreamFault::OutOfMemory
+    }
+}
+
+impl From<ServeFault> for StreamFault {
+    ghost from_gives = { λ _ e. e ≡ streams.OutOfMemory };
+
+    fn from(_fault: ServeFault) -> StreamFault {
+        StreamFault::OutOfMemory
+    }
+}
+
+impl From<SendFault> for StreamFault {
+    ghost from_gives = { λ f e. e ≡ stream_fault f };
+
+    fn from(fault: SendFault) -> StreamFault {
+        match fault {
+            SendFault::WriteFailed => StreamFault::WriteFailed,
+            SendFault::OutOfMemory => StreamFault::OutOfMemory,
+        }
+    }
+}
+
+/// Sends a reply, if there is one.
+pub(crate) fn send<S: Sink>(
+    alloc: Global,
+    stream: &mut S,
+    served: &Served,
+) -> Result<(), StreamFault>
+    ensures written { OnOk result (Appends (S.written stream.old) (S.written stream.new) (sent_of served.now)) }
+    ensures count { CountsSending result (S.failed_calls stream.old) (S.failed_calls stream.new) }
+{
+    match served {
+        Served::Reply(reply) => {
+            write_reply(alloc, stream, reply)?;
+            Ok(())
+        }
+        Served::Dropped => Ok(()),
+    }
+}

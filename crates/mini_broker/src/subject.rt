@@ -1,0 +1,141 @@
+ghost use Rattle.std.specs.Prelude.{◌≡◌, ◌<◌, ◌&&◌, true, IfOk, IfSome, length, option_map, option_copied};
+ghost use Rattle.std.specs.List.{position};
+ghost use Rattle.mini_broker.specs.Found.{subject_at, IsFoundWithin, SubjectNamesText};
+ghost use Rattle.mini_broker.specs.Slots.{listed_rows, slot_at};
+ghost use Rattle.mini_broker.specs.Subject.{bearer, belongs, is_lease_with, is_token_with, lease_with, named, subject, token_with};
+
+use crate::asked::{Asked, read_asked};
+use crate::call::Call;
+use crate::refusal::Refusal;
+use crate::row::Row;
+use crate::slot::{Slot, slot_in};
+use keep_moment::{Name, Span, Text};
+use keep_tree::Kind;
+use std::alloc::{AllocError, Global};
+use vault_http::Request;
+
+/// The slot of the row that a request speaks of, and the increment that it asks for.
+#[derive(Clone, Copy, Debug)]
+pub struct Found {
+    pub place: usize,
+    pub increment: Option<Span>,
+}
+
+/// Of which row a request speaks, or why it is refused. The only error is want of memory.
+#[tactic(auto, unfolding(crate::specs::Subject::subject))]
+pub(crate) fn subject(
+    alloc: Global,
+    slots: &[Slot],
+    call: Call,
+    request: &Request,
+) -> Result<Result<Found, Refusal>, AllocError>
+    ensures found { IfOk result (λ found. subject_at slots.now found ≡ subject (listed_rows slots.now) call request.now) }
+    ensures within { IfOk result (λ found. IsFoundWithin slots.now found) }
+{
+    let Some(token) = bearer(slots, &request.token) else {
+        return Ok(Err(Refusal::PermissionDenied));
+    };
+    let Some(asked) = read_asked(alloc, call, request.body.list())? else {
+        return Ok(Err(Refusal::BadRequest));
+    };
+    Ok(named(slots, token, &asked))
+}
+
+/// The place of the token row that a request's token names.
+fn bearer(slots: &[Slot], credential: &Option<Text>) -> Option<usize>
+    ensures row { option_map (λ i. (slot_at slots.now i).row) result ≡ bearer (listed_rows slots.now) credential.now }
+    ensures within { IfSome result (λ i. (i < length slots.now) × ((slot_at slots.now i).listed ≡ true)) }
+{
+    match credential {
+        None => None,
+        Some(credential) => place_of_token(slots, credential.list()),
+    }
+}
+
+/// The place of the row that a body asks about: the token's own, or that of the lease that it names.
+fn named(slots: &[Slot], token: usize, asked: &Asked) -> Result<Found, Refusal>
+    requires { token < length slots.now }
+    ensures found { subject_at slots.now result ≡ named (listed_rows slots.now) (slot_at slots.now token).row asked.now.increment asked.now.lease_id }
+    ensures within { IsFoundWithin slots.now result }
+{
+    let increment = asked.increment;
+    match &asked.lease_id {
+        None => Ok(Found {
+            place: token,
+            increment,
+        }),
+        Some(id) => match place_of_lease(slots, id.list()) {
+            None => Err(Refusal::UnknownLease),
+            Some(place) => {
+                let lease = slot_in(slots, place);
+                if belongs(&lease.row.parent, slot_in(slots, token).row.name.list()) {
+                    Ok(Found { place, increment })
+                } else {
+                    Err(Refusal::PermissionDenied)
+                }
+            }
+        },
+    }
+}
+
+/// Whether a row with that parent belongs to the token of that name.
+fn belongs(parent: &Option<Name>, name: &[u8]) -> bool
+    ensures { result ≡ belongs parent.now name.now }
+{
+    match parent {
+        None => false,
+        Some(parent) => parent.list() == name,
+    }
+}
+
+/// The place of the listed token row with that credential.
+pub(crate) fn place_of_token(slots: &[Slot], credential: &[u8]) -> Option<usize>
+    ensures row { option_map (λ i. (slot_at slots.now i).row) result ≡ token_with (listed_rows slots.now) credential.now }
+    ensures within { IfSome result (λ i. (i < length slots.now) × ((slot_at slots.now i).listed ≡ true)) }
+{
+    first_token(slots, credential)
+}
+
+fn first_token(slots: &[Slot], credential: &[u8]) -> Option<usize>
+    ensures { result ≡ position (λ s. s.listed && is_token_with credential.now s.row) slots.now }
+{
+    slots
+        .iter()
+        .position(|slot| slot.listed && is_token_with(&slot.row, credential))
+}
+
+/// The place of the listed lease row with that id.
+pub(crate) fn place_of_lease(slots: &[Slot], id: &[u8]) -> Option<usize>
+    ensures row { option_map (λ i. (slot_at slots.now i).row) result ≡ lease_with (listed_rows slots.now) id.now }
+    ensures within { IfSome result (λ i. (i < length slots.now) × ((slot_at slots.now i).listed ≡ true)) }
+{
+    first_lease(slots, id)
+}
+
+fn first_lease(slots: &[Slot], id: &[u8]) -> Option<usize>
+    ensures { result ≡ position (λ s. s.listed && is_lease_with id.now s.row) slots.now }
+{
+    slots
+        .iter()
+        .position(|slot| slot.listed && is_lease_with(&slot.row, id))
+}
+
+#[tactic(auto, unfolding(crate::specs::Subject::is_token_with))]
+fn is_token_with(row: &Row, credential: &[u8]) -> bool
+    ensures { result ≡ is_token_with credential.now row.now }
+{
+    match row.kind {
+        Kind::Token => row.credential.list() == credential,
+        Kind::Lease => false,
+    }
+}
+
+#[tactic(auto, unfolding(crate::specs::Subject::is_lease_with))]
+fn is_lease_with(row: &Row, id: &[u8]) -> bool
+    ensures { result ≡ is_lease_with id.now row.now }
+{
+    match row.kind {
+        Kind::Token => false,
+        Kind::Lease => row.credential.list() == id,
+    }
+}

@@ -1,0 +1,156 @@
+ghost use Rattle.std.specs.Prelude.{◌≡◌, ◌++◌, ◌∷◌, [], None, Err, IfErr, IfOk, IfSome, OnErr, OnOk, IsOkUnless, is_some, option_map};
+ghost use Rattle.mini_broker.specs.Rows.{rows_of, row_named};
+ghost use Rattle.mini_broker.specs.Sweep.{swept};
+ghost use Rattle.mini_broker.specs.Faults.{fault_refusal};
+ghost use Rattle.mini_broker.specs.Step.{Says, after_sweep, step};
+ghost use Rattle.mini_broker.specs.Stream.{CountsStream, Fails, Handles, IsStreamed, Leaves};
+
+use crate::fault::{Fault, NumberedFault, SetFault, fault_refusal};
+use crate::refusal::Refusal;
+use crate::serve::{answer, refuse};
+use crate::served::{ServeFault, Served};
+use crate::slot::{Slot, end_named, place_named, slots_of, sweep};
+use crate::stream::{MOST_REQUEST, StreamFault, send};
+use keep_inventory::Inventory;
+use keep_moment::Moment;
+use std::alloc::{AllocError, Global};
+use std::marker::Model;
+use vault_http::{HttpFault, Request, Sink, Source, read_request};
+
+/// The tokens and leases of a broker, with the faults to come and the count of renewal requests.
+///
+/// To contracts it is the record of its rows, its faults and its count.
+#[derive(Debug, Drop)]
+pub struct Table {
+    slots: Vec<Slot>,
+    faults: Vec<NumberedFault>,
+    count: u64,
+}
+
+impl Model for Table {
+    ghost use Rattle.mini_broker.specs.Ledger.{Ledger};
+    ghost use Rattle.mini_broker.specs.Slots.{AreSlots, listed_rows};
+
+    ghost Value = { Ledger };
+
+    ghost view = { λ t. record { rows = listed_rows t.slots.items; faults = t.faults.items; count = t.count } };
+
+    ghost invariant = { λ t. AreSlots t.slots.items };
+}
+
+impl Table {
+    /// The rows of an inventory, with no faults and no request counted. The only error is want of memory.
+    pub fn load(alloc: Global, inventory: &Inventory) -> Result<Table, AllocError>
+        ensures { IfOk result (λ table. table ≡ record { rows = rows_of inventory.now; faults = []; count = 0 }) }
+    {
+        Ok(Table {
+            slots: slots_of(alloc, inventory)?,
+            faults: Vec::new(alloc),
+            count: 0,
+        })
+    }
+
+    /// Deletes each row that has ended at `t`, with all under it. It takes no memory.
+    pub fn sweep(&mut self, t: Moment)
+        ensures { self.new ≡ record self.old { rows = swept t self.old.rows } }
+    {
+        sweep(&mut self.slots, t);
+    }
+
+    /// Whether a row of that name is listed.
+    pub fn alive(&self, name: &[u8]) -> bool
+        ensures { result ≡ is_some (row_named self.now.rows name.now) }
+    {
+        place_named(&self.slots, name).is_some()
+    }
+
+    /// The end of the row of that name, `None` where none is listed.
+    pub fn end_of(&self, name: &[u8]) -> Option<u64>
+        ensures { result ≡ option_map (λ r. r.end) (row_named self.now.rows name.now) }
+    {
+        end_named(&self.slots, name)
+    }
+
+    /// Gives the renewal request with that number, counted from 1, a fault, which is used once.
+    ///
+    /// `BadNumber`: the number is 0, or that of a request counted already. `Twice`: it has a fault.
+    pub fn set_fault(&mut self, number: u64, fault: Fault) -> Result<(), SetFault>
+        ensures taken { OnOk result (self.new ≡ record self.old { faults = self.old.faults ++ record { number = number; fault = fault } ∷ [] }) }
+        ensures refused { IfSome (fault_refusal self.old.faults self.old.count number) (λ fault. result ≡ Err fault) }
+        ensures memory { fault_refusal self.old.faults self.old.count number ≡ None → IsOkUnless result SetFault.OutOfMemory }
+        ensures unchanged { OnErr result (self.new ≡ self.old) }
+    {
+        if let Some(fault) = fault_refusal(&self.faults, self.count, number) {
+            return Err(fault);
+        }
+        self.faults.push(NumberedFault { number, fault })?;
+        Ok(())
+    }
+
+    /// Serves a request at `t`: sweeps, then takes the first case of the Broker step that applies. A renewal request is
+    /// counted, and its fault is used.
+    ///
+    /// `OutOfMemory`, the only error: the table is as after `sweep`, and the request is not counted.
+    #[tactic(auto, unfolding(crate::specs::Step::step))]
+    pub fn serve(&mut self, t: Moment, request: &Request) -> Result<Served, ServeFault>
+        ensures says { IfOk result (λ served. Says t (step self.old t request.now).answer served) }
+        ensures after { OnOk result (self.new ≡ (step self.old t request.now).ledger) }
+        ensures unserved { OnErr result (self.new ≡ after_sweep self.old t) }
+    {
+        self.sweep(t);
+        let alloc = *self.slots.allocator();
+        let served = answer(
+            alloc,
+            &mut self.slots,
+            &mut self.faults,
+            &mut self.count,
+            t,
+            request,
+        )?;
+        Ok(served)
+    }
+
+    /// Reads one request of at most 1 MiB, serves it at `t`, and writes the reply, if there is one. A request that cannot
+    /// be read is refused with status 400, and is not counted; one that ends too soon gets no reply.
+    ///
+    /// `ReadFailed`: a read failed, and the table is as it was. `WriteFailed`: a write failed; the table is as serving the
+    /// request has left it. `OutOfMemory`: the table is as it was, or as serving has left it.
+    pub fn serve_stream<S: Source + Sink>(
+        &mut self,
+        t: Moment,
+        stream: &mut S,
+    ) -> Result<(), StreamFault>
+        ensures streamed { OnOk result (IsStreamed (record { remaining = S.remaining stream.old; reads_left = S.reads_left stream.old; old = S.written stream.old; new = S.written stream.new }) self.old t self.new) }
+        ensures left { IfErr result (λ fault. Leaves (record { remaining = S.remaining stream.old; reads_left = S.reads_left stream.old; old = S.written stream.old; new = S.written stream.new }) self.old t fault self.new) }
+        ensures count { CountsStream result (S.failed_calls stream.old) (S.failed_calls stream.new) }
+    {
+        let alloc = *self.slots.allocator();
+        let message = read_request(alloc, stream, MOST_REQUEST);
+        let served = self.handle(t, message)?;
+        send(alloc, stream, &served)
+    }
+
+    /// Serves a request that was read, and refuses one that was not.
+    fn handle(
+        &mut self,
+        t: Moment,
+        message: Result<Request, HttpFault>,
+    ) -> Result<Served, StreamFault>
+        ensures handled { IfOk result (λ served. Handles self.old t message self.new served) }
+        ensures failed { IfErr result (λ fault. Fails self.old t message fault self.new) }
+    {
+        match message {
+            Ok(request) => Ok(self.serve(t, &request)?),
+            Err(HttpFault::Truncated) => Ok(Served::Dropped),
+            Err(HttpFault::ReadFailed) => Err(StreamFault::ReadFailed),
+            Err(HttpFault::OutOfMemory) => Err(StreamFault::OutOfMemory),
+            Err(
+                HttpFault::BadHead
+                | HttpFault::BadLength
+                | HttpFault::BadChunk
+                | HttpFault::TooLong
+                | HttpFault::TwoLengths,
+            ) => Ok(refuse(*self.slots.allocator(), Refusal::BadRequest)?),
+        }
+    }
+}
