@@ -11,3 +11,7 @@ pub mod RequestLemmas
 pub mod DecimalLemmas
 pub mod ReplyRoundTrip
 pub mod RequestRoundTrip
+pub mod EmptyLines
+pub mod WholeChunks
+pub mod Waiting
+pub mod WaitingMessages

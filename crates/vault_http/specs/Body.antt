@@ -1,5 +1,5 @@
 -- A body behind its head, where only so many bytes may be read (RFC 9112, section 6.3).
-use Rattle.std.specs.Prelude.{◌≡◌, ℕ, List, [], length, take, nat_lt, if◌then◌else◌, Result, Ok, Err}
+use Rattle.std.specs.Prelude.{◌≡◌, ℕ, ◌+◌, ◌≤◌, List, [], length, take, nat_lt, if◌then◌else◌, Result, Ok, Err}
 use Rattle.vault_http.specs.declared.body.BodyFault.{BodyFault}
 use Rattle.vault_http.specs.declared.body.BodyFault.TheVariants.{TooLong, Truncated}
 use Rattle.vault_http.specs.declared.framing.Framing.{Framing}
@@ -27,3 +27,10 @@ IsCutOff Empty room rest = ⊥
 IsCutOff (Counted n) room rest = counted_body n room rest ≡ Err Truncated
 IsCutOff Chunked room rest = IsChunked room rest (Err Truncated)
 IsCutOff ToEnd room rest = Unit {0}
+
+-- the body lacks so many bytes at least, where its head says how many it has
+abbrev pub IsWanting : Framing → List ℕ → ℕ → Type 0
+IsWanting Empty rest wanted = Unit {0}
+IsWanting (Counted n) rest wanted = length rest + wanted ≤ n
+IsWanting Chunked rest wanted = Unit {0}
+IsWanting ToEnd rest wanted = Unit {0}

@@ -14,6 +14,7 @@ pub mod Heads
 pub mod Messages
 pub mod Verdicts
 pub mod Steps
+pub mod Holding
 pub mod Judging
 pub mod Starts
 pub mod Reading

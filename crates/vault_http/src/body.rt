@@ -1,8 +1,8 @@
 ghost use Rattle.std.specs.Prelude.{◌≡◌, ℕ, ◌+◌, ◌<◌, ◌≤◌, ◌⊎◌, List, [], ◌++◌, length, IsTrue, Ok, Err};
 ghost use Rattle.vault_http.specs.declared.body.BodyFault.TheVariants.{Truncated, OutOfMemory};
-ghost use Rattle.vault_http.specs.Body.{IsBody, IsCutOff, counted_body, open_body};
+ghost use Rattle.vault_http.specs.Body.{IsBody, IsCutOff, IsWanting, counted_body, open_body};
 ghost use Rattle.vault_http.specs.Messages.{UnlessBodyMemory};
-ghost use Rattle.vault_http.specs.Verdicts.{IsDone, IfDone, IfMore};
+ghost use Rattle.vault_http.specs.Verdicts.{IsDone, IfDone, IfMore, IfWants};
 
 use crate::chunk::judge_chunks;
 use crate::framing::Framing;
@@ -40,6 +40,7 @@ pub(crate) fn judge_body(
         → UnlessBodyMemory a (IsBody framing room (rest.now ++ more) a)) }
     ensures decides { (IsTrue ended ⊎ (room < length rest.now)) → IsDone result }
     ensures waits { IfMore result (IsCutOff framing room rest.now) }
+    ensures wants { IfWants result (λ wanted. IsWanting framing rest.now wanted) }
 {
     match framing {
         Framing::Empty => Verdict::Done(copied(alloc, &rest[..0])),
@@ -61,6 +62,7 @@ fn judge_counted(
         → UnlessBodyMemory a (a ≡ counted_body n room (rest.now ++ more))) }
     ensures decides { (IsTrue ended ⊎ (room < length rest.now)) → IsDone result }
     ensures waits { IfMore result (counted_body n room rest.now ≡ Err Truncated) }
+    ensures wants { IfWants result (λ wanted. length rest.now + wanted ≤ n) }
 {
     if n > room as u64 {
         return Verdict::Done(Err(BodyFault::TooLong));

@@ -1,8 +1,9 @@
 ghost use Rattle.std.specs.Prelude.{◌≡◌, ℕ, ◌+◌, ◌-◌, ◌<◌, ◌≤◌, ◌⊎◌, List, [], ◌++◌, length, take, IsTrue};
 ghost use Rattle.vault_http.specs.Heads.{FoundReply};
-ghost use Rattle.vault_http.specs.Judging.{IsUnread};
+ghost use Rattle.vault_http.specs.Holding.{Lacks};
+ghost use Rattle.vault_http.specs.Judging.{IsUnread, IsWaiting};
 ghost use Rattle.vault_http.specs.Messages.{IsBehind, is_informational, IsReply, UnlessMemory};
-ghost use Rattle.vault_http.specs.Verdicts.{IsDone, IfDone};
+ghost use Rattle.vault_http.specs.Verdicts.{IsDone, IfDone, IfWants};
 
 use crate::body::judge_body;
 use crate::framing::{Framing, LengthFault};
@@ -13,7 +14,8 @@ use crate::{HttpFault, Reply};
 use std::alloc::Global;
 
 /// Judges the bytes of a reply that were read so far, of which `max` may be read; `ended` says that the input ends behind
-/// them. An answer stands whatever follows.
+/// them. An answer stands whatever
+/// follows; where there is none yet, the bytes hold no message.
 pub(crate) fn judge_reply(
     alloc: Global,
     bytes: &[u8],
@@ -23,6 +25,7 @@ pub(crate) fn judge_reply(
     ensures answer { IfDone result (λ a. (more : List ℕ) → (IsTrue ended → more ≡ [])
         → UnlessMemory a (IsReply max (bytes.now ++ more) a)) }
     ensures decides { (IsTrue ended ⊎ (max < length bytes.now)) → IsDone result }
+    ensures waits { IfWants result (λ wanted. Lacks (IsReply max) bytes.now (length bytes.now + wanted)) }
 {
     match reply_head(front_of(bytes, max)) {
         ReplyHead::Open => match unread(bytes.len(), max, ended) {
@@ -52,6 +55,7 @@ fn found_reply(
     ensures answer { IfDone result (λ a. (more : List ℕ) → (IsTrue ended → more ≡ [])
         → UnlessMemory a (IsReply max (bytes.now ++ more) a)) }
     ensures decides { (IsTrue ended ⊎ (max < length bytes.now)) → IsDone result }
+    ensures waits { IfWants result (λ wanted. Lacks (IsReply max) bytes.now (length bytes.now + wanted)) }
 {
     reply_behind(alloc, &bytes[len..], max - len, status, framing, ended)
 }
@@ -68,6 +72,7 @@ fn reply_behind(
     ensures answer { IfDone result (λ a. (more : List ℕ) → (IsTrue ended → more ≡ [])
         → UnlessMemory a (IsBehind (is_informational status) status framing room (rest.now ++ more) a)) }
     ensures decides { (IsTrue ended ⊎ (room < length rest.now)) → IsDone result }
+    ensures waits { IfWants result (λ wanted. IsWaiting framing room rest.now wanted) }
 {
     if status >= 100 && status < 200 {
         return Verdict::Done(Err(HttpFault::BadHead));

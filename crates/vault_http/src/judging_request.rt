@@ -1,9 +1,11 @@
 ghost use Rattle.std.specs.Prelude.{◌≡◌, ℕ, ◌+◌, ◌-◌, ◌<◌, ◌≤◌, ◌⊎◌, List, [], ◌++◌, length, take, IsTrue, Ok, option_map};
 ghost use Rattle.httparse.specs.Spans.{IsWithin, span_bytes};
 ghost use Rattle.vault_http.specs.Heads.{IsAt, FoundRequest};
+ghost use Rattle.vault_http.specs.Holding.{Lacks};
+ghost use Rattle.vault_http.specs.Judging.{IsWaiting};
 ghost use Rattle.vault_http.specs.Messages.{IsFramed, IsRequest, UnlessMemory, request_of};
 ghost use Rattle.vault_http.specs.Starts.{IsStart, request_at};
-ghost use Rattle.vault_http.specs.Verdicts.{IsDone, IfDone};
+ghost use Rattle.vault_http.specs.Verdicts.{IsDone, IfDone, IfWants};
 
 use crate::body::judge_body;
 use crate::framing::{Framing, LengthFault};
@@ -18,7 +20,8 @@ use keep_moment::Text;
 use std::alloc::Global;
 
 /// Judges the bytes of a request that were read so far, of which `max` may be read; `ended` says that the input ends
-/// behind them. An answer stands whatever follows.
+/// behind them. An answer stands whatever
+/// follows; where there is none yet, the bytes hold no message.
 pub(crate) fn judge_request(
     alloc: Global,
     bytes: &[u8],
@@ -28,6 +31,7 @@ pub(crate) fn judge_request(
     ensures answer { IfDone result (λ a. (more : List ℕ) → (IsTrue ended → more ≡ [])
         → UnlessMemory a (IsRequest max (bytes.now ++ more) a)) }
     ensures decides { (IsTrue ended ⊎ (max < length bytes.now)) → IsDone result }
+    ensures waits { IfWants result (λ wanted. Lacks (IsRequest max) bytes.now (length bytes.now + wanted)) }
 {
     match request_head(front_of(bytes, max)) {
         RequestFront::Open => match unread(bytes.len(), max, ended) {
@@ -57,6 +61,7 @@ fn found_request(
     ensures answer { IfDone result (λ a. (more : List ℕ) → (IsTrue ended → more ≡ [])
         → UnlessMemory a (IsRequest max (bytes.now ++ more) a)) }
     ensures decides { (IsTrue ended ⊎ (max < length bytes.now)) → IsDone result }
+    ensures waits { IfWants result (λ wanted. Lacks (IsRequest max) bytes.now (length bytes.now + wanted)) }
 {
     request_behind(
         alloc,
@@ -83,6 +88,7 @@ fn request_behind(
     ensures answer { IfDone result (λ a. (more : List ℕ) → (IsTrue ended → more ≡ [])
         → UnlessMemory a (IsFramed (request_at front.now start) framing room (rest.now ++ more) a)) }
     ensures decides { (IsTrue ended ⊎ (room < length rest.now)) → IsDone result }
+    ensures waits { IfWants result (λ wanted. IsWaiting framing room rest.now wanted) }
 {
     match framing {
         Err(fault) => Verdict::Done(Err(fault.into())),

@@ -1,4 +1,4 @@
-ghost use Rattle.std.specs.Prelude.{◌≡◌, ℕ, ◌+◌, ◌-◌, ◌<◌, ◌≤◌, List, Option, false, IsTrue, length, take, IfOk, IfSome, vec_len};
+ghost use Rattle.std.specs.Prelude.{◌≡◌, ℕ, ◌+◌, ◌-◌, ◌<◌, ◌≤◌, List, ◌++◌, Option, false, IsTrue, length, take, IfOk, IfSome, IsErrOf, vec_len};
 ghost use Rattle.std.specs.Io.KnownBytes.{Keeps, Consumes, IsAtEnd};
 ghost use Rattle.vault_http.specs.declared.one_read.MoreFault.TheVariants as more;
 ghost use Rattle.vault_http.specs.Failures.{CountsMore};
@@ -60,6 +60,8 @@ pub(crate) fn read_more<R: Source>(
     ensures given { (whole : Option (List ℕ)) → Consumes whole (R.remaining source.old) bytes.old.items
         → IfOk result (λ _. Consumes whole (R.remaining source.new) bytes.new.items) }
     ensures few { IfOk result (λ _. vec_len bytes.new ≤ max + 1) }
+    ensures grown { IfOk result (λ _. (piece : List ℕ) × (bytes.new.items ≡ bytes.old.items ++ piece)) }
+    ensures kept { IsErrOf result more.ReadFailed → Keeps (R.remaining source.old) (R.remaining source.new) }
     ensures end { IfOk result (λ some. some ≡ false
         → IsAtEnd (R.remaining source.new) × (bytes.new.items ≡ bytes.old.items) × (vec_len bytes.new ≡ vec_len bytes.old)) }
     ensures pace { IfSome (R.remaining source.old) (λ _. IfOk result (λ some. IsTrue some → vec_len bytes.new ≤ max

@@ -1,8 +1,10 @@
-ghost use Rattle.std.specs.Prelude.{◌≡◌, ℕ, ◌<◌, ◌⊎◌, List, [], ◌++◌, length, IfSome, IsTrue};
+ghost use Rattle.std.specs.Prelude.{◌≡◌, ℕ, ◌+◌, ◌<◌, ◌⊎◌, List, [], ◌++◌, length, IfSome, IsTrue, false, IsErrOf};
 ghost use Rattle.std.specs.Io.KnownBytes.{Keeps};
+ghost use Rattle.vault_http.specs.Holding.{HandedNone, HasLineBehind, Lacks};
+ghost use Rattle.vault_http.specs.declared.http_fault.HttpFault.TheVariants as faults;
 ghost use Rattle.vault_http.specs.Messages.{IsReply, UnlessMemory};
 ghost use Rattle.vault_http.specs.Reading.{Settles, CountsMessage};
-ghost use Rattle.vault_http.specs.Verdicts.{IsDone, IfDone};
+ghost use Rattle.vault_http.specs.Verdicts.{IsDone, IfDone, IfWants};
 
 use crate::judging::judge_reply;
 use crate::one_read::{MOST_READS, MOST_ROOM, read_more, zeros};
@@ -22,6 +24,9 @@ pub fn read_reply<R: Source>(alloc: Global, reader: &mut R, max: usize) -> Resul
         Settles (IsReply max bytes) (R.reads_left reader.old) (R.reads_left reader.new) result) }
     ensures written { Keeps (R.written reader.old) (R.written reader.new) }
     ensures count { CountsMessage result (R.failed_calls reader.old) (R.failed_calls reader.new) }
+
+    // Any read may be the one that fails, so none is made once the bytes hold the message: it is never waited for.
+    ensures prompt { IsErrOf result faults.ReadFailed → HandedNone (IsReply max) (R.remaining reader.old) (R.remaining reader.new) }
 {
     let mut room = zeros(alloc, MOST_ROOM)?;
     let mut bytes = Vec::new(alloc);
@@ -42,6 +47,7 @@ fn reply_from<R: Source>(
         Settles (IsReply max whole) (R.reads_left reader.old) (R.reads_left reader.new) result) }
     ensures written { Keeps (R.written reader.old) (R.written reader.new) }
     ensures count { CountsMessage result (R.failed_calls reader.old) (R.failed_calls reader.new) }
+    ensures prompt { IsErrOf result faults.ReadFailed → HandedNone (IsReply max) (R.remaining reader.old) (R.remaining reader.new) }
 {
     let mut due = 0;
     for _ in 0..MOST_READS {
@@ -67,6 +73,8 @@ fn reply_when_due(
     ensures answer { IfDone result (λ a. (more : List ℕ) → (IsTrue ended → more ≡ [])
         → UnlessMemory a (IsReply max (bytes.now ++ more) a)) }
     ensures decides { (IsTrue ended ⊎ (max < length bytes.now)) → IsDone result }
+    ensures waits { (was : List ℕ) (piece : List ℕ) → bytes.now ≡ was ++ piece → length was ≡ before → Lacks (IsReply max) was due
+        → IfWants result (λ wanted. Lacks (IsReply max) bytes.now (length bytes.now + wanted)) }
 {
     if !ended && bytes.len() <= max && !is_due(bytes, before, due) {
         return Verdict::More(due.saturating_sub(bytes.len()));
@@ -76,13 +84,19 @@ fn reply_when_due(
 
 /// Whether it can be of use to judge the bytes again: as many have come as were waited for, or an empty line among those
 /// behind `before`, which may end a head or a body in chunks.
-pub(crate) fn is_due(bytes: &[u8], before: usize, due: usize) -> bool {
-    if bytes.len() >= due {
-        return true;
-    }
-    let from = before.saturating_sub(2).min(bytes.len());
+#[tactic(auto, using(crate::proofs::EmptyLines::line_after))]
+pub(crate) fn is_due(bytes: &[u8], before: usize, due: usize) -> bool
+    ensures { result ≡ false → (length bytes.now < due) × (HasLineBehind before bytes.now → ⊥) }
+{
+    bytes.len() >= due || has_empty_line(&bytes[before.saturating_sub(2).min(bytes.len())..])
+}
+
+/// Whether a line end follows a line feed somewhere. (A carriage return between the two is not looked at.)
+fn has_empty_line(bytes: &[u8]) -> bool
+    ensures { result ≡ false → HasLineBehind 0 bytes.now → ⊥ }
+{
     let mut last = 0;
-    for byte in &bytes[from..] {
+    for byte in bytes {
         if *byte == b'\n' && last == b'\n' {
             return true;
         }

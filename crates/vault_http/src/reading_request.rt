@@ -1,8 +1,10 @@
-ghost use Rattle.std.specs.Prelude.{◌≡◌, ℕ, ◌<◌, ◌⊎◌, List, [], ◌++◌, length, IfSome, IsTrue};
+ghost use Rattle.std.specs.Prelude.{◌≡◌, ℕ, ◌+◌, ◌<◌, ◌⊎◌, List, [], ◌++◌, length, IfSome, IsTrue, IsErrOf};
 ghost use Rattle.std.specs.Io.KnownBytes.{Keeps};
+ghost use Rattle.vault_http.specs.Holding.{HandedNone, Lacks};
+ghost use Rattle.vault_http.specs.declared.http_fault.HttpFault.TheVariants as faults;
 ghost use Rattle.vault_http.specs.Messages.{IsRequest, UnlessMemory};
 ghost use Rattle.vault_http.specs.Reading.{Settles, CountsMessage};
-ghost use Rattle.vault_http.specs.Verdicts.{IsDone, IfDone};
+ghost use Rattle.vault_http.specs.Verdicts.{IsDone, IfDone, IfWants};
 
 use crate::judging_request::judge_request;
 use crate::one_read::{MOST_READS, MOST_ROOM, read_more, zeros};
@@ -27,6 +29,9 @@ pub fn read_request<R: Source>(
         Settles (IsRequest max bytes) (R.reads_left reader.old) (R.reads_left reader.new) result) }
     ensures written { Keeps (R.written reader.old) (R.written reader.new) }
     ensures count { CountsMessage result (R.failed_calls reader.old) (R.failed_calls reader.new) }
+
+    // Any read may be the one that fails, so none is made once the bytes hold the message: it is never waited for.
+    ensures prompt { IsErrOf result faults.ReadFailed → HandedNone (IsRequest max) (R.remaining reader.old) (R.remaining reader.new) }
 {
     let mut room = zeros(alloc, MOST_ROOM)?;
     let mut bytes = Vec::new(alloc);
@@ -47,6 +52,7 @@ fn request_from<R: Source>(
         Settles (IsRequest max whole) (R.reads_left reader.old) (R.reads_left reader.new) result) }
     ensures written { Keeps (R.written reader.old) (R.written reader.new) }
     ensures count { CountsMessage result (R.failed_calls reader.old) (R.failed_calls reader.new) }
+    ensures prompt { IsErrOf result faults.ReadFailed → HandedNone (IsRequest max) (R.remaining reader.old) (R.remaining reader.new) }
 {
     let mut due = 0;
     for _ in 0..MOST_READS {
@@ -72,6 +78,8 @@ fn request_when_due(
     ensures answer { IfDone result (λ a. (more : List ℕ) → (IsTrue ended → more ≡ [])
         → UnlessMemory a (IsRequest max (bytes.now ++ more) a)) }
     ensures decides { (IsTrue ended ⊎ (max < length bytes.now)) → IsDone result }
+    ensures waits { (was : List ℕ) (piece : List ℕ) → bytes.now ≡ was ++ piece → length was ≡ before → Lacks (IsRequest max) was due
+        → IfWants result (λ wanted. Lacks (IsRequest max) bytes.now (length bytes.now + wanted)) }
 {
     if !ended && bytes.len() <= max && !is_due(bytes, before, due) {
         return Verdict::More(due.saturating_sub(bytes.len()));

@@ -5,6 +5,7 @@ use Rattle.vault_http.specs.Starts.{IsStart, request_at}
 use Rattle.vault_http.specs.Verdicts.{IfDone}
 use Rattle.vault_http.proofs.MessageLemmas.{over_rest}
 use Rattle.vault_http.proofs.RequestLemmas.{found_answer, start_of}
+use Rattle.vault_http.proofs.WaitingMessages.{found_request_waits}
 use Rattle.vault_http.proofs.judging_request.found_request.Goals as goal
 
 pub request_behind-requires : goal.request_behind-requires
@@ -23,3 +24,7 @@ returns-clause-decides c = λ d. c.request_behind.ensures.decides (elim d [
   | inl ended ↦ inl ended
   | inr over ↦ inr (over_rest c.args.max c.args.bytes.now c.args.len c.requires.within over)
 ])
+
+pub returns-clause-waits : goal.returns-clause-waits
+returns-clause-waits c =
+    found_request_waits c.args.max c.args.bytes.now c.args.len c.args.start c.args.framing c.request_behind.result c.requires.found c.requires.there c.request_behind.ensures.waits

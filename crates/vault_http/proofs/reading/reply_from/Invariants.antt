@@ -1,6 +1,8 @@
 -- What was read so far is the front of the input, and the reads that were made are off those that were needed.
 use Rattle.std.proofs.Common.{◌≡◌, ◌+◌, ◌<◌, ◌≤◌, ◌⊎◌, IfSome, vec_len}
 use Rattle.std.specs.Io.KnownBytes.{Keeps, Consumes}
+use Rattle.vault_http.specs.Holding.{Lacks}
+use Rattle.vault_http.specs.Messages.{IsReply}
 use Rattle.vault_http.proofs.reading.reply_from.Given as goal
 
 abbrev pub invariant-loop : goal.invariant-loop
@@ -10,5 +12,6 @@ invariant-loop g l = record {
   pace : IfSome (g.R.Device.remaining l.fn.reader) (λ _. (l.counter + g.R.Device.reads_left l.reader ≤ g.R.Device.reads_left l.fn.reader)
       × ((l.counter ≡ 0) ⊎ (0 < g.R.Device.reads_left l.reader)));
   written : Keeps (g.R.Device.written l.fn.reader) (g.R.Device.written l.reader);
+  lacks : Lacks (IsReply l.max) l.bytes.items l.due;
   count : g.R.Device.failed_calls l.reader ≡ g.R.Device.failed_calls l.fn.reader;
 }

@@ -1,0 +1,159 @@
+-- Empty lines: a head and a body in chunks end with one.
+use Rattle.std.proofs.Common.{◌≡◌, ℕ, ◌+◌, ◌-◌, ◌<◌, ◌≤◌, ◌⊎◌, inl, inr, Bool, true, false, cond, ◌&&◌, nat_eq, List, [], ◌∷◌, ◌++◌, length, take, drop, refl, sym, ap, ◌∙◌, arith, append_assoc, subst, length-append, take-append-drop, append-nil}
+use Rattle.std.proofs.lemmas.Bool.{cases_lt}
+use Rattle.std.proofs.lemmas.List.{take_at, take-append-le, drop_at, drop-append-le}
+use Rattle.httparse.specs.Grammar.{LineEnd, crlf, lf, print_end, Field, print_field, print_section, ResponseHead, print_response, RequestHead, print_request, print_blank, print_version, print_reason}
+use Rattle.httparse.proofs.GrammarLemmas.{print_response-append, print_request-append}
+use Rattle.httparse.proofs.PieceLemmas.{print_field-append}
+use Rattle.vault_http.specs.Holding.{HasLineBehind}
+use Rattle.std.specs.List.{flat_map}
+
+-- ---- the front of a text
+
+-- a front that is no longer than the first part stands in it
+pub front_split : (xs more p r : List ℕ) → xs ++ more ≡ p ++ r → length p ≤ length xs → xs ≡ p ++ drop (length p) xs
+front_split xs more p r e within =
+    let front : take (length p) xs ≡ p = sym (take-append-le (length p) xs more within) ∙ ap (take (length p)) e ∙ take_at p r (length p) refl in
+    sym (take-append-drop (length p) xs) ∙ ap (λ t. t ++ drop (length p) xs) front
+
+-- ---- what ends with an empty line
+
+-- the text ends with that
+abbrev pub EndsWith : List ℕ → List ℕ → Type 0
+EndsWith tail text = (front : List ℕ) × (text ≡ front ++ tail)
+
+pub ends_more : (tail x y : List ℕ) → EndsWith tail y → EndsWith tail (x ++ y)
+ends_more tail x y h = (x ++ h.0, ap (λ t. x ++ t) h.1 ∙ sym (append_assoc x h.0 tail))
+
+ends_as : (tail x y : List ℕ) → x ≡ y → EndsWith tail y → EndsWith tail x
+ends_as tail x y e h = (h.0, e ∙ h.1)
+
+-- a line feed and a line end
+abbrev pub empty_line : LineEnd → List ℕ
+empty_line end = 10 ∷ print_end end
+
+line_ends : (end last : LineEnd) → EndsWith (empty_line last) (print_end end ++ print_end last)
+line_ends crlf last = (13 ∷ [], refl)
+line_ends lf last = ([], refl)
+
+section_ends : (end : LineEnd) (fields : List Field) (last : LineEnd) → EndsWith (empty_line last) (print_end end ++ print_section fields last)
+section_ends end [] last = line_ends end last
+section_ends end (f ∷ fields) last =
+    let tail = empty_line last in
+    let behind = print_end f.end ++ print_section fields last in
+    let line : print_section (f ∷ fields) last ≡ f.name ++ (58 ∷ (f.raw ++ behind)) =
+    append_assoc (print_field f) (flat_map print_field fields) (print_end last) ∙ print_field-append f (print_section fields last) in
+    ends_more tail (print_end end) (print_section (f ∷ fields) last)
+    (ends_as tail (print_section (f ∷ fields) last) (f.name ++ (58 ∷ (f.raw ++ behind))) line
+    (ends_more tail f.name (58 ∷ (f.raw ++ behind)) (ends_more tail (58 ∷ []) (f.raw ++ behind) (ends_more tail f.raw behind (section_ends f.end fields last)))))
+
+-- the same, with nothing behind
+last_ends : (end : LineEnd) (fields : List Field) (last : LineEnd) → EndsWith (empty_line last) (print_end end ++ (print_section fields last ++ []))
+last_ends end fields last =
+    ends_as (empty_line last) (print_end end ++ (print_section fields last ++ [])) (print_end end ++ print_section fields last)
+    (ap (λ t. print_end end ++ t) (append-nil (print_section fields last))) (section_ends end fields last)
+
+pub response_ends : (h : ResponseHead) → EndsWith (empty_line h.last) (print_response h)
+response_ends h =
+    let tail = empty_line h.last in
+    let e = print_end h.line_end ++ (print_section h.fields h.last ++ []) in
+    let d = h.digits ++ (print_reason h.reason ++ e) in
+    let text = print_blank h.blank ++ (print_version h.minor ++ (32 ∷ d)) in
+    ends_as tail (print_response h) text (sym (append-nil (print_response h)) ∙ print_response-append h [])
+    (ends_more tail (print_blank h.blank) (print_version h.minor ++ (32 ∷ d)) (ends_more tail (print_version h.minor) (32 ∷ d) (ends_more tail (32 ∷ []) d
+    (ends_more tail h.digits (print_reason h.reason ++ e) (ends_more tail (print_reason h.reason) e (last_ends h.line_end h.fields h.last))))))
+
+pub request_ends : (h : RequestHead) → EndsWith (empty_line h.last) (print_request h)
+request_ends h =
+    let tail = empty_line h.last in
+    let e = print_end h.line_end ++ (print_section h.fields h.last ++ []) in
+    let v = print_version h.minor ++ e in
+    let t = h.target ++ (32 ∷ v) in
+    let text = print_blank h.blank ++ (h.method ++ (32 ∷ t)) in
+    ends_as tail (print_request h) text (sym (append-nil (print_request h)) ∙ print_request-append h [])
+    (ends_more tail (print_blank h.blank) (h.method ++ (32 ∷ t)) (ends_more tail h.method (32 ∷ t) (ends_more tail (32 ∷ []) t
+    (ends_more tail h.target (32 ∷ v) (ends_more tail (32 ∷ []) v (ends_more tail (print_version h.minor) e (last_ends h.line_end h.fields h.last)))))))
+
+-- a text that goes on past a part of it that ends with an empty line
+pub line_behind : (last : LineEnd) (xs more p r : List ℕ) → xs ++ more ≡ p ++ r → EndsWith (empty_line last) p → length xs < length p → HasLineBehind (length xs) (xs ++ more)
+line_behind last xs more p r e ends short = record {
+  front = ends.0;
+  end = last;
+  rest = r;
+  bytes_are = e ∙ ap (λ t. t ++ r) ends.1 ∙ append_assoc ends.0 (empty_line last) r;
+  behind = omega (arith, short, ap length ends.1, length-append ends.0 (empty_line last));
+}
+
+-- ---- where the empty line stands
+
+-- an empty line behind some bytes of the rest is one behind as many bytes of the whole
+pub line_in_rest : (front rest : List ℕ) (n : ℕ) → HasLineBehind n rest → HasLineBehind (length front + n) (front ++ rest)
+line_in_rest front rest n h = record {
+  front = front ++ h.front;
+  end = h.end;
+  rest = h.rest;
+  bytes_are = ap (λ t. front ++ t) h.bytes_are ∙ sym (append_assoc front h.front (10 ∷ (print_end h.end ++ h.rest)));
+  behind = omega (arith, h.behind, length-append front h.front);
+}
+
+-- an empty line of a text that goes on: within it, or behind it
+pub line_where : (n : ℕ) (xs more : List ℕ) → HasLineBehind n (xs ++ more) → HasLineBehind n xs ⊎ HasLineBehind (length xs) (xs ++ more)
+line_where n xs more h =
+    let p = h.front ++ empty_line h.end in
+    let long : length p ≡ length h.front + 1 + length (print_end h.end) = length-append h.front (empty_line h.end) ∙ omega arith in
+    let whole : xs ++ more ≡ p ++ h.rest = h.bytes_are ∙ sym (append_assoc h.front (empty_line h.end) h.rest) in
+    elim (cases_lt (length xs) (length p)) [
+      | inl short ↦ inr (line_behind h.end xs more p h.rest whole (h.front, refl) short)
+      | inr within ↦ inl (record {
+        front = h.front;
+        end = h.end;
+        rest = drop (length p) xs;
+        bytes_are = front_split xs more p h.rest whole within ∙ append_assoc h.front (empty_line h.end) (drop (length p) xs);
+        behind = h.behind;
+      })
+    ]
+
+-- the empty line ends within the text
+pub line_within : (n : ℕ) (bytes : List ℕ) → HasLineBehind n bytes → n < length bytes
+line_within n bytes h =
+    omega (arith, h.behind, ap length h.bytes_are, length-append h.front (10 ∷ (print_end h.end ++ h.rest)), length-append (print_end h.end) h.rest)
+
+-- ---- looking for one
+
+-- whether a walk over the bytes meets a line feed that follows another one with nothing but carriage returns between
+abbrev pub meets : ℕ → List ℕ → Bool
+meets last [] = false
+meets last (b ∷ bytes) = cond (nat_eq b 10 && nat_eq last 10) true (meets (cond (nat_eq b 13) last b) bytes)
+
+cond_true : (c x : Bool) → x ≡ true → cond c true x ≡ true
+cond_true true x e = refl
+cond_true false x e = e
+
+meets_end : (end : LineEnd) (rest : List ℕ) → meets 10 (print_end end ++ rest) ≡ true
+meets_end crlf rest = refl
+meets_end lf rest = refl
+
+meets_line : (last : ℕ) (front : List ℕ) (end : LineEnd) (rest : List ℕ) → meets last (front ++ (10 ∷ (print_end end ++ rest))) ≡ true
+meets_line last [] end rest = cond_true (nat_eq last 10) (meets 10 (print_end end ++ rest)) (meets_end end rest)
+meets_line last (b ∷ front) end rest =
+    let next = cond (nat_eq b 13) last b in
+    cond_true (nat_eq b 10 && nat_eq last 10) (meets next (front ++ (10 ∷ (print_end end ++ rest)))) (meets_line next front end rest)
+
+pub none_met : (bytes : List ℕ) → meets 0 bytes ≡ false → HasLineBehind 0 bytes → ⊥
+none_met bytes e h = let met = sym e ∙ ap (meets 0) h.bytes_are ∙ meets_line 0 h.front h.end h.rest in cc
+
+-- an empty line that ends behind the first n bytes begins at most two before
+pub line_after : (bytes : List ℕ) (n from : ℕ) → from ≤ n - 2 → HasLineBehind n bytes → HasLineBehind 0 (drop from bytes)
+line_after bytes n from low h =
+    let short : length (print_end h.end) ≤ 2 = end_short h.end in
+    let within : from ≤ length h.front = omega (arith, low, short, h.behind) in record {
+      front = drop from h.front;
+      end = h.end;
+      rest = h.rest;
+      bytes_are = ap (drop from) h.bytes_are ∙ drop-append-le from h.front (10 ∷ (print_end h.end ++ h.rest)) within;
+      behind = omega arith;
+    }
+  where
+    end_short : (end : LineEnd) → length (print_end end) ≤ 2
+    end_short crlf = omega arith
+    end_short lf = omega arith
