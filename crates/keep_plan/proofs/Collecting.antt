@@ -1,5 +1,5 @@
 -- Runs that are taken from a schedule one by one: what they are together; for `collect`.
-use Rattle.std.proofs.Common.{◌≡◌, ◌≢◌, ◌∙◌, ℕ, zero, suc, ◌+◌, ◌-◌, ◌*◌, ◌<◌, ◌≤◌, ◌++◌, List, [], ◌∷◌, Some, None, length, refl, sym, ap, subst, arith}
+use Rattle.std.proofs.Common.{◌≡◌, ◌∙◌, ℕ, ◌+◌, ◌-◌, ◌<◌, ◌≤◌, ◌++◌, List, [], ◌∷◌, length, refl, sym, ap, subst, arith}
 use Rattle.std.proofs.lemmas.List.{append-nil, append_assoc, length-append}
 use Rattle.keep_schedule.specs.declared.force.Force.{Force}
 use Rattle.keep_schedule.specs.declared.run.Run.{Run}
@@ -8,7 +8,7 @@ use Rattle.keep_plan.specs.declared.limit.TheConstants.{LIMIT}
 use Rattle.keep_plan.specs.Collecting.{AreLongestBefore, IsOverlong, IsTaken, IsWhole}
 use Rattle.keep_plan.specs.Decides.{AreLongest}
 use Rattle.keep_plan.specs.Planned.{AreRuns, IsRun}
-use Rattle.keep_plan.proofs.Walking.{length_all_cons, length_wakes_of}
+use Rattle.keep_plan.proofs.Walking.{length_wakes_of}
 
 -- the wake-ups of one run more
 all_more : (rs : List Run) (r : Run) (rest : List Force) → all_wakes (rs ++ r ∷ []) ++ rest ≡ all_wakes rs ++ (wakes r ++ rest)

@@ -1,15 +1,11 @@
 -- The decision: what follows for every plan from the forces, from a list of them that is too long, and from a pair that is
 -- Unkeepable; for `shortfall` and `plan`.
-use Rattle.std.proofs.Common.{◌≡◌, ◌∙◌, ℕ, ◌+◌, ◌<◌, ◌≤◌, List, [], ◌∷◌, Option, Some, None, length, refl, suc, sym, ap, subst, arith, ◌-◌, ◌*◌}
+use Rattle.std.proofs.Common.{◌≡◌, ℕ, ◌≤◌, List, [], ◌∷◌, Option, Some, None, length, refl, suc, ap, subst, arith, ◌-◌, ◌*◌}
 use Rattle.std.specs.Option.{MatchOption}
 use Rattle.keep_tree.specs.Forest.{Grove, end_of}
 use Rattle.keep_tree.specs.Push.{IsForest}
-use Rattle.keep_rule.specs.declared.wake.Wake.{Wake}
 use Rattle.keep_rule.specs.Asks.{with_asks}
-use Rattle.keep_rule.specs.Keeps.{Keeps}
-use Rattle.keep_rule.specs.Plans.{IsPlan, moments}
 use Rattle.keep_rule.specs.Requests.{requests}
-use Rattle.keep_rule.specs.Schedule.{IsSchedule}
 use Rattle.keep_rule.specs.Unkeepable.{AllKeepable, Unkeepable}
 use Rattle.keep_rule.proofs.Existence.{there_is_one}
 use Rattle.keep_rule.proofs.FewestRequests.{fewest_requests}
@@ -21,7 +17,6 @@ use Rattle.keep_schedule.specs.Forces.{AreForces, moments_of}
 use Rattle.keep_schedule.specs.Runs.{all_wakes}
 use Rattle.keep_schedule.proofs.Bridge.{forces_schedule}
 use Rattle.keep_schedule.proofs.Forces.{forces_are_best}
-use Rattle.keep_plan.specs.declared.limit.TheConstants.{LIMIT}
 use Rattle.keep_plan.specs.Collecting.{IsOverlong, IsWhole}
 use Rattle.keep_plan.specs.Decides.{AreBest, IsTooLong, NoneKeeps, SomeKeeps}
 

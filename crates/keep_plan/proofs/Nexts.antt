@@ -1,14 +1,13 @@
 -- The next moment: the first of the wake-ups of runs that comes after a moment; for `next_after`.
-use Rattle.std.proofs.Common.{◌≡◌, ◌∙◌, ℕ, zero, suc, ◌+◌, ◌-◌, ◌*◌, ◌/◌, ◌<◌, ◌≤◌, ◌↔◌, ◌++◌, List, [], ◌∷◌, Bool, true, false, cond, Option, Some, None, is_some, length, nat_lt, refl, sym, ap, subst, arith, inl, inr}
+use Rattle.std.proofs.Common.{◌≡◌, ◌∙◌, ℕ, zero, suc, ◌+◌, ◌-◌, ◌*◌, ◌/◌, ◌<◌, ◌≤◌, ◌↔◌, ◌++◌, List, [], ◌∷◌, Bool, true, false, cond, Option, Some, None, is_some, nat_lt, refl, ap, arith}
 use Rattle.std.proofs.Math.Nat.{div-mul-le_self, lt-div-mul-add, mul-le-mul_right}
-use Rattle.std.proofs.lemmas.Bool.{cases_Bool, cond-true, cond-false}
+use Rattle.std.proofs.lemmas.Bool.{cond-true, cond-false}
 use Rattle.std.proofs.lemmas.Bool.Decides.{nat_tests}
 use Rattle.std.specs.Option.{IfSome, IsSome}
 use Rattle.keep_moment.specs.declared.moment.TheConstants.{LAST}
 use Rattle.keep_schedule.specs.declared.force.Force.{Force}
-use Rattle.keep_schedule.specs.declared.run.Run.{Run}
-use Rattle.keep_schedule.specs.Runs.{all_wakes, wakes, wakes_of}
-use Rattle.keep_plan.specs.Planned.{IsRun, next_after}
+use Rattle.keep_schedule.specs.Runs.{wakes_of}
+use Rattle.keep_plan.specs.Planned.{next_after}
 
 -- a wake-up that comes after the moment, and one that does not
 comes_after : (at : ℕ) (x : Force) (xs : List Force) → at < x.at → next_after at (x ∷ xs) ≡ Some x.at

@@ -1,9 +1,8 @@
 -- Runs without their first wake-up: what they stand for; for `drop_first` and `Wakes`.
-use Rattle.std.proofs.Common.{◌≡◌, ◌≢◌, ◌==◌, ◌∙◌, ℕ, zero, suc, ◌+◌, ◌-◌, ◌*◌, ◌<◌, ◌≤◌, ◌++◌, List, [], ◌∷◌, Bool, true, false, cond, Option, Some, None, length, drop, get_or, set, refl, sym, ap, subst, arith, inl, inr}
+use Rattle.std.proofs.Common.{◌≡◌, ◌≢◌, ◌==◌, ◌∙◌, ℕ, zero, suc, ◌+◌, ◌-◌, ◌*◌, ◌<◌, ◌++◌, List, [], ◌∷◌, true, false, cond, Option, Some, None, length, drop, get_or, set, refl, sym, ap, subst, arith, inl, inr}
 use Rattle.std.proofs.lemmas.Bool.{cases_Bool, cases_lt, cond-true, cond-false}
 use Rattle.std.proofs.lemmas.Bool.Decides.{nat_tests}
 use Rattle.std.proofs.lemmas.List.{drop-set, drop_all, drop_more, length-append}
-use Rattle.keep_moment.specs.declared.moment.TheConstants.{LAST}
 use Rattle.keep_schedule.specs.declared.force.Force.{Force}
 use Rattle.keep_schedule.specs.declared.run.Run.{Run}
 use Rattle.keep_schedule.specs.Runs.{all_wakes, wakes, wakes_of}

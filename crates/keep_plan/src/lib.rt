@@ -13,6 +13,8 @@ mod decision;
 mod fault;
 mod limit;
 mod pair;
+#[cfg(test)]
+mod plan_tests;
 mod planned;
 mod runs;
 mod short;

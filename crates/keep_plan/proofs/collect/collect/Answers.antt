@@ -1,7 +1,5 @@
-use Rattle.std.proofs.Common.{◌≡◌, ◌∙◌, ℕ, ◌+◌, ◌-◌, ◌<◌, ◌≤◌, ◌++◌, ◌∷◌, [], List, Some, None, ap, arith, subst, sym}
-use Rattle.keep_schedule.specs.declared.run.Run.{Run}
+use Rattle.std.proofs.Common.{◌-◌, ◌<◌, arith, subst, sym}
 use Rattle.keep_schedule.specs.Courses.{IsToCome}
-use Rattle.keep_schedule.specs.Runs.{GivesRun, IsFirstRun, LeavesFewer}
 use Rattle.keep_plan.specs.Collecting.{IsTaken}
 use Rattle.keep_plan.proofs.Collecting.{one_more, overlong, whole}
 use Rattle.keep_plan.proofs.collect.collect.Goals as goal

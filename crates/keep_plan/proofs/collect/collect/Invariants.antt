@@ -1,4 +1,3 @@
-use Rattle.std.proofs.Common.{ℕ}
 use Rattle.keep_schedule.specs.Courses.{IsToCome}
 use Rattle.keep_plan.specs.Collecting.{IsTaken}
 use Rattle.keep_plan.proofs.collect.collect.Given as goal

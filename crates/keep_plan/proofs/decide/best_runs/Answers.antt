@@ -1,4 +1,3 @@
-use Rattle.std.proofs.Common.{◌≡◌, ℕ, ◌≤◌, ap, arith}
 use Rattle.keep_schedule.specs.Courses.{IsToCome}
 use Rattle.keep_plan.specs.Collecting.{IsOverlong, IsWhole}
 use Rattle.keep_plan.specs.Decides.{AreBest, IsTooLong}

@@ -1,4 +1,4 @@
-use Rattle.std.proofs.Common.{◌≡◌, ◌∙◌, ◌+◌, ◌∷◌, ap, arith, drop, get_or, subst, sym}
+use Rattle.std.proofs.Common.{◌∙◌, ◌+◌, ap, arith, drop, get_or, subst, sym}
 use Rattle.std.proofs.lemmas.List.{drop_more}
 use Rattle.keep_schedule.specs.declared.run.Run.{Run}
 use Rattle.keep_schedule.specs.Runs.{all_wakes, wakes}

@@ -1,8 +1,8 @@
-use Rattle.std.proofs.Common.{◌≡◌, ◌∙◌, ℕ, ◌+◌, ◌<◌, ap, arith, drop, length, set, subst, sym, ◌∷◌, List}
+use Rattle.std.proofs.Common.{◌∙◌, ◌<◌, ap, arith, drop, length, subst, sym, ◌∷◌, List}
 use Rattle.std.proofs.lemmas.List.{length-set}
 use Rattle.keep_schedule.specs.declared.run.Run.{Run}
 use Rattle.keep_schedule.specs.Runs.{all_wakes}
-use Rattle.keep_plan.specs.Planned.{IsPlanned, IsTail, Planned, to_come, without_first}
+use Rattle.keep_plan.specs.Planned.{IsPlanned, Planned, to_come}
 use Rattle.keep_plan.proofs.Walking.{loses_head, passed_over, shortened_in_place, stands, still_planned}
 use Rattle.keep_plan.proofs.planned.Plan.drop_first.Goals as goal
 

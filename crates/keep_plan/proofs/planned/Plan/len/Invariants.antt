@@ -1,4 +1,4 @@
-use Rattle.std.proofs.Common.{◌≡◌, ℕ, ◌+◌, drop, length}
+use Rattle.std.proofs.Common.{◌≡◌, ◌+◌, drop, length}
 use Rattle.keep_schedule.specs.Runs.{all_wakes}
 use Rattle.keep_plan.proofs.planned.Plan.len.Given as goal
 

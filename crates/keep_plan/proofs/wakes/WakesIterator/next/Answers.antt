@@ -1,11 +1,9 @@
-use Rattle.std.proofs.Common.{◌≡◌, ◌∙◌, ℕ, ◌+◌, ◌∷◌, Some, ap, arith, length, sym, subst}
+use Rattle.std.proofs.Common.{◌≡◌, ◌∙◌, ◌∷◌, ap, arith, length, sym, subst}
 use Rattle.std.specs.Option.{IfSome}
-use Rattle.keep_schedule.specs.declared.force.Force.{Force}
-use Rattle.keep_schedule.specs.declared.run.Run.{Run}
 use Rattle.keep_schedule.specs.Runs.{all_wakes}
 use Rattle.keep_plan.specs.Planned.{AreRuns, IsRun, behind_first, in_front}
 use Rattle.keep_plan.specs.declared.wakes.Wakes.TheInside.{Inside}
-use Rattle.keep_plan.proofs.Walking.{behind_wakes, first_wake}
+use Rattle.keep_plan.proofs.Walking.{behind_wakes}
 use Rattle.keep_plan.proofs.wakes.WakesIterator.next.Goals as goal
 use Rattle.keep_plan.proofs.wakes.WakesIterator.next.Goals.{in-Some, in-None+in_ok-first-in-None}
 
