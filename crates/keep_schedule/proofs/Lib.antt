@@ -1,0 +1,5 @@
+pub mod Leading
+pub mod Lists
+pub mod Groups
+pub mod Stretches
+pub mod Bridge

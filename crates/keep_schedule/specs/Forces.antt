@@ -1,0 +1,25 @@
+-- Force: which entry forces the next wake-up, and the list of wake-ups that are forced one after the other.
+-- Source: this project's own, over Vault, "Lease, renew, and revoke" (the increment counts from the renewal; maximum TTL).
+use Rattle.std.specs.Prelude.{◌≡◌, ℕ, ◌-◌, ◌≤◌, ◌<◌, List, [], ◌∷◌, Option, Some}
+use Rattle.keep_tree.specs.declared.entry.Entry.{Entry}
+use Rattle.keep_tree.specs.Carried.{IsFrom, carried}
+use Rattle.keep_rule.specs.Forced.{bound}
+use Rattle.keep_schedule.specs.declared.force.Force.{Force}
+
+-- behind a wake-up at prev, x is the next: of all entries whose bound falls short of their carried need, its entry has the
+-- least bound, of several the lowest index; it comes the margin before that bound, for the entry that has the need
+pub record IsForce (es : List Entry) (margin s : ℕ) (ends : ℕ → ℕ) (prev : Option ℕ) (x : Force) : Type 0 where
+  pub short : bound es ends prev x.entry < carried es s x.entry
+  pub moment : x.at ≡ bound es ends prev x.entry - margin
+  pub least : (i : ℕ) → bound es ends prev i < carried es s i → bound es ends prev x.entry ≤ bound es ends prev i
+  pub lowest : (i : ℕ) → bound es ends prev i < carried es s i → bound es ends prev i ≡ bound es ends prev x.entry → x.entry ≤ i
+  pub from : IsFrom es s x.entry x.needed
+
+-- each is the next behind the one before it, and behind the last no entry's bound falls short
+abbrev pub AreForces : List Entry → ℕ → ℕ → (ℕ → ℕ) → Option ℕ → List Force → Type 0
+AreForces es margin s ends prev [] = (i : ℕ) → carried es s i ≤ bound es ends prev i
+AreForces es margin s ends prev (x ∷ xs) = IsForce es margin s ends prev x × AreForces es margin s ends (Some x.at) xs
+
+abbrev pub moments_of : List Force → List ℕ
+moments_of [] = []
+moments_of (x ∷ xs) = x.at ∷ moments_of xs

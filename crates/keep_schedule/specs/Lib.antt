@@ -1,0 +1,5 @@
+pub mod Forces
+pub mod Runs
+pub mod Terms
+pub mod Groups
+pub mod Outlook

@@ -1,0 +1,39 @@
+-- Terms: which entry forces the next wake-up, by four numbers for each entry, where none of them is led past its ceiling.
+-- Source: this project's own.
+use Rattle.std.specs.Prelude.{◌≡◌, ℕ, ◌+◌, ◌-◌, ◌≤◌, ◌<◌, ◌⊎◌, max, List, [], ◌∷◌, Option, Some, None}
+use Rattle.keep_moment.specs.declared.moment.TheConstants.{LAST}
+use Rattle.keep_schedule.specs.declared.force.Force.{Force}
+
+-- of the entry at an index: its end, its step, the need that it carries, and the entry that has this need; and the margin
+pub record Terms : Type 0 where
+  pub end : ℕ → ℕ
+  pub step : ℕ → ℕ
+  pub need : ℕ → ℕ
+  pub from : ℕ → ℕ
+  pub margin : ℕ
+
+-- until when an entry lasts after a wake-up at prev
+abbrev pub deadline : Terms → Option ℕ → ℕ → ℕ
+deadline t None i = t.end i
+deadline t (Some v) i = max (t.end i) (v + t.step i)
+
+-- x at i comes before y at j, of equals the lower index
+abbrev pub Ahead : ℕ → ℕ → ℕ → ℕ → Type 0
+Ahead x i y j = (x < y) ⊎ ((x ≡ y) × (i ≤ j))
+
+-- f falls short of its need, and of all that do it has the least deadline, of several the lowest index
+pub record Leads (t : Terms) (prev : Option ℕ) (f : ℕ) : Type 0 where
+  pub short : deadline t prev f < t.need f
+  pub first : (i : ℕ) → deadline t prev i < t.need i → Ahead (deadline t prev f) f (deadline t prev i) i
+
+-- the wake-ups behind the one at prev, each by the entry that leads
+abbrev pub AreLed : Terms → Option ℕ → List Force → Type 0
+AreLed t prev [] = (i : ℕ) → t.need i ≤ deadline t prev i
+AreLed t prev (x ∷ xs) =
+    Leads t prev x.entry × ((x.at ≡ deadline t prev x.entry - t.margin) × ((x.needed ≡ t.from x.entry) × AreLed t (Some x.at) xs))
+
+-- each entry that falls short can be asked the margin before its end, gains by it, and is needed at a moment at most
+pub record IsSound (t : Terms) : Type 0 where
+  pub step : (i : ℕ) → t.end i < t.need i → t.margin < t.step i
+  pub end : (i : ℕ) → t.end i < t.need i → t.margin ≤ t.end i
+  pub need : (i : ℕ) → t.need i ≤ LAST
