@@ -1,0 +1,10 @@
+pub mod State
+pub mod Shorten
+pub mod Refusal
+pub mod Replan
+pub mod Step
+pub mod Runs
+pub mod InForce
+pub mod LawsOfNeeds
+pub mod LawsOfPlans
+pub mod LawsOfRuns
