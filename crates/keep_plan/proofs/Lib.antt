@@ -1,1 +1,6 @@
 pub mod Unkeepables
+pub mod Walking
+pub mod Nexts
+pub mod Wanted
+pub mod Collecting
+pub mod Deciding

@@ -1,1 +1,5 @@
+pub mod Planned
 pub mod Shortfall
+pub mod Decides
+pub mod Living
+pub mod Collecting

@@ -1,14 +1,30 @@
-//! The decision: whether the needs of a forest can be kept at all.
+//! The decision: whether the needs of a forest can be kept at all, and by which wake-ups.
 //!
-//! The contract for the layers above: `shortfall` names the lowest entry that no renewal leads to a need it carries, with
-//! the entry that has this need, and nothing exactly where there is none (`IsShortfall` of `specs/` and `AllKeepable`,
-//! over the definition Unkeepable of `keep_rule`). Begin with `pair`.
+//! The contract for the layers above: `plan` gives the least and latest plan with the force of each wake-up, or names a pair
+//! that no plan can keep, or answers that each plan is too long (`Decides` of `specs/`). A [`Plan`] holds the wake-ups that
+//! are still to come as runs (`Planned`); its `asks` are the Asks of `keep_rule`. `shortfall` names the lowest entry that no
+//! renewal leads to a need it carries (`IsShortfall`). Begin with `decide`.
 #![tactic(auto)]
 
+mod asks;
+mod collect;
+mod decide;
+mod decision;
+mod fault;
+mod limit;
 mod pair;
+mod planned;
+mod runs;
 mod short;
 #[cfg(test)]
 mod tests;
+mod wakes;
 
+pub use decide::plan;
+pub use decision::Decision;
+pub use fault::PlanFault;
+pub use limit::LIMIT;
 pub use pair::Shortfall;
+pub use planned::Plan;
 pub use short::shortfall;
+pub use wakes::Wakes;

@@ -4,6 +4,7 @@ ghost use Rattle.keep_tree.specs.Forest.{end_of};
 ghost use Rattle.keep_rule.specs.Reach.{reach};
 ghost use Rattle.keep_needs.specs.Carried.{IsCarried};
 ghost use Rattle.keep_rule.specs.Unkeepable.{AllKeepable};
+ghost use Rattle.keep_plan.specs.Decides.{NoneKeeps, SomeKeeps};
 ghost use Rattle.keep_plan.specs.Shortfall.{IsShortfall, falls_short};
 
 use crate::pair::Shortfall;
@@ -13,12 +14,14 @@ use keep_rule::reach;
 use keep_tree::Forest;
 
 /// The lowest entry that no renewal from `start` on leads to a need that it carries, with the entry that has its carried
-/// need; `None` exactly where there is none. `carried` is what the entries of this forest carry from this start on.
+/// need; `None` exactly where there is none. Where there is such a pair no plan keeps, and where there is none some plan
+/// does. `carried` is what the entries of this forest carry from this start on.
 ///
 /// Source: Vault, "Lease, renew, and revoke" (maximum TTL); Vault, "Tokens" (a token's end ends its children and leases).
 pub fn shortfall(forest: &Forest, carried: &Carried, start: Moment) -> Option<Shortfall>
     requires { IsCarried forest.now start carried.now }
-    ensures { MatchOption result (AllKeepable forest.now start (end_of forest.now.entries)) (λ pair. IsShortfall forest.now start pair.entry pair.needed) }
+    ensures pair { MatchOption result (AllKeepable forest.now start (end_of forest.now.entries)) (λ pair. IsShortfall forest.now start pair.entry pair.needed) }
+    ensures keeps { MatchOption result (SomeKeeps forest.now start) (λ _. NoneKeeps forest.now start) }
 {
     for entry in 0..forest.len() {
         if falls_short(reach(forest, entry, start), carried.need(entry)) {

@@ -16,7 +16,7 @@ use Rattle.keep_tree.proofs.Chains.{ParentsFirst, cases_Option, over_child, over
 use Rattle.keep_tree.proofs.Entries.{entry_at_past}
 use Rattle.keep_tree.proofs.Placed.{parents_first}
 use Rattle.keep_rule.specs.Forced.{bound, latest_end}
-use Rattle.keep_rule.specs.Laws.{AllKeepable}
+use Rattle.keep_rule.specs.Unkeepable.{AllKeepable}
 use Rattle.keep_rule.specs.Reach.{reach, reach_of}
 use Rattle.keep_rule.specs.Schedule.{IsSchedule}
 use Rattle.keep_rule.specs.Unkeepable.{Unkeepable}
@@ -25,7 +25,7 @@ use Rattle.keep_rule.proofs.Lists.{need_within}
 use Rattle.keep_needs.specs.Carried.{CarriedNeed, IsCarried, NamesFrom, load_at}
 use Rattle.keep_schedule.specs.declared.force.Force.{Force}
 use Rattle.keep_schedule.specs.Forces.{AreForces, IsForce, moments_of}
-use Rattle.keep_schedule.specs.Outlook.{Outlook, terms_of}
+use Rattle.keep_schedule.specs.Prospect.{IsInSight, Prospect, terms_of}
 use Rattle.keep_schedule.specs.Terms.{Ahead, AreLed, IsSound, Leads, Terms, deadline}
 use Rattle.keep_schedule.proofs.Leading.{ahead, end_below_deadline, one_led, short_before}
 
@@ -36,7 +36,7 @@ pub record IsAble (es : List Entry) (margin s i : ℕ) : Type 0 where
   pub ceiling : (c : ℕ) → (entry_at es i).ceiling ≡ Some c → carried es s i ≤ c
 
 -- the entry whose need is carried
-carrier : (es : List Entry) (s i : ℕ) → 0 < carried es s i → (f : ℕ) × Over es i f × (s < (entry_at es f).need) × ((entry_at es f).need ≡ carried es s i)
+pub carrier : (es : List Entry) (s i : ℕ) → 0 < carried es s i → (f : ℕ) × Over es i f × (s < (entry_at es f).need) × ((entry_at es f).need ≡ carried es s i)
 carrier es s i some =
     let found = carried_is_of es s i (carried es s i - 1) (omega arith) in
     let most = carried_at_least es s i found.0 found.1 found.2 in
@@ -52,27 +52,30 @@ able g s keepable i short =
     let found = carrier es s i (omega arith) in
     let is : (entry_at es found.0).need ≡ carried es s i = found.3 in
     let within : (most : ℕ) → reach es g.margin s (end_of es) i ≡ Some most → carried es s i ≤ most =
-      λ most reaches. elim (cases_lt most (carried es s i)) [
-        inl less ↦ absurd (keepable i found.0 (record { over = found.1; later = found.2; most = most; reaches = reaches; short = (let l : most < (entry_at es found.0).need = omega arith in l) }))
-      | inr more ↦ more ] in
+    λ most reaches. elim (cases_lt most (carried es s i)) [
+      | inl less ↦ absurd (keepable i found.0 (record { over = found.1; later = found.2; most = most; reaches = reaches; short = (let l : most < (entry_at es found.0).need = omega arith in l) }))
+      | inr more ↦ more
+    ] in
     let by_test : (b : Bool) → e.renewable && nat_le (s + g.margin) end ≡ b → cond b (option_map (λ c. max end c) e.ceiling) (Some end) ≡ reach es g.margin s (end_of es) i =
-      λ b is'. ap (λ x. cond x (option_map (λ c. max end c) e.ceiling) (Some end)) (sym is') in
+    λ b is'. ap (λ x. cond x (option_map (λ c. max end c) e.ceiling) (Some end)) (sym is') in
     elim (cases_Bool e.renewable) [
-      inl renewable ↦
-        elim (cases_lt end (s + g.margin)) [
-          inl early ↦ absurd (
-            let test : nat_le (s + g.margin) end ≡ false = grind (arith, nat_tests) in
-            let k = within end (sym (by_test false (ap (λ b. b && nat_le (s + g.margin) end) renewable ∙ test))) in omega arith)
-        | inr late ↦
-            let test : nat_le (s + g.margin) end ≡ true = grind (arith, nat_tests) in
-            let open' = by_test true (ap (λ b. b && nat_le (s + g.margin) end) renewable ∙ test) in
-            record {
-              renewable = renewable;
-              in_time = late;
-              ceiling = λ c is'. let k = within (max end c) (sym open' ∙ ap (option_map (λ c. max end c)) is') in omega arith;
-            } ]
-    | inr fixed ↦ absurd (
-        let k = within end (sym (by_test false (ap (λ b. b && nat_le (s + g.margin) end) fixed))) in omega arith) ]
+      | inl renewable ↦
+          elim (cases_lt end (s + g.margin)) [
+            | inl early ↦ absurd (
+                let test : nat_le (s + g.margin) end ≡ false = grind (arith, nat_tests) in
+                let k = within end (sym (by_test false (ap (λ b. b && nat_le (s + g.margin) end) renewable ∙ test))) in omega arith)
+            | inr late ↦
+                let test : nat_le (s + g.margin) end ≡ true = grind (arith, nat_tests) in
+                let open' = by_test true (ap (λ b. b && nat_le (s + g.margin) end) renewable ∙ test) in
+                record {
+                  renewable = renewable;
+                  in_time = late;
+                  ceiling = λ c is'. let k = within (max end c) (sym open' ∙ ap (option_map (λ c. max end c)) is') in omega arith;
+                }
+          ]
+      | inr fixed ↦ absurd (
+          let k = within end (sym (by_test false (ap (λ b. b && nat_le (s + g.margin) end) fixed))) in omega arith)
+    ]
 
 capped_short : (c : Option ℕ) (x need : ℕ) → ((m : ℕ) → c ≡ Some m → need ≤ m) → (capped c x < need → capped c x ≡ x) × (x < need → capped c x ≡ x)
 unfolding capped
@@ -108,21 +111,22 @@ same_bound g s t shows keepable (Some v) i =
     let end = shows.end i in
     let step = shows.step i in
     let need = shows.need i in
-    let below = end_below_bound es (end_of es) (Some v) i in
-    (λ h.
-       let short : end_of es i < carried es s i = omega arith in
-       let ok = able g s keepable i short in
-       let is = bound_after es v i ok.renewable in
-       let c = capped_short (entry_at es i).ceiling (v + (entry_at es i).step) (carried es s i) ok.ceiling in
-       let k = c.0 (omega arith) in
-       omega arith,
-     λ h.
-       let short : end_of es i < carried es s i = omega arith in
-       let ok = able g s keepable i short in
-       let is = bound_after es v i ok.renewable in
-       let c = capped_short (entry_at es i).ceiling (v + (entry_at es i).step) (carried es s i) ok.ceiling in
-       let k = c.1 (omega arith) in
-       omega arith)
+    let below = end_below_bound es (end_of es) (Some v) i in (
+      λ h.
+          let short : end_of es i < carried es s i = omega arith in
+          let ok = able g s keepable i short in
+          let is = bound_after es v i ok.renewable in
+          let c = capped_short (entry_at es i).ceiling (v + (entry_at es i).step) (carried es s i) ok.ceiling in
+          let k = c.0 (omega arith) in
+          omega arith,
+      λ h.
+          let short : end_of es i < carried es s i = omega arith in
+          let ok = able g s keepable i short in
+          let is = bound_after es v i ok.renewable in
+          let c = capped_short (entry_at es i).ceiling (v + (entry_at es i).step) (carried es s i) ok.ceiling in
+          let k = c.1 (omega arith) in
+          omega arith,
+    )
 
 pub led_forces :
     (g : Grove) (s : ℕ) (t : Terms) → Shows g s t → AllKeepable g s (end_of g.entries) → (prev : Option ℕ) (xs : List Force) →
@@ -132,31 +136,33 @@ led_forces g s t shows keepable prev [] led = λ i.
     let lasts = led i in
     let need = shows.need i in
     elim (cases_lt (bound g.entries (end_of g.entries) prev i) (carried g.entries s i)) [
-      inl short ↦ absurd (let e = same.0 short in omega arith)
-    | inr lasts' ↦ lasts' ]
+      | inl short ↦ absurd (let e = same.0 short in omega arith)
+      | inr lasts' ↦ lasts'
+    ]
 led_forces g s t shows keepable prev (x ∷ xs) led =
     let f = x.entry in
     let mine = (same_bound g s t shows keepable prev f).1 led.0.short in
     let need = shows.need f in
     let short = led.0.short in
     let at = led.1.0 in
-    let margin = shows.margin in
-    (record {
-       short = (let l : bound g.entries (end_of g.entries) prev f < carried g.entries s f = omega arith in l);
-       moment = (let e : x.at ≡ bound g.entries (end_of g.entries) prev f - g.margin = omega arith in e);
-       least = λ i h.
-         let other = (same_bound g s t shows keepable prev i).0 h in
-         let n = shows.need i in
-         let a = led.0.first i (let l : deadline t prev i < t.need i = omega arith in l) in
-         (let l : bound g.entries (end_of g.entries) prev f ≤ bound g.entries (end_of g.entries) prev i = omega arith in l);
-       lowest = λ i h e.
-         let other = (same_bound g s t shows keepable prev i).0 h in
-         let n = shows.need i in
-         let a = led.0.first i (let l : deadline t prev i < t.need i = omega arith in l) in
-         (let l : f ≤ i = omega arith in l);
-       from = subst (IsFrom g.entries s f) (sym led.1.1.0) (shows.from f (omega arith));
-     },
-     led_forces g s t shows keepable (Some x.at) xs led.1.1.1)
+    let margin = shows.margin in (
+      record {
+        short = (let l : bound g.entries (end_of g.entries) prev f < carried g.entries s f = omega arith in l);
+        moment = (let e : x.at ≡ bound g.entries (end_of g.entries) prev f - g.margin = omega arith in e);
+        least = λ i h.
+            let other = (same_bound g s t shows keepable prev i).0 h in
+            let n = shows.need i in
+            let a = led.0.first i (let l : deadline t prev i < t.need i = omega arith in l) in
+            (let l : bound g.entries (end_of g.entries) prev f ≤ bound g.entries (end_of g.entries) prev i = omega arith in l);
+        lowest = λ i h e.
+            let other = (same_bound g s t shows keepable prev i).0 h in
+            let n = shows.need i in
+            let a = led.0.first i (let l : deadline t prev i < t.need i = omega arith in l) in
+            (let l : f ≤ i = omega arith in l);
+        from = subst (IsFrom g.entries s f) (sym led.1.1.0) (shows.from f (omega arith));
+      },
+      led_forces g s t shows keepable (Some x.at) xs led.1.1.1,
+    )
 
 pub one_from : (es : List Entry) (s i n m : ℕ) → IsFrom es s i n → IsFrom es s i m → n ≡ m
 one_from es s i n m a b = let p = a.lowest m b.over b.need in let q = b.lowest n a.over a.need in omega arith
@@ -169,8 +175,9 @@ forces_led g s t shows keepable prev [] forces = λ i.
     let lasts = forces i in
     let need = shows.need i in
     elim (cases_lt (deadline t prev i) (t.need i)) [
-      inl short ↦ absurd (let e = same.1 short in omega arith)
-    | inr lasts' ↦ lasts' ]
+      | inl short ↦ absurd (let e = same.1 short in omega arith)
+      | inr lasts' ↦ lasts'
+    ]
 forces_led g s t shows keepable prev (x ∷ xs) forces =
     let f = x.entry in
     let force = forces.0 in
@@ -178,20 +185,25 @@ forces_led g s t shows keepable prev (x ∷ xs) forces =
     let mine = (same_bound g s t shows keepable prev f).0 force.short in
     let need = shows.need f in
     let moment = force.moment in
-    let margin = shows.margin in
-    (record {
-       short = (let l : deadline t prev f < t.need f = omega arith in l);
-       first = λ i h.
-         let other = (same_bound g s t shows keepable prev i).1 h in
-         let n = shows.need i in
-         let falls : bound g.entries (end_of g.entries) prev i < carried g.entries s i = omega arith in
-         let l = force.least i falls in
-         ahead _ _ _ _ (let k : deadline t prev f ≤ deadline t prev i = omega arith in k)
-           (λ e. force.lowest i falls (let k : bound g.entries (end_of g.entries) prev i ≡ bound g.entries (end_of g.entries) prev f = omega arith in k));
-     },
-     (let e : x.at ≡ deadline t prev f - t.margin = omega arith in e,
-      (one_from g.entries s f x.needed (t.from f) force.from (shows.from f (omega arith)),
-       forces_led g s t shows keepable (Some x.at) xs forces.1)))
+    let margin = shows.margin in (
+      record {
+        short = (let l : deadline t prev f < t.need f = omega arith in l);
+        first = λ i h.
+            let other = (same_bound g s t shows keepable prev i).1 h in
+            let n = shows.need i in
+            let falls : bound g.entries (end_of g.entries) prev i < carried g.entries s i = omega arith in
+            let l = force.least i falls in
+            ahead _ _ _ _ (let k : deadline t prev f ≤ deadline t prev i = omega arith in k)
+            (λ e. force.lowest i falls (let k : bound g.entries (end_of g.entries) prev i ≡ bound g.entries (end_of g.entries) prev f = omega arith in k));
+      },
+      (
+        let e : x.at ≡ deadline t prev f - t.margin = omega arith in e,
+        (
+          one_from g.entries s f x.needed (t.from f) force.from (shows.from f (omega arith)),
+          forces_led g s t shows keepable (Some x.at) xs forces.1,
+        ),
+      ),
+    )
 
 pub forces_schedule : (es : List Entry) (margin s : ℕ) (ends : ℕ → ℕ) (prev : Option ℕ) (xs : List Force) → AreForces es margin s ends prev xs → IsSchedule es margin s ends prev (moments_of xs)
 forces_schedule es margin s ends prev [] forces = forces
@@ -203,69 +215,81 @@ over_below : (es : List Entry) → ParentsFirst es → (n a f : ℕ) → f < n �
 over_below es first zero a f h over = absurd (omega arith)
 over_below es first (suc n) a f h over =
     cases_Option (entry_at es f).parent (a ≤ f)
-      (λ none. let e : f == a ≡ true = sym (over_root es a f none) ∙ over in let k : f ≡ a = grind (arith, nat_tests) in omega arith)
-      (λ p is. or_parts (f == a) (is_over es a p) (a ≤ f) (sym (over_child es a f p first is) ∙ over)
-        (λ e. let k : f ≡ a = grind (arith, nat_tests) in omega arith)
-        (λ up. let l = first f p is in let k = over_below es first n a p (omega arith) up in omega arith))
+    (λ none. let e : f == a ≡ true = sym (over_root es a f none) ∙ over in let k : f ≡ a = grind (arith, nat_tests) in omega arith)
+    (λ p is. or_parts (f == a) (is_over es a p) (a ≤ f) (sym (over_child es a f p first is) ∙ over)
+    (λ e. let k : f ≡ a = grind (arith, nat_tests) in omega arith)
+    (λ up. let l = first f p is in let k = over_below es first n a p (omega arith) up in omega arith))
 
-carried_past : (g : Grove) (s i : ℕ) → IsForest g → length g.entries ≤ i → carried g.entries s i ≡ 0
+pub carried_past : (g : Grove) (s i : ℕ) → IsForest g → length g.entries ≤ i → carried g.entries s i ≡ 0
 carried_past g s i forest past =
     elim (cases_lt 0 (carried g.entries s i)) [
-      inl some ↦ absurd (
-        let found = carrier g.entries s i some in
-        let f = found.0 in
-        let low = over_below g.entries (parents_first g forest) (suc f) i f (omega arith) found.1 in
-        let none : (entry_at g.entries f).need ≡ 0 = ap (λ (e : Entry). e.need) (entry_at_past g.entries f (omega arith)) in
-        let later : s < (entry_at g.entries f).need = found.2 in
-        omega arith)
-    | inr none ↦ omega arith ]
+      | inl some ↦ absurd (
+          let found = carrier g.entries s i some in
+          let f = found.0 in
+          let low = over_below g.entries (parents_first g forest) (suc f) i f (omega arith) found.1 in
+          let none : (entry_at g.entries f).need ≡ 0 = ap (λ (e : Entry). e.need) (entry_at_past g.entries f (omega arith)) in
+          let later : s < (entry_at g.entries f).need = found.2 in
+          omega arith)
+      | inr none ↦ omega arith
+    ]
 
 names_from : (es : List Entry) (s i : ℕ) (o : Option ℕ) → NamesFrom es s i o → 0 < carried es s i → IsFrom es s i (unwrap_or o 0)
 names_from es s i None names some = absurd (omega arith)
 names_from es s i (Some n) names some = names.1
 
-pub shows_of : (o : Outlook) (s : ℕ) → IsForest o.grove → IsCarried o.grove s o.loads → Shows o.grove s (terms_of o)
+pub shows_of : (o : Prospect) (s : ℕ) → IsForest o.grove → IsCarried o.grove s o.loads → Shows o.grove s (terms_of o)
 unfolding terms_of load_at
 shows_of o s forest is = record {
   end = λ i. refl;
   step = λ i. refl;
   need = λ i.
-    elim (cases_lt i (length o.grove.entries)) [
-      inl within ↦ is.need i within
-    | inr past ↦
-        let c = carried_past o.grove s i forest past in
-        let count = is.count in
-        ap (λ (l : CarriedNeed). l.need) (get_or_past o.loads i (record { need = 0; from = None }) (omega arith)) ∙ sym c ];
+      elim (cases_lt i (length o.grove.entries)) [
+        | inl within ↦ is.need i within
+        | inr past ↦
+            let c = carried_past o.grove s i forest past in
+            let count = is.count in
+            ap (λ (l : CarriedNeed). l.need) (get_or_past o.loads i (record { need = 0; from = None }) (omega arith)) ∙ sym c
+      ];
   from = λ i some.
-    elim (cases_lt i (length o.grove.entries)) [
-      inl within ↦ names_from o.grove.entries s i (load_at o.loads i).from (is.from i within) some
-    | inr past ↦ absurd (let c = carried_past o.grove s i forest past in omega arith) ];
+      elim (cases_lt i (length o.grove.entries)) [
+        | inl within ↦ names_from o.grove.entries s i (load_at o.loads i).from (is.from i within) some
+        | inr past ↦ absurd (let c = carried_past o.grove s i forest past in omega arith)
+      ];
   margin = refl;
 }
 
 pub sound_of : (g : Grove) (s : ℕ) (t : Terms) → Shows g s t → IsForest g → AllKeepable g s (end_of g.entries) → IsSound t
 sound_of g s t shows forest keepable = record {
   step = λ i h.
-    let end = shows.end i in
-    let need = shows.need i in
-    let step = shows.step i in
-    let margin = shows.margin in
-    elim (cases_lt i (length g.entries)) [
-      inl within ↦ let k = (forest.placed i within).step_past_margin in omega arith
-    | inr past ↦ absurd (let c = carried_past g s i forest past in omega arith) ];
+      let end = shows.end i in
+      let need = shows.need i in
+      let step = shows.step i in
+      let margin = shows.margin in
+      elim (cases_lt i (length g.entries)) [
+        | inl within ↦ let k = (forest.placed i within).step_past_margin in omega arith
+        | inr past ↦ absurd (let c = carried_past g s i forest past in omega arith)
+      ];
   end = λ i h.
-    let end = shows.end i in
-    let need = shows.need i in
-    let margin = shows.margin in
-    let k = (able g s keepable i (omega arith)).in_time in
-    omega arith;
+      let end = shows.end i in
+      let need = shows.need i in
+      let margin = shows.margin in
+      let k = (able g s keepable i (omega arith)).in_time in
+      omega arith;
   need = λ i.
-    let need = shows.need i in
-    elim (cases_lt 0 (carried g.entries s i)) [
-      inl some ↦
-        let found = carrier g.entries s i some in
-        let is : (entry_at g.entries found.0).need ≡ carried g.entries s i = found.3 in
-        let k = need_within g forest found.0 in
-        omega arith
-    | inr none ↦ omega arith ];
+      let need = shows.need i in
+      elim (cases_lt 0 (carried g.entries s i)) [
+        | inl some ↦
+            let found = carrier g.entries s i some in
+            let is : (entry_at g.entries found.0).need ≡ carried g.entries s i = found.3 in
+            let k = need_within g forest found.0 in
+            omega arith
+        | inr none ↦ omega arith
+      ];
 }
+
+pub need_past : (o : Prospect) (i : ℕ) → length o.loads ≤ i → (terms_of o).need i ≡ 0
+unfolding terms_of load_at
+need_past o i past = ap (λ (l : CarriedNeed). l.need) (get_or_past o.loads i (record { need = 0; from = None }) past)
+
+pub in_sight : (o : Prospect) (s : ℕ) → IsForest o.grove → IsCarried o.grove s o.loads → AllKeepable o.grove s (end_of o.grove.entries) → IsInSight o
+in_sight o s forest is keepable = record { count = is.count; sound = sound_of o.grove s (terms_of o) (shows_of o s forest is) forest keepable }

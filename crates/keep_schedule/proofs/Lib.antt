@@ -1,5 +1,12 @@
 pub mod Leading
 pub mod Lists
-pub mod Groups
+pub mod Grouping
 pub mod Stretches
 pub mod Bridge
+pub mod Lines
+pub mod Taking
+pub mod Moves
+pub mod Extending
+pub mod Queueing
+pub mod Keepable
+pub mod Forces

@@ -3,11 +3,8 @@ use Rattle.std.proofs.Common.{◌≡◌, ℕ, zero, suc, ◌+◌, ◌-◌, ◌*�
 use Rattle.keep_schedule.specs.declared.force.Force.{Force}
 use Rattle.keep_schedule.specs.Terms.{Ahead, AreLed, IsSound, Leads, Terms, deadline}
 use Rattle.keep_schedule.specs.Runs.{wakes_of}
+use Rattle.keep_schedule.specs.Stretches.{LeadsAll}
 use Rattle.keep_schedule.proofs.Leading.{one_leads, same_force}
-
--- f leads after each of n wake-ups, the first at w, d apart
-abbrev pub LeadsAll : Terms → ℕ → ℕ → ℕ → ℕ → Type 0
-LeadsAll t w d f n = (k : ℕ) → k < n → Leads t (Some (w + k * d)) f
 
 tail_leads : (t : Terms) (w d f n : ℕ) → LeadsAll t w d f (suc n) → LeadsAll t (w + d) d f n
 tail_leads t w d f n leads k h = subst (λ (v : ℕ). Leads t (Some v) f) (let e : w + suc k * d ≡ (w + d) + k * d = omega arith in e) (leads (suc k) (omega arith))

@@ -1,5 +1,10 @@
 pub mod Forces
 pub mod Runs
 pub mod Terms
+pub mod Prospect
+pub mod Courses
+pub mod Line
 pub mod Groups
-pub mod Outlook
+pub mod Stretches
+pub mod Queues
+pub mod Laws

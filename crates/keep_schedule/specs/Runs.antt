@@ -1,6 +1,7 @@
 -- Runs and schedules: what it means to take the head, or a run, from a list of wake-ups to come.
 -- Source: this project's own.
-use Rattle.std.specs.Prelude.{◌≡◌, ℕ, zero, suc, ◌+◌, ◌≤◌, ◌<◌, ◌⊎◌, ◌↔◌, List, [], ◌∷◌, ◌++◌, Option, Some, None}
+use Rattle.std.specs.Prelude.{◌≡◌, ℕ, zero, suc, ◌+◌, ◌-◌, ◌*◌, ◌≤◌, ◌<◌, ◌↔◌, List, [], ◌∷◌, ◌++◌, Option, Some, None}
+use Rattle.keep_moment.specs.declared.moment.TheConstants.{LAST}
 use Rattle.keep_schedule.specs.declared.force.Force.{Force}
 use Rattle.keep_schedule.specs.declared.run.Run.{Run}
 
@@ -25,11 +26,12 @@ GivesHead old new None = old [] × (new [] × ((xs : List Force) → old xs → 
 GivesHead old new (Some x) = ((rest : List Force) → new rest → old (x ∷ rest)) × ((xs : List Force) → old xs → (rest : List Force) × ((xs ≡ x ∷ rest) × new rest))
 
 -- the list to come begins with the wake-ups of a run, and is now what follows them. It is the longest run of at most `most`
--- wake-ups with which the list begins
+-- wake-ups with which the list begins, and its last wake-up is at a moment
 pub record IsFirstRun (old new : List Force → Type 0) (most : ℕ) (r : Run) : Type 0 where
   pub some : 0 < r.count
   pub within : r.count ≤ most
   pub lone : (r.step ≡ 0) ↔ (r.count ≡ 1)
+  pub moment : r.first + (r.count - 1) * r.step ≤ LAST
   pub joins : (rest : List Force) → new rest → old (wakes r ++ rest)
   pub splits : (xs : List Force) → old xs → (rest : List Force) × ((xs ≡ wakes r ++ rest) × new rest)
   pub longest : (other : Run) (rest : List Force) → old (wakes other ++ rest) → other.count ≤ most → other.count ≤ r.count

@@ -5,10 +5,24 @@
 //! latest. Begin with `force`.
 #![tactic(auto)]
 
+mod fault;
 mod force;
+mod groups;
+mod laws;
+mod line;
+mod outlook;
+mod queue;
 mod run;
+mod scan;
 mod schedule;
+mod stretch;
+#[cfg(test)]
+mod tests;
 
+pub use fault::ScheduleFault;
 pub use force::Force;
+pub use laws::forces_law;
+pub use queue::QueueSchedule;
 pub use run::Run;
+pub use scan::ScanSchedule;
 pub use schedule::Schedule;

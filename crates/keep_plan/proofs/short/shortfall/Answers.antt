@@ -9,11 +9,12 @@ use Rattle.keep_rule.specs.Reach.{reach}
 use Rattle.keep_rule.specs.Unkeepable.{Unkeepable}
 use Rattle.keep_needs.specs.Carried.{NamesFrom}
 use Rattle.keep_plan.specs.Shortfall.{falls_short}
+use Rattle.keep_plan.proofs.Deciding.{none_keeps, some_keeps}
 use Rattle.keep_plan.proofs.Unkeepables.{not_unkeepable, over_at_most, unkeepable_from}
 use Rattle.keep_plan.proofs.short.shortfall.Goals as goal
 
-pub returns-then-falls_short : goal.returns-then-falls_short
-returns-then-falls_short c =
+pub returns-then-falls_short-clause-pair : goal.returns-then-falls_short-clause-pair
+returns-then-falls_short-clause-pair c =
     let g = c.args.forest.now in
     let s = c.args.start in
     let i = c.loop-entry.entry in
@@ -41,8 +42,8 @@ loop-entry-preserved c =
           (let here : k ≡ i = omega arith in subst (λ n. Unkeepable g.entries g.margin s (end_of g.entries) n f) here pair)
     ]
 
-pub returns : goal.returns
-returns c =
+pub returns-clause-pair : goal.returns-clause-pair
+returns-clause-pair c =
     let es = c.args.forest.now.entries in
     let first = parents_first c.args.forest.now c.len-entry-end.ensures.sound in
     let count = c.len-entry-end.ensures.value in
@@ -54,3 +55,10 @@ returns c =
           let later = pair.later in
           omega arith
     ]
+
+pub returns-then-falls_short-clause-keeps : goal.returns-then-falls_short-clause-keeps
+returns-then-falls_short-clause-keeps c =
+    none_keeps c.args.forest.now c.args.start c.loop-entry.entry c.in_ok-needed.needed (returns-then-falls_short-clause-pair c).pair
+
+pub returns-clause-keeps : goal.returns-clause-keeps
+returns-clause-keeps c = some_keeps c.args.forest.now c.args.start c.len-entry-end.ensures.sound (returns-clause-pair c)

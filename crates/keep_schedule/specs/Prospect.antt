@@ -1,17 +1,17 @@
--- Outlook: the terms that a forest and its carried needs give.
+-- Prospect: the terms that a forest and its carried needs give.
 -- Source: this project's own.
-use Rattle.std.specs.Prelude.{ℕ, List, unwrap_or}
+use Rattle.std.specs.Prelude.{◌≡◌, ℕ, List, length, unwrap_or}
 use Rattle.keep_tree.specs.Forest.{Grove, end_of, entry_at}
 use Rattle.keep_needs.specs.Carried.{CarriedNeed, load_at}
-use Rattle.keep_schedule.specs.Terms.{Terms}
+use Rattle.keep_schedule.specs.Terms.{IsSound, Terms}
 
 -- what a schedule looks at: a forest, and what its entries carry
-pub record Outlook : Type 0 where
+pub record Prospect : Type 0 where
   pub grove : Grove
   pub loads : List CarriedNeed
 
 -- its terms: present ends, steps, carried needs, and the entries that have them (0 where there is none)
-unfoldable pub terms_of : Outlook → Terms
+unfoldable pub terms_of : Prospect → Terms
 terms_of o = record {
   end = end_of o.grove.entries;
   step = λ i. (entry_at o.grove.entries i).step;
@@ -19,3 +19,8 @@ terms_of o = record {
   from = λ i. unwrap_or (load_at o.loads i).from 0;
   margin = o.grove.margin;
 }
+
+-- what is known of its terms
+pub record IsInSight (o : Prospect) : Type 0 where
+  pub count : length o.loads ≡ length o.grove.entries
+  pub sound : IsSound (terms_of o)

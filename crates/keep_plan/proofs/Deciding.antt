@@ -1,0 +1,78 @@
+-- The decision: what follows for every plan from the forces, from a list of them that is too long, and from a pair that is
+-- Unkeepable; for `shortfall` and `plan`.
+use Rattle.std.proofs.Common.{◌≡◌, ◌∙◌, ℕ, ◌+◌, ◌<◌, ◌≤◌, List, [], ◌∷◌, Option, Some, None, length, refl, suc, sym, ap, subst, arith, ◌-◌, ◌*◌}
+use Rattle.std.specs.Option.{MatchOption}
+use Rattle.keep_tree.specs.Forest.{Grove, end_of}
+use Rattle.keep_tree.specs.Push.{IsForest}
+use Rattle.keep_rule.specs.declared.wake.Wake.{Wake}
+use Rattle.keep_rule.specs.Asks.{with_asks}
+use Rattle.keep_rule.specs.Keeps.{Keeps}
+use Rattle.keep_rule.specs.Plans.{IsPlan, moments}
+use Rattle.keep_rule.specs.Requests.{requests}
+use Rattle.keep_rule.specs.Schedule.{IsSchedule}
+use Rattle.keep_rule.specs.Unkeepable.{AllKeepable, Unkeepable}
+use Rattle.keep_rule.proofs.Existence.{there_is_one}
+use Rattle.keep_rule.proofs.FewestRequests.{fewest_requests}
+use Rattle.keep_rule.proofs.Keeping.{unkeepable}
+use Rattle.keep_rule.proofs.Schedule.{schedule_is_best}
+use Rattle.keep_schedule.specs.declared.force.Force.{Force}
+use Rattle.keep_schedule.specs.declared.run.Run.{Run}
+use Rattle.keep_schedule.specs.Forces.{AreForces, moments_of}
+use Rattle.keep_schedule.specs.Runs.{all_wakes}
+use Rattle.keep_schedule.proofs.Bridge.{forces_schedule}
+use Rattle.keep_schedule.proofs.Forces.{forces_are_best}
+use Rattle.keep_plan.specs.declared.limit.TheConstants.{LIMIT}
+use Rattle.keep_plan.specs.Collecting.{IsOverlong, IsWhole}
+use Rattle.keep_plan.specs.Decides.{AreBest, IsTooLong, NoneKeeps, SomeKeeps}
+
+pub none_keeps : (g : Grove) (s i f : ℕ) → Unkeepable g.entries g.margin s (end_of g.entries) i f → NoneKeeps g s
+none_keeps g s i f pair = λ plan in_order keeps. unkeepable g.entries g.margin s (end_of g.entries) i f pair plan in_order keeps
+
+pub some_keeps : (g : Grove) (s : ℕ) → IsForest g → AllKeepable g s (end_of g.entries) → SomeKeeps g s
+some_keeps g s forest keepable =
+    let ts = there_is_one g s (end_of g.entries) forest keepable in
+    let least = (schedule_is_best g s (end_of g.entries) forest keepable ts.0 ts.1).1.1.1 in
+    (least.plan, (least.in_order, least.kept))
+
+length_moments : (xs : List Force) → length (moments_of xs) ≡ length xs
+length_moments [] = refl
+length_moments (x ∷ xs) = ap (λ k. suc k) (length_moments xs)
+
+pub best_of :
+    (g : Grove) (s : ℕ) → IsForest g → AllKeepable g s (end_of g.entries) → (comes : List Force → Type 0) → ((xs : List Force) → comes xs → AreForces g.entries g.margin s (end_of g.entries) None xs) →
+    (most : ℕ) → most ≤ 2 * length g.entries - 1 → (rs : List Run) → IsWhole comes most rs → AreBest g s rs
+best_of g s forest keepable comes tells most few rs whole =
+    let es = g.entries in
+    let forces = tells (all_wakes rs) whole.all in
+    let best = schedule_is_best g s (end_of es) forest keepable (moments_of (all_wakes rs)) (forces_schedule es g.margin s (end_of es) None (all_wakes rs) forces) in
+    let runs = whole.few_runs in
+    record {
+      runs = whole.runs;
+      forces = forces;
+      least = best.1.1.1;
+      kept = best.1.1.0;
+      fewest = λ plan in_order keeps same.
+          subst (λ ts. requests (with_asks es g.margin s (end_of es) ts) ≤ requests plan) same (fewest_requests es g.margin s (end_of es) plan in_order keeps);
+      longest = whole.longest;
+      few = whole.few;
+      few_runs = omega arith;
+    }
+
+pub too_long :
+    (g : Grove) (s : ℕ) → IsForest g → AllKeepable g s (end_of g.entries) → (comes : List Force → Type 0) → ((xs : List Force) → AreForces g.entries g.margin s (end_of g.entries) None xs → comes xs) →
+    IsOverlong comes → IsTooLong g s
+too_long g s forest keepable comes tells over =
+    let es = g.entries in
+    let found = forces_are_best g s forest keepable in
+    let long = over found.0 (tells found.0 found.1.0) in
+    let least = found.1.1.1.1 in
+    let same = length_moments found.0 in
+    record {
+      some = some_keeps g s forest keepable;
+      long = λ plan in_order keeps. let l : length (moments_of found.0) ≤ length plan = least.least plan in_order keeps in omega (arith, long, same);
+    }
+
+-- what an option means, by what its parts mean
+pub each_case : {X : Type 0} (o : Option X) (A B : Type 0) (P Q : X → Type 0) → (A → B) → ((x : X) → P x → Q x) → MatchOption o A P → MatchOption o B Q
+each_case None A B P Q none some h = none h
+each_case (Some x) A B P Q none some h = some x h

@@ -1,0 +1,10 @@
+use Rattle.std.proofs.Common.{ℕ}
+use Rattle.keep_schedule.specs.Courses.{IsToCome}
+use Rattle.keep_plan.specs.Collecting.{IsTaken}
+use Rattle.keep_plan.proofs.collect.collect.Given as goal
+
+abbrev pub invariant-loop-run : goal.invariant-loop-run
+invariant-loop-run l = IsTaken (IsToCome l.initial.schedule.course) (IsToCome l.schedule.course) l.initial.schedule.runs l.schedule.runs l.runs.items l.room
+
+abbrev pub decreases-loop-run : goal.decreases-loop-run
+decreases-loop-run l = l.room

@@ -1,0 +1,10 @@
+use Rattle.std.proofs.Common.{◌≡◌, drop}
+use Rattle.keep_schedule.specs.Runs.{all_wakes}
+use Rattle.keep_plan.specs.Planned.{AreRuns, next_after}
+use Rattle.keep_plan.proofs.runs.next_after.Given as goal
+
+abbrev pub invariant-loop-run : goal.invariant-loop-run
+invariant-loop-run l = record {
+  runs : AreRuns (drop l.run-index l.runs);
+  next : next_after l.at (all_wakes (drop l.run-index l.runs)) ≡ next_after l.at (all_wakes l.runs);
+}

@@ -1,0 +1,62 @@
+-- Decides: the answer for a forest and a start.
+-- Source: this project's own, over Vault, "Lease, renew, and revoke" (maximum TTL); Vault, "Tokens".
+use Rattle.std.specs.Prelude.{◌≡◌, ℕ, ◌-◌, ◌*◌, ◌≤◌, ◌<◌, ◌++◌, List, [], ◌∷◌, None, length}
+use Rattle.keep_tree.specs.Forest.{Grove, end_of}
+use Rattle.keep_rule.specs.declared.wake.Wake.{Wake}
+use Rattle.keep_rule.specs.Asks.{with_asks}
+use Rattle.keep_rule.specs.Keeps.{Keeps}
+use Rattle.keep_rule.specs.Least.{IsLeastAndLatest}
+use Rattle.keep_rule.specs.Plans.{IsPlan, moments}
+use Rattle.keep_rule.specs.Requests.{requests}
+use Rattle.keep_needs.specs.Carried.{IsCarried}
+use Rattle.keep_schedule.specs.declared.force.Force.{Force}
+use Rattle.keep_schedule.specs.declared.run.Run.{Run}
+use Rattle.keep_schedule.specs.Forces.{AreForces, moments_of}
+use Rattle.keep_schedule.specs.Runs.{all_wakes, wakes}
+use Rattle.keep_plan.specs.declared.decision.Decision.{Decision}
+use Rattle.keep_plan.specs.declared.decision.Decision.TheVariants.{Keep, TooLong, Unkeepable}
+use Rattle.keep_plan.specs.declared.limit.TheConstants.{LIMIT}
+use Rattle.keep_plan.specs.Planned.{AreRuns, Planned}
+use Rattle.keep_plan.specs.Shortfall.{IsShortfall}
+
+-- each run goes from the left as long as it can: what follows begins with no longer one
+abbrev pub AreLongest : List Run → Type 0
+AreLongest [] = Unit {0}
+AreLongest (r ∷ rs) = ((other : Run) (rest : List Force) → all_wakes (r ∷ rs) ≡ wakes other ++ rest → other.count ≤ r.count) × AreLongest rs
+
+-- runs whose wake-ups are the forces from s on, each as long as it can be. Their moments are least and latest; with their
+-- Asks they keep, and no plan that keeps at these moments makes fewer requests
+pub record AreBest (g : Grove) (s : ℕ) (rs : List Run) : Type 0 where
+  pub runs : AreRuns rs
+  pub forces : AreForces g.entries g.margin s (end_of g.entries) None (all_wakes rs)
+  pub least : IsLeastAndLatest g.entries g.margin s (end_of g.entries) (moments_of (all_wakes rs))
+  pub kept : Keeps g.entries g.margin s (end_of g.entries) (with_asks g.entries g.margin s (end_of g.entries) (moments_of (all_wakes rs)))
+  pub fewest : (plan : List Wake) → IsPlan s plan → Keeps g.entries g.margin s (end_of g.entries) plan → moments plan ≡ moments_of (all_wakes rs)
+      → requests (with_asks g.entries g.margin s (end_of g.entries) (moments_of (all_wakes rs))) ≤ requests plan
+  pub longest : AreLongest rs
+  pub few : length (all_wakes rs) ≤ LIMIT
+  pub few_runs : length rs ≤ 2 * length g.entries - 1
+
+-- a plan by the forest's needs from s on
+pub record IsKept (g : Grove) (s : ℕ) (p : Planned) : Type 0 where
+  pub start : p.start ≡ s
+  pub carried : IsCarried g p.start p.carried
+  pub best : AreBest g s p.runs
+
+-- some plan from s keeps
+abbrev pub SomeKeeps : Grove → ℕ → Type 0
+SomeKeeps g s = (plan : List Wake) × (IsPlan s plan × Keeps g.entries g.margin s (end_of g.entries) plan)
+
+-- none does
+abbrev pub NoneKeeps : Grove → ℕ → Type 0
+NoneKeeps g s = (plan : List Wake) → IsPlan s plan → Keeps g.entries g.margin s (end_of g.entries) plan → ⊥
+
+-- some plan keeps, and each that does has more than LIMIT wake-ups
+pub record IsTooLong (g : Grove) (s : ℕ) : Type 0 where
+  pub some : SomeKeeps g s
+  pub long : (plan : List Wake) → IsPlan s plan → Keeps g.entries g.margin s (end_of g.entries) plan → LIMIT < length plan
+
+abbrev pub Decides : Grove → ℕ → Decision → Type 0
+Decides g s (Keep p) = IsKept g s p
+Decides g s (Unkeepable entry needed) = IsShortfall g s entry needed × NoneKeeps g s
+Decides g s TooLong = IsTooLong g s

@@ -1,0 +1,26 @@
+ghost use Rattle.std.specs.Prelude.{◌≡◌, IfOk, MatchOption};
+ghost use Rattle.keep_schedule.specs.Courses.{IsToCome};
+ghost use Rattle.keep_plan.specs.Collecting.{IsOverlong, IsWhole};
+
+use crate::limit::LIMIT;
+use keep_schedule::{QueueSchedule, Run};
+use std::alloc::{AllocError, Global};
+
+/// The runs of the schedule's list, `None` where it is longer than [`LIMIT`]. The only error is want of memory.
+pub(crate) fn collect(
+    alloc: Global,
+    schedule: &mut QueueSchedule,
+) -> Result<Option<Vec<Run>>, AllocError>
+    ensures { IfOk result (λ runs. MatchOption runs (IsOverlong (IsToCome schedule.old.course)) (λ v. IsWhole (IsToCome schedule.old.course) schedule.old.runs v.items)) }
+{
+    let mut runs = Vec::new(alloc);
+    let mut room = LIMIT + 1;
+    while let Some(run) = schedule.next_run(room) {
+        if run.count == room {
+            return Ok(None);
+        }
+        room -= run.count;
+        runs.push(run)?;
+    }
+    Ok(Some(runs))
+}

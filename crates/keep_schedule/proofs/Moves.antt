@@ -1,0 +1,154 @@
+-- Moves between the groups: one that has reached its need leaves, one whose end a wake-up reaches joins.
+use Rattle.std.proofs.Common.{◌≡◌, ◌≢◌, ℕ, zero, suc, ◌+◌, ◌-◌, ◌*◌, ◌<◌, ◌≤◌, ◌⊎◌, List, [], ◌∷◌, length, Option, Some, None, refl, sym, ap, ◌∙◌, subst, arith, inl, inr}
+use Rattle.std.proofs.lemmas.Bool.{cases_eq, cases_lt}
+use Rattle.std.proofs.lemmas.List.Elements.{All-cons, All-contains, All-tail}
+use Rattle.std.proofs.lemmas.List.Sorted.{All-permutation, Contains-permutation, IsPermutation-sym, length_permutation}
+use Rattle.std.specs.List.{All, Contains}
+use Rattle.std.specs.List.Sorted.{IsPermutation}
+use Rattle.keep_schedule.specs.declared.groups.Groups.{Groups}
+use Rattle.keep_schedule.specs.declared.groups.Next.{Next}
+use Rattle.keep_schedule.specs.declared.groups.Next.TheVariants.{Done, Joined, Waiting}
+use Rattle.keep_schedule.specs.declared.groups.Turn.TheVariants.{Comes, Leaves}
+use Rattle.keep_schedule.specs.Groups.{Grouped, HasJoined, IsFiled, IsFront, IsGrouped, IsHead, IsKeyed, IsSettled, IsTurn, Joins, Settles, Shrinks, Waits, size}
+use Rattle.keep_schedule.specs.Line.{FirstOf, IsFirst, Lined, Spot, spot}
+use Rattle.keep_schedule.specs.Terms.{Ahead, Terms, deadline}
+use Rattle.keep_schedule.proofs.Lines.{contains_cons, contains_head, contains_more}
+
+-- what stays in a line that another leaves
+stays : (old new : List Spot) (k f l i : ℕ) → IsPermutation old (spot k f ∷ new) → i ≢ f → Contains old (spot l i) → Contains new (spot l i)
+stays old new k f l i moved other among =
+    elim (contains_cons (spot l i) (spot k f) new (Contains-permutation old (spot k f ∷ new) (spot l i) moved among)) [
+      | inl same ↦ absurd (other (sym (ap (λ (x : Spot). x.0.1) same)))
+      | inr rest ↦ rest
+    ]
+
+-- what is in a line that another left was there before
+was : (old new : List Spot) (x y : Spot) → IsPermutation old (x ∷ new) → Contains new y → Contains old y
+was old new x y moved among = Contains-permutation (x ∷ new) old y (IsPermutation-sym old (x ∷ new) moved) (contains_more y x new among)
+
+keyed_left : (key : ℕ → ℕ) (n : ℕ) (old new : List Spot) (x : Spot) → IsPermutation old (x ∷ new) → IsKeyed key n old → IsKeyed key n new
+keyed_left key n old new x moved keyed = All-tail (λ (y : Spot). (y.0.0 ≡ key y.0.1) × (y.0.1 < n)) x new (All-permutation (λ (y : Spot). (y.0.0 ≡ key y.0.1) × (y.0.1 < n)) old (x ∷ new) moved keyed)
+
+left_length : (old new : List Spot) (x : Spot) → IsPermutation old (x ∷ new) → length old ≡ length new + 1
+left_length old new x moved = let e = length_permutation old (x ∷ new) moved in omega arith
+
+more_length : (old new : List Spot) (x : Spot) → IsPermutation (x ∷ old) new → length new ≡ length old + 1
+more_length old new x moved = let e = length_permutation (x ∷ old) new moved in omega arith
+
+pub first_within : (key : ℕ → ℕ) (n f : ℕ) (spots : List Spot) → IsKeyed key n spots → Contains spots (spot (key f) f) → f < n
+first_within key n f spots keyed among = (All-contains (λ (x : Spot). (x.0.0 ≡ key x.0.1) × (x.0.1 < n)) spots (spot (key f) f) keyed among).1
+
+-- the first that has joined has reached its need, and left
+pub left :
+    (t : Terms) (n v f : ℕ) (old new : Groups) → IsGrouped t n (Some v) old → t.need f ≤ v + t.step f →
+    IsPermutation old.joined.spots (spot (t.step f) f ∷ new.joined.spots) → new.joined.room ≡ old.joined.room → new.waits ≡ old.waits →
+    IsGrouped t n (Some v) new × (size new < size old)
+left t n v f old new grouped done moved room waits =
+    let g = grouped.grouped in
+    let filed = grouped.filed in
+    let fewer = left_length old.joined.spots new.joined.spots (spot (t.step f) f) moved in
+    let same : new.waits.spots ≡ old.waits.spots = ap (λ (l : Lined). l.spots) waits in
+    let length_same : length new.waits.spots ≡ length old.waits.spots = ap length same in
+    let r = filed.room in (
+      record {
+        filed = record {
+          waits = subst (IsKeyed t.end n) (sym same) filed.waits;
+          joined = keyed_left t.step n old.joined.spots new.joined.spots (spot (t.step f) f) moved filed.joined;
+          room = omega arith;
+        };
+        grouped = record {
+          all = λ i short. elim (g.all i short) [
+            | inl w ↦ inl (subst (λ l. Contains l (spot (t.end i) i)) (sym same) w)
+            | inr j ↦ elim (cases_eq i f) [
+              | inl e ↦ absurd (let at : t.need f ≡ t.need i = ap t.need (sym e) in let step : t.step f ≡ t.step i = ap t.step (sym e) in omega arith)
+              | inr other ↦ inr (stays old.joined.spots new.joined.spots (t.step f) f (t.step i) i moved other j)
+            ]
+          ];
+          short = λ i w. g.short i (subst (λ l. Contains l (spot (t.end i) i)) same w);
+          joined = λ i j. g.joined i (was old.joined.spots new.joined.spots (spot (t.step f) f) (spot (t.step i) i) moved j);
+        };
+      },
+      omega arith,
+    )
+
+pub joins_was : (t : Terms) (f i : ℕ) (old new : List Spot) → IsPermutation (spot (t.step f) f ∷ old) new → Contains new (spot (t.step i) i) → (f ≡ i) ⊎ Contains old (spot (t.step i) i)
+joins_was t f i old new added j =
+    elim (contains_cons (spot (t.step i) i) (spot (t.step f) f) old (Contains-permutation new (spot (t.step f) f ∷ old) (spot (t.step i) i) (IsPermutation-sym (spot (t.step f) f ∷ old) new added) j)) [
+      | inl same ↦ inl (ap (λ (x : Spot). x.0.1) same)
+      | inr rest ↦ inr rest
+    ]
+
+-- the first that waits has its end reached, and joined
+pub joined :
+    (t : Terms) (n v f : ℕ) (old new : Groups) → IsGrouped t n (Some v) old → f < n → t.end f ≤ v + t.step f →
+    IsPermutation old.waits.spots (spot (t.end f) f ∷ new.waits.spots) → IsPermutation (spot (t.step f) f ∷ old.joined.spots) new.joined.spots → old.joined.room ≤ new.joined.room →
+    IsGrouped t n (Some v) new × (size new + 1 ≡ size old)
+joined t n v f old new grouped within reached moved added room =
+    let g = grouped.grouped in
+    let filed = grouped.filed in
+    let fewer = left_length old.waits.spots new.waits.spots (spot (t.end f) f) moved in
+    let more = more_length old.joined.spots new.joined.spots (spot (t.step f) f) added in
+    let r = filed.room in (
+      record {
+        filed = record {
+          waits = keyed_left t.end n old.waits.spots new.waits.spots (spot (t.end f) f) moved filed.waits;
+          joined = All-permutation (λ (y : Spot). (y.0.0 ≡ t.step y.0.1) × (y.0.1 < n)) (spot (t.step f) f ∷ old.joined.spots) new.joined.spots added (All-cons (λ (y : Spot). (y.0.0 ≡ t.step y.0.1) × (y.0.1 < n)) (spot (t.step f) f) old.joined.spots (refl, within) filed.joined);
+          room = omega arith;
+        };
+        grouped = record {
+          all = λ i short. elim (g.all i short) [
+            | inl w ↦ elim (cases_eq i f) [
+              | inl e ↦ inr (Contains-permutation (spot (t.step f) f ∷ old.joined.spots) new.joined.spots (spot (t.step i) i) added (subst (λ k. Contains (spot (t.step f) f ∷ old.joined.spots) (spot (t.step k) k)) (sym e) (contains_head (spot (t.step f) f) old.joined.spots)))
+              | inr other ↦ inl (stays old.waits.spots new.waits.spots (t.end f) f (t.end i) i moved other w)
+            ]
+            | inr j ↦ inr (Contains-permutation (spot (t.step f) f ∷ old.joined.spots) new.joined.spots (spot (t.step i) i) added (contains_more (spot (t.step i) i) (spot (t.step f) f) old.joined.spots j))
+          ];
+          short = λ i w. g.short i (was old.waits.spots new.waits.spots (spot (t.end f) f) (spot (t.end i) i) moved w);
+          joined = λ i j. elim (joins_was t f i old.joined.spots new.joined.spots added j) [
+            | inl same ↦ subst (λ k. t.end k ≤ v + t.step k) same reached
+            | inr rest ↦ g.joined i rest
+          ];
+        };
+      },
+      omega arith,
+    )
+
+pub shrinks_more : (t : Terms) (n v : ℕ) (first old new : Groups) → Shrinks t n v first old → IsGrouped t n (Some v) new → size new < size old → Shrinks t n v first new
+shrinks_more t n v first old new shrinks grouped less =
+    let f = shrinks.fewer in
+    record { grouped = grouped; fewer = omega arith; same = λ e. absurd (omega arith) }
+
+pub shrinks_none : (t : Terms) (n v : ℕ) (g : Groups) → IsGrouped t n (Some v) g → Shrinks t n v g g
+shrinks_none t n v g grouped = record { grouped = grouped; fewer = omega arith; same = λ e. (refl, refl) }
+
+-- none stands ahead of the first
+pub none_ahead : (key : ℕ → ℕ) (f : ℕ) (spots : List Spot) → IsFirst spots (spot (key f) f) → (i : ℕ) → Contains spots (spot (key i) i) → Ahead (key f) f (key i) i
+none_ahead key f spots first i among = All-contains (λ (y : Spot). Ahead (key f) f y.0.0 y.0.1) spots (spot (key i) i) first.ahead among
+
+pub settled_waiting : (t : Terms) (n v h : ℕ) (g : Groups) → IsFirst g.waits.spots (spot (t.end h) h) × ((h < n) × ((i : ℕ) → Joins t g i → Ahead (t.end h) h (v + t.step i) i)) → v + t.step h < t.end h → IsSettled t n v g (Waiting h)
+settled_waiting t n v h g turn unjoined =
+    (turn.1.0, (turn.0, record { waiting = turn.0.among; unjoined = unjoined; waits = none_ahead t.end h g.waits.spots turn.0; joins = turn.1.1 }))
+
+pub turn_left :
+    (t : Terms) (n v f : ℕ) (first old new : Groups) → Shrinks t n v first old → IsTurn t n v old (Leaves f) →
+    ((x : Spot) → IsFirst old.joined.spots x → IsPermutation old.joined.spots (x ∷ new.joined.spots)) → new.joined.room ≡ old.joined.room → new.waits ≡ old.waits →
+    Shrinks t n v first new × (size new < size old)
+turn_left t n v f first old new shrinks turn moved room waits =
+    let done = left t n v f old new shrinks.grouped turn.1.1 (moved (spot (t.step f) f) turn.0) room waits in
+    (shrinks_more t n v first old new shrinks done.0 done.1, done.1)
+
+pub turn_joined :
+    (t : Terms) (n v f : ℕ) (first old new : Groups) → Shrinks t n v first old → IsTurn t n v old (Comes f) → t.end f ≤ v + t.step f →
+    IsPermutation old.waits.spots (spot (t.end f) f ∷ new.waits.spots) → IsPermutation (spot (t.step f) f ∷ old.joined.spots) new.joined.spots → old.joined.room ≤ new.joined.room →
+    Shrinks t n v first new × (size new < size old)
+turn_joined t n v f first old new shrinks turn reached moved added room =
+    let done = joined t n v f old new shrinks.grouped turn.1.0 reached moved added room in
+    let e = done.1 in
+    let less : size new < size old = omega arith in
+    (shrinks_more t n v first old new shrinks done.0 less, less)
+
+-- the key of the first of a line
+pub first_key : (key : ℕ → ℕ) (n h : ℕ) (spots : List Spot) → IsKeyed key n spots → FirstOf spots (Some h) → IsFirst spots (spot (key h) h)
+first_key key n h spots keyed (k, first) =
+    let is : k ≡ key h = (All-contains (λ (y : Spot). (y.0.0 ≡ key y.0.1) × (y.0.1 < n)) spots (spot k h) keyed first.among).0 in
+    subst (λ l. IsFirst spots (spot l h)) is first

@@ -1,0 +1,99 @@
+-- Taking wake-ups from the list to come: who leads of the first n, and what taking the head leaves.
+use Rattle.std.proofs.Common.{◌≡◌, ℕ, zero, suc, ◌+◌, ◌-◌, ◌<◌, ◌≤◌, ◌⊎◌, ◌++◌, List, [], ◌∷◌, length, Option, Some, None, refl, sym, ap, ◌∙◌, subst, arith, inl, inr}
+use Rattle.std.proofs.lemmas.Bool.{cases_eq, cases_lt}
+use Rattle.keep_schedule.specs.declared.force.Force.{Force}
+use Rattle.keep_schedule.specs.Courses.{Course, IsLeader, IsToCome, LeadsBelow, TakesLead}
+use Rattle.keep_schedule.specs.Prospect.{IsInSight, Prospect, terms_of}
+use Rattle.keep_schedule.specs.Runs.{GivesHead}
+use Rattle.keep_schedule.specs.Terms.{Ahead, AreLed, IsSound, Leads, Terms, deadline}
+use Rattle.keep_tree.specs.Forest.{Grove, end_of}
+use Rattle.keep_tree.specs.Push.{IsForest}
+use Rattle.keep_rule.specs.Unkeepable.{AllKeepable}
+use Rattle.keep_moment.specs.declared.moment.TheConstants.{LAST}
+use Rattle.keep_needs.specs.Carried.{CarriedNeed, IsCarried}
+use Rattle.keep_schedule.specs.Forces.{AreForces}
+use Rattle.keep_schedule.proofs.Bridge.{Shows, forces_led, led_forces, need_past, shows_of}
+use Rattle.keep_schedule.proofs.Leading.{ahead, one_leads, one_led, same_force, short_before, end_below_deadline}
+
+pub leads_none : (t : Terms) (prev : Option ℕ) → LeadsBelow t prev 0 None
+leads_none t prev = λ i h. absurd (omega arith)
+
+pub leads_taken : (t : Terms) (prev : Option ℕ) (n : ℕ) (best : Option ℕ) → LeadsBelow t prev n best → TakesLead t prev n best → LeadsBelow t prev (n + 1) (Some n)
+leads_taken t prev n None below takes =
+    (omega arith, (takes, λ i h short. elim (cases_eq i n) [ inl same ↦ let e : deadline t prev n ≡ deadline t prev i = ap (deadline t prev) (sym same) in ahead _ _ _ _ (omega arith) (λ e'. omega arith) | inr other ↦ absurd (let l = below i (omega arith) in omega arith) ]))
+leads_taken t prev n (Some f) below takes = (
+  omega arith,
+  (
+    takes.0,
+    λ i h short. elim (cases_eq i n) [
+      | inl same ↦ let e : deadline t prev n ≡ deadline t prev i = ap (deadline t prev) (sym same) in ahead _ _ _ _ (omega arith) (λ e'. omega arith)
+      | inr other ↦ (let a = below.1.1 i (omega arith) short in let l = takes.1 in ahead _ _ _ _ (omega arith) (λ e'. omega arith))
+    ],
+  ),
+)
+
+pub leads_kept : (t : Terms) (prev : Option ℕ) (n : ℕ) (best : Option ℕ) → LeadsBelow t prev n best → (TakesLead t prev n best → ⊥) → LeadsBelow t prev (n + 1) best
+leads_kept t prev n None below keeps = λ i h.
+    elim (cases_eq i n) [
+      | inl same ↦ subst (λ k. t.need k ≤ deadline t prev k) (sym same) (elim (cases_lt (deadline t prev n) (t.need n)) [ inl less ↦ absurd (keeps less) | inr more ↦ more ])
+      | inr other ↦ below i (omega arith)
+    ]
+leads_kept t prev n (Some f) below keeps = (
+  let l = below.0 in omega arith,
+  (
+    below.1.0,
+    λ i h short.
+        elim (cases_eq i n) [
+          | inl same ↦
+              let e : deadline t prev n ≡ deadline t prev i = ap (deadline t prev) (sym same) in
+              let s : deadline t prev n < t.need n = subst (λ k. deadline t prev k < t.need k) same short in
+              elim (cases_lt (deadline t prev n) (deadline t prev f)) [ inl less ↦ absurd (keeps (s, less)) | inr more ↦ (let l = below.0 in ahead _ _ _ _ (omega arith) (λ e'. omega arith)) ]
+          | inr other ↦ below.1.1 i (omega arith) short
+        ],
+  ),
+)
+
+pub leader_of : (o : Prospect) (prev : Option ℕ) (best : Option ℕ) → LeadsBelow (terms_of o) prev (length o.loads) best → IsLeader (terms_of o) prev best
+leader_of o prev None below = λ i. elim (cases_lt i (length o.loads)) [ inl within ↦ below i within | inr past ↦ let z = need_past o i past in omega arith ]
+leader_of o prev (Some f) below = record {
+  short = below.1.0;
+  first = λ i short. elim (cases_lt i (length o.loads)) [ inl within ↦ below.1.1 i within short | inr past ↦ absurd (let z = need_past o i past in omega arith) ];
+}
+
+pub gives_none : (o : Prospect) (prev : Option ℕ) → IsLeader (terms_of o) prev None → GivesHead (IsToCome (record { prospect = o; last = prev })) (IsToCome (record { prospect = o; last = prev })) None
+unfolding IsToCome
+gives_none o prev none = (none, (none, λ xs led. one_led (terms_of o) prev xs [] led none))
+
+pub gives_head :
+    (o : Prospect) (prev : Option ℕ) (v : ℕ) (x : Force) → Leads (terms_of o) prev x.entry → v ≡ deadline (terms_of o) prev x.entry - (terms_of o).margin → x.at ≡ v → x.needed ≡ (terms_of o).from x.entry →
+    GivesHead (IsToCome (record { prospect = o; last = prev })) (IsToCome (record { prospect = o; last = Some v })) (Some x)
+unfolding IsToCome
+gives_head o prev v x leads at is needed =
+    (λ rest led. (leads, (is ∙ at, (needed, subst (λ w. AreLed (terms_of o) (Some w) rest) (sym is) led))), split) where
+      split : (xs : List Force) → AreLed (terms_of o) prev xs → (rest : List Force) × ((xs ≡ x ∷ rest) × AreLed (terms_of o) (Some v) rest)
+      split [] led = absurd (let s = leads.short in let l = led x.entry in omega arith)
+      split (y ∷ ys) led =
+          let entry : y.entry ≡ x.entry = one_leads (terms_of o) prev y.entry x.entry led.0 leads in
+          let moment : y.at ≡ v = led.1.0 ∙ (ap (λ f. deadline (terms_of o) prev f - (terms_of o).margin) entry ∙ sym at) in
+          let for' : y.needed ≡ x.needed = led.1.1.0 ∙ (ap (terms_of o).from entry ∙ sym needed) in
+          (ys, (ap (λ z. z ∷ ys) (same_force y x (moment ∙ sym is) entry for'), subst (λ w. AreLed (terms_of o) (Some w) ys) moment led.1.1.1))
+
+-- the wake-up of the one that leads is a moment, and not before the margin
+pub forced_within : (t : Terms) (prev : Option ℕ) (f : ℕ) → IsSound t → Leads t prev f → (t.margin ≤ deadline t prev f) × (deadline t prev f - t.margin ≤ LAST)
+forced_within t prev f sound leads =
+    let short = leads.short in
+    let before = short_before t prev f short in
+    let end = sound.end f before in
+    let need = sound.need f in
+    let below = end_below_deadline t prev f in
+    (omega arith, omega arith)
+
+-- the list that a new schedule stands for is that of the forces
+pub comes_forces :
+    (o : Prospect) (g : Grove) (loads : List CarriedNeed) (s : ℕ) → o ≡ record { grove = g; loads = loads } → IsForest g → IsCarried g s loads → AllKeepable g s (end_of g.entries) → (xs : List Force) →
+    (IsToCome (record { prospect = o; last = None }) xs → AreForces g.entries g.margin s (end_of g.entries) None xs)
+    × (AreForces g.entries g.margin s (end_of g.entries) None xs → IsToCome (record { prospect = o; last = None }) xs)
+unfolding IsToCome
+comes_forces o g loads s is forest carried keepable xs =
+    let shows : Shows g s (terms_of o) = subst (λ (p : Prospect). Shows g s (terms_of p)) (sym is) (shows_of (record { grove = g; loads = loads }) s forest carried) in
+    (led_forces g s (terms_of o) shows keepable None xs, forces_led g s (terms_of o) shows keepable None xs)

@@ -1,0 +1,13 @@
+use Rattle.std.proofs.Common.{◌≡◌, ◌≤◌, Some, subst, refl, arith, rules}
+use Rattle.keep_schedule.specs.declared.force.Force.{Force}
+use Rattle.keep_schedule.specs.Courses.{IsToCome}
+use Rattle.keep_schedule.specs.Runs.{GivesRun}
+use Rattle.keep_schedule.proofs.Queueing.{head_of_run}
+use Rattle.keep_schedule.proofs.queue.QueueScheduleSchedule.next.Goals as goal
+
+pub returns : goal.returns
+returns c =
+    let x : Force = record { at = c.unwrap.result; entry = c.in-Some.run'.entry; needed = c.in-Some.run'.needed } in
+    let at : c.unwrap.result ≡ c.in-Some.run'.first = search rules in
+    head_of_run (IsToCome c.args.self.now.course) (IsToCome c.next_run.new.self.course) c.in-Some.run' x
+    (subst (λ r. GivesRun (IsToCome c.args.self.now.course) (IsToCome c.next_run.new.self.course) 1 r) c.in-Some.is c.next_run.ensures.run) at refl refl

@@ -1,0 +1,24 @@
+use Rattle.std.proofs.Common.{◌≡◌, ◌-◌, [], ◌∷◌, None, Some, subst, rules}
+use Rattle.keep_schedule.specs.declared.force.Force.{Force}
+use Rattle.keep_schedule.specs.Courses.{Course, IsLeader, IsToCome}
+use Rattle.keep_schedule.specs.Prospect.{terms_of}
+use Rattle.keep_schedule.specs.Runs.{GivesHead}
+use Rattle.keep_schedule.proofs.Taking.{gives_head, gives_none}
+use Rattle.keep_schedule.proofs.scan.ScanScheduleSchedule.next.Goals as goal
+
+pub returns-in_default : goal.returns-in_default
+returns-in_default c =
+    let o = c.self.inside.outlook in
+    let prev = c.self.inside.last in
+    subst (λ (q : Course). GivesHead (IsToCome q) (IsToCome q) None) c.self.view_is
+    (gives_none o prev (subst (λ best. IsLeader (terms_of o) prev best) c.in_default.is c.leader.ensures.leader))
+
+pub returns : goal.returns
+returns c =
+    let o = c.self.inside.outlook in
+    let prev = c.self.inside.last in
+    let v = c.deadline.result - c.margin.result in
+    let x : Force = record { at = c.unwrap.result; entry = c.in-Some.entry; needed = c.from.result } in
+    let at : c.unwrap.result ≡ v = search rules in
+    subst (λ (q : Course). GivesHead (IsToCome q) (IsToCome (record { prospect = o; last = Some v })) (Some x)) c.self.view_is
+    (gives_head o prev v x (subst (λ best. IsLeader (terms_of o) prev best) c.in-Some.is c.leader.ensures.leader) (search rules) at c.from.ensures)

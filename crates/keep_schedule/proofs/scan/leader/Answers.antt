@@ -1,0 +1,11 @@
+use Rattle.std.proofs.Common.{◌≡◌, length, subst, arith}
+use Rattle.keep_schedule.specs.Courses.{LeadsBelow}
+use Rattle.keep_schedule.specs.Prospect.{terms_of}
+use Rattle.keep_schedule.proofs.Taking.{leader_of}
+use Rattle.keep_schedule.proofs.scan.leader.Goals as goal
+
+pub returns-clause-leader : goal.returns-clause-leader
+returns-clause-leader c =
+    let o = c.args.outlook.now in
+    let all : c.loop-index.index ≡ length o.loads = omega arith in
+    leader_of o c.args.last c.loop-index.best (subst (λ n. LeadsBelow (terms_of o) c.args.last n c.loop-index.best) all c.loop-index.invariant.0)

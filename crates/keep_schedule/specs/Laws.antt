@@ -1,0 +1,18 @@
+-- Laws: that there is one list of forces, and that its moments are least and latest.
+use Rattle.std.specs.Prelude.{◌≡◌, ℕ, List, None}
+use Rattle.keep_tree.specs.Forest.{Grove, end_of}
+use Rattle.keep_tree.specs.Push.{IsForest}
+use Rattle.keep_rule.specs.Unkeepable.{AllKeepable}
+use Rattle.keep_rule.specs.Least.{IsLeastAndLatest}
+use Rattle.keep_rule.specs.Schedule.{RisesStrictly}
+use Rattle.keep_schedule.specs.declared.force.Force.{Force}
+use Rattle.keep_schedule.specs.Forces.{AreForces, moments_of}
+
+-- where no pair is Unkeepable, there is a list of forces; it is the only one, and its moments rise strictly from s on and
+-- are least and latest
+abbrev pub ForcesLaw : Type 0
+ForcesLaw =
+    (g : Grove) (s : ℕ) → IsForest g → AllKeepable g s (end_of g.entries) →
+    (xs : List Force) × (AreForces g.entries g.margin s (end_of g.entries) None xs
+    × (((ys : List Force) → AreForces g.entries g.margin s (end_of g.entries) None ys → ys ≡ xs)
+    × (RisesStrictly s (moments_of xs) × IsLeastAndLatest g.entries g.margin s (end_of g.entries) (moments_of xs))))

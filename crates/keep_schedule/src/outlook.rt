@@ -1,0 +1,110 @@
+ghost use Rattle.std.specs.Prelude.{◌≡◌, ℕ, ◌<◌, ◌≤◌, ◌^◌, length};
+ghost use Rattle.keep_moment.specs.declared.moment.TheConstants.{LAST};
+ghost use Rattle.keep_tree.specs.Forest.{end_of};
+ghost use Rattle.keep_tree.specs.Push.{IsForest};
+ghost use Rattle.keep_rule.specs.Unkeepable.{AllKeepable};
+ghost use Rattle.keep_needs.specs.Carried.{IsCarried};
+ghost use Rattle.keep_schedule.specs.Courses.{IsWithin};
+ghost use Rattle.keep_schedule.specs.Prospect.{IsInSight, terms_of};
+ghost use Rattle.keep_schedule.specs.Terms.{IsSound, deadline};
+
+use keep_moment::Moment;
+use keep_needs::Carried;
+use keep_tree::Forest;
+use std::marker::Model;
+
+/// What a schedule looks at: a forest, and what its entries carry.
+#[derive(Drop)]
+pub(crate) struct Outlook<'a> {
+    forest: &'a Forest,
+    carried: &'a Carried,
+}
+
+impl<'a> Model for Outlook<'a> {
+    ghost use Rattle.keep_schedule.specs.Prospect.{IsInSight, Prospect};
+
+    ghost Value = { Prospect };
+
+    ghost view = { λ o. record { grove = o.forest.now; loads = o.carried.now } };
+
+    ghost invariant = { λ o. IsInSight (record { grove = o.forest.now; loads = o.carried.now }) };
+}
+
+impl<'a> Outlook<'a> {
+    /// The outlook from `start` on a forest of which no pair is unkeepable.
+    #[tactic(auto, using(crate::proofs::Bridge::in_sight))]
+    pub(crate) fn new(forest: &'a Forest, carried: &'a Carried, _start: Moment) -> Outlook<'a>
+        requires carried { IsCarried forest.now _start carried.now }
+        requires keepable { AllKeepable forest.now _start (end_of forest.now.entries) }
+        ensures value { result ≡ record { grove = forest.now; loads = carried.now } }
+        ensures sound { IsForest forest.now }
+    {
+        let _entries = forest.len();
+        Outlook { forest, carried }
+    }
+
+    /// The number of entries.
+    pub(crate) fn len(&self) -> u32
+        ensures value { result ≡ length self.now.loads }
+        ensures sound { IsInSight self.now }
+    {
+        self.forest.len()
+    }
+
+    #[tactic(auto, unfolding(crate::specs::Prospect::terms_of, keep_tree::specs::Forest::end_of))]
+    pub(crate) fn margin(&self) -> u64
+        ensures value { result ≡ (terms_of self.now).margin }
+        ensures sound { IsSound (terms_of self.now) }
+    {
+        self.forest.margin() as u64
+    }
+
+    #[tactic(auto, unfolding(crate::specs::Prospect::terms_of, keep_tree::specs::Forest::end_of))]
+    pub(crate) fn end(&self, index: u32) -> u64
+        requires { index < length self.now.loads }
+        ensures value { result ≡ (terms_of self.now).end index }
+        ensures sound { IsSound (terms_of self.now) }
+    {
+        self.forest.get(index).end
+    }
+
+    #[tactic(auto, unfolding(crate::specs::Prospect::terms_of, keep_tree::specs::Forest::end_of))]
+    pub(crate) fn step(&self, index: u32) -> u64
+        requires { index < length self.now.loads }
+        ensures value { result ≡ (terms_of self.now).step index }
+        ensures within { result < 2 ^ 32 }
+    {
+        self.forest.get(index).step as u64
+    }
+
+    /// The carried need.
+    #[tactic(auto, unfolding(crate::specs::Prospect::terms_of, keep_tree::specs::Forest::end_of))]
+    pub(crate) fn need(&self, index: u32) -> u64
+        requires { index < length self.now.loads }
+        ensures value { result ≡ (terms_of self.now).need index }
+        ensures within { result ≤ LAST }
+    {
+        self.carried.need(index)
+    }
+
+    /// The entry whose need is carried, 0 where there is none.
+    #[tactic(auto, unfolding(crate::specs::Prospect::terms_of, keep_tree::specs::Forest::end_of))]
+    pub(crate) fn from(&self, index: u32) -> u32
+        requires { index < length self.now.loads }
+        ensures { result ≡ (terms_of self.now).from index }
+    {
+        self.carried.from(index).unwrap_or(0)
+    }
+
+    /// Until when the entry lasts after a wake-up at `last`.
+    pub(crate) fn deadline(&self, last: Option<u64>, index: u32) -> u64
+        requires index { index < length self.now.loads }
+        requires last { IsWithin last }
+        ensures { result ≡ deadline (terms_of self.now) last index }
+    {
+        match last {
+            None => self.end(index),
+            Some(at) => self.end(index).max(at + self.step(index)),
+        }
+    }
+}
