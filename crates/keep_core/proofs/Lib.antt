@@ -6,3 +6,4 @@ pub mod Standing
 pub mod Forces
 pub mod Turns
 pub mod Orders
+pub mod Passing

@@ -13,11 +13,8 @@ use Rattle.keep_tree.specs.Push.{IsForest, IsPlaced, is_lease, is_name, is_under
 use Rattle.keep_tree.proofs.Chains.{ParentsFirst, chain_same}
 use Rattle.keep_tree.proofs.Entries.{entry_at_past}
 use Rattle.keep_tree.proofs.Placed.{InRange, parents_first, range_from_parts, range_parts}
+use Rattle.keep_core.specs.Passes.{needing}
 use Rattle.keep_core.proofs.Alike.{Alike}
-
--- the entries with these needs
-unfoldable pub needing : List Entry → (ℕ → ℕ) → List Entry
-needing es f = map (λ i. record (entry_at es i) { need = f i }) (range_with_len 0 (length es))
 
 pub length_needing : (es : List Entry) (f : ℕ → ℕ) → length (needing es f) ≡ length es
 unfolding needing

@@ -52,7 +52,7 @@ abbrev Closes : State → Round → (ℕ → Option Event) → State → Type 0
 Closes old round ans new = (left_over ans round.unanswered ≡ []) × Replan (closing old round ans) round.at new
 
 abbrev Fails : State → Round → (ℕ → Option Event) → List (Result Output StepFault) → Type 0
-Fails old round ans results = (left_over ans round.unanswered ≡ []) × EndsTooLong results × IsTooLong (closing old round ans) round.at
+Fails old round ans results = (left_over ans round.unanswered ≡ []) × EndsTooLong results × IsTooLong (closing old round ans).forest round.at
 
 -- where a run of answers leads; who is not unanswered has no answer
 record Outcome (old : State) (round : Round) (ans : ℕ → Option Event) (results : List (Result Output StepFault)) (new : State) : Type 0 where
@@ -292,7 +292,7 @@ one_more old new round event rest output results within there o =
         | inl waits ↦ inl (λ none. waits.0 (sym same ∙ none), waits.1 ∙ more_waits old round event rest within once)
         | inr other ↦ inr (elim other [
           | inl closes ↦ inl (same ∙ closes.0, subst (λ s. Replan s round.at new) (more_closes old round event rest within once) closes.1)
-          | inr fails ↦ inr (same ∙ fails.0, fails.1, subst (λ s. IsTooLong s round.at) (more_closes old round event rest within once) fails.2)
+          | inr fails ↦ inr (same ∙ fails.0, fails.1, subst (λ s. IsTooLong s.forest round.at) (more_closes old round event rest within once) fails.2)
         ])
       ];
     }
@@ -309,10 +309,10 @@ last_closes old mid round event results within there none replan = record {
 -- or would, if the plan were not too long
 last_fails :
     (old new : State) (round : Round) (event : Event) → of_entry event < length old.forest.entries → list_any (λ j. j == of_entry event) round.unanswered ≡ true →
-    without (of_entry event) round.unanswered ≡ [] → IsTooLong (heard old event round.at None) round.at → Outcome old round (answer_for (event ∷ [])) (Err TooLong ∷ []) new
+    without (of_entry event) round.unanswered ≡ [] → IsTooLong (heard old event round.at None).forest round.at → Outcome old round (answer_for (event ∷ [])) (Err TooLong ∷ []) new
 last_fails old new round event within there none long = record {
   asked = asked_more event [] round.unanswered there (λ j _. answer_none j);
-  ends = inr (inr (one_left event round.unanswered ∙ none, tt, subst (λ s. IsTooLong s round.at) (sym (one_closes old round event within)) long));
+  ends = inr (inr (one_left event round.unanswered ∙ none, tt, subst (λ s. IsTooLong s.forest round.at) (sym (one_closes old round event within)) long));
 }
 
 same_round : (old : State) (r round : Round) → old.round ≡ Some r → old.round ≡ Some round → r ≡ round
@@ -358,7 +358,7 @@ fail_outcome old mid new round event [] is asked long run =
     let there : list_any (λ j. j == of_entry event) round.unanswered ≡ true = sym (ap (λ r. waits_for r (of_entry event)) is) ∙ parts.1 in
     let r = same_round old long.0 round long.1.0 is in
     last_fails old new round event parts.0 there
-    (subst (λ (x : Round). without (of_entry event) x.unanswered ≡ []) r long.1.1.0) (subst (λ (x : Round). IsTooLong (heard old event x.at None) x.at) r long.1.1.1)
+    (subst (λ (x : Round). without (of_entry event) x.unanswered ≡ []) r long.1.1.0) (subst (λ (x : Round). IsTooLong (heard old event x.at None).forest x.at) r long.1.1.1)
 fail_outcome old mid new round event (next ∷ rest) is asked long run = absurd run
 
 no_answers : (old new : State) (round : Round) → old.round ≡ Some round → round.unanswered ≢ [] → new ≡ old → Outcome old round (answer_for []) [] new
@@ -399,7 +399,7 @@ replan_once s t x y a b =
     a.is ∙ ap (planned s t) (one_least h.entries h.margin t (end_of h.entries) a.moments b.moments a.best b.best) ∙ sym b.is
 
 -- and is not too long where it gives one
-not_both : (s : State) (t : ℕ) (x : State) → Replan s t x → IsTooLong s t → ⊥
+not_both : (s : State) (t : ℕ) (x : State) → Replan s t x → IsTooLong s.forest t → ⊥
 not_both s t x a b =
     let h = shorten s.forest t in
     let same = ap length (one_least h.entries h.margin t (end_of h.entries) a.moments b.moments a.best b.best) in

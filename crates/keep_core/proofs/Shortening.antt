@@ -17,8 +17,9 @@ use Rattle.keep_rule.specs.Reach.{reach}
 use Rattle.keep_rule.specs.Unkeepable.{AllKeepable, Unkeepable}
 use Rattle.keep_rule.proofs.Lists.{need_within}
 use Rattle.keep_core.specs.Shorten.{cut, cut_to, exceeds, is_short, least_of, least_reach, lesser, need_left, shorten}
+use Rattle.keep_core.specs.Passes.{needing}
 use Rattle.keep_core.proofs.Alike.{Alike, over_alike, reach_alike}
-use Rattle.keep_core.proofs.Needing.{length_needing, needing, needing_alike, needing_at, needing_end, needing_forest}
+use Rattle.keep_core.proofs.Needing.{length_needing, needing_alike, needing_at, needing_end, needing_forest}
 
 lesser_left : (m : ℕ) (o : Option ℕ) → (most : ℕ) × (lesser (Some m) o ≡ Some most) × (most ≤ m)
 lesser_left m None = (m, refl, omega arith)
@@ -103,7 +104,7 @@ pub left_as_it_was : (g : Grove) (t i : ℕ) → is_short g t i ≡ false → ne
 unfolding need_left
 left_as_it_was g t i whole = cond-false (is_short g t i) (cut_to (least_reach g t i) (entry_at g.entries i).need) (entry_at g.entries i).need whole
 
-left_at_most : (g : Grove) (t i : ℕ) → need_left g t i ≤ (entry_at g.entries i).need
+pub left_at_most : (g : Grove) (t i : ℕ) → need_left g t i ≤ (entry_at g.entries i).need
 left_at_most g t i =
     elim (cases_Bool (is_short g t i)) [
       | inl short ↦ let c = cut_parts g t i short in let l = c.left in let k = c.less in omega arith

@@ -5,6 +5,7 @@ pub mod Replan
 pub mod Step
 pub mod Runs
 pub mod InForce
+pub mod Passes
 pub mod LawsOfNeeds
 pub mod LawsOfPlans
 pub mod LawsOfRuns

@@ -83,12 +83,12 @@ Step old (Need i until) output new = StepNeed old i until output new
 -- planning anew after the last answer of a round is too long
 abbrev pub AnswerTooLong : State → Event → Type 0
 AnswerTooLong old event =
-    (round : Round) × ((old.round ≡ Some round) × (((left round (of_entry event)).unanswered ≡ []) × IsTooLong (heard old event round.at None) round.at))
+    (round : Round) × ((old.round ≡ Some round) × (((left round (of_entry event)).unanswered ≡ []) × IsTooLong (heard old event round.at None).forest round.at))
 
 -- the plan that an event makes anew is too long
 abbrev pub StepTooLong : State → Event → Type 0
-StepTooLong old (Tick t) = IsTooLong old t
+StepTooLong old (Tick t) = IsTooLong old.forest t
 StepTooLong old (Told i seconds renewable) = AnswerTooLong old (Told i seconds renewable)
 StepTooLong old (Refused i) = AnswerTooLong old (Refused i)
 StepTooLong old (Lost i) = AnswerTooLong old (Lost i)
-StepTooLong old (Need i until) = IsTooLong (needed old i until) old.last
+StepTooLong old (Need i until) = IsTooLong (needed old i until).forest old.last

@@ -1,6 +1,7 @@
 ghost use Rattle.std.specs.Prelude.{◌≡◌};
 ghost use Rattle.keep_core.specs.declared.fault.StepFault.TheVariants.{OutOfMemory};
 
+use keep_plan::PlanFault;
 use std::alloc::{AllocError, AllocFailed};
 use thiserror::Error;
 
@@ -42,6 +43,14 @@ impl<T: Drop> From<AllocFailed<T>> for StepFault {
     ghost from_gives = { λ _ e. e ≡ OutOfMemory };
 
     fn from(_e: AllocFailed<T>) -> StepFault {
+        StepFault::OutOfMemory
+    }
+}
+
+impl From<PlanFault> for StepFault {
+    ghost from_gives = { λ _ e. e ≡ OutOfMemory };
+
+    fn from(_e: PlanFault) -> StepFault {
         StepFault::OutOfMemory
     }
 }

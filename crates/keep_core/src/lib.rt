@@ -8,7 +8,9 @@ mod fault;
 mod laws_of_needs;
 mod laws_of_plans;
 mod laws_of_runs;
-mod limit;
+mod least;
+mod replan;
+mod shorten;
 mod shortened;
 
 pub use event::{Event, Output};
@@ -16,5 +18,4 @@ pub use fault::StepFault;
 pub use laws_of_needs::{keepable_law, plannable_law, shortened_law, unchanged_law};
 pub use laws_of_plans::{kept_plan_law, someone_law, still_forced_law, tail_kept_law, tick_law};
 pub use laws_of_runs::{in_force_law, order_law};
-pub use limit::LIMIT;
 pub use shortened::{ShortNeed, Shortened};
