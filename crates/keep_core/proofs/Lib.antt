@@ -7,3 +7,4 @@ pub mod Forces
 pub mod Turns
 pub mod Orders
 pub mod Passing
+pub mod Made

@@ -6,6 +6,7 @@ pub mod Step
 pub mod Runs
 pub mod InForce
 pub mod Passes
+pub mod Keeping
 pub mod LawsOfNeeds
 pub mod LawsOfPlans
 pub mod LawsOfRuns

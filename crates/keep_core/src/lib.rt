@@ -5,16 +5,19 @@
 
 mod event;
 mod fault;
+mod keeper;
 mod laws_of_needs;
 mod laws_of_plans;
 mod laws_of_runs;
 mod least;
 mod replan;
+mod round;
 mod shorten;
 mod shortened;
 
 pub use event::{Event, Output};
 pub use fault::StepFault;
+pub use keeper::Keeper;
 pub use laws_of_needs::{keepable_law, plannable_law, shortened_law, unchanged_law};
 pub use laws_of_plans::{kept_plan_law, someone_law, still_forced_law, tail_kept_law, tick_law};
 pub use laws_of_runs::{in_force_law, order_law};
