@@ -147,7 +147,7 @@ applied_some : (at : ℕ) (event : Event) (e : Entry) → applied at (Some event
 unfolding applied
 applied_some at event e = refl
 
-same_grove : (g h : Grove) → length g.entries ≡ length h.entries → g.margin ≡ h.margin → ((i : ℕ) → i < length g.entries → entry_at g.entries i ≡ entry_at h.entries i) → g ≡ h
+pub same_grove : (g h : Grove) → length g.entries ≡ length h.entries → g.margin ≡ h.margin → ((i : ℕ) → i < length g.entries → entry_at g.entries i ≡ entry_at h.entries i) → g ≡ h
 same_grove g h count margin each =
     let entries = same_entries g.entries h.entries count (λ i. elim (cases_lt i (length g.entries)) [
       | inl within ↦ each i within
@@ -291,8 +291,8 @@ one_more old new round event rest output results within there o =
       ends = elim o.ends [
         | inl waits ↦ inl (λ none. waits.0 (sym same ∙ none), waits.1 ∙ more_waits old round event rest within once)
         | inr other ↦ inr (elim other [
-          | inl closes ↦ inl (same ∙ closes.0, subst (λ s. Replan s round.at new) (more_closes old round event rest within once) closes.1)
-          | inr fails ↦ inr (same ∙ fails.0, fails.1, subst (λ s. IsTooLong s.forest round.at) (more_closes old round event rest within once) fails.2)
+          | inl closes ↦ inl (same ∙ closes.0, subst (λ (s : State). Replan s round.at new) (more_closes old round event rest within once) closes.1)
+          | inr fails ↦ inr (same ∙ fails.0, fails.1, subst (λ (s : State). IsTooLong s.forest round.at) (more_closes old round event rest within once) fails.2)
         ])
       ];
     }
@@ -303,7 +303,7 @@ last_closes :
     without (of_entry event) round.unanswered ≡ [] → Replan (heard old event round.at None) round.at mid → Outcome old round (answer_for (event ∷ [])) results mid
 last_closes old mid round event results within there none replan = record {
   asked = asked_more event [] round.unanswered there (λ j _. answer_none j);
-  ends = inr (inl (one_left event round.unanswered ∙ none, subst (λ s. Replan s round.at mid) (sym (one_closes old round event within)) replan));
+  ends = inr (inl (one_left event round.unanswered ∙ none, subst (λ (s : State). Replan s round.at mid) (sym (one_closes old round event within)) replan));
 }
 
 -- or would, if the plan were not too long
@@ -312,7 +312,7 @@ last_fails :
     without (of_entry event) round.unanswered ≡ [] → IsTooLong (heard old event round.at None).forest round.at → Outcome old round (answer_for (event ∷ [])) (Err TooLong ∷ []) new
 last_fails old new round event within there none long = record {
   asked = asked_more event [] round.unanswered there (λ j _. answer_none j);
-  ends = inr (inr (one_left event round.unanswered ∙ none, tt, subst (λ s. IsTooLong s.forest round.at) (sym (one_closes old round event within)) long));
+  ends = inr (inr (one_left event round.unanswered ∙ none, tt, subst (λ (s : State). IsTooLong s.forest round.at) (sym (one_closes old round event within)) long));
 }
 
 same_round : (old : State) (r round : Round) → old.round ≡ Some r → old.round ≡ Some round → r ≡ round
