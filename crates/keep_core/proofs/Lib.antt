@@ -8,3 +8,5 @@ pub mod Turns
 pub mod Orders
 pub mod Passing
 pub mod Made
+pub mod Waiting
+pub mod Taken

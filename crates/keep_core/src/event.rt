@@ -17,7 +17,10 @@ pub enum Event {
     /// No answer came for this entry, or none that could be read.
     Lost(u32),
     /// Entry `i` is needed until that moment.
-    Need { i: u32, until: u64 },
+    Need {
+        i: u32,
+        until: u64,
+    },
 }
 
 /// What a keeper answers to an event that it does not refuse. Moments are seconds since 1970-01-01T00:00:00Z.

@@ -23,11 +23,11 @@ use std::mem;
 /// the open round if any, and the needs that were shortened.
 #[derive(Debug, Drop)]
 pub struct Keeper {
-    forest: Forest,
-    last: Moment,
-    plan: Plan,
-    round: Option<OpenRound>,
-    shortened: Vec<ShortNeed>,
+    pub(crate) forest: Forest,
+    pub(crate) last: Moment,
+    pub(crate) plan: Plan,
+    pub(crate) round: Option<OpenRound>,
+    pub(crate) shortened: Vec<ShortNeed>,
 }
 
 impl Model for Keeper {

@@ -10,6 +10,8 @@ mod laws_of_needs;
 mod laws_of_plans;
 mod laws_of_runs;
 mod least;
+mod need;
+mod refusal;
 mod replan;
 mod round;
 mod shorten;

@@ -22,8 +22,7 @@ returns-in-Ok-clause-shortened c =
     let at = c.args.at in
     let forest = c.len-entries.ensures.sound in
     let needs : AreNeeds (length g.entries) (need_left g at) c.deref-4.result.now = subst (AreNeeds (length g.entries) (need_left g at)) (sym c.deref-4.ensures.value) c.in_ok-needs.ensures in
-    let is : c.set_needs.new.forest ≡ shorten g at = c.set_needs.ensures ∙ shortened_set g at c.deref-4.result.now needs in
-    (
+    let is : c.set_needs.new.forest ≡ shorten g at = c.set_needs.ensures ∙ shortened_set g at c.deref-4.result.now needs in (
       is,
       c.in_ok-extend_from_slice.ensures.items ∙ ap (λ xs. xs ++ c.deref-3.result.now) c.in_ok-list.ensures.items
           ∙ ap (λ xs. c.args.shortened.now ++ xs) (c.deref-3.ensures.value ∙ c.in_ok-pairs.ensures),

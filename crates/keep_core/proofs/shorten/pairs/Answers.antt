@@ -12,10 +12,10 @@ loop-entry-preserved c =
     let within : i < length g.entries = omega (arith, c.len-entry-end.ensures.value) in
     let need = ap (λ (e : Entry). e.need) c.get.ensures.value in
     elim c.match-shorter.branch [
-      | in-Some+in_ok-push w ↦ 
+      | in-Some+in_ok-push w ↦
           let short = found_short g c.args.at i _ c.get.result.now.need (c.requires.each i within) need w.in-Some.need (sym w.in-Some.is ∙ c.shorter.ensures) in
           ap (λ v. v.items) w.list-is ∙ w.in_ok-push.ensures.items ∙ pairs_more g c.args.at i w.in-Some.need c.loop-entry.list.items c.loop-entry.invariant short.0 short.1
-      | in_default w ↦ 
+      | in_default w ↦
           let whole = found_whole g c.args.at i _ c.get.result.now.need (c.requires.each i within) need (sym w.in_default.is ∙ c.shorter.ensures) in
           ap (λ v. v.items) w.list-is ∙ pairs_same g c.args.at i c.loop-entry.list.items c.loop-entry.invariant whole
     ]
