@@ -1,10 +1,9 @@
 -- Forces that stay forces, while a plan is kept: for the law of them.
-use Rattle.std.proofs.Common.{◌≡◌, ℕ, ◌+◌, ◌-◌, ◌<◌, ◌≤◌, ◌&&◌, Bool, true, false, cond, List, [], ◌∷◌, Option, Some, None, max, refl, sym, ap, ◌∙◌, subst, arith, inl, inr}
-use Rattle.std.proofs.lemmas.Bool.{cases_Bool, cases_lt, cond-true, cond-false}
+use Rattle.std.proofs.Common.{◌≡◌, ℕ, ◌-◌, ◌<◌, ◌≤◌, Bool, true, false, cond, List, [], ◌∷◌, Option, Some, None, max, refl, sym, ap, ◌∙◌, subst, arith, inl, inr}
+use Rattle.std.proofs.lemmas.Bool.{cases_Bool, cases_lt, cond-true}
 use Rattle.std.proofs.lemmas.List.Elements.{All-head, All-tail}
 use Rattle.std.specs.List.{All}
 use Rattle.keep_tree.specs.declared.entry.Entry.{Entry}
-use Rattle.keep_tree.specs.Carried.{carried}
 use Rattle.keep_tree.specs.Forest.{Grove, end_of, entry_at}
 use Rattle.keep_tree.specs.Over.{Over}
 use Rattle.keep_tree.specs.Push.{IsForest}
@@ -12,7 +11,7 @@ use Rattle.keep_tree.specs.Renewal.{renewal}
 use Rattle.keep_tree.proofs.Carrying.{and_left}
 use Rattle.keep_rule.specs.Asks.{asking, first_of, is_wanted}
 use Rattle.keep_rule.specs.Ends.{after}
-use Rattle.keep_rule.specs.Forced.{Forced, bound, latest_end}
+use Rattle.keep_rule.specs.Forced.{bound, latest_end}
 use Rattle.keep_rule.proofs.Joining.{kept_before, plan_later}
 use Rattle.keep_rule.proofs.Keeping.{end_below_bound, renewal_later}
 use Rattle.keep_rule.proofs.Timely.{after_unwanted, after_wanted}
@@ -21,7 +20,7 @@ use Rattle.keep_schedule.specs.declared.force.Force.{Force}
 use Rattle.keep_core.specs.InForce.{AllForcedAs}
 use Rattle.keep_core.specs.LawsOfPlans.{IsAnsweredByRule, StillForcedLaw}
 use Rattle.keep_core.specs.Replan.{IsPlanOf}
-use Rattle.keep_core.proofs.Alike.{Alike, over_alike, renewal_alike}
+use Rattle.keep_core.proofs.Alike.{over_alike, renewal_alike}
 use Rattle.keep_core.proofs.Standing.{after_answers, answered_alike, best_first}
 
 -- a need that a bound falls short of comes after the plan's first moment: until then the ends last

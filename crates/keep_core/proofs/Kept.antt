@@ -9,26 +9,22 @@ use Rattle.keep_tree.specs.declared.entry.Entry.{Entry}
 use Rattle.keep_tree.specs.Forest.{Grove, end_of, entry_at, no_entry}
 use Rattle.keep_tree.specs.Over.{Over}
 use Rattle.keep_tree.specs.Push.{IsForest}
-use Rattle.keep_tree.proofs.Chains.{ParentsFirst, over_self}
 use Rattle.keep_tree.proofs.Entries.{entry_at_past}
 use Rattle.keep_tree.proofs.Placed.{parents_first}
 use Rattle.keep_rule.specs.declared.wake.Wake.{Wake}
-use Rattle.keep_rule.specs.Keeps.{Alive, Keeps, ends_at}
-use Rattle.keep_rule.specs.Least.{IsLeastAndLatest}
+use Rattle.keep_rule.specs.Keeps.{Keeps}
 use Rattle.keep_rule.specs.Plans.{IsPlan}
 use Rattle.keep_rule.specs.Reach.{reach, reach_of}
-use Rattle.keep_rule.specs.Unkeepable.{AllKeepable, Unkeepable}
+use Rattle.keep_rule.specs.Unkeepable.{AllKeepable}
 use Rattle.keep_rule.proofs.Existence.{there_is_one}
 use Rattle.keep_rule.proofs.Keeping.{unkeepable}
 use Rattle.keep_rule.proofs.Schedule.{schedule_is_best}
-use Rattle.keep_core.specs.declared.shortened.ShortNeed.{ShortNeed}
 use Rattle.keep_core.specs.LawsOfNeeds.{IsKeptTo, IsShortened, KeepableLaw, PlannableLaw, ShortenedLaw, UnchangedLaw}
-use Rattle.keep_core.specs.Replan.{IsPlanOf}
-use Rattle.keep_core.specs.Shorten.{cut, is_short, least_reach, need_left, pair_of, pairs, shorten}
+use Rattle.keep_core.specs.Shorten.{is_short, need_left, pair_of, pairs, shorten}
 use Rattle.keep_core.specs.Passes.{needing}
-use Rattle.keep_core.proofs.Alike.{Alike, back, ends_at_alike, over_alike, reach_alike}
+use Rattle.keep_core.proofs.Alike.{ends_at_alike, over_alike, reach_alike}
 use Rattle.keep_core.proofs.Needing.{length_needing, needing_alike, needing_at}
-use Rattle.keep_core.proofs.Shortening.{IsCut, cut_parts, least_reach_is, left_as_it_was, need_past, needed_within, shorten_alike, shorten_at, shorten_count, shorten_ends, shorten_entries, shorten_forest, shorten_is, shorten_keepable, shorten_margin}
+use Rattle.keep_core.proofs.Shortening.{cut_parts, least_reach_is, left_as_it_was, need_past, needed_within, shorten_alike, shorten_at, shorten_count, shorten_ends, shorten_entries, shorten_forest, shorten_is, shorten_keepable, shorten_margin}
 
 -- an end is at most its reach
 end_within : (es : List Entry) (margin s : ℕ) (ends : ℕ → ℕ) (i most : ℕ) → reach es margin s ends i ≡ Some most → ends i ≤ most

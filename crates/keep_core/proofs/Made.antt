@@ -1,18 +1,17 @@
 -- What planning anew made: a state that is planned anew, and parts of a keeper that belong together.
-use Rattle.std.proofs.Common.{◌≡◌, ◌∙◌, ℕ, suc, ◌+◌, ◌-◌, ◌<◌, ◌≤◌, ◌++◌, List, [], ◌∷◌, Option, Some, None, length, refl, sym, ap, subst, arith}
+use Rattle.std.proofs.Common.{◌≡◌, ◌∙◌, ℕ, suc, ◌<◌, ◌++◌, List, [], ◌∷◌, Option, Some, None, length, refl, ap, subst, arith}
 use Rattle.keep_tree.specs.declared.entry.Entry.{Entry}
 use Rattle.keep_tree.specs.Carried.{carried}
-use Rattle.keep_tree.specs.Forest.{Grove, end_of, entry_at}
+use Rattle.keep_tree.specs.Forest.{Grove, end_of}
 use Rattle.keep_tree.proofs.Carrying.{carried_at_least, carried_is_of}
 use Rattle.keep_rule.specs.Forced.{bound}
 use Rattle.keep_schedule.specs.declared.force.Force.{Force}
-use Rattle.keep_schedule.specs.Forces.{AreForces, IsForce, moments_of}
-use Rattle.keep_plan.specs.declared.limit.TheConstants.{LIMIT}
+use Rattle.keep_schedule.specs.Forces.{AreForces, moments_of}
 use Rattle.keep_plan.specs.Decides.{IsKept}
 use Rattle.keep_plan.specs.Planned.{Planned, to_come}
 use Rattle.keep_core.specs.declared.round.OpenRound.{OpenRound}
 use Rattle.keep_core.specs.declared.shortened.ShortNeed.{ShortNeed}
-use Rattle.keep_core.specs.InForce.{AllForcedAs, InForce}
+use Rattle.keep_core.specs.InForce.{AllForcedAs}
 use Rattle.keep_core.specs.Keeping.{IsKeeper, seen}
 use Rattle.keep_core.specs.Replan.{IsPlanOf, Replan}
 use Rattle.keep_core.specs.Shorten.{pairs, shorten}

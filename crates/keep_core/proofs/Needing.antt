@@ -1,15 +1,12 @@
 -- Entries with other needs: what is at an index, and that they are alike and a forest.
-use Rattle.std.proofs.Common.{◌≡◌, ◌==◌, ℕ, zero, suc, ◌+◌, ◌<◌, ◌≤◌, ◌&&◌, Bool, true, false, cond, List, [], ◌∷◌, Option, Some, None, bytes_eq, get_or, length, map, option_map, is_none, refl, sym, ap, ◌∙◌, subst, arith, inl, inr}
+use Rattle.std.proofs.Common.{◌≡◌, ℕ, suc, ◌<◌, ◌≤◌, ◌&&◌, cond, List, [], ◌∷◌, Option, Some, None, bytes_eq, get_or, length, option_map, is_none, refl, sym, ap, ◌∙◌, subst, arith, inl, inr}
 use Rattle.std.proofs.lemmas.Bool.{cases_lt}
-use Rattle.std.proofs.lemmas.List.{ext_get_or}
 use Rattle.std.proofs.lemmas.List.FromFn.{get_or-map-range_with_len, length-map-range_with_len}
-use Rattle.std.specs.List.{range_with_len}
 use Rattle.keep_moment.specs.declared.moment.TheConstants.{LAST}
 use Rattle.keep_tree.specs.declared.entry.Entry.{Entry}
 use Rattle.keep_tree.specs.declared.forest.TheConstants.{MAX_DEPTH}
 use Rattle.keep_tree.specs.Forest.{Grove, entry_at, index_named, no_entry}
-use Rattle.keep_tree.specs.Over.{chain}
-use Rattle.keep_tree.specs.Push.{IsForest, IsPlaced, is_lease, is_name, is_under_lease}
+use Rattle.keep_tree.specs.Push.{IsForest, is_lease, is_name, is_under_lease}
 use Rattle.keep_tree.proofs.Chains.{ParentsFirst, chain_same}
 use Rattle.keep_tree.proofs.Entries.{entry_at_past}
 use Rattle.keep_tree.proofs.Placed.{InRange, parents_first, range_from_parts, range_parts}

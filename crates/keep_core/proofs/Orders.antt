@@ -1,6 +1,6 @@
 -- The order of answers: a run of answers leads to a state that the answers alone decide, entry by entry.
-use Rattle.std.proofs.Common.{◌≡◌, ◌≢◌, ◌==◌, ℕ, zero, suc, ◌+◌, ◌<◌, ◌≤◌, ◌⊎◌, ◌||◌, Bool, true, false, cond, not, List, [], ◌∷◌, Option, Some, None, Result, Ok, Err, filter, is_none, length, map, nat_le, nat_lt, set, refl, sym, ap, ◌∙◌, subst, arith, inl, inr}
-use Rattle.std.proofs.lemmas.Bool.{cases_Bool, cases_eq, cases_lt, cond-true, cond-false}
+use Rattle.std.proofs.Common.{◌≡◌, ◌≢◌, ◌==◌, ℕ, ◌<◌, ◌⊎◌, ◌||◌, Bool, true, false, cond, not, List, [], ◌∷◌, Option, Some, None, Result, Ok, Err, filter, is_none, length, map, nat_le, nat_lt, refl, sym, ap, ◌∙◌, subst, arith, inl, inr}
+use Rattle.std.proofs.lemmas.Bool.{cases_eq, cases_lt, cond-true, cond-false}
 use Rattle.std.proofs.lemmas.Bool.Decides.{nat_tests}
 use Rattle.std.proofs.lemmas.List.{length-set}
 use Rattle.std.proofs.lemmas.List.FromFn.{get_or-map-range_with_len, length-map-range_with_len}
@@ -19,7 +19,7 @@ use Rattle.keep_core.specs.declared.fault.StepFault.TheVariants.{ClockBack, Roun
 use Rattle.keep_core.specs.LawsOfRuns.{AreAnswers, EndsTooLong, EndsWell, IsAnswer, OrderLaw, answer_for}
 use Rattle.keep_core.specs.Refusal.{LONGEST, refusal, unless_asked, waits_for}
 use Rattle.keep_core.specs.Replan.{IsTooLong, Replan, planned}
-use Rattle.keep_core.specs.Runs.{Run, Turn}
+use Rattle.keep_core.specs.Runs.{Run}
 use Rattle.keep_core.specs.Shorten.{shorten}
 use Rattle.keep_core.specs.State.{Round, State}
 use Rattle.keep_core.specs.Step.{AnswerTooLong, Step, StepAnswer, StepTooLong, answered, change, heard, left, of_entry, without}

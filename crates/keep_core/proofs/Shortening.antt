@@ -1,10 +1,9 @@
 -- Shortening: what the least reach is, and what a need becomes.
-use Rattle.std.proofs.Common.{◌≡◌, ◌==◌, ℕ, zero, suc, ◌+◌, ◌<◌, ◌≤◌, ◌&&◌, ◌||◌, Bool, true, false, cond, List, [], ◌∷◌, Option, Some, None, filter, length, map, min, nat_lt, refl, sym, ap, ◌∙◌, subst, arith, inl, inr}
+use Rattle.std.proofs.Common.{◌≡◌, ◌==◌, ℕ, ◌<◌, ◌≤◌, ◌&&◌, ◌||◌, true, false, List, [], ◌∷◌, Option, Some, None, length, map, min, nat_lt, refl, sym, ap, ◌∙◌, subst, arith, inl, inr}
 use Rattle.std.proofs.lemmas.Bool.{cases_Bool, cases_lt, cond-true, cond-false}
 use Rattle.std.proofs.lemmas.Bool.Decides.{nat_tests}
 use Rattle.std.proofs.Math.Path.{fun_ext}
-use Rattle.std.specs.List.{list_any, range_with_len}
-use Rattle.keep_moment.specs.declared.moment.TheConstants.{LAST}
+use Rattle.std.specs.List.{list_any}
 use Rattle.keep_tree.specs.declared.entry.Entry.{Entry}
 use Rattle.keep_tree.specs.Forest.{Grove, end_of, entry_at}
 use Rattle.keep_tree.specs.Over.{Over, chain, is_over}
@@ -14,7 +13,7 @@ use Rattle.keep_tree.proofs.Chains.{cases_Option}
 use Rattle.keep_tree.proofs.Entries.{entry_at_past}
 use Rattle.keep_tree.proofs.Placed.{parents_first}
 use Rattle.keep_rule.specs.Reach.{reach}
-use Rattle.keep_rule.specs.Unkeepable.{AllKeepable, Unkeepable}
+use Rattle.keep_rule.specs.Unkeepable.{AllKeepable}
 use Rattle.keep_rule.proofs.Lists.{need_within}
 use Rattle.keep_core.specs.Shorten.{cut, cut_to, exceeds, is_short, least_of, least_reach, lesser, need_left, shorten}
 use Rattle.keep_core.specs.Passes.{needing}

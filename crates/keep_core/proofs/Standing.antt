@@ -1,40 +1,31 @@
 -- Plans that stand: until the first moment, and after a round that was answered by the rule. For the laws of plans.
-use Rattle.std.proofs.Common.{◌≡◌, ◌==◌, ℕ, zero, suc, ◌+◌, ◌-◌, ◌<◌, ◌≤◌, ◌&&◌, ◌++◌, Bool, true, false, cond, List, [], ◌∷◌, Option, Some, None, length, max, refl, sym, ap, ◌∙◌, subst, arith, inl, inr}
-use Rattle.std.proofs.lemmas.Bool.{cases_Bool, cases_lt, cond-true, cond-false}
+use Rattle.std.proofs.Common.{◌≡◌, ◌==◌, ℕ, ◌<◌, ◌≤◌, ◌++◌, cond, List, [], ◌∷◌, Option, length, refl, sym, ap, ◌∙◌, subst, arith, inl, inr}
+use Rattle.std.proofs.lemmas.Bool.{cases_Bool, cond-true, cond-false}
 use Rattle.std.proofs.lemmas.List.{append-nil}
 use Rattle.std.proofs.lemmas.List.Elements.{All-cons, All-nil}
 use Rattle.std.proofs.Math.Path.{fun_ext}
 use Rattle.std.specs.List.{All, list_any}
 use Rattle.keep_tree.specs.declared.entry.Entry.{Entry}
-use Rattle.keep_tree.specs.Carried.{carried}
 use Rattle.keep_tree.specs.Forest.{Grove, end_of, entry_at}
-use Rattle.keep_tree.specs.Over.{Over}
 use Rattle.keep_tree.specs.Push.{IsForest}
 use Rattle.keep_tree.specs.Renewal.{renewal, renewed}
-use Rattle.keep_tree.proofs.Carrying.{and_left}
 use Rattle.keep_tree.proofs.Placed.{parents_first}
 use Rattle.keep_rule.specs.declared.wake.Wake.{Wake}
 use Rattle.keep_rule.specs.Asks.{asking, asks, first_of, is_wanted}
 use Rattle.keep_rule.specs.Ends.{after, is_asked}
-use Rattle.keep_rule.specs.Forced.{Forced, bound, latest_end}
 use Rattle.keep_rule.specs.Least.{IsLeastAndLatest}
 use Rattle.keep_rule.specs.Plans.{IsPlan, moments}
 use Rattle.keep_rule.specs.Unkeepable.{AllKeepable}
 use Rattle.keep_rule.proofs.Asking.{asks_wanted}
 use Rattle.keep_rule.proofs.Enough.{enough}
-use Rattle.keep_rule.proofs.Joining.{kept_before, plan_later}
-use Rattle.keep_rule.proofs.Keeping.{end_below_bound, one_least, renewal_later, unkeepable}
+use Rattle.keep_rule.proofs.Keeping.{one_least, unkeepable}
 use Rattle.keep_rule.proofs.LaterStart.{later_start}
 use Rattle.keep_rule.proofs.Tail.{tail}
 use Rattle.keep_rule.proofs.Timely.{after_unwanted, after_wanted}
-use Rattle.keep_schedule.specs.Forces.{moments_of}
-use Rattle.keep_schedule.specs.declared.force.Force.{Force}
-use Rattle.keep_core.specs.declared.shortened.ShortNeed.{ShortNeed}
-use Rattle.keep_core.specs.InForce.{AllForcedAs}
-use Rattle.keep_core.specs.LawsOfPlans.{IsAnsweredByRule, KeptPlanLaw, SomeoneLaw, StillForcedLaw, TailKeptLaw, TickLaw}
+use Rattle.keep_core.specs.LawsOfPlans.{IsAnsweredByRule, KeptPlanLaw, SomeoneLaw, TailKeptLaw, TickLaw}
 use Rattle.keep_core.specs.Replan.{IsPlanOf}
-use Rattle.keep_core.specs.Shorten.{pairs, shorten}
-use Rattle.keep_core.proofs.Alike.{Alike, best_alike, over_alike, renewal_alike}
+use Rattle.keep_core.specs.Shorten.{shorten}
+use Rattle.keep_core.proofs.Alike.{Alike, best_alike}
 use Rattle.keep_core.proofs.Kept.{keepable}
 
 -- where there is a least and latest plan, some plan keeps, and so no pair is Unkeepable

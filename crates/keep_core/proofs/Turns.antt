@@ -1,5 +1,5 @@
 -- Each turn leaves a plan in force: for the law of the plan in force.
-use Rattle.std.proofs.Common.{◌≡◌, ℕ, List, [], ◌∷◌, Option, Some, None, Result, Ok, Err, sym, ap, ◌∙◌, subst}
+use Rattle.std.proofs.Common.{◌≡◌, ℕ, [], ◌∷◌, Some, None, Result, Ok, Err, sym, ap, ◌∙◌, subst}
 use Rattle.keep_core.specs.declared.event.Event.{Event}
 use Rattle.keep_core.specs.declared.event.Event.TheVariants.{Tick, Told, Refused, Lost, Need}
 use Rattle.keep_core.specs.declared.event.Output.{Output}
@@ -9,7 +9,7 @@ use Rattle.keep_core.specs.declared.fault.StepFault.TheVariants.{ClockBack, Roun
 use Rattle.keep_core.specs.InForce.{InForce, IsSound}
 use Rattle.keep_core.specs.LawsOfRuns.{InForceLaw}
 use Rattle.keep_core.specs.Replan.{Replan}
-use Rattle.keep_core.specs.Runs.{Run, Turn}
+use Rattle.keep_core.specs.Runs.{Turn}
 use Rattle.keep_core.specs.State.{Round, State}
 use Rattle.keep_core.specs.Step.{StepAnswer, StepNeed, StepTick}
 

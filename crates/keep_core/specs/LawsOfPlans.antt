@@ -6,7 +6,7 @@ use Rattle.keep_tree.specs.Forest.{Grove, end_of, entry_at}
 use Rattle.keep_tree.specs.Push.{IsForest}
 use Rattle.keep_tree.specs.Renewal.{renewal}
 use Rattle.keep_rule.specs.Asks.{asking, asks, first_of}
-use Rattle.keep_rule.specs.Ends.{after, is_asked}
+use Rattle.keep_rule.specs.Ends.{is_asked}
 use Rattle.keep_schedule.specs.Forces.{moments_of}
 use Rattle.keep_schedule.specs.declared.force.Force.{Force}
 use Rattle.keep_core.specs.InForce.{AllForcedAs, InForce}

@@ -1,6 +1,6 @@
 -- Refusal: which events are refused, whatever the plan made anew would be.
 -- Source: this project's own.
-use Rattle.std.specs.Prelude.{ℕ, ◌==◌, Bool, true, false, if◌then◌else◌, List, [], ◌∷◌, Option, Some, None, length, nat_lt, nat_le, is_some}
+use Rattle.std.specs.Prelude.{ℕ, ◌==◌, Bool, false, if◌then◌else◌, Option, Some, None, length, nat_lt, nat_le, is_some}
 use Rattle.std.specs.List.{list_any}
 use Rattle.keep_moment.specs.declared.moment.TheConstants.{LAST}
 use Rattle.keep_core.specs.declared.event.Event.{Event}

@@ -1,6 +1,6 @@
 -- Runs: what every list of events gives.
 -- Source: this project's own.
-use Rattle.std.specs.Prelude.{◌≡◌, ℕ, List, [], ◌∷◌, Option, Some, None, Result, Ok, Err}
+use Rattle.std.specs.Prelude.{◌≡◌, List, [], ◌∷◌, Some, None, Result, Ok, Err}
 use Rattle.keep_core.specs.declared.event.Event.{Event}
 use Rattle.keep_core.specs.declared.event.Output.{Output}
 use Rattle.keep_core.specs.declared.fault.StepFault.{StepFault}

@@ -1,7 +1,7 @@
 -- Shorten: needs that no plan can keep, and what they become.
 -- Source: this project's own, over Vault, "Tokens" (a token's end ends its children and its leases) and Vault, "Lease,
 -- renew, and revoke" (maximum TTL).
-use Rattle.std.specs.Prelude.{ℕ, Bool, true, false, ◌&&◌, if◌then◌else◌, List, [], ◌∷◌, Option, Some, None, filter, length, map, min, nat_lt}
+use Rattle.std.specs.Prelude.{ℕ, Bool, false, ◌&&◌, if◌then◌else◌, List, [], ◌∷◌, Option, Some, None, filter, length, map, min, nat_lt}
 use Rattle.std.specs.List.{range_with_len}
 use Rattle.keep_tree.specs.declared.entry.Entry.{Entry}
 use Rattle.keep_tree.specs.Forest.{Grove, end_of, entry_at}

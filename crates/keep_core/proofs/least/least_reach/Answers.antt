@@ -1,8 +1,7 @@
-use Rattle.std.proofs.Common.{◌≡◌, ◌∙◌, ◌<◌, Some, None, ap, arith, sym}
+use Rattle.std.proofs.Common.{◌≡◌, ◌∙◌, Some, ap, sym}
 use Rattle.keep_tree.specs.declared.entry.Entry.{Entry}
-use Rattle.keep_tree.specs.Forest.{end_of, entry_at}
+use Rattle.keep_tree.specs.Forest.{entry_at}
 use Rattle.keep_tree.proofs.Placed.{parents_first}
-use Rattle.keep_rule.specs.Reach.{reach}
 use Rattle.keep_core.specs.Shorten.{least_reach, lesser}
 use Rattle.keep_core.proofs.Passing.{least_child, least_root}
 use Rattle.keep_core.proofs.least.least_reach.Goals as goal

@@ -1,8 +1,8 @@
-use Rattle.std.proofs.Common.{◌≡◌, ◌∙◌, ◌++◌, ap, arith, length, subst, sym}
+use Rattle.std.proofs.Common.{◌≡◌, ◌∙◌, ◌++◌, ap, length, subst, sym}
 use Rattle.keep_tree.specs.Forest.{Grove, end_of, entry_at}
 use Rattle.keep_rule.specs.Unkeepable.{AllKeepable}
 use Rattle.keep_core.specs.Passes.{AreNeeds, PlanRefused}
-use Rattle.keep_core.specs.Shorten.{need_left, pairs, shorten}
+use Rattle.keep_core.specs.Shorten.{need_left, shorten}
 use Rattle.keep_core.proofs.Passing.{fails, restored, shortened_set}
 use Rattle.keep_core.proofs.Shortening.{shorten_count, shorten_keepable}
 use Rattle.keep_core.proofs.replan.replan.Goals as goal

@@ -1,5 +1,4 @@
-use Rattle.std.proofs.Common.{◌≡◌, ◌+◌, ◌≤◌, ◌∙◌, ℕ, IfSome, Option, ap, arith, subst, sym}
-use Rattle.keep_moment.specs.declared.moment.TheConstants.{LAST}
+use Rattle.std.proofs.Common.{◌≡◌, ◌+◌, ◌∙◌, ℕ, IfSome, Option, ap, arith, subst, sym}
 use Rattle.keep_tree.specs.declared.entry.Entry.{Entry}
 use Rattle.keep_tree.specs.Forest.{entry_at}
 use Rattle.keep_rule.proofs.Lists.{need_within}

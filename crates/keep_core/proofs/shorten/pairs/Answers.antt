@@ -1,6 +1,5 @@
-use Rattle.std.proofs.Common.{◌≡◌, ◌∙◌, ◌+◌, ◌<◌, ◌++◌, ◌∷◌, [], Some, None, ap, arith, length, sym}
+use Rattle.std.proofs.Common.{◌∙◌, ◌<◌, ap, arith, length, sym}
 use Rattle.keep_tree.specs.declared.entry.Entry.{Entry}
-use Rattle.keep_tree.specs.Forest.{entry_at}
 use Rattle.keep_core.proofs.Passing.{found_short, found_whole, pairs_all, pairs_more, pairs_same}
 use Rattle.keep_core.proofs.shorten.pairs.Goals as goal
 use Rattle.keep_core.proofs.shorten.pairs.Goals.{in-Some+in_ok-push, in_default}

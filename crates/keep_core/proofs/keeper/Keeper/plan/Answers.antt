@@ -1,6 +1,5 @@
-use Rattle.std.proofs.Common.{◌≡◌, ◌∙◌, Option, None, ap, arith, subst, sym}
+use Rattle.std.proofs.Common.{◌≡◌, ◌∙◌, None, ap, arith, subst}
 use Rattle.keep_plan.specs.Planned.{to_come}
-use Rattle.keep_core.specs.declared.round.OpenRound.{OpenRound}
 use Rattle.keep_core.specs.InForce.{InForce}
 use Rattle.keep_core.specs.State.{State}
 use Rattle.keep_core.proofs.Made.{count_moments, none_seen}

@@ -1,4 +1,4 @@
-use Rattle.std.proofs.Common.{◌≡◌, ◌∙◌, ◌<◌, Option, Some, ap, arith, length, sym, false}
+use Rattle.std.proofs.Common.{◌∙◌, ◌<◌, Option, ap, arith, length, sym, false}
 use Rattle.std.proofs.lemmas.List.{get_or_read}
 use Rattle.keep_core.specs.Keeping.{seen}
 use Rattle.keep_core.specs.Refusal.{waits_for}
