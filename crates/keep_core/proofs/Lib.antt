@@ -1,0 +1,12 @@
+pub mod Alike
+pub mod Needing
+pub mod Shortening
+pub mod Kept
+pub mod Standing
+pub mod Forces
+pub mod Turns
+pub mod Orders
+pub mod Passing
+pub mod Made
+pub mod Waiting
+pub mod Taken

@@ -1,0 +1,67 @@
+-- What planning anew made: a state that is planned anew, and parts of a keeper that belong together.
+use Rattle.std.proofs.Common.{◌≡◌, ◌∙◌, ℕ, suc, ◌<◌, ◌++◌, List, [], ◌∷◌, Option, Some, None, length, refl, ap, subst, arith}
+use Rattle.keep_tree.specs.declared.entry.Entry.{Entry}
+use Rattle.keep_tree.specs.Carried.{carried}
+use Rattle.keep_tree.specs.Forest.{Grove, end_of}
+use Rattle.keep_tree.proofs.Carrying.{carried_at_least, carried_is_of}
+use Rattle.keep_rule.specs.Forced.{bound}
+use Rattle.keep_schedule.specs.declared.force.Force.{Force}
+use Rattle.keep_schedule.specs.Forces.{AreForces, moments_of}
+use Rattle.keep_plan.specs.Decides.{IsKept}
+use Rattle.keep_plan.specs.Planned.{Planned, to_come}
+use Rattle.keep_core.specs.declared.round.OpenRound.{OpenRound}
+use Rattle.keep_core.specs.declared.shortened.ShortNeed.{ShortNeed}
+use Rattle.keep_core.specs.InForce.{AllForcedAs}
+use Rattle.keep_core.specs.Keeping.{IsKeeper, seen}
+use Rattle.keep_core.specs.Replan.{IsPlanOf, Replan}
+use Rattle.keep_core.specs.Shorten.{pairs, shorten}
+use Rattle.keep_core.specs.State.{State}
+
+pub count_moments : (xs : List Force) → length (moments_of xs) ≡ length xs
+count_moments [] = refl
+count_moments (x ∷ xs) = ap (λ n. suc n) (count_moments xs)
+
+-- the next wake-up is Forced as it is named
+forces_force : (es : List Entry) (margin s : ℕ) (ends : ℕ → ℕ) (prev : Option ℕ) (xs : List Force) → AreForces es margin s ends prev xs → AllForcedAs es margin s ends prev xs
+forces_force es margin s ends prev [] forces = tt
+forces_force es margin s ends prev (x ∷ xs) forces =
+    let f = forces.0 in
+    let short = f.short in
+    let moment = f.moment in
+    let need = f.from.need in
+    let some = carried_is_of es s x.entry (bound es ends prev x.entry) short in
+    let later : s < carried es s x.entry = forces_later es s x.entry (bound es ends prev x.entry) short in (
+      record { over = f.from.over; later = omega arith; short = omega arith; due = omega arith },
+      forces_force es margin s ends (Some x.at) xs forces.1,
+    ) where
+      forces_later : (es : List Entry) (s i b : ℕ) → b < carried es s i → s < carried es s i
+      forces_later es s i b short =
+          let f = carried_is_of es s i b short in
+          let most = carried_at_least es s i f.0 f.1 f.2 in
+          omega (arith, f.2)
+
+-- the state that planning anew made
+pub made :
+    (s : State) (t : ℕ) (h : Grove) (p : Planned) (list : List ShortNeed) → h ≡ shorten s.forest t → list ≡ s.shortened ++ pairs s.forest t → IsKept h t p →
+    Replan s t (record { forest = h; last = t; to_come = moments_of (to_come p); round = s.round; shortened = list })
+made s t h p list is noted kept = record {
+  moments = moments_of (to_come p);
+  best = subst (λ g. IsPlanOf g t (moments_of (to_come p))) is kept.best.least;
+  few = (let l = count_moments (to_come p) in let k = kept.best.few in omega arith);
+  is = ap (λ g. record { forest = g; last = t; to_come = moments_of (to_come p); round = s.round; shortened = list }) is
+      ∙ ap (λ xs. record { forest = shorten s.forest t; last = t; to_come = moments_of (to_come p); round = s.round; shortened = xs }) noted;
+}
+
+pub made_keeper : (h : Grove) (t : ℕ) (p : Planned) → IsKept h t p → IsKeeper h t p None
+made_keeper h t p kept = record {
+  carried = kept.carried;
+  start = (let e = kept.start in omega arith);
+  few = kept.best.few;
+  best = λ _. kept.best.least;
+  forced = λ _. forces_force h.entries h.margin t (end_of h.entries) None (to_come p) kept.best.forces;
+  open_round = λ r is. absurd cc;
+}
+
+pub none_seen : (round : Option OpenRound) → seen round ≡ None → round ≡ None
+none_seen None e = refl
+none_seen (Some r) e = absurd cc

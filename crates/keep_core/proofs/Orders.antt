@@ -1,0 +1,435 @@
+-- The order of answers: a run of answers leads to a state that the answers alone decide, entry by entry.
+use Rattle.std.proofs.Common.{◌≡◌, ◌≢◌, ◌==◌, ℕ, ◌<◌, ◌⊎◌, ◌||◌, Bool, true, false, cond, not, List, [], ◌∷◌, Option, Some, None, Result, Ok, Err, filter, is_none, length, map, nat_le, nat_lt, refl, sym, ap, ◌∙◌, subst, arith, inl, inr}
+use Rattle.std.proofs.lemmas.Bool.{cases_eq, cases_lt, cond-true, cond-false}
+use Rattle.std.proofs.lemmas.Bool.Decides.{nat_tests}
+use Rattle.std.proofs.lemmas.List.{length-set}
+use Rattle.std.proofs.lemmas.List.FromFn.{get_or-map-range_with_len, length-map-range_with_len}
+use Rattle.std.proofs.Math.Path.{fun_ext}
+use Rattle.std.specs.List.{list_any, range_with_len}
+use Rattle.keep_tree.specs.declared.entry.Entry.{Entry}
+use Rattle.keep_tree.specs.Forest.{Grove, end_of, entry_at, no_entry}
+use Rattle.keep_tree.proofs.Entries.{entry_at_past, entry_at_set_other, entry_at_set_same}
+use Rattle.keep_rule.proofs.Keeping.{one_least}
+use Rattle.keep_core.specs.declared.event.Event.{Event}
+use Rattle.keep_core.specs.declared.event.Event.TheVariants.{Tick, Told, Refused, Lost, Need}
+use Rattle.keep_core.specs.declared.event.Output.{Output}
+use Rattle.keep_core.specs.declared.event.Output.TheVariants as out
+use Rattle.keep_core.specs.declared.fault.StepFault.{StepFault}
+use Rattle.keep_core.specs.declared.fault.StepFault.TheVariants.{ClockBack, RoundOpen, NotAsked, BadIndex, OutOfRange, TooLong, OutOfMemory}
+use Rattle.keep_core.specs.LawsOfRuns.{AreAnswers, EndsTooLong, EndsWell, IsAnswer, OrderLaw, answer_for}
+use Rattle.keep_core.specs.Refusal.{LONGEST, refusal, unless_asked, waits_for}
+use Rattle.keep_core.specs.Replan.{IsTooLong, Replan, planned}
+use Rattle.keep_core.specs.Runs.{Run}
+use Rattle.keep_core.specs.Shorten.{shorten}
+use Rattle.keep_core.specs.State.{Round, State}
+use Rattle.keep_core.specs.Step.{AnswerTooLong, Step, StepAnswer, StepTooLong, answered, change, heard, left, of_entry, without}
+use Rattle.keep_core.proofs.Kept.{same_entries}
+
+-- what an answer, if there is one, makes of an entry
+unfoldable pub applied : ℕ → Option Event → Entry → Entry
+applied at None e = e
+applied at (Some event) e = answered at event e
+
+-- the forest after these answers, entry by entry
+unfoldable pub told : ℕ → (ℕ → Option Event) → Grove → Grove
+told at ans g = record { entries = map (λ i. applied at (ans i) (entry_at g.entries i)) (range_with_len 0 (length g.entries)); margin = g.margin }
+
+-- those who have no answer
+unfoldable pub left_over : (ℕ → Option Event) → List ℕ → List ℕ
+left_over ans us = filter (λ j. is_none (ans j)) us
+
+-- the state that still waits, and the one that is planned anew
+abbrev waiting : State → Round → (ℕ → Option Event) → State
+waiting old round ans = record old { forest = told round.at ans old.forest; round = Some (record { at = round.at; unanswered = left_over ans round.unanswered }) }
+
+abbrev closing : State → Round → (ℕ → Option Event) → State
+closing old round ans = record old { forest = told round.at ans old.forest; round = None }
+
+abbrev Waits : State → Round → (ℕ → Option Event) → State → Type 0
+Waits old round ans new = (left_over ans round.unanswered ≢ []) × (new ≡ waiting old round ans)
+
+abbrev Closes : State → Round → (ℕ → Option Event) → State → Type 0
+Closes old round ans new = (left_over ans round.unanswered ≡ []) × Replan (closing old round ans) round.at new
+
+abbrev Fails : State → Round → (ℕ → Option Event) → List (Result Output StepFault) → Type 0
+Fails old round ans results = (left_over ans round.unanswered ≡ []) × EndsTooLong results × IsTooLong (closing old round ans).forest round.at
+
+-- where a run of answers leads; who is not unanswered has no answer
+record Outcome (old : State) (round : Round) (ans : ℕ → Option Event) (results : List (Result Output StepFault)) (new : State) : Type 0 where
+  asked : (i : ℕ) → list_any (λ j. j == i) round.unanswered ≡ false → ans i ≡ None
+  ends : Waits old round ans new ⊎ (Closes old round ans new ⊎ Fails old round ans results)
+
+-- lists without an element
+not_there : (i : ℕ) (us : List ℕ) → list_any (λ j. j == i) (without i us) ≡ false
+unfolding without
+not_there i [] = refl
+not_there i (u ∷ us) = by_test (u == i) refl (not_there i us) where
+  by_test : (b : Bool) → (u == i) ≡ b → list_any (λ j. j == i) (filter (λ j. not (j == i)) us) ≡ false → list_any (λ j. j == i) (cond (not (u == i)) (u ∷ filter (λ j. not (j == i)) us) (filter (λ j. not (j == i)) us)) ≡ false
+  by_test true is rest = ap (λ b. list_any (λ j. j == i) (cond (not b) (u ∷ filter (λ j. not (j == i)) us) (filter (λ j. not (j == i)) us))) is ∙ rest
+  by_test false is rest = ap (λ b. list_any (λ j. j == i) (cond (not b) (u ∷ filter (λ j. not (j == i)) us) (filter (λ j. not (j == i)) us))) is
+      ∙ ap (λ b. b || list_any (λ j. j == i) (filter (λ j. not (j == i)) us)) is ∙ rest
+
+or_false_left : (a b : Bool) → a || b ≡ false → a ≡ false
+or_false_left true b e = absurd cc
+or_false_left false b e = refl
+
+or_false_right : (a b : Bool) → a || b ≡ false → b ≡ false
+or_false_right true b e = absurd cc
+or_false_right false b e = e
+
+none_within : (p : ℕ → Bool) (i : ℕ) (us : List ℕ) → list_any (λ j. j == i) us ≡ false → list_any (λ j. j == i) (filter p us) ≡ false
+none_within p i [] none = refl
+none_within p i (u ∷ us) none =
+    let head = or_false_left (u == i) (list_any (λ j. j == i) us) none in
+    let rest = none_within p i us (or_false_right (u == i) (list_any (λ j. j == i) us) none) in
+    by_test (p u) head rest where
+      by_test : (b : Bool) → (u == i) ≡ false → list_any (λ j. j == i) (filter p us) ≡ false → list_any (λ j. j == i) (cond b (u ∷ filter p us) (filter p us)) ≡ false
+      by_test true head rest = ap (λ c. c || list_any (λ j. j == i) (filter p us)) head ∙ rest
+      by_test false head rest = rest
+
+answer_first : (event : Event) (rest : List Event) (j : ℕ) → answer_for (event ∷ rest) j ≡ cond (of_entry event == j) (Some event) (answer_for rest j)
+unfolding answer_for
+answer_first event rest j = refl
+
+answer_none : (j : ℕ) → answer_for [] j ≡ None
+unfolding answer_for
+answer_none j = refl
+
+-- who is left over after a first answer and others
+left_more : (event : Event) (rest : List Event) (us : List ℕ) → left_over (answer_for (event ∷ rest)) us ≡ left_over (answer_for rest) (without (of_entry event) us)
+unfolding left_over without answer_for
+left_more event rest [] = refl
+left_more event rest (u ∷ us) = elim (cases_eq u (of_entry event)) [
+  | inl same ↦
+      let i = of_entry event in
+      let one : (i == u) ≡ true = grind (arith, nat_tests) in
+      let other : (u == i) ≡ true = grind (arith, nat_tests) in
+      let p : ℕ → Bool = λ j. is_none (cond (i == j) (Some event) (answer_for rest j)) in
+      let q : ℕ → Bool = λ j. is_none (answer_for rest j) in
+      let ws = filter (λ j. not (j == i)) us in
+      ap (λ b. cond (is_none (cond b (Some event) (answer_for rest u))) (u ∷ filter p us) (filter p us)) one
+      ∙ left_more event rest us
+      ∙ sym (ap (λ b. filter q (cond (not b) (u ∷ ws) ws)) other)
+  | inr apart ↦
+      let i = of_entry event in
+      let one : (i == u) ≡ false = grind (arith, nat_tests) in
+      let other : (u == i) ≡ false = grind (arith, nat_tests) in
+      let p : ℕ → Bool = λ j. is_none (cond (i == j) (Some event) (answer_for rest j)) in
+      let q : ℕ → Bool = λ j. is_none (answer_for rest j) in
+      let ws = filter (λ j. not (j == i)) us in
+      ap (λ b. cond (is_none (cond b (Some event) (answer_for rest u))) (u ∷ filter p us) (filter p us)) one
+      ∙ ap (λ xs. cond (q u) (u ∷ xs) xs) (left_more event rest us)
+      ∙ sym (ap (λ b. filter q (cond (not b) (u ∷ ws) ws)) other)
+]
+
+left_none : (us : List ℕ) → left_over (answer_for []) us ≡ us
+unfolding left_over answer_for
+left_none [] = refl
+left_none (u ∷ us) = ap (λ xs. u ∷ xs) (left_none us)
+
+length_told : (at : ℕ) (ans : ℕ → Option Event) (g : Grove) → length (told at ans g).entries ≡ length g.entries
+unfolding told
+length_told at ans g = length-map-range_with_len (λ i. applied at (ans i) (entry_at g.entries i)) 0 (length g.entries)
+
+told_at : (at : ℕ) (ans : ℕ → Option Event) (g : Grove) (i : ℕ) → i < length g.entries → entry_at (told at ans g).entries i ≡ applied at (ans i) (entry_at g.entries i)
+unfolding told entry_at
+told_at at ans g i within = get_or-map-range_with_len (λ k. applied at (ans k) (entry_at g.entries k)) 0 (length g.entries) i i no_entry within (omega arith)
+
+told_margin : (at : ℕ) (ans : ℕ → Option Event) (g : Grove) → (told at ans g).margin ≡ g.margin
+unfolding told
+told_margin at ans g = refl
+
+applied_none : (at : ℕ) (e : Entry) → applied at None e ≡ e
+unfolding applied
+applied_none at e = refl
+
+applied_some : (at : ℕ) (event : Event) (e : Entry) → applied at (Some event) e ≡ answered at event e
+unfolding applied
+applied_some at event e = refl
+
+pub same_grove : (g h : Grove) → length g.entries ≡ length h.entries → g.margin ≡ h.margin → ((i : ℕ) → i < length g.entries → entry_at g.entries i ≡ entry_at h.entries i) → g ≡ h
+same_grove g h count margin each =
+    let entries = same_entries g.entries h.entries count (λ i. elim (cases_lt i (length g.entries)) [
+      | inl within ↦ each i within
+      | inr past ↦ entry_at_past g.entries i past ∙ sym (entry_at_past h.entries i (omega arith))
+    ]) in
+    ap (λ es. record { entries = es; margin = g.margin }) entries ∙ ap (λ m. record { entries = h.entries; margin = m }) margin
+
+told_none : (at : ℕ) (g : Grove) → told at (answer_for []) g ≡ g
+told_none at g = same_grove (told at (answer_for []) g) g (length_told at (answer_for []) g) (told_margin at (answer_for []) g)
+    (λ i h. told_at at (answer_for []) g i (let l = length_told at (answer_for []) g in omega arith) ∙ ap (λ o. applied at o (entry_at g.entries i)) (answer_none i) ∙ applied_none at (entry_at g.entries i))
+
+-- a first answer, and others to the round that it leaves
+pub told_more :
+    (at : ℕ) (event : Event) (rest : List Event) (g : Grove) → of_entry event < length g.entries → answer_for rest (of_entry event) ≡ None →
+    told at (answer_for rest) (change g (of_entry event) (answered at event)) ≡ told at (answer_for (event ∷ rest)) g
+told_more at event rest g within once =
+    let i = of_entry event in
+    let e = answered at event (entry_at g.entries i) in
+    let h = change g i (answered at event) in
+    let size : length h.entries ≡ length g.entries = length-set g.entries i e in
+    let one = length_told at (answer_for rest) h in
+    let other = length_told at (answer_for (event ∷ rest)) g in
+    same_grove (told at (answer_for rest) h) (told at (answer_for (event ∷ rest)) g) (omega arith) (told_margin at (answer_for rest) h ∙ sym (told_margin at (answer_for (event ∷ rest)) g))
+    (λ k inside.
+    let there : k < length g.entries = omega arith in
+    told_at at (answer_for rest) h k (omega arith)
+    ∙ elim (cases_eq k i) [
+      | inl same ↦
+          let hit : (i == k) ≡ true = grind (arith, nat_tests) in
+          let none : answer_for rest k ≡ None = ap (answer_for rest) same ∙ once in
+          let is : entry_at h.entries k ≡ e = ap (entry_at h.entries) same ∙ entry_at_set_same g.entries i e within in
+          let first : answer_for (event ∷ rest) k ≡ Some event = answer_first event rest k ∙ cond-true (i == k) (Some event) (answer_for rest k) hit in
+          ap (λ o. applied at o (entry_at h.entries k)) none ∙ applied_none at (entry_at h.entries k) ∙ is ∙ ap (λ n. answered at event (entry_at g.entries n)) (sym same)
+          ∙ sym (applied_some at event (entry_at g.entries k)) ∙ ap (λ o. applied at o (entry_at g.entries k)) (sym first)
+      | inr apart ↦
+          let miss : (i == k) ≡ false = grind (arith, nat_tests) in
+          let first : answer_for (event ∷ rest) k ≡ answer_for rest k = answer_first event rest k ∙ cond-false (i == k) (Some event) (answer_for rest k) miss in
+          ap (applied at (answer_for rest k)) (entry_at_set_other g.entries i k e apart) ∙ ap (λ o. applied at o (entry_at g.entries k)) (sym first)
+    ]
+    ∙ sym (told_at at (answer_for (event ∷ rest)) g k there))
+
+-- what an answer that is not refused is of: an entry, and one that is waited for
+both_tests : (a b : Bool) → cond a (Some BadIndex) (cond b None (Some NotAsked)) ≡ None → (a ≡ false) × (b ≡ true)
+both_tests true b e = absurd cc
+both_tests false true e = (refl, refl)
+both_tests false false e = absurd cc
+
+asked_parts : (s : State) (i : ℕ) → unless_asked s i ≡ None → (i < length s.forest.entries) × (waits_for s.round i ≡ true)
+asked_parts s i none =
+    let tests = both_tests (nat_le (length s.forest.entries) i) (waits_for s.round i) none in
+    let within : nat_le (length s.forest.entries) i ≡ false = tests.0 in
+    (grind (arith, nat_tests), tests.1)
+
+never_asked : (s : State) (i : ℕ) → s.round ≡ None → unless_asked s i ≡ None → ⊥
+never_asked s i closed none =
+    let waits = (asked_parts s i none).1 in
+    let bad : false ≡ true = sym (ap (λ r. waits_for r i) closed) ∙ waits in absurd cc
+
+second_none : {X : Type 0} (b : Bool) (x : X) (o : Option X) → cond b (Some x) o ≡ None → o ≡ None
+second_none true x o e = absurd cc
+second_none false x o e = e
+
+taken : (s : State) (event : Event) → IsAnswer event → refusal s event ≡ None → unless_asked s (of_entry event) ≡ None
+unfolding refusal
+taken s (Tick t) answer none = absurd answer
+taken s (Told i seconds renewable) answer none = second_none (nat_lt LONGEST seconds) OutOfRange (unless_asked s i) none
+taken s (Refused i) answer none = none
+taken s (Lost i) answer none = none
+taken s (Need i until) answer none = absurd answer
+
+step_taken : (old : State) (event : Event) (output : Output) (new : State) → IsAnswer event → Step old event output new → StepAnswer old event output new
+step_taken old (Tick t) output new answer step = absurd answer
+step_taken old (Told i seconds renewable) output new answer step = step
+step_taken old (Refused i) output new answer step = step
+step_taken old (Lost i) output new answer step = step
+step_taken old (Need i until) output new answer step = absurd answer
+
+long_taken : (old : State) (event : Event) → IsAnswer event → StepTooLong old event → AnswerTooLong old event
+long_taken old (Tick t) answer step = absurd answer
+long_taken old (Told i seconds renewable) answer step = step
+long_taken old (Refused i) answer step = step
+long_taken old (Lost i) answer step = step
+long_taken old (Need i until) answer step = absurd answer
+
+-- no answer is taken once the round is closed
+closed_end : (s new : State) (rest : List Event) (results : List (Result Output StepFault)) → s.round ≡ None → AreAnswers rest → EndsWell results → Run s rest results new → (rest ≡ []) × (new ≡ s)
+closed_end s new [] [] closed answers well run = (refl, run)
+closed_end s new [] (result ∷ results) closed answers well run = absurd run
+closed_end s new (event ∷ rest) [] closed answers well run = absurd run
+closed_end s new (event ∷ rest) (Ok output ∷ results) closed answers well run = absurd (never_asked s (of_entry event) closed (taken s event answers.0 run.1.0.0))
+closed_end s new (event ∷ rest) (Err TooLong ∷ results) closed answers well run = absurd (never_asked s (of_entry event) closed (taken s event answers.0 run.1.0.0))
+closed_end s new (event ∷ rest) (Err ClockBack ∷ results) closed answers well run = absurd well
+closed_end s new (event ∷ rest) (Err RoundOpen ∷ results) closed answers well run = absurd well
+closed_end s new (event ∷ rest) (Err NotAsked ∷ results) closed answers well run = absurd well
+closed_end s new (event ∷ rest) (Err BadIndex ∷ results) closed answers well run = absurd well
+closed_end s new (event ∷ rest) (Err OutOfRange ∷ results) closed answers well run = absurd well
+closed_end s new (event ∷ rest) (Err OutOfMemory ∷ results) closed answers well run = absurd well
+
+asked_more :
+    (event : Event) (rest : List Event) (us : List ℕ) → list_any (λ j. j == of_entry event) us ≡ true → ((j : ℕ) → list_any (λ k. k == j) (without (of_entry event) us) ≡ false → answer_for rest j ≡ None) →
+    (j : ℕ) → list_any (λ k. k == j) us ≡ false → answer_for (event ∷ rest) j ≡ None
+unfolding without
+asked_more event rest us there asked j none = elim (cases_eq (of_entry event) j) [
+  | inl same ↦ absurd (let bad : true ≡ false = sym there ∙ ap (λ n. list_any (λ k. k == n) us) same ∙ none in cc)
+  | inr apart ↦
+      let miss : (of_entry event == j) ≡ false = grind (arith, nat_tests) in
+      answer_first event rest j ∙ cond-false (of_entry event == j) (Some event) (answer_for rest j) miss ∙ asked j (none_within (λ k. not (k == of_entry event)) j us none)
+]
+
+-- the state that one answer closes, in words of the answers
+one_closes : (old : State) (round : Round) (event : Event) → of_entry event < length old.forest.entries → closing old round (answer_for (event ∷ [])) ≡ heard old event round.at None
+one_closes old round event within =
+    ap (λ g. record old { forest = g; round = None })
+    (sym (told_more round.at event [] old.forest within (answer_none (of_entry event))) ∙ told_none round.at (change old.forest (of_entry event) (answered round.at event)))
+
+one_left : (event : Event) (us : List ℕ) → left_over (answer_for (event ∷ [])) us ≡ without (of_entry event) us
+one_left event us = left_more event [] us ∙ left_none (without (of_entry event) us)
+
+-- an answer before others
+more_waits :
+    (old : State) (round : Round) (event : Event) (rest : List Event) → of_entry event < length old.forest.entries → answer_for rest (of_entry event) ≡ None →
+    waiting (heard old event round.at (Some (left round (of_entry event)))) (left round (of_entry event)) (answer_for rest) ≡ waiting old round (answer_for (event ∷ rest))
+more_waits old round event rest within once =
+    ap (λ g. record old { forest = g; round = Some (record { at = round.at; unanswered = left_over (answer_for rest) (without (of_entry event) round.unanswered) }) }) (told_more round.at event rest old.forest within once)
+    ∙ ap (λ us. record old { forest = told round.at (answer_for (event ∷ rest)) old.forest; round = Some (record { at = round.at; unanswered = us }) }) (sym (left_more event rest round.unanswered))
+
+more_closes :
+    (old : State) (round : Round) (event : Event) (rest : List Event) → of_entry event < length old.forest.entries → answer_for rest (of_entry event) ≡ None →
+    closing (heard old event round.at (Some (left round (of_entry event)))) (left round (of_entry event)) (answer_for rest) ≡ closing old round (answer_for (event ∷ rest))
+more_closes old round event rest within once = ap (λ g. record old { forest = g; round = None }) (told_more round.at event rest old.forest within once)
+
+one_more :
+    (old new : State) (round : Round) (event : Event) (rest : List Event) (output : Output) (results : List (Result Output StepFault)) → of_entry event < length old.forest.entries →
+    list_any (λ j. j == of_entry event) round.unanswered ≡ true →
+    Outcome (heard old event round.at (Some (left round (of_entry event)))) (left round (of_entry event)) (answer_for rest) results new → Outcome old round (answer_for (event ∷ rest)) (Ok output ∷ results) new
+one_more old new round event rest output results within there o =
+    let once : answer_for rest (of_entry event) ≡ None = o.asked (of_entry event) (not_there (of_entry event) round.unanswered) in
+    let same = left_more event rest round.unanswered in
+    record {
+      asked = asked_more event rest round.unanswered there o.asked;
+      ends = elim o.ends [
+        | inl waits ↦ inl (λ none. waits.0 (sym same ∙ none), waits.1 ∙ more_waits old round event rest within once)
+        | inr other ↦ inr (elim other [
+          | inl closes ↦ inl (same ∙ closes.0, subst (λ (s : State). Replan s round.at new) (more_closes old round event rest within once) closes.1)
+          | inr fails ↦ inr (same ∙ fails.0, fails.1, subst (λ (s : State). IsTooLong s.forest round.at) (more_closes old round event rest within once) fails.2)
+        ])
+      ];
+    }
+
+-- the last answer, which closes the round
+last_closes :
+    (old mid : State) (round : Round) (event : Event) (results : List (Result Output StepFault)) → of_entry event < length old.forest.entries → list_any (λ j. j == of_entry event) round.unanswered ≡ true →
+    without (of_entry event) round.unanswered ≡ [] → Replan (heard old event round.at None) round.at mid → Outcome old round (answer_for (event ∷ [])) results mid
+last_closes old mid round event results within there none replan = record {
+  asked = asked_more event [] round.unanswered there (λ j _. answer_none j);
+  ends = inr (inl (one_left event round.unanswered ∙ none, subst (λ (s : State). Replan s round.at mid) (sym (one_closes old round event within)) replan));
+}
+
+-- or would, if the plan were not too long
+last_fails :
+    (old new : State) (round : Round) (event : Event) → of_entry event < length old.forest.entries → list_any (λ j. j == of_entry event) round.unanswered ≡ true →
+    without (of_entry event) round.unanswered ≡ [] → IsTooLong (heard old event round.at None).forest round.at → Outcome old round (answer_for (event ∷ [])) (Err TooLong ∷ []) new
+last_fails old new round event within there none long = record {
+  asked = asked_more event [] round.unanswered there (λ j _. answer_none j);
+  ends = inr (inr (one_left event round.unanswered ∙ none, tt, subst (λ (s : State). IsTooLong s.forest round.at) (sym (one_closes old round event within)) long));
+}
+
+same_round : (old : State) (r round : Round) → old.round ≡ Some r → old.round ≡ Some round → r ≡ round
+same_round old r round a b = let both : Some r ≡ Some round = sym a ∙ b in cc
+
+abbrev FromHere : List Event → List (Result Output StepFault) → State → Type 0
+FromHere rest results new =
+    (s : State) (r : Round) → s.round ≡ Some r → r.unanswered ≢ [] → Run s rest results new → Outcome s r (answer_for rest) results new
+
+step_outcome :
+    (old mid new : State) (round : Round) (event : Event) (rest : List Event) (output : Output) (results : List (Result Output StepFault)) → old.round ≡ Some round →
+    unless_asked old (of_entry event) ≡ None → AreAnswers rest → EndsWell results → StepAnswer old event output mid → Run mid rest results new → FromHere rest results new →
+    Outcome old round (answer_for (event ∷ rest)) (Ok output ∷ results) new
+step_outcome old mid new round event rest out.Waiting results is asked answers well step run onward =
+    let parts = asked_parts old (of_entry event) asked in
+    let there : list_any (λ j. j == of_entry event) round.unanswered ≡ true = sym (ap (λ r. waits_for r (of_entry event)) is) ∙ parts.1 in
+    let r = same_round old step.0 round step.1.0 is in
+    let some : without (of_entry event) round.unanswered ≢ [] = subst (λ (x : Round). without (of_entry event) x.unanswered ≢ []) r step.1.1.0 in
+    let heard_is : mid ≡ heard old event round.at (Some (left round (of_entry event))) = subst (λ (x : Round). mid ≡ heard old event x.at (Some (left x (of_entry event)))) r step.1.1.1 in
+    one_more old new round event rest out.Waiting results parts.0 there
+    (onward (heard old event round.at (Some (left round (of_entry event)))) (left round (of_entry event)) refl some (subst (λ s. Run s rest results new) heard_is run))
+step_outcome old mid new round event rest (out.Round next) results is asked answers well step run onward =
+    let parts = asked_parts old (of_entry event) asked in
+    let there : list_any (λ j. j == of_entry event) round.unanswered ≡ true = sym (ap (λ r. waits_for r (of_entry event)) is) ∙ parts.1 in
+    let r = same_round old step.0 round step.1.0 is in
+    let none : without (of_entry event) round.unanswered ≡ [] = subst (λ (x : Round). without (of_entry event) x.unanswered ≡ []) r step.1.1.0 in
+    let replan : Replan (heard old event round.at None) round.at mid = subst (λ (x : Round). Replan (heard old event x.at None) x.at mid) r step.1.1.1.0 in
+    let closed : mid.round ≡ None = ap (λ (s : State). s.round) replan.is in
+    let end = closed_end mid new rest results closed answers well run in
+    let here = last_closes old mid round event (Ok (out.Round next) ∷ results) parts.0 there none replan in
+    subst (λ s. Outcome old round (answer_for (event ∷ rest)) (Ok (out.Round next) ∷ results) s) (sym end.1)
+    (subst (λ es. Outcome old round (answer_for (event ∷ es)) (Ok (out.Round next) ∷ results) mid) (sym end.0) here)
+step_outcome old mid new round event rest out.Idle results is asked answers well step run onward = absurd step
+step_outcome old mid new round event rest (out.Sleep w) results is asked answers well step run onward = absurd step
+step_outcome old mid new round event rest (out.Ask list) results is asked answers well step run onward = absurd step
+step_outcome old mid new round event rest out.Planned results is asked answers well step run onward = absurd step
+
+fail_outcome :
+    (old mid new : State) (round : Round) (event : Event) (rest : List Event) → old.round ≡ Some round → unless_asked old (of_entry event) ≡ None → AnswerTooLong old event → Run mid rest [] new →
+    Outcome old round (answer_for (event ∷ rest)) (Err TooLong ∷ []) new
+fail_outcome old mid new round event [] is asked long run =
+    let parts = asked_parts old (of_entry event) asked in
+    let there : list_any (λ j. j == of_entry event) round.unanswered ≡ true = sym (ap (λ r. waits_for r (of_entry event)) is) ∙ parts.1 in
+    let r = same_round old long.0 round long.1.0 is in
+    last_fails old new round event parts.0 there
+    (subst (λ (x : Round). without (of_entry event) x.unanswered ≡ []) r long.1.1.0) (subst (λ (x : Round). IsTooLong (heard old event x.at None).forest x.at) r long.1.1.1)
+fail_outcome old mid new round event (next ∷ rest) is asked long run = absurd run
+
+no_answers : (old new : State) (round : Round) → old.round ≡ Some round → round.unanswered ≢ [] → new ≡ old → Outcome old round (answer_for []) [] new
+no_answers old new round is some same = record {
+  asked = λ i _. answer_none i;
+  ends = inl (
+    λ none. some (sym (left_none round.unanswered) ∙ none),
+    same ∙ ap (λ r. record old { round = r }) is ∙ ap (λ g. record old { forest = g; round = Some round }) (sym (told_none round.at old.forest))
+        ∙ ap (λ us. record old { forest = told round.at (answer_for []) old.forest; round = Some (record { at = round.at; unanswered = us }) }) (sym (left_none round.unanswered)),
+  );
+}
+
+outcome :
+    (events : List Event) (results : List (Result Output StepFault)) (old new : State) (round : Round) → old.round ≡ Some round → round.unanswered ≢ [] → AreAnswers events → EndsWell results →
+    Run old events results new → Outcome old round (answer_for events) results new
+outcome [] [] old new round is some answers well run = no_answers old new round is some run
+outcome [] (result ∷ results) old new round is some answers well run = absurd run
+outcome (event ∷ rest) [] old new round is some answers well run = absurd run
+outcome (event ∷ rest) (Ok output ∷ results) old new round is some answers well run =
+    let turn = run.1.0 in
+    step_outcome old run.0 new round event rest output results is (taken old event answers.0 turn.0) answers.1 well (step_taken old event output run.0 answers.0 turn.1) run.1.1
+    (λ s r open_here unanswered onward. outcome rest results s new r open_here unanswered answers.1 well onward)
+outcome (event ∷ rest) (Err TooLong ∷ []) old new round is some answers well run =
+    let turn = run.1.0 in
+    fail_outcome old run.0 new round event rest is (taken old event answers.0 turn.0) (long_taken old event answers.0 turn.1.0) run.1.1
+outcome (event ∷ rest) (Err TooLong ∷ result ∷ results) old new round is some answers well run = absurd well
+outcome (event ∷ rest) (Err ClockBack ∷ results) old new round is some answers well run = absurd well
+outcome (event ∷ rest) (Err RoundOpen ∷ results) old new round is some answers well run = absurd well
+outcome (event ∷ rest) (Err NotAsked ∷ results) old new round is some answers well run = absurd well
+outcome (event ∷ rest) (Err BadIndex ∷ results) old new round is some answers well run = absurd well
+outcome (event ∷ rest) (Err OutOfRange ∷ results) old new round is some answers well run = absurd well
+outcome (event ∷ rest) (Err OutOfMemory ∷ results) old new round is some answers well run = absurd well
+
+-- planning anew gives one state
+replan_once : (s : State) (t : ℕ) (x y : State) → Replan s t x → Replan s t y → x ≡ y
+replan_once s t x y a b =
+    let h = shorten s.forest t in
+    a.is ∙ ap (planned s t) (one_least h.entries h.margin t (end_of h.entries) a.moments b.moments a.best b.best) ∙ sym b.is
+
+-- and is not too long where it gives one
+not_both : (s : State) (t : ℕ) (x : State) → Replan s t x → IsTooLong s.forest t → ⊥
+not_both s t x a b =
+    let h = shorten s.forest t in
+    let same = ap length (one_least h.entries h.margin t (end_of h.entries) a.moments b.moments a.best b.best) in
+    let few = a.few in
+    let many = b.many in
+    absurd (omega arith)
+
+agree :
+    (old x y : State) (round : Round) (ans : ℕ → Option Event) (results more : List (Result Output StepFault)) → Outcome old round ans results x → Outcome old round ans more y →
+    (x ≡ y) ⊎ (EndsTooLong results × EndsTooLong more)
+agree old x y round ans results more a b =
+    elim a.ends [
+      | inl waits ↦ elim b.ends [
+        | inl too ↦ inl (waits.1 ∙ sym too.1)
+        | inr other ↦ elim other [ inl closes ↦ absurd (waits.0 closes.0) | inr fails ↦ absurd (waits.0 fails.0) ]
+      ]
+      | inr ended ↦ elim ended [
+        | inl closes ↦ elim b.ends [
+          | inl waits ↦ absurd (waits.0 closes.0)
+          | inr other ↦ elim other [ inl too ↦ inl (replan_once (closing old round ans) round.at x y closes.1 too.1) | inr fails ↦ absurd (not_both (closing old round ans) round.at x closes.1 fails.2) ]
+        ]
+        | inr fails ↦ elim b.ends [
+          | inl waits ↦ absurd (waits.0 fails.0)
+          | inr other ↦ elim other [ inl closes ↦ absurd (not_both (closing old round ans) round.at y closes.1 fails.2) | inr too ↦ inr (fails.1, too.1) ]
+        ]
+      ]
+    ]
+
+pub order : OrderLaw
+order old x y round is some these others answers too same results more well also run onward =
+    let a = outcome these results old x round is some answers well run in
+    let b = outcome others more old y round is some too also onward in
+    agree old x y round (answer_for others) results more (subst (λ ans. Outcome old round ans results x) (fun_ext same) a) b

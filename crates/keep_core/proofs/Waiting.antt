@@ -1,0 +1,44 @@
+-- The flags of an open round: who is waited for, and one answer more.
+use Rattle.std.proofs.Common.{◌≡◌, ◌==◌, ◌∙◌, ℕ, zero, suc, ◌+◌, ◌<◌, ◌≤◌, Bool, true, false, cond, List, ◌∷◌, filter, length, refl, sym, ap, subst, arith, inl, inr}
+use Rattle.std.proofs.lemmas.Bool.{cases_Bool, cases_eq}
+use Rattle.std.proofs.lemmas.Bool.Decides.{nat_tests}
+use Rattle.std.specs.List.{list_any, range_with_len}
+use Rattle.keep_tree.proofs.Carrying.{or_left, or_parts, or_right}
+use Rattle.keep_core.specs.Keeping.{flag, waited_for}
+
+kept_test : (p : ℕ → Bool) (n a i : ℕ) → list_any (λ j. j == i) (filter p (range_with_len a n)) ≡ true → p i ≡ true
+kept_test p zero a i e = absurd cc
+kept_test p (suc n) a i e =
+    let rest = filter p (range_with_len (a + 1) n) in
+    elim (cases_Bool (p a)) [
+      | inl passes ↦
+          or_parts (a == i) (list_any (λ j. j == i) rest) (p i ≡ true) (sym (ap (λ b. list_any (λ j. j == i) (cond b (a ∷ rest) rest)) passes) ∙ e)
+          (λ same. let k : a ≡ i = grind (arith, nat_tests) in subst (λ j. p j ≡ true) k passes)
+          (λ later. kept_test p n (a + 1) i later)
+      | inr fails ↦ kept_test p n (a + 1) i (sym (ap (λ b. list_any (λ j. j == i) (cond b (a ∷ rest) rest)) fails) ∙ e)
+    ]
+
+kept_there : (p : ℕ → Bool) (n a i : ℕ) → a ≤ i → i < a + n → p i ≡ true → list_any (λ j. j == i) (filter p (range_with_len a n)) ≡ true
+kept_there p zero a i low high e = absurd (omega arith)
+kept_there p (suc n) a i low high e =
+    let rest = filter p (range_with_len (a + 1) n) in
+    elim (cases_eq a i) [
+      | inl same ↦ ap (λ b. list_any (λ j. j == i) (cond b (a ∷ rest) rest)) (ap p same ∙ e) ∙ or_left (a == i) (list_any (λ j. j == i) rest) (grind (arith, nat_tests))
+      | inr other ↦
+          let there = kept_there p n (a + 1) i (omega arith) (omega arith) e in
+          elim (cases_Bool (p a)) [
+            | inl passes ↦ ap (λ b. list_any (λ j. j == i) (cond b (a ∷ rest) rest)) passes ∙ or_right (a == i) (list_any (λ j. j == i) rest) there
+            | inr fails ↦ ap (λ b. list_any (λ j. j == i) (cond b (a ∷ rest) rest)) fails ∙ there
+          ]
+    ]
+
+-- whether an entry is among those that are waited for: its flag
+pub waits_flag : (flags : List Bool) (i : ℕ) → i < length flags → list_any (λ j. j == i) (waited_for flags) ≡ flag flags i
+unfolding waited_for
+waits_flag flags i within = elim (cases_Bool (flag flags i)) [
+  | inl yes' ↦ kept_there (flag flags) (length flags) 0 i (omega arith) (omega arith) yes' ∙ sym yes'
+  | inr no' ↦ not_kept (list_any (λ j. j == i) (filter (flag flags) (range_with_len 0 (length flags)))) (kept_test (flag flags) (length flags) 0 i) no'
+] where
+  not_kept : (b : Bool) → (b ≡ true → flag flags i ≡ true) → flag flags i ≡ false → b ≡ flag flags i
+  not_kept true f h = absurd (let y = f refl in cc)
+  not_kept false f h = sym h

@@ -1,0 +1,42 @@
+use Rattle.std.proofs.Common.{◌≡◌, ◌∙◌, ◌++◌, Option, None, ap, arith, length, subst, sym}
+use Rattle.keep_schedule.specs.Forces.{moments_of}
+use Rattle.keep_plan.specs.Planned.{to_come}
+use Rattle.keep_core.specs.declared.round.OpenRound.{OpenRound}
+use Rattle.keep_core.specs.Keeping.{IsKeeper, seen}
+use Rattle.keep_core.specs.Replan.{Replan}
+use Rattle.keep_core.specs.Shorten.{pairs}
+use Rattle.keep_core.specs.State.{State}
+use Rattle.keep_core.specs.Step.{change, needed}
+use Rattle.keep_core.proofs.Made.{made, made_keeper, none_seen}
+use Rattle.keep_core.proofs.Taken.{moment_is, need_taken}
+use Rattle.keep_core.proofs.keeper.Keeper.need.Goals as goal
+
+pub unwrap-until-requires : goal.unwrap-until-requires
+unwrap-until-requires c = c.new.ensures.within.1 (need_taken c.args.self.now c.args.i c.args.until c.requires).0
+
+pub replan_with_need-requires : goal.replan_with_need-requires
+replan_with_need-requires c =
+    let same = ap (λ (s : State). length s.forest.entries) c.self.view_is in
+    let within = (need_taken c.args.self.now c.args.i c.args.until c.requires).1 in
+    omega arith
+
+pub invariant_of-self-2 : goal.invariant_of-self-2
+invariant_of-self-2 c =
+    let h = c.replan_with_need.new.forest in
+    let p = c.in_ok-anew.anew.plan in
+    let closed = (need_taken c.args.self.now c.args.i c.args.until c.requires).2 in
+    let none : c.self.inside.round ≡ None = none_seen c.self.inside.round (ap (λ (s : State). s.round) c.self.view_is ∙ closed) in
+    subst (λ (r : Option OpenRound). IsKeeper h c.self.inside.last p r) (sym none) (made_keeper h c.self.inside.last p c.in_ok-anew.ensures.planned)
+
+pub returns : goal.returns
+returns c =
+    let h = c.replan_with_need.new.forest in
+    let p = c.in_ok-anew.anew.plan in
+    let i = c.args.i in
+    let list = c.in_ok-anew.anew.shortened.items in
+    let old : State = record { forest = c.self.inside.forest; last = c.self.inside.last; to_come = moments_of (to_come c.self.inside.plan); round = seen c.self.inside.round; shortened = c.self.inside.shortened.items } in
+    let new : State = record { forest = h; last = c.self.inside.last; to_come = moments_of (to_come p); round = seen c.self.inside.round; shortened = list } in
+    let value : c.unwrap-until.result ≡ c.args.until = moment_is c.new.result c.unwrap-until.result c.args.until c.unwrap-until.ensures c.new.ensures.value in
+    let noted = c.in_ok-anew.ensures.shortened.1 ∙ ap (λ xs. xs ++ pairs (change c.self.inside.forest i (λ e. record e { need = c.unwrap-until.result })) c.self.inside.last) c.deref.ensures.value in
+    let there : Replan (needed old i c.unwrap-until.result) c.self.inside.last new = made (needed old i c.unwrap-until.result) c.self.inside.last h p list c.in_ok-anew.ensures.shortened.0 noted c.in_ok-anew.ensures.planned in
+    (c.requires, subst (λ (s : State). Replan (needed s i c.args.until) s.last new) c.self.view_is (subst (λ n. Replan (needed old i n) c.self.inside.last new) value there))

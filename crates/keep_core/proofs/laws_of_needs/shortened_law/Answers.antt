@@ -1,0 +1,5 @@
+use Rattle.keep_core.proofs.Kept.{shortened}
+use Rattle.keep_core.proofs.laws_of_needs.shortened_law.Goals as goal
+
+pub returns : goal.returns
+returns c = shortened

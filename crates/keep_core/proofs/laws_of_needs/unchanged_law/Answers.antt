@@ -1,0 +1,5 @@
+use Rattle.keep_core.proofs.Kept.{unchanged}
+use Rattle.keep_core.proofs.laws_of_needs.unchanged_law.Goals as goal
+
+pub returns : goal.returns
+returns c = unchanged

@@ -1,0 +1,5 @@
+use Rattle.keep_core.proofs.Standing.{kept_plan}
+use Rattle.keep_core.proofs.laws_of_plans.kept_plan_law.Goals as goal
+
+pub returns : goal.returns
+returns c = kept_plan

@@ -1,0 +1,5 @@
+use Rattle.keep_core.specs.Passes.{AreLeast}
+use Rattle.keep_core.proofs.least.least_reaches.Given as goal
+
+abbrev pub invariant-loop-index : goal.invariant-loop-index
+invariant-loop-index l = AreLeast l.forest l.at l.index l.reaches.items

@@ -1,0 +1,16 @@
+use Rattle.std.proofs.Common.{subst, inl, inr}
+use Rattle.keep_plan.specs.Decides.{Decides}
+use Rattle.keep_plan.proofs.Deciding.{some_keeps}
+use Rattle.keep_core.proofs.replan.plan_kept.Goals as goal
+
+pub returns-in-Unkeepable : goal.returns-in-Unkeepable
+returns-in-Unkeepable c =
+    let g = c.args.forest.now in
+    let some = some_keeps g c.args.at c.len-entries.ensures.sound c.requires in
+    record {
+      kept = tt;
+      refused = elim c.in-Unkeepable.is [
+        | inl pair ↦ absurd (let none = subst (Decides g c.args.at) pair.2 c.in_ok-plan.ensures in none.1 some.0 some.1.0 some.1.1)
+        | inr long ↦ subst (Decides g c.args.at) long c.in_ok-plan.ensures
+      ];
+    }

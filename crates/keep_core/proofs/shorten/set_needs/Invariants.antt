@@ -1,0 +1,6 @@
+use Rattle.std.proofs.Common.{◌≡◌}
+use Rattle.keep_core.specs.Passes.{needing, so_far}
+use Rattle.keep_core.proofs.shorten.set_needs.Given as goal
+
+abbrev pub invariant-loop-index : goal.invariant-loop-index
+invariant-loop-index l = l.forest ≡ record { entries = needing l.initial.forest.entries (so_far l.initial.forest.entries l.needs l.index); margin = l.initial.forest.margin }

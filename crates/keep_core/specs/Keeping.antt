@@ -1,0 +1,63 @@
+-- Keeping: what a keeper holds beside its state. No public clause cites it.
+-- Source: this project's own.
+use Rattle.std.specs.Prelude.{◌≡◌, ℕ, ◌≤◌, ◌<◌, Bool, true, false, not, ◌&&◌, if◌then◌else◌, List, ◌∷◌, Option, Some, None, filter, length, slice_index_or}
+use Rattle.std.specs.List.{range_with_len}
+use Rattle.keep_tree.specs.Forest.{Grove, end_of, entry_at}
+use Rattle.keep_tree.specs.Push.{IsForest}
+use Rattle.keep_tree.specs.Renewal.{renewal}
+use Rattle.keep_rule.specs.Asks.{asking, first_of}
+use Rattle.keep_rule.specs.Ends.{is_asked}
+use Rattle.keep_needs.specs.Carried.{IsCarried}
+use Rattle.keep_schedule.specs.declared.force.Force.{Force}
+use Rattle.keep_schedule.specs.Forces.{moments_of}
+use Rattle.keep_plan.specs.declared.limit.TheConstants.{LIMIT}
+use Rattle.keep_plan.specs.Planned.{Planned, to_come}
+use Rattle.keep_core.specs.declared.round.OpenRound.{OpenRound}
+use Rattle.keep_core.specs.InForce.{AllForcedAs}
+use Rattle.keep_core.specs.Replan.{IsPlanOf}
+use Rattle.keep_core.specs.State.{Round}
+
+-- whether the answer of an entry is waited for
+abbrev pub flag : List Bool → ℕ → Bool
+flag flags i = slice_index_or flags i false
+
+-- the entries whose answers are waited for, by index
+unfoldable pub waited_for : List Bool → List ℕ
+waited_for flags = filter (flag flags) (range_with_len 0 (length flags))
+
+-- what callers see of a round
+abbrev pub seen : Option OpenRound → Option Round
+seen None = None
+seen (Some r) = Some (record { at = r.at; unanswered = waited_for r.waiting.items })
+
+-- g is the forest at the opening of a round at t, with a plan whose first wake-up was x and whose others are still to come;
+-- of the entries that were asked, those that are no longer waited for were told the rule's end and stay renewable
+pub record IsByRule (h : Grove) (t : ℕ) (p : Planned) (flags : List Bool) : Type 0 where
+  pub g : Grove
+  pub forest : IsForest g
+  pub x : Force
+  pub at : x.at ≡ t
+  pub best : IsPlanOf g t (t ∷ moments_of (to_come p))
+  pub forced : AllForcedAs g.entries g.margin t (end_of g.entries) None (x ∷ to_come p)
+  pub margin : h.margin ≡ g.margin
+  pub count : length h.entries ≡ length g.entries
+  pub asked : (i : ℕ) → flag flags i ≡ true → is_asked (asking g.entries g.margin t (end_of g.entries) t (first_of (moments_of (to_come p)))) i ≡ true
+  pub each : (i : ℕ) → entry_at h.entries i
+      ≡ record (entry_at g.entries i) { end = if is_asked (asking g.entries g.margin t (end_of g.entries) t (first_of (moments_of (to_come p)))) i && not (flag flags i) then renewal (entry_at g.entries i) t else (entry_at g.entries i).end }
+
+-- a round that is open since the last moment
+pub record IsOpen (h : Grove) (last : ℕ) (p : Planned) (r : OpenRound) : Type 0 where
+  pub at : r.at ≡ last
+  pub count : length r.waiting.items ≡ length h.entries
+  pub left : r.left ≡ length (waited_for r.waiting.items)
+  pub some : 0 < r.left
+  pub by_rule : r.by_rule ≡ true → IsByRule h last p r.waiting.items
+
+-- a forest, the last moment, a plan and a round, if one is open, that belong together
+pub record IsKeeper (h : Grove) (last : ℕ) (p : Planned) (round : Option OpenRound) : Type 0 where
+  pub carried : IsCarried h p.start p.carried
+  pub start : p.start ≤ last
+  pub few : length (to_come p) ≤ LIMIT
+  pub best : round ≡ None → IsPlanOf h last (moments_of (to_come p))
+  pub forced : round ≡ None → AllForcedAs h.entries h.margin last (end_of h.entries) None (to_come p)
+  pub open_round : (r : OpenRound) → round ≡ Some r → IsOpen h last p r

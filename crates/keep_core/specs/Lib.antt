@@ -1,0 +1,12 @@
+pub mod State
+pub mod Shorten
+pub mod Refusal
+pub mod Replan
+pub mod Step
+pub mod Runs
+pub mod InForce
+pub mod Passes
+pub mod Keeping
+pub mod LawsOfNeeds
+pub mod LawsOfPlans
+pub mod LawsOfRuns

@@ -1,0 +1,29 @@
+-- Replan: planning anew at a moment.
+-- Source: this project's own.
+use Rattle.std.specs.Prelude.{◌≡◌, ℕ, ◌≤◌, ◌<◌, List, ◌++◌, length}
+use Rattle.keep_tree.specs.Forest.{Grove, end_of}
+use Rattle.keep_rule.specs.Least.{IsLeastAndLatest}
+use Rattle.keep_plan.specs.declared.limit.TheConstants.{LIMIT}
+use Rattle.keep_core.specs.Shorten.{pairs, shorten}
+use Rattle.keep_core.specs.State.{State}
+
+-- the moments are those of the one least and latest plan from t, for the ends and needs of a forest
+abbrev pub IsPlanOf : Grove → ℕ → List ℕ → Type 0
+IsPlanOf g t ts = IsLeastAndLatest g.entries g.margin t (end_of g.entries) ts
+
+-- the state planned anew at t with these moments: needs are shortened and noted, and t is the last moment
+abbrev pub planned : State → ℕ → List ℕ → State
+planned s t ts = record s { forest = shorten s.forest t; last = t; to_come = ts; shortened = s.shortened ++ pairs s.forest t }
+
+-- new is old, planned anew at t
+pub record Replan (old : State) (t : ℕ) (new : State) : Type 0 where
+  pub moments : List ℕ
+  pub best : IsPlanOf (shorten old.forest t) t moments
+  pub few : length moments ≤ LIMIT
+  pub is : new ≡ planned old t moments
+
+-- planned anew at t, the forest has more than LIMIT moments to come
+pub record IsTooLong (g : Grove) (t : ℕ) : Type 0 where
+  pub moments : List ℕ
+  pub best : IsPlanOf (shorten g t) t moments
+  pub many : LIMIT < length moments

@@ -1,0 +1,23 @@
+-- State: what an executor holds between two events.
+-- Source: this project's own.
+use Rattle.std.specs.Prelude.{ℕ, List, [], Option, None}
+use Rattle.keep_tree.specs.Forest.{Grove}
+use Rattle.keep_core.specs.declared.shortened.ShortNeed.{ShortNeed}
+
+-- a round: its moment, and the entries that were asked and have not answered
+pub record Round : Type 0 where
+  pub at : ℕ
+  pub unanswered : List ℕ
+
+-- the forest, with ends as told and needs in force; the last moment; the moments to come; the round that is open, if any;
+-- and the needs that were shortened
+pub record State : Type 0 where
+  pub forest : Grove
+  pub last : ℕ
+  pub to_come : List ℕ
+  pub round : Option Round
+  pub shortened : List ShortNeed
+
+-- the state that is planned at the opening: a forest, and nothing that happened
+abbrev pub unplanned : Grove → State
+unplanned g = record { forest = g; last = 0; to_come = []; round = None; shortened = [] }

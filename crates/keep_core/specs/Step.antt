@@ -1,0 +1,94 @@
+-- Step: what one event does that is not refused, by cases on the event and the output.
+-- Source: this project's own, over Vault, "Lease, renew, and revoke" (a renewal's TTL counts from the renewal).
+use Rattle.std.specs.Prelude.{◌≡◌, ◌≢◌, ◌==◌, ℕ, ◌+◌, ◌<◌, false, not, List, [], ◌∷◌, Option, Some, None, filter, slice_set}
+use Rattle.keep_tree.specs.declared.entry.Entry.{Entry}
+use Rattle.keep_tree.specs.Forest.{Grove, end_of, entry_at}
+use Rattle.keep_rule.specs.Asks.{asks, first_of}
+use Rattle.keep_core.specs.declared.event.Event.{Event}
+use Rattle.keep_core.specs.declared.event.Event.TheVariants.{Tick, Told, Refused, Lost, Need}
+use Rattle.keep_core.specs.declared.event.Output.{Output}
+use Rattle.keep_core.specs.declared.event.Output.TheVariants as out
+use Rattle.keep_core.specs.Replan.{IsTooLong, Replan}
+use Rattle.keep_core.specs.State.{Round, State}
+
+-- the forest with the entry i changed
+abbrev pub change : Grove → ℕ → (Entry → Entry) → Grove
+change g i f = record { entries = slice_set g.entries i (f (entry_at g.entries i)); margin = g.margin }
+
+-- the entry that an answer is of
+abbrev pub of_entry : Event → ℕ
+of_entry (Tick t) = 0
+of_entry (Told i seconds renewable) = i
+of_entry (Refused i) = i
+of_entry (Lost i) = i
+of_entry (Need i until) = i
+
+-- what an answer to a round at this moment makes of its entry: told, it ends so many seconds after the round's moment, and
+-- is renewable as told; refused, it is not renewable; lost, it is as it was
+unfoldable pub answered : ℕ → Event → Entry → Entry
+answered at (Told i seconds renewable) e = record e { end = at + seconds; renewable = renewable }
+answered at (Refused i) e = record e { renewable = false }
+answered at event e = e
+
+unfoldable pub without : ℕ → List ℕ → List ℕ
+without i xs = filter (λ j. not (j == i)) xs
+
+-- the round without an entry that has answered
+abbrev pub left : Round → ℕ → Round
+left round i = record { at = round.at; unanswered = without i round.unanswered }
+
+-- the state after an answer to a round, with what is then the round
+abbrev pub heard : State → Event → ℕ → Option Round → State
+heard s event at round = record s { forest = change s.forest (of_entry event) (answered at event); round = round }
+
+-- the state with a new need
+abbrev pub needed : State → ℕ → ℕ → State
+needed s i until = record s { forest = change s.forest i (λ e. record e { need = until }) }
+
+-- the round that opens at t: the Asks, where the next moment is that
+abbrev pub opened : State → ℕ → Option ℕ → Round
+opened s t next = record { at = t; unanswered = asks s.forest.entries s.forest.margin t (end_of s.forest.entries) t next }
+
+-- a tick: planned anew at t, and then by the first of the moments to come
+abbrev pub StepTick : State → ℕ → Output → State → Type 0
+StepTick old t out.Idle new = Replan old t new × (new.to_come ≡ [])
+StepTick old t (out.Sleep w) new = Replan old t new × ((first_of new.to_come ≡ Some w) × (t < w))
+StepTick old t (out.Ask asked) new =
+    (mid : State) × (Replan old t mid × ((rest : List ℕ) × ((mid.to_come ≡ t ∷ rest)
+    × ((asked ≡ (opened mid t (first_of rest)).unanswered) × (new ≡ record mid { to_come = rest; round = Some (opened mid t (first_of rest)) })))))
+StepTick old t output new = ⊥
+
+-- an answer: others are still waited for, or the round closes and is planned anew at its moment
+abbrev pub StepAnswer : State → Event → Output → State → Type 0
+StepAnswer old event out.Waiting new =
+    (round : Round) × ((old.round ≡ Some round) × (((left round (of_entry event)).unanswered ≢ []) × (new ≡ heard old event round.at (Some (left round (of_entry event))))))
+StepAnswer old event (out.Round next) new =
+    (round : Round) × ((old.round ≡ Some round) × (((left round (of_entry event)).unanswered ≡ [])
+    × (Replan (heard old event round.at None) round.at new × (next ≡ first_of new.to_come))))
+StepAnswer old event output new = ⊥
+
+-- a new need: it is set, and planned anew at the last moment
+abbrev pub StepNeed : State → ℕ → ℕ → Output → State → Type 0
+StepNeed old i until out.Planned new = Replan (needed old i until) old.last new
+StepNeed old i until output new = ⊥
+
+-- one step that is not refused
+abbrev pub Step : State → Event → Output → State → Type 0
+Step old (Tick t) output new = StepTick old t output new
+Step old (Told i seconds renewable) output new = StepAnswer old (Told i seconds renewable) output new
+Step old (Refused i) output new = StepAnswer old (Refused i) output new
+Step old (Lost i) output new = StepAnswer old (Lost i) output new
+Step old (Need i until) output new = StepNeed old i until output new
+
+-- planning anew after the last answer of a round is too long
+abbrev pub AnswerTooLong : State → Event → Type 0
+AnswerTooLong old event =
+    (round : Round) × ((old.round ≡ Some round) × (((left round (of_entry event)).unanswered ≡ []) × IsTooLong (heard old event round.at None).forest round.at))
+
+-- the plan that an event makes anew is too long
+abbrev pub StepTooLong : State → Event → Type 0
+StepTooLong old (Tick t) = IsTooLong old.forest t
+StepTooLong old (Told i seconds renewable) = AnswerTooLong old (Told i seconds renewable)
+StepTooLong old (Refused i) = AnswerTooLong old (Refused i)
+StepTooLong old (Lost i) = AnswerTooLong old (Lost i)
+StepTooLong old (Need i until) = IsTooLong (needed old i until).forest old.last

@@ -1,0 +1,107 @@
+ghost use Rattle.std.specs.Prelude.{◌≡◌, [], None, IfErr, IfOk};
+ghost use Rattle.keep_tree.specs.Forest.{end_of};
+ghost use Rattle.keep_rule.specs.Asks.{first_of};
+ghost use Rattle.keep_schedule.specs.Forces.{moments_of};
+ghost use Rattle.keep_plan.specs.Planned.{to_come};
+ghost use Rattle.keep_core.specs.InForce.{AllForcedAs, InForce};
+ghost use Rattle.keep_core.specs.Passes.{PlanFails};
+ghost use Rattle.keep_core.specs.Replan.{Replan};
+ghost use Rattle.keep_core.specs.State.{unplanned};
+
+use crate::fault::StepFault;
+use crate::replan::replan;
+use crate::round::OpenRound;
+use crate::shortened::{ShortNeed, Shortened};
+use keep_moment::Moment;
+use keep_plan::Plan;
+use keep_tree::Forest;
+use std::alloc::Global;
+use std::marker::Model;
+use std::mem;
+
+/// The executor: the forest with the ends as told and the needs in force, the last moment, the plan in force from there on,
+/// the open round if any, and the needs that were shortened.
+#[derive(Debug, Drop)]
+pub struct Keeper {
+    pub(crate) forest: Forest,
+    pub(crate) last: Moment,
+    pub(crate) plan: Plan,
+    pub(crate) round: Option<OpenRound>,
+    pub(crate) shortened: Vec<ShortNeed>,
+}
+
+impl Model for Keeper {
+    ghost use Rattle.std.specs.Prelude.{◌≡◌};
+    ghost use Rattle.keep_schedule.specs.Forces.{moments_of};
+    ghost use Rattle.keep_plan.specs.Planned.{to_come};
+    ghost use Rattle.keep_core.specs.Keeping.{IsKeeper, seen};
+    ghost use Rattle.keep_core.specs.State.{State};
+
+    ghost Value = { State };
+
+    ghost view = { λ k. record { forest = k.forest; last = k.last; to_come = moments_of (to_come k.plan); round = seen k.round; shortened = k.shortened.items } };
+
+    ghost invariant = { λ k. IsKeeper k.forest k.last k.plan k.round };
+}
+
+impl Keeper {
+    /// A keeper of this forest, planned anew from `start`, which is its last moment. Refused, because the plan would have
+    /// more than 10,000,000 wake-ups or for want of memory, it hands the forest back as it was.
+    pub fn new(alloc: Global, forest: Forest, start: Moment) -> Result<Keeper, (StepFault, Forest)>
+        ensures opened { IfOk result (λ keeper. Replan (unplanned forest) start keeper) }
+        ensures refused { IfErr result (λ refused. PlanFails forest start refused.0 × (refused.1 ≡ forest)) }
+    {
+        let mut forest = forest;
+        match replan(alloc, &mut forest, &[], start) {
+            Ok(anew) => Ok(Keeper {
+                forest,
+                last: start,
+                plan: anew.plan,
+                round: None,
+                shortened: anew.shortened,
+            }),
+            Err(fault) => Err((fault, forest)),
+        }
+    }
+
+    /// The last moment.
+    pub fn now(&self) -> Moment
+        ensures { result ≡ self.now.last }
+    {
+        self.last
+    }
+
+    /// The forest, with the ends as told and the needs in force.
+    pub fn forest(&self) -> &Forest
+        ensures { result.now ≡ self.now.forest }
+    {
+        &self.forest
+    }
+
+    /// The first moment of the plan in force, `None` where it is empty.
+    pub fn next_wake(&self) -> Option<Moment>
+        ensures { result ≡ first_of self.now.to_come }
+    {
+        self.plan.wakes().next().map(|force| force.at)
+    }
+
+    /// The plan in force: whenever no round is open, its moments are those of the least and latest plan for the ends as told
+    /// and the needs in force, from the last moment, and each of its forces is forced.
+    pub fn plan(&self) -> &Plan
+        ensures moments { moments_of (to_come result.now) ≡ self.now.to_come }
+        ensures in_force { self.now.round ≡ None → InForce self.now }
+        ensures forced { self.now.round ≡ None → AllForcedAs self.now.forest.entries self.now.forest.margin self.now.last (end_of self.now.forest.entries) None (to_come result.now) }
+    {
+        &self.plan
+    }
+
+    /// The needs that were shortened since this was last asked, in the order in which they arose; by index within one
+    /// planning. It takes no memory.
+    pub fn take_shortened(&mut self) -> Shortened
+        ensures value { result ≡ self.old.shortened }
+        ensures after { self.new ≡ record self.old { shortened = [] } }
+    {
+        let none = Vec::new(*self.shortened.allocator());
+        Shortened::from_vec(mem::replace(&mut self.shortened, none))
+    }
+}

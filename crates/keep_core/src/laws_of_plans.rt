@@ -1,0 +1,28 @@
+ghost use Rattle.keep_core.specs.LawsOfPlans.{KeptPlanLaw, SomeoneLaw, StillForcedLaw, TailKeptLaw, TickLaw};
+
+/// The law of ticks: until the first moment of the plan in force, planning anew gives the same plan and shortens nothing.
+pub fn tick_law()
+    ensures { TickLaw }
+{}
+
+/// The law that a tick which is not late changes the last moment alone.
+pub fn kept_plan_law()
+    ensures { KeptPlanLaw }
+{}
+
+/// The law of the kept tail: after a round in which each asked entry was told the rule's end and stays renewable, planning
+/// anew gives the rest of the plan and shortens nothing.
+pub fn tail_kept_law()
+    ensures { TailKeptLaw }
+{}
+
+/// The law that a round has someone to ask: were nobody asked, the wake-up could be left out.
+pub fn someone_law()
+    ensures { SomeoneLaw }
+{}
+
+/// The law that the forces of a plan stay forces while the plan is kept: until its first moment, and after a round that was
+/// answered by the rule. They need not stay the lowest.
+pub fn still_forced_law()
+    ensures { StillForcedLaw }
+{}

@@ -1,0 +1,26 @@
+//! The executor's core: it is handed ticks, answers and new needs, and says when to wake and whom to ask.
+//!
+//! Begin with `event`.
+#![tactic(auto)]
+
+mod event;
+mod fault;
+mod keeper;
+mod laws_of_needs;
+mod laws_of_plans;
+mod laws_of_runs;
+mod least;
+mod need;
+mod refusal;
+mod replan;
+mod round;
+mod shorten;
+mod shortened;
+
+pub use event::{Event, Output};
+pub use fault::StepFault;
+pub use keeper::Keeper;
+pub use laws_of_needs::{keepable_law, plannable_law, shortened_law, unchanged_law};
+pub use laws_of_plans::{kept_plan_law, someone_law, still_forced_law, tail_kept_law, tick_law};
+pub use laws_of_runs::{in_force_law, order_law};
+pub use shortened::{ShortNeed, Shortened};

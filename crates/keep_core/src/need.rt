@@ -1,0 +1,64 @@
+ghost use Rattle.std.specs.Prelude.{◌≡◌, ◌++◌, ◌<◌, None, length, IfErr, IfOk, OnErr};
+ghost use Rattle.keep_plan.specs.Decides.{IsKept};
+ghost use Rattle.keep_core.specs.declared.event.Event.TheVariants as events;
+ghost use Rattle.keep_core.specs.Passes.{PlanFails};
+ghost use Rattle.keep_core.specs.Refusal.{refusal};
+ghost use Rattle.keep_core.specs.Runs.{Turn};
+ghost use Rattle.keep_core.specs.Shorten.{pairs, shorten};
+ghost use Rattle.keep_core.specs.Step.{change};
+
+use crate::event::Output;
+use crate::fault::StepFault;
+use crate::keeper::Keeper;
+use crate::replan::{Replanned, replan};
+use crate::shortened::ShortNeed;
+use keep_moment::Moment;
+use keep_tree::Forest;
+use std::alloc::Global;
+
+impl Keeper {
+    /// A new need: it is set, and planned anew from the last moment.
+    pub(crate) fn need(&mut self, i: u32, until: u64) -> Result<Output, StepFault>
+        requires { refusal self.old (events.Need i until) ≡ None }
+        ensures { Turn self.old (events.Need i until) result self.new }
+    {
+        let alloc = *self.shortened.allocator();
+        let until = Moment::new(until).unwrap();
+        let anew = replan_with_need(
+            alloc,
+            &mut self.forest,
+            &self.shortened,
+            i,
+            until,
+            self.last,
+        )?;
+        self.plan = anew.plan;
+        self.shortened = anew.shortened;
+        Ok(Output::Planned)
+    }
+}
+
+/// Sets a need in the forest and plans anew. Refused, the forest is as it was.
+fn replan_with_need(
+    alloc: Global,
+    forest: &mut Forest,
+    shortened: &[ShortNeed],
+    i: u32,
+    until: Moment,
+    at: Moment,
+) -> Result<Replanned, StepFault>
+    requires { i < length forest.old.entries }
+    ensures shortened { IfOk result (λ anew. (forest.new ≡ shorten (change forest.old i (λ e. record e { need = until })) at)
+        × (anew.shortened.items ≡ shortened.now ++ pairs (change forest.old i (λ e. record e { need = until })) at)) }
+    ensures planned { IfOk result (λ anew. IsKept forest.new at anew.plan) }
+    ensures refused { IfErr result (λ fault. PlanFails (change forest.old i (λ e. record e { need = until })) at fault) }
+    ensures unchanged { OnErr result (forest.new ≡ forest.old) }
+{
+    let before = Moment::new(forest.get(i).need).unwrap();
+    forest.set_need(i, until);
+    let planned = replan(alloc, forest, shortened, at);
+    if planned.is_err() {
+        forest.set_need(i, before);
+    }
+    planned
+}
