@@ -16,6 +16,8 @@ mod replan;
 mod round;
 mod shorten;
 mod shortened;
+#[cfg(test)]
+mod tests;
 
 pub use event::{Event, Output};
 pub use fault::StepFault;
