@@ -4,7 +4,7 @@ use Rattle.std.proofs.lemmas.List.{append-nil, append_assoc, length-append}
 use Rattle.keep_schedule.specs.declared.force.Force.{Force}
 use Rattle.keep_schedule.specs.declared.run.Run.{Run}
 use Rattle.keep_schedule.specs.Runs.{IsFirstRun, all_wakes, wakes}
-use Rattle.keep_plan.specs.declared.limit.TheConstants.{LIMIT}
+use Rattle.keep_schedule.specs.declared.limit.TheConstants.{LIMIT}
 use Rattle.keep_plan.specs.Collecting.{AreLongestBefore, IsOverlong, IsTaken, IsWhole}
 use Rattle.keep_plan.specs.Decides.{AreLongest}
 use Rattle.keep_plan.specs.Planned.{AreRuns, IsRun}

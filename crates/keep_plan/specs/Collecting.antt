@@ -4,7 +4,7 @@ use Rattle.std.specs.Prelude.{◌≡◌, ℕ, ◌+◌, ◌≤◌, ◌<◌, ◌++
 use Rattle.keep_schedule.specs.declared.force.Force.{Force}
 use Rattle.keep_schedule.specs.declared.run.Run.{Run}
 use Rattle.keep_schedule.specs.Runs.{all_wakes, wakes}
-use Rattle.keep_plan.specs.declared.limit.TheConstants.{LIMIT}
+use Rattle.keep_schedule.specs.declared.limit.TheConstants.{LIMIT}
 use Rattle.keep_plan.specs.Planned.{AreRuns}
 use Rattle.keep_plan.specs.Decides.{AreLongest}
 

@@ -15,7 +15,7 @@ use Rattle.keep_schedule.specs.Forces.{AreForces, moments_of}
 use Rattle.keep_schedule.specs.Runs.{all_wakes, wakes}
 use Rattle.keep_plan.specs.declared.decision.Decision.{Decision}
 use Rattle.keep_plan.specs.declared.decision.Decision.TheVariants.{Keep, TooLong, Unkeepable}
-use Rattle.keep_plan.specs.declared.limit.TheConstants.{LIMIT}
+use Rattle.keep_schedule.specs.declared.limit.TheConstants.{LIMIT}
 use Rattle.keep_plan.specs.Planned.{AreRuns, Planned}
 use Rattle.keep_plan.specs.Shortfall.{IsShortfall}
 

@@ -6,7 +6,7 @@ use Rattle.keep_needs.specs.Carried.{CarriedNeed}
 use Rattle.keep_schedule.specs.declared.force.Force.{Force}
 use Rattle.keep_schedule.specs.declared.run.Run.{Run}
 use Rattle.keep_schedule.specs.Runs.{all_wakes}
-use Rattle.keep_plan.specs.declared.limit.TheConstants.{LIMIT}
+use Rattle.keep_schedule.specs.declared.limit.TheConstants.{LIMIT}
 
 -- the start and the carried needs that a plan was made by, and the runs of the wake-ups that are still to come
 pub record Planned : Type 0 where

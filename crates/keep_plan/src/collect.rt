@@ -2,8 +2,7 @@ ghost use Rattle.std.specs.Prelude.{◌≡◌, IfOk, MatchOption};
 ghost use Rattle.keep_schedule.specs.Courses.{IsToCome};
 ghost use Rattle.keep_plan.specs.Collecting.{IsOverlong, IsWhole};
 
-use crate::limit::LIMIT;
-use keep_schedule::{QueueSchedule, Run};
+use keep_schedule::{LIMIT, QueueSchedule, Run};
 use std::alloc::{AllocError, Global};
 
 /// The runs of the schedule's list, `None` where it is longer than [`LIMIT`]. The only error is want of memory.

@@ -11,7 +11,6 @@ mod collect;
 mod decide;
 mod decision;
 mod fault;
-mod limit;
 mod pair;
 #[cfg(test)]
 mod plan_tests;
@@ -25,7 +24,7 @@ mod wakes;
 pub use decide::plan;
 pub use decision::Decision;
 pub use fault::PlanFault;
-pub use limit::LIMIT;
+pub use keep_schedule::LIMIT;
 pub use pair::Shortfall;
 pub use planned::Plan;
 pub use short::shortfall;
