@@ -8,3 +8,4 @@ pub mod FoundRuns
 pub mod Words
 pub mod ReadBack
 pub mod ReadBackAll
+pub mod Printing

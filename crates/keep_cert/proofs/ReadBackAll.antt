@@ -14,7 +14,8 @@ use Rattle.keep_cert.specs.declared.cert.Body.TheVariants.{Runs, Unkeepable}
 use Rattle.keep_cert.specs.declared.cert.Cert.{Cert}
 use Rattle.keep_cert.specs.declared.cert.Version.{Version}
 use Rattle.keep_cert.specs.declared.cert.Version.TheVariants.{One, Two}
-use Rattle.keep_cert.specs.declared.cert.TheConstants.{LIMIT, MAX_LINES}
+use Rattle.keep_schedule.specs.declared.limit.TheConstants.{LIMIT}
+use Rattle.keep_cert.specs.declared.cert.TheConstants.{MAX_LINES}
 use Rattle.keep_cert.specs.declared.fault.CertFault.TheVariants.{BadLine}
 use Rattle.keep_cert.specs.CertificateText.{AreRuns, IsBody, IsRun, Writes, body_text, certificate_text, counted, end_text, header_text, line_text, name_of, run_text, start_text, unkeepable_text}
 use Rattle.keep_cert.specs.Numbers.{number_at}

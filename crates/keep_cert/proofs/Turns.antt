@@ -5,7 +5,8 @@ use Rattle.std.proofs.lemmas.List.Splits.{join_with_byte-slice_split}
 use Rattle.std.specs.List.{join_with_byte}
 use Rattle.keep_tree.specs.declared.entry.Entry.{Entry}
 use Rattle.keep_schedule.specs.declared.run.Run.{Run}
-use Rattle.keep_cert.specs.declared.cert.TheConstants.{LIMIT, MAX_LINES}
+use Rattle.keep_schedule.specs.declared.limit.TheConstants.{LIMIT}
+use Rattle.keep_cert.specs.declared.cert.TheConstants.{MAX_LINES}
 use Rattle.keep_cert.specs.declared.cert.Version.{Version}
 use Rattle.keep_cert.specs.declared.fault.CertFault.{CertFault}
 use Rattle.keep_cert.specs.declared.fault.CertFault.TheVariants.{BadHeader, Trailing}

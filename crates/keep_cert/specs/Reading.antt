@@ -12,7 +12,8 @@ use Rattle.keep_cert.specs.declared.cert.Body.TheVariants.{Runs, Unkeepable}
 use Rattle.keep_cert.specs.declared.cert.Cert.{Cert}
 use Rattle.keep_cert.specs.declared.cert.Version.{Version}
 use Rattle.keep_cert.specs.declared.cert.Version.TheVariants.{One, Two}
-use Rattle.keep_cert.specs.declared.cert.TheConstants.{LIMIT, MAX_LINES}
+use Rattle.keep_schedule.specs.declared.limit.TheConstants.{LIMIT}
+use Rattle.keep_cert.specs.declared.cert.TheConstants.{MAX_LINES}
 use Rattle.keep_cert.specs.declared.fault.CertFault.{CertFault}
 use Rattle.keep_cert.specs.declared.fault.CertFault.TheVariants.{BadHeader, BadLine, UnknownName, BadNumber, Truncated, Trailing}
 use Rattle.keep_cert.specs.Answers.{◌>>=◌}

@@ -1,9 +1,6 @@
 use crate::runs::Runs;
 use keep_moment::Moment;
 
-/// The most wake-ups of a certificate.
-pub const LIMIT: u64 = 10_000_000;
-
 /// The most lines of wake-ups (version 1) or of runs (version 2) in a certificate's text.
 pub const MAX_LINES: u64 = 100_000;
 

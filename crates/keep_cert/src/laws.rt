@@ -1,4 +1,4 @@
-ghost use Rattle.keep_cert.specs.Laws.{ReadIsWritten, WrittenIsRead};
+ghost use Rattle.keep_cert.specs.Laws.{DecidedIsOf, PrintedIsRead, ReadIsWritten, WrittenIsRead};
 
 /// The laws that join text and reading: what is read from a text is what that text writes, and a text that writes a
 /// certificate over a forest is read as that certificate. So a text writes at most one certificate, and a certificate has
@@ -6,4 +6,11 @@ ghost use Rattle.keep_cert.specs.Laws.{ReadIsWritten, WrittenIsRead};
 pub fn certificates_are_read_back()
     ensures found { ReadIsWritten }
     ensures only { WrittenIsRead }
+{}
+
+/// The laws that join a planner's decision and reading: a decision for a forest has the indices of its entries, so that it
+/// can be printed, and what is printed of it is read as what it claims.
+pub fn decisions_are_read_back()
+    ensures indices { DecidedIsOf }
+    ensures found { PrintedIsRead }
 {}

@@ -1,8 +1,9 @@
 //! Certificates: what a planner claims of a forest, and their text.
 //!
 //! The contract for the layers above: [`read`] gives the certificate that a text writes over a forest, in version 1 or 2,
-//! or the fault of its first line at fault; [`text_of`] writes version 2; and each certificate is read back from its text
-//! ([`certificates_are_read_back`]). Begin with `cert`, then `specs/CertificateText.antt`.
+//! or the fault of its first line at fault; [`print`] writes a planner's decision, and [`text_of`] a claim, in version 2;
+//! and each certificate is read back from its text ([`certificates_are_read_back`], [`decisions_are_read_back`]). Begin
+//! with `cert`, then `specs/CertificateText.antt`.
 #![tactic(auto)]
 
 mod cert;
@@ -10,6 +11,9 @@ mod fault;
 mod laws;
 mod number;
 mod pieces;
+#[cfg(test)]
+mod print_tests;
+mod printer;
 mod reader;
 mod run_line;
 mod run_lines;
@@ -18,9 +22,11 @@ mod runs;
 mod tests;
 mod writer;
 
-pub use cert::{Body, Cert, LIMIT, MAX_LINES, Version};
+pub use cert::{Body, Cert, MAX_LINES, Version};
 pub use fault::CertFault;
-pub use laws::certificates_are_read_back;
+pub use keep_schedule::LIMIT;
+pub use laws::{certificates_are_read_back, decisions_are_read_back};
+pub use printer::{PrintFault, print};
 pub use reader::read;
 pub use runs::Runs;
 pub use writer::text_of;

@@ -4,12 +4,12 @@ ghost use Rattle.keep_cert.specs.Pieces.{lines};
 ghost use Rattle.keep_cert.specs.declared.cert.TheConstants.{MAX_LINES};
 ghost use Rattle.keep_cert.specs.Reading.{entry_named, wake_of, run_of, is_run, run_keyword, run_line, nothing_behind, end_of_runs, ending};
 
-use crate::cert::{LIMIT, Version};
+use crate::cert::Version;
 use crate::fault::CertFault;
 use crate::number::number_at;
 use crate::pieces::{begins, four_words, six_words, two_words};
 use keep_moment::LAST;
-use keep_schedule::Run;
+use keep_schedule::{LIMIT, Run};
 use keep_tree::Forest;
 
 /// The entry that a word of the `n`th line names.

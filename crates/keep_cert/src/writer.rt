@@ -1,17 +1,18 @@
 ghost use Rattle.std.specs.Prelude.{◌≡◌, ◌≤◌, ◌<◌, ◌++◌, ◌∷◌, [], All, IfOk, OnOk, decimal, flat_map, length};
 ghost use Rattle.keep_cert.specs.CertificateText.{CanBeWritten, IsAmong, certificate_text, counted, end_text, header_text, name_of, run_text, start_text, unkeepable_text};
+ghost use Rattle.keep_cert.specs.Printing.{certified};
+ghost use Rattle.keep_cert.specs.declared.cert.Body.TheVariants.{Runs, Unkeepable};
 ghost use Rattle.keep_cert.specs.declared.cert.Version.TheVariants.{Two};
 
-use crate::cert::{Body, LIMIT};
+use crate::cert::Body;
 use keep_moment::{Moment, Text};
-use keep_schedule::Run;
+use keep_schedule::{LIMIT, Run};
 use keep_tree::Forest;
 use std::alloc::{AllocError, Global};
 
 /// The text of a certificate of version 2 over a forest: its start, and its wake-ups or the pair that cannot be kept.
 ///
 /// The only error is want of memory.
-#[tactic(auto, unfolding(crate::specs::CertificateText::certificate_text, crate::specs::CertificateText::body_text))]
 pub fn text_of(
     alloc: Global,
     forest: &Forest,
@@ -19,14 +20,48 @@ pub fn text_of(
     body: &Body,
 ) -> Result<Text, AllocError>
     requires { CanBeWritten forest.now.entries body.now }
-    ensures { IfOk result (λ text. text ≡ certificate_text forest.now.entries (record { version = Two; start = start; body = body.now })) }
+    ensures { IfOk result (λ text. text ≡ certificate_text forest.now.entries (certified start body.now)) }
+{
+    match body {
+        Body::Runs(runs) => text_of_runs(alloc, forest, start, runs.list()),
+        Body::Unkeepable { entry, needed } => text_of_pair(alloc, forest, start, *entry, *needed),
+    }
+}
+
+/// The text of a certificate of these runs.
+#[tactic(auto, unfolding(crate::specs::CertificateText::certificate_text, crate::specs::CertificateText::body_text))]
+pub(crate) fn text_of_runs(
+    alloc: Global,
+    forest: &Forest,
+    start: Moment,
+    runs: &[Run],
+) -> Result<Text, AllocError>
+    requires among { All (IsAmong (length forest.now.entries)) runs.now }
+    requires few { counted runs.now ≤ LIMIT }
+    ensures { IfOk result (λ text. text ≡ certificate_text forest.now.entries (certified start (Runs runs.now))) }
 {
     let mut text = Vec::new(alloc);
     push_head(alloc, start.get(), &mut text)?;
-    match body {
-        Body::Runs(runs) => push_runs(alloc, forest, runs.list(), &mut text)?,
-        Body::Unkeepable { entry, needed } => push_unkeepable(forest, *entry, *needed, &mut text)?,
-    }
+    push_runs(alloc, forest, runs, &mut text)?;
+    Ok(Text::from_vec(text))
+}
+
+/// The text of a certificate that this pair cannot be kept.
+#[tactic(auto, unfolding(crate::specs::CertificateText::certificate_text, crate::specs::CertificateText::body_text))]
+pub(crate) fn text_of_pair(
+    alloc: Global,
+    forest: &Forest,
+    start: Moment,
+    entry: u32,
+    needed: u32,
+) -> Result<Text, AllocError>
+    requires entry { entry < length forest.now.entries }
+    requires needed { needed < length forest.now.entries }
+    ensures { IfOk result (λ text. text ≡ certificate_text forest.now.entries (certified start (Unkeepable entry needed))) }
+{
+    let mut text = Vec::new(alloc);
+    push_head(alloc, start.get(), &mut text)?;
+    push_unkeepable(forest, entry, needed, &mut text)?;
     Ok(Text::from_vec(text))
 }
 

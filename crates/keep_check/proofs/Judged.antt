@@ -53,7 +53,7 @@ kept_where_last g forest s ws rises i last =
           (kept_law g s (end_of g.entries) (moments_of ws) forest rises i later).1 (λ a over. let l = alive_from_last g.entries owns (need - 1) i all a over in omega arith)
     ]
 
-kept_past : (g : Grove) (s : ℕ) (ws : List Force) (i : ℕ) → length g.entries ≤ i → IsKept g s ws i
+pub kept_past : (g : Grove) (s : ℕ) (ws : List Force) (i : ℕ) → length g.entries ≤ i → IsKept g s ws i
 kept_past g s ws i past = λ m start before a over. absurd (let none : (entry_at g.entries i).need ≡ 0 = ap (λ (e : Entry). e.need) (entry_at_past g.entries i past) in omega arith)
 
 unkept_where_short :

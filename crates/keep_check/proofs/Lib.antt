@@ -8,3 +8,4 @@ pub mod OwnRuns
 pub mod Lasts
 pub mod Judged
 pub mod Spans
+pub mod Written

@@ -6,7 +6,8 @@ use Rattle.keep_tree.specs.Forest.{Grove}
 use Rattle.keep_schedule.specs.declared.run.Run.{Run}
 use Rattle.keep_cert.specs.declared.cert.Body.{Body}
 use Rattle.keep_cert.specs.declared.cert.Body.TheVariants as body
-use Rattle.keep_check.specs.declared.fit.TheConstants.{LIMIT}
+use Rattle.keep_cert.specs.CertificateText.{counted}
+use Rattle.keep_schedule.specs.declared.limit.TheConstants.{LIMIT}
 
 -- a run among n entries: its indices are theirs, it has a wake-up, and its last moment is at most LAST
 pub record IsFit (n : ℕ) (r : Run) : Type 0 where
@@ -18,11 +19,6 @@ pub record IsFit (n : ℕ) (r : Run) : Type 0 where
 abbrev pub AllFit : ℕ → List Run → Type 0
 AllFit n [] = Unit {0}
 AllFit n (r ∷ rs) = IsFit n r × AllFit n rs
-
--- how many wake-ups the runs have
-abbrev pub counted : List Run → ℕ
-counted [] = 0
-counted (r ∷ rs) = r.count + counted rs
 
 -- each run is fit, and they have at most LIMIT wake-ups; or the indices of the pair are those of entries
 abbrev pub CanBeJudged : Grove → Body → Type 0

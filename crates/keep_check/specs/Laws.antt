@@ -16,6 +16,7 @@ use Rattle.keep_schedule.specs.Runs.{all_wakes}
 use Rattle.keep_cert.specs.declared.cert.Body.{Body}
 use Rattle.keep_cert.specs.declared.cert.Body.TheVariants as body
 use Rattle.keep_cert.specs.declared.cert.Cert.{Cert}
+use Rattle.keep_cert.specs.CertificateText.{Writes}
 use Rattle.keep_check.specs.declared.answer.Answer.{Answer}
 use Rattle.keep_check.specs.declared.answer.Answer.TheVariants.{Yes}
 use Rattle.keep_check.specs.Answer.{IsAnswer}
@@ -48,3 +49,7 @@ Holds g s (body.Unkeepable entry needed) = (plan : List Wake) → IsPlan s plan 
 -- what gets Yes holds
 abbrev pub YesLaw : Type 0
 YesLaw = (g : Grove) (c : Cert) → CanBeJudged g c.body → IsAnswer g c Yes → Holds g c.start c.body
+
+-- a certificate that a text writes over a forest can be judged over it
+abbrev pub WrittenLaw : Type 0
+WrittenLaw = (g : Grove) (text : List ℕ) (c : Cert) → Writes g.entries text c → CanBeJudged g c.body

@@ -3,9 +3,10 @@ ghost use Rattle.keep_tree.specs.Forest.{end_of};
 ghost use Rattle.keep_rule.specs.Unkeepable.{Unkeepable};
 ghost use Rattle.keep_schedule.specs.Runs.{all_wakes};
 ghost use Rattle.keep_check.specs.declared.answer.Answer.TheVariants.{Yes};
-ghost use Rattle.keep_check.specs.declared.fit.TheConstants.{LIMIT};
+ghost use Rattle.keep_schedule.specs.declared.limit.TheConstants.{LIMIT};
 ghost use Rattle.keep_check.specs.Answer.{IsAnswer, IsWalkAnswer};
-ghost use Rattle.keep_check.specs.Fit.{AllFit, CanBeJudged, counted};
+ghost use Rattle.keep_cert.specs.CertificateText.{counted};
+ghost use Rattle.keep_check.specs.Fit.{AllFit, CanBeJudged};
 ghost use Rattle.keep_check.specs.Laws.{Holds};
 
 use crate::answer::{Answer, Cause, CheckFault};

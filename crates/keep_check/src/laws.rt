@@ -1,4 +1,4 @@
-ghost use Rattle.keep_check.specs.Laws.{AnswerLaw, ForcedTestLaw, KeptLaw, YesLaw};
+ghost use Rattle.keep_check.specs.Laws.{AnswerLaw, ForcedTestLaw, KeptLaw, WrittenLaw, YesLaw};
 
 /// The law of keeping entry by entry: moments with their Asks keep an entry exactly where each entry over it, asked by
 /// itself at every moment, lasts until its need. So no replay of the Asks is needed to judge them.
@@ -20,4 +20,9 @@ pub fn answer_law()
 /// no plan keeps.
 pub fn yes_law()
     ensures { YesLaw }
+{}
+
+/// The law of what is read: a certificate that a text writes over a forest can be judged over it.
+pub fn written_law()
+    ensures { WrittenLaw }
 {}

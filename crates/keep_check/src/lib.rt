@@ -8,7 +8,6 @@
 mod answer;
 mod bound;
 mod checker;
-mod fit;
 mod gaps;
 mod kept;
 mod laws;
@@ -19,5 +18,5 @@ mod walk;
 
 pub use answer::{Answer, Cause, CheckFault};
 pub use checker::check;
-pub use fit::LIMIT;
-pub use laws::{answer_law, forced_test_law, kept_law, yes_law};
+pub use keep_schedule::LIMIT;
+pub use laws::{answer_law, forced_test_law, kept_law, written_law, yes_law};

@@ -1,6 +1,6 @@
 -- The lines from here on, behind the runs that were found, are the whole from the start.
 use Rattle.std.proofs.Common.{◌≡◌, ◌≤◌, ◌*◌, [], length}
-use Rattle.keep_cert.specs.declared.cert.TheConstants.{LIMIT}
+use Rattle.keep_schedule.specs.declared.limit.TheConstants.{LIMIT}
 use Rattle.keep_cert.specs.CertificateText.{counted}
 use Rattle.keep_cert.specs.Pieces.{lines}
 use Rattle.keep_cert.specs.Reading.{runs_of}

@@ -1,6 +1,7 @@
 use Rattle.std.proofs.Common.{◌+◌, ◌≤◌, drop}
-use Rattle.keep_check.specs.declared.fit.TheConstants.{LIMIT}
-use Rattle.keep_check.specs.Fit.{AllFit, counted}
+use Rattle.keep_schedule.specs.declared.limit.TheConstants.{LIMIT}
+use Rattle.keep_cert.specs.CertificateText.{counted}
+use Rattle.keep_check.specs.Fit.{AllFit}
 use Rattle.keep_check.proofs.tests.fit_count.Given as goal
 
 abbrev pub invariant-loop-run : goal.invariant-loop-run

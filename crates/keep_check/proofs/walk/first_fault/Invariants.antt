@@ -3,7 +3,8 @@ use Rattle.keep_moment.specs.declared.moment.TheConstants.{LAST}
 use Rattle.keep_tree.specs.Forest.{end_of}
 use Rattle.keep_schedule.specs.Runs.{all_wakes}
 use Rattle.keep_check.specs.Answer.{first_fault}
-use Rattle.keep_check.specs.Fit.{AllFit, counted}
+use Rattle.keep_cert.specs.CertificateText.{counted}
+use Rattle.keep_check.specs.Fit.{AllFit}
 use Rattle.keep_check.specs.Walk.{fault}
 use Rattle.keep_check.proofs.walk.first_fault.Given as goal
 

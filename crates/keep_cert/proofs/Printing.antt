@@ -1,0 +1,113 @@
+-- What a decision for a forest holds: it can be printed, and what is printed is read back.
+use Rattle.std.proofs.Common.{◌≡◌, ◌∙◌, ℕ, zero, suc, ◌+◌, ◌-◌, ◌*◌, ◌<◌, ◌≤◌, ◌++◌, All, List, [], ◌∷◌, Option, Some, None, length, refl, sym, ap, subst, arith, inl, inr}
+use Rattle.std.proofs.lemmas.Bool.{cases_lt}
+use Rattle.std.proofs.lemmas.List.Elements.{All-cons, All-nil}
+use Rattle.keep_moment.specs.declared.moment.TheConstants.{LAST}
+use Rattle.keep_tree.specs.declared.entry.Entry.{Entry}
+use Rattle.keep_tree.specs.Carried.{IsFrom, carried}
+use Rattle.keep_tree.specs.Forest.{Grove, end_of, entry_at}
+use Rattle.keep_tree.specs.Over.{Over}
+use Rattle.keep_tree.specs.Push.{IsForest}
+use Rattle.keep_tree.proofs.Entries.{entry_at_past}
+use Rattle.keep_tree.proofs.Placed.{parents_first}
+use Rattle.keep_rule.specs.Forced.{bound}
+use Rattle.keep_schedule.specs.declared.force.Force.{Force}
+use Rattle.keep_schedule.specs.declared.limit.TheConstants.{LIMIT}
+use Rattle.keep_schedule.specs.declared.run.Run.{Run}
+use Rattle.keep_schedule.specs.Forces.{AreForces, IsForce}
+use Rattle.keep_schedule.specs.Runs.{all_wakes, wakes, wakes_of}
+use Rattle.keep_plan.specs.declared.decision.Decision.{Decision}
+use Rattle.keep_plan.specs.declared.decision.Decision.TheVariants as decision
+use Rattle.keep_plan.specs.Decides.{AreBest, Decides}
+use Rattle.keep_plan.specs.Planned as planned
+use Rattle.keep_plan.specs.Planned.{IsPlanned, Planned}
+use Rattle.keep_plan.proofs.Unkeepables.{over_at_most}
+use Rattle.keep_plan.proofs.Walking.{length_all_cons}
+use Rattle.keep_cert.specs.declared.cert.Body.{Body}
+use Rattle.keep_cert.specs.declared.cert.Body.TheVariants.{Runs, Unkeepable}
+use Rattle.keep_cert.specs.declared.cert.Version.TheVariants.{Two}
+use Rattle.keep_cert.specs.CertificateText.{AreRuns, IsAmong, IsBody, IsRun, certificate_text, counted}
+use Rattle.keep_cert.specs.Laws.{DecidedIsOf, PrintedIsRead}
+use Rattle.keep_cert.specs.Printing.{IsOf, certified, claim}
+use Rattle.keep_cert.proofs.ReadBackAll.{written_is_read}
+
+-- the wake-ups of runs are counted by their lines
+pub counted_wakes : (rs : List Run) → counted rs ≡ length (all_wakes rs)
+counted_wakes [] = refl
+counted_wakes (r ∷ rs) = let rest = counted_wakes rs in let here = length_all_cons r rs in omega arith
+
+pub few_planned : (p : Planned) → IsPlanned p → counted p.runs ≤ LIMIT
+few_planned p sound = let few = sound.few in let same = counted_wakes p.runs in omega arith
+
+-- ---- the indices
+
+-- an entry with a need is one of the forest
+needed_within : (es : List Entry) (i : ℕ) → 0 < (entry_at es i).need → i < length es
+needed_within es i some =
+    elim (cases_lt i (length es)) [
+      | inl within ↦ within
+      | inr past ↦ absurd (let none : (entry_at es i).need ≡ 0 = ap (λ (e : Entry). e.need) (entry_at_past es i past) in omega arith)
+    ]
+
+over_within : (g : Grove) → IsForest g → (a f : ℕ) → Over g.entries a f → f < length g.entries → a < length g.entries
+over_within g forest a f over within = let below = over_at_most g.entries (parents_first g forest) a f over in omega arith
+
+force_within : (g : Grove) → IsForest g → (s : ℕ) (prev : Option ℕ) (x : Force) → IsForce g.entries g.margin s (end_of g.entries) prev x → (x.entry < length g.entries) × (x.needed < length g.entries)
+force_within g forest s prev x force =
+    let short = force.short in
+    let need = force.from.need in
+    let needed = needed_within g.entries x.needed (omega arith) in
+    (over_within g forest x.entry x.needed force.from.over needed, needed)
+
+-- the forces behind the first wake-ups of a list
+forces_behind : (es : List Entry) (margin s : ℕ) (ends : ℕ → ℕ) (prev : Option ℕ) (xs ys : List Force) → AreForces es margin s ends prev (xs ++ ys) → (later : Option ℕ) × AreForces es margin s ends later ys
+forces_behind es margin s ends prev [] ys forces = (prev, forces)
+forces_behind es margin s ends prev (x ∷ xs) ys forces = forces_behind es margin s ends (Some x.at) xs ys forces.1
+
+-- the first wake-up of a run names its entries
+first_of_run : (g : Grove) → IsForest g → (s : ℕ) (prev : Option ℕ) (first step n entry needed : ℕ) (rest : List Force) → 0 < n
+    → AreForces g.entries g.margin s (end_of g.entries) prev (wakes_of first step n entry needed ++ rest) → (entry < length g.entries) × (needed < length g.entries)
+unfolding wakes_of
+first_of_run g forest s prev first step zero entry needed rest some forces = absurd (omega arith)
+first_of_run g forest s prev first step (suc n) entry needed rest some forces =
+    force_within g forest s prev (record { at = first; entry = entry; needed = needed }) forces.0
+
+pub runs_within : (g : Grove) → IsForest g → (s : ℕ) (prev : Option ℕ) (rs : List Run) → planned.AreRuns rs → AreForces g.entries g.margin s (end_of g.entries) prev (all_wakes rs) → AreRuns Two g.entries rs
+runs_within g forest s prev [] runs forces = tt
+runs_within g forest s prev (r ∷ rs) runs forces =
+    let here = first_of_run g forest s prev r.first r.step r.count r.entry r.needed (all_wakes rs) runs.0.some forces in
+    let later = forces_behind g.entries g.margin s (end_of g.entries) prev (wakes r) (all_wakes rs) forces in
+    (record { entry = here.0; needed = here.1; some = runs.0.some; lone = runs.0.lone; within = runs.0.last; form = tt }, runs_within g forest s later.0 rs runs.1 later.1)
+
+among_of_runs : (es : List Entry) (rs : List Run) → AreRuns Two es rs → All (IsAmong (length es)) rs
+among_of_runs es [] each = All-nil (IsAmong (length es))
+among_of_runs es (r ∷ rs) each = All-cons (IsAmong (length es)) r rs (record { entry = each.0.entry; needed = each.0.needed }) (among_of_runs es rs each.1)
+
+pub decided_is_of : DecidedIsOf
+decided_is_of g s (decision.Keep p) forest decides = among_of_runs g.entries p.runs (runs_within g forest s None p.runs decides.best.runs decides.best.forces)
+decided_is_of g s (decision.Unkeepable entry needed) forest decides =
+    let later = decides.0.pair.later in
+    let within = needed_within g.entries needed (omega arith) in
+    (over_within g forest entry needed decides.0.pair.over within, within)
+decided_is_of g s decision.TooLong forest decides = tt
+
+-- ---- reading back
+
+pub claim_is_body : (g : Grove) (s : ℕ) (d : Decision) (body : Body) → IsForest g → Decides g s d → claim d ≡ Some body → IsBody Two g.entries body
+claim_is_body g s (decision.Keep p) body forest decides is =
+    let runs = runs_within g forest s None p.runs decides.best.runs decides.best.forces in
+    let few_runs = decides.best.few_runs in
+    let entries = forest.few in
+    let few = decides.best.few in
+    let same = counted_wakes p.runs in
+    let all : IsBody Two g.entries (Runs p.runs) = (runs, (omega arith, omega arith)) in
+    let is' : Runs p.runs ≡ body = cc in
+    subst (IsBody Two g.entries) is' all
+claim_is_body g s (decision.Unkeepable entry needed) body forest decides is =
+    let is' : Unkeepable entry needed ≡ body = cc in
+    subst (IsBody Two g.entries) is' (decided_is_of g s (decision.Unkeepable entry needed) forest decides)
+claim_is_body g s decision.TooLong body forest decides is = absurd cc
+
+pub printed_is_read : PrintedIsRead
+printed_is_read g s d body forest start decides is =
+    written_is_read g forest (certificate_text g.entries (certified s body)) (certified s body) (record { certificate = (start, claim_is_body g s d body forest decides is); spelled = refl })

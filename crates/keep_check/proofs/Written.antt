@@ -1,0 +1,22 @@
+-- What a text writes can be judged.
+use Rattle.std.proofs.Common.{ℕ, List, [], ◌∷◌, length}
+use Rattle.keep_tree.specs.declared.entry.Entry.{Entry}
+use Rattle.keep_tree.specs.Forest.{Grove}
+use Rattle.keep_schedule.specs.declared.run.Run.{Run}
+use Rattle.keep_cert.specs.declared.cert.Body.{Body}
+use Rattle.keep_cert.specs.declared.cert.Body.TheVariants as body
+use Rattle.keep_cert.specs.declared.cert.Version.{Version}
+use Rattle.keep_cert.specs.CertificateText.{AreRuns, IsBody}
+use Rattle.keep_check.specs.Fit.{AllFit, CanBeJudged}
+use Rattle.keep_check.specs.Laws.{WrittenLaw}
+
+all_fit : (v : Version) (es : List Entry) (rs : List Run) → AreRuns v es rs → AllFit (length es) rs
+all_fit v es [] each = tt
+all_fit v es (r ∷ rs) each = (record { entry = each.0.entry; needed = each.0.needed; some = each.0.some; within = each.0.within }, all_fit v es rs each.1)
+
+pub body_fits : (g : Grove) (v : Version) (b : Body) → IsBody v g.entries b → CanBeJudged g b
+body_fits g v (body.Runs rs) is = (all_fit v g.entries rs is.0, is.1.1)
+body_fits g v (body.Unkeepable entry needed) is = is
+
+pub written_fits : WrittenLaw
+written_fits g text c writes = body_fits g c.version c.body writes.certificate.1

@@ -1,0 +1,5 @@
+use Rattle.keep_check.proofs.Written.{written_fits}
+use Rattle.keep_check.proofs.laws.written_law.Goals as goal
+
+pub returns : goal.returns
+returns c = written_fits
