@@ -1,1 +1,5 @@
 pub mod Lines
+pub mod Outcomes
+pub mod Judgements
+pub mod Own
+pub mod OneText

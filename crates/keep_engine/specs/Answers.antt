@@ -10,7 +10,7 @@ use Rattle.keep_moment.specs.declared.text.Text.{Text}
 use Rattle.keep_engine.specs.declared.stop.Stop.{Stop}
 use Rattle.keep_engine.specs.declared.stop.Stop.TheVariants as stops
 use Rattle.keep_engine.specs.EndsText.{IsEndsText, all_asked}
-use Rattle.keep_engine.specs.EndsRun.{Output}
+use Rattle.keep_engine.specs.Output.{Output}
 
 -- a list of ends as the function from an index to its end
 unfoldable pub at_index : List ℕ → ℕ → ℕ

@@ -1,5 +1,5 @@
 -- The run `ends`: what it has written, and when it gives which exit.
-use Rattle.std.specs.Prelude.{◌≡◌, ℕ, Bool, IsTrue, ◌⊎◌, List, Option, Some, Ok, Err, length}
+use Rattle.std.specs.Prelude.{◌≡◌, ℕ, IsTrue, ◌⊎◌, List, Some, Ok, Err, length}
 use Rattle.std.specs.Io.KnownBytes.{Appends, Keeps}
 use Rattle.keep_tree.specs.Forest.{Grove}
 use Rattle.keep_rule.specs.declared.wake.WakeFault.{WakeFault}
@@ -11,15 +11,7 @@ use Rattle.vault_http.specs.Failures.{HasFailed}
 use Rattle.keep_engine.specs.declared.exit.Exit.{Exit}
 use Rattle.keep_engine.specs.declared.exit.Exit.TheVariants as exits
 use Rattle.keep_engine.specs.EndsText.{IsEndsText, all_asked}
-
--- what a run writes to, before and after: its bytes where they are known, its count of failures, and whether it keeps
--- the bytes in memory
-pub record Output : Type 0 where
-  pub old : Option (List ℕ)
-  pub new : Option (List ℕ)
-  pub failed_before : ℕ
-  pub failed_after : ℕ
-  pub is_in_memory : Bool
+use Rattle.keep_engine.specs.Output.{Output}
 
 -- `ends` over the bytes of an inventory, by exit
 abbrev pub EndsRun : List ℕ → ℕ → List ℕ → Exit → Output → Type 0

@@ -5,6 +5,12 @@ use Rattle.keep_inventory.specs.declared.fault.InvFault.{InvFault}
 use Rattle.keep_inventory.specs.declared.fault.InvFault.TheVariants as inventory
 use Rattle.keep_rule.specs.declared.wake.WakeFault.{WakeFault}
 use Rattle.keep_rule.specs.declared.wake.WakeFault.TheVariants as wakes
+use Rattle.keep_plan.specs.declared.fault.PlanFault.{PlanFault}
+use Rattle.keep_plan.specs.declared.fault.PlanFault.TheVariants as plans
+use Rattle.keep_cert.specs.declared.printer.PrintFault.{PrintFault}
+use Rattle.keep_cert.specs.declared.printer.PrintFault.TheVariants as prints
+use Rattle.keep_check.specs.declared.answer.CheckFault.{CheckFault}
+use Rattle.keep_check.specs.declared.answer.CheckFault.TheVariants as checks
 use Rattle.vault_http.specs.declared.fault.InputFault.{InputFault}
 use Rattle.vault_http.specs.declared.fault.InputFault.TheVariants as inputs
 use Rattle.vault_http.specs.declared.fault.SinkFault.{SinkFault}
@@ -27,6 +33,7 @@ exit_code exits.Memory = 7
 abbrev pub exit_of : Stop → Exit
 exit_of (stops.Inventory fault) = exits.Inventory
 exit_of (stops.Moments fault) = exits.CommandLine
+exit_of stops.TooLong = exits.TooLong
 exit_of stops.Read = exits.Device
 exit_of stops.Write = exits.Device
 exit_of stops.Memory = exits.Memory
@@ -39,6 +46,16 @@ stop_of_inventory fault = stops.Inventory fault
 abbrev pub stop_of_wakes : WakeFault → Stop
 stop_of_wakes wakes.OutOfMemory = stops.Memory
 stop_of_wakes fault = stops.Moments fault
+
+abbrev pub stop_of_plan : PlanFault → Stop
+stop_of_plan plans.OutOfMemory = stops.Memory
+
+abbrev pub stop_of_print : PrintFault → Stop
+stop_of_print prints.NoCertificate = stops.TooLong
+stop_of_print prints.OutOfMemory = stops.Memory
+
+abbrev pub stop_of_check : CheckFault → Stop
+stop_of_check checks.OutOfMemory = stops.Memory
 
 abbrev pub stop_of_input : InputFault → Stop
 stop_of_input inputs.OutOfMemory = stops.Memory

@@ -1,4 +1,11 @@
 pub mod Exits
+pub mod Output
 pub mod EndsText
 pub mod EndsRun
 pub mod Answers
+pub mod PlanRun
+pub mod PlanAnswers
+pub mod CheckText
+pub mod CheckRun
+pub mod CheckAnswers
+pub mod Laws

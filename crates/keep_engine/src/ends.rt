@@ -1,14 +1,13 @@
 ghost use Rattle.std.specs.Prelude.{◌≡◌};
 ghost use Rattle.keep_engine.specs.EndsRun.{EndsRun};
 ghost use Rattle.keep_engine.specs.EndsText.{OneEndsText};
-ghost use Rattle.keep_engine.specs.Answers.{Sends};
 
 use crate::ends_text::ends_text;
 use crate::exit::Exit;
-use crate::stop::Stop;
-use keep_moment::{Moment, Text};
+use crate::output::send;
+use keep_moment::Moment;
 use std::alloc::Global;
-use vault_http::{Sink, write_all};
+use vault_http::Sink;
 
 /// The command `ends`: asks every entry of the inventory at each of the moments, and writes the line `NAME END` for each
 /// entry, then `keeps yes` where each entry was alive from `start` until its need, else `keeps no`.
@@ -40,21 +39,6 @@ pub fn run_ends<W: Sink, F: Sink>(
             Err(stop) => stop.report(alloc, faults),
         },
     }
-}
-
-/// Writes a whole text and flushes.
-fn send<W: Sink>(out: &mut W, text: &Text) -> Result<(), Stop>
-    ensures { Sends result text.now (record {
-      old = W.written out.old;
-      new = W.written out.new;
-      failed_before = W.failed_calls out.old;
-      failed_after = W.failed_calls out.new;
-      is_in_memory = W.is_in_memory;
-    }) }
-{
-    write_all(out, text.list())?;
-    out.flush()?;
-    Ok(())
 }
 
 /// The law that what `ends` writes tells nothing but names, numbers and moments: of two inventories with one forest, as

@@ -1,9 +1,12 @@
 ghost use Rattle.std.specs.Prelude.{◌≡◌};
-ghost use Rattle.keep_engine.specs.Exits.{exit_of, stop_of_input, stop_of_inventory, stop_of_sink, stop_of_wakes};
+ghost use Rattle.keep_engine.specs.Exits.{exit_of, stop_of_check, stop_of_input, stop_of_inventory, stop_of_plan, stop_of_print, stop_of_sink, stop_of_wakes};
 ghost use Rattle.keep_engine.specs.declared.stop.Stop.TheVariants.{Memory};
 
 use crate::exit::Exit;
+use keep_cert::PrintFault;
+use keep_check::CheckFault;
 use keep_inventory::InvFault;
+use keep_plan::PlanFault;
 use keep_rule::WakeFault;
 use std::alloc::{AllocError, AllocFailed, Global};
 use vault_http::{InputFault, Sink, SinkFault, write_all};
@@ -15,6 +18,8 @@ pub(crate) enum Stop {
     Inventory(InvFault),
     /// The moments of the command line.
     Moments(WakeFault),
+    /// The plan would have too many wake-ups.
+    TooLong,
     /// An input failed or passed its limit.
     Read,
     /// The writer for output failed.
@@ -61,6 +66,37 @@ impl From<WakeFault> for Stop {
     }
 }
 
+impl From<PlanFault> for Stop {
+    ghost from_gives = { λ fault s. s ≡ stop_of_plan fault };
+
+    fn from(fault: PlanFault) -> Stop {
+        match fault {
+            PlanFault::OutOfMemory => Stop::Memory,
+        }
+    }
+}
+
+impl From<PrintFault> for Stop {
+    ghost from_gives = { λ fault s. s ≡ stop_of_print fault };
+
+    fn from(fault: PrintFault) -> Stop {
+        match fault {
+            PrintFault::NoCertificate => Stop::TooLong,
+            PrintFault::OutOfMemory => Stop::Memory,
+        }
+    }
+}
+
+impl From<CheckFault> for Stop {
+    ghost from_gives = { λ fault s. s ≡ stop_of_check fault };
+
+    fn from(fault: CheckFault) -> Stop {
+        match fault {
+            CheckFault::OutOfMemory => Stop::Memory,
+        }
+    }
+}
+
 impl From<InputFault> for Stop {
     ghost from_gives = { λ fault s. s ≡ stop_of_input fault };
 
@@ -99,6 +135,7 @@ impl Stop {
         match self {
             Stop::Inventory(_) => Exit::Inventory,
             Stop::Moments(_) => Exit::CommandLine,
+            Stop::TooLong => Exit::TooLong,
             Stop::Read | Stop::Write => Exit::Device,
             Stop::Memory => Exit::Memory,
         }
@@ -120,6 +157,7 @@ impl Stop {
         match self {
             Stop::Inventory(fault) => inventory_line(alloc, fault),
             Stop::Moments(fault) => format!(in alloc; "leasekeep: moments: {fault}\n"),
+            Stop::TooLong => String::from_str(alloc, "leasekeep: too long\n"),
             Stop::Read => String::from_str(alloc, "leasekeep: read\n"),
             Stop::Write => String::from_str(alloc, "leasekeep: write\n"),
             Stop::Memory => String::from_str(alloc, "leasekeep: memory\n"),

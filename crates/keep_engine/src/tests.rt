@@ -4,14 +4,14 @@ use std::alloc::Global;
 use std::test::Fail;
 use vault_http::{InputFault, MemorySink};
 
-const WEB: &str =
+pub(crate) const WEB: &str =
     "[[token]]\nname = \"web\"\nissued = 1000\nend = 1060\nincrement = 60\nmax_ttl = 9000\nneed = 1200\n";
 
-const TOKEN_AND_LEASE: &str =
+pub(crate) const TOKEN_AND_LEASE: &str =
     "[[token]]\nname = \"T\"\nissued = 1000\nend = 1100\nincrement = 100\nmax_ttl = 9000\n\n\
     [[lease]]\nname = \"L\"\ntoken = \"T\"\nissued = 1000\nend = 1060\nincrement = 60\nmax_ttl = 9000\nneed = 1200\n";
 
-const LOW_CEILING: &str =
+pub(crate) const LOW_CEILING: &str =
     "[[token]]\nname = \"T\"\nissued = 1000\nend = 1100\nincrement = 100\nmax_ttl = 150\n\n\
     [[lease]]\nname = \"L\"\ntoken = \"T\"\nissued = 1000\nend = 1060\nincrement = 60\nmax_ttl = 9000\nneed = 1200\n";
 
@@ -25,11 +25,11 @@ const BASE_AND_BIG: &str =
     "[[token]]\nname = \"base\"\nissued = 1000\nend = 6000\nincrement = 60\nmax_ttl = 9000\n\n\
     [[lease]]\nname = \"big\"\ntoken = \"base\"\nissued = 1000\nend = 5000\nincrement = 60\nmax_ttl = 9000\nneed = 4000\n";
 
-const TWO_TOKENS: &str =
+pub(crate) const TWO_TOKENS: &str =
     "[[token]]\nname = \"a\"\nissued = 1000\nend = 1060\nincrement = 60\nmax_ttl = 9000\nneed = 1100\n\n\
     [[token]]\nname = \"b\"\nissued = 1000\nend = 1100\nincrement = 100\nmax_ttl = 9000\nneed = 1400\n";
 
-fn moment(seconds: u64) -> Result<Moment, Fail> {
+pub(crate) fn moment(seconds: u64) -> Result<Moment, Fail> {
     Ok(Moment::new(seconds).ok_or("a moment")?)
 }
 

@@ -1,0 +1,209 @@
+-- One text: what `plan` and `check` write is a function of the forest, the start and the certificate.
+use Rattle.std.proofs.Common.{◌≡◌, ◌∙◌, ℕ, zero, suc, ◌+◌, ◌-◌, ◌*◌, ◌<◌, ◌≤◌, ◌++◌, List, [], ◌∷◌, Option, Some, None, Ok, Err, length, refl, sym, ap, subst, arith, inl, inr}
+use Rattle.std.proofs.lemmas.Bool.{cases_lt}
+use Rattle.std.proofs.lemmas.List.{append_cancel_left}
+use Rattle.keep_tree.specs.Carried.{IsFrom}
+use Rattle.keep_tree.specs.Forest.{Grove, end_of}
+use Rattle.keep_tree.specs.Push.{IsForest}
+use Rattle.keep_schedule.specs.declared.force.Force.{Force}
+use Rattle.keep_schedule.specs.declared.run.Run.{Run}
+use Rattle.keep_schedule.specs.Runs.{all_wakes, wakes, wakes_of}
+use Rattle.keep_schedule.proofs.Bridge.{one_from}
+use Rattle.keep_schedule.proofs.Forces.{one_list}
+use Rattle.keep_plan.specs.Decides.{AreBest, AreLongest}
+use Rattle.keep_plan.specs.Planned.{AreRuns, IsRun}
+use Rattle.keep_plan.specs.Shortfall.{IsShortfall}
+use Rattle.keep_plan.proofs.Walking.{length_all_cons}
+use Rattle.keep_cert.specs.declared.cert.Body.TheVariants as body
+use Rattle.keep_cert.specs.declared.cert.Cert.{Cert}
+use Rattle.keep_cert.specs.declared.fault.CertFault.{CertFault}
+use Rattle.keep_cert.specs.CertificateText.{Writes, certificate_text}
+use Rattle.keep_cert.specs.Printing.{certified}
+use Rattle.keep_cert.specs.Reading.{certificate_of}
+use Rattle.keep_cert.proofs.ReadBackAll.{written_is_read}
+use Rattle.keep_check.specs.declared.answer.Answer.{Answer}
+use Rattle.keep_check.specs.declared.answer.Answer.TheVariants.{No, Yes}
+use Rattle.keep_check.specs.Answer.{IsAnswer}
+use Rattle.keep_check.proofs.Answers.{one_answer}
+use Rattle.keep_engine.specs.declared.exit.Exit.{Exit}
+use Rattle.keep_engine.specs.declared.exit.Exit.TheVariants as exits
+use Rattle.keep_engine.specs.CheckRun.{IsAccepted, IsJudged, IsRefused, IsUnreadable}
+use Rattle.keep_engine.specs.CheckText.{no_line, unreadable_line}
+use Rattle.keep_engine.specs.Laws.{OneCheckText, OnePlanText}
+use Rattle.keep_engine.specs.PlanRun.{IsCertified, IsPairText, IsPlanText}
+
+-- ---- wake-ups have one list of longest runs
+
+head_same : (x y : Force) (xs ys : List Force) → x ∷ xs ≡ y ∷ ys → (x ≡ y) × (xs ≡ ys)
+head_same x y xs ys e = (cc, cc)
+
+-- the first wake-ups of two runs that are the same, and what is behind them
+first_same : (a b c e n a' b' c' e' n' : ℕ) (xs ys : List Force) → 0 < c → c ≡ c' → wakes_of a b c e n ++ xs ≡ wakes_of a' b' c' e' n' ++ ys
+    → (a ≡ a') × (e ≡ e') × (n ≡ n') × (wakes_of (a + b) b (c - 1) e n ++ xs ≡ wakes_of (a' + b') b' (c' - 1) e' n' ++ ys)
+unfolding wakes_of
+first_same a b zero e n a' b' c' e' n' xs ys some same is = absurd (omega arith)
+first_same a b (suc c) e n a' b' zero e' n' xs ys some same is = absurd (omega arith)
+first_same a b (suc c) e n a' b' (suc c') e' n' xs ys some same is =
+    let rest = wakes_of (a + b) b c e n ++ xs in
+    let rest' = wakes_of (a' + b') b' c' e' n' ++ ys in
+    let parts = head_same (record { at = a; entry = e; needed = n }) (record { at = a'; entry = e'; needed = n' }) rest rest' is in
+    let one : c ≡ suc c - 1 = omega arith in
+    let one' : c' ≡ suc c' - 1 = omega arith in
+    let later = subst (λ k. rest ≡ wakes_of (a' + b') b' k e' n' ++ ys) one' parts.1 in (
+      ap (λ (x : Force). x.at) parts.0,
+      ap (λ (x : Force). x.entry) parts.0,
+      ap (λ (x : Force). x.needed) parts.0,
+      subst (λ k. wakes_of (a + b) b k e n ++ xs ≡ wakes_of (a' + b') b' (suc c' - 1) e' n' ++ ys) one later,
+    )
+
+same_run : (r q : Run) → r.first ≡ q.first → r.step ≡ q.step → r.count ≡ q.count → r.entry ≡ q.entry → r.needed ≡ q.needed → r ≡ q
+same_run r q a b c d e =
+    let X : ℕ → ℕ → ℕ → ℕ → ℕ → Run = λ u v w x y. record { first = u; step = v; count = w; entry = x; needed = y } in
+    ap (λ u. X u r.step r.count r.entry r.needed) a ∙ (ap (λ v. X q.first v r.count r.entry r.needed) b
+    ∙ (ap (λ w. X q.first q.step w r.entry r.needed) c ∙ (ap (λ x. X q.first q.step q.count x r.needed) d ∙ ap (λ y. X q.first q.step q.count q.entry y) e)))
+
+one_run : (r q : Run) (xs ys : List Force) → IsRun r → IsRun q → r.count ≡ q.count → wakes r ++ xs ≡ wakes q ++ ys → r ≡ q
+one_run r q xs ys is is' count same =
+    let some = is.some in
+    let one = first_same r.first r.step r.count r.entry r.needed q.first q.step q.count q.entry q.needed xs ys is.some count same in
+    elim (cases_lt 1 r.count) [
+      | inl more ↦
+          let two = first_same (r.first + r.step) r.step (r.count - 1) r.entry r.needed (q.first + q.step) q.step (q.count - 1) q.entry q.needed xs ys (omega arith) (omega arith) one.3 in
+          let at_first : r.first ≡ q.first = one.0 in
+          let second : r.first + r.step ≡ q.first + q.step = two.0 in
+          same_run r q one.0 (omega arith) count one.1 one.2
+      | inr lone ↦
+          let here : r.count ≡ 1 = omega arith in
+          let there : q.count ≡ 1 = omega arith in
+          same_run r q one.0 (is.lone.1 here ∙ sym (is'.lone.1 there)) count one.1 one.2
+    ]
+
+pub one_runs : (rs qs : List Run) → AreRuns rs → AreRuns qs → AreLongest rs → AreLongest qs → all_wakes rs ≡ all_wakes qs → rs ≡ qs
+one_runs [] [] are are' long long' same = refl
+one_runs [] (q ∷ qs) are are' long long' same = absurd (let some = are'.0.some in let l = length_all_cons q qs in let e : 0 ≡ length (all_wakes (q ∷ qs)) = ap length same in omega arith)
+one_runs (r ∷ rs) [] are are' long long' same = absurd (let some = are.0.some in let l = length_all_cons r rs in let e : length (all_wakes (r ∷ rs)) ≡ 0 = ap length same in omega arith)
+one_runs (r ∷ rs) (q ∷ qs) are are' long long' same =
+    let below : q.count ≤ r.count = long.0 q (all_wakes qs) same in
+    let above : r.count ≤ q.count = long'.0 r (all_wakes rs) (sym same) in
+    let head : r ≡ q = one_run r q (all_wakes rs) (all_wakes qs) are.0 are'.0 (omega arith) same in
+    let rest : all_wakes rs ≡ all_wakes qs = append_cancel_left (wakes q) (all_wakes rs) (all_wakes qs) (subst (λ (x : Run). wakes x ++ all_wakes rs ≡ wakes q ++ all_wakes qs) head same) in
+    let tail : rs ≡ qs = one_runs rs qs are.1 are'.1 long.1 long'.1 rest in
+    cc
+
+one_best : (g : Grove) (s : ℕ) (rs qs : List Run) → AreBest g s rs → AreBest g s qs → rs ≡ qs
+one_best g s rs qs a b = one_runs rs qs a.runs b.runs a.longest b.longest (one_list g.entries g.margin s (end_of g.entries) None (all_wakes rs) (all_wakes qs) a.forces b.forces)
+
+-- ---- plan
+
+one_plan : (g : Grove) (s : ℕ) (text other : List ℕ) → IsPlanText g s text → IsPlanText g s other → text ≡ other
+one_plan g s text other a b = a.spelled ∙ ap (λ rs. certificate_text g.entries (certified s (body.Runs rs))) (one_best g s a.runs b.runs a.best b.best) ∙ sym b.spelled
+
+one_pair : (g : Grove) (s : ℕ) (text other : List ℕ) → IsPairText g s text → IsPairText g s other → text ≡ other
+one_pair g s text other a b =
+    let p = a.short.lowest b.entry b.needed b.short.pair in
+    let q = b.short.lowest a.entry a.needed a.short.pair in
+    let entry : a.entry ≡ b.entry = omega arith in
+    let needed : a.needed ≡ b.needed = one_from g.entries s b.entry a.needed b.needed (subst (λ i. IsFrom g.entries s i a.needed) entry a.short.from) b.short.from in
+    a.spelled ∙ ap (λ i. certificate_text g.entries (certified s (body.Unkeepable i a.needed))) entry
+    ∙ ap (λ i. certificate_text g.entries (certified s (body.Unkeepable b.entry i))) needed ∙ sym b.spelled
+
+-- a plan keeps, so no pair is named beside it
+plan_or_pair : {X : Type 0} (g : Grove) (s : ℕ) (text other : List ℕ) → IsPlanText g s text → IsPairText g s other → X
+plan_or_pair g s text other a b = absurd (b.none a.best.least.plan a.best.least.in_order a.best.least.kept)
+
+pub one_plan_text : OnePlanText
+one_plan_text g s exits.Done exits.Done text other a b = (refl, one_plan g s text other a b)
+one_plan_text g s exits.Unkeepable exits.Unkeepable text other a b = (refl, one_pair g s text other a b)
+one_plan_text g s exits.Done exits.Unkeepable text other a b = plan_or_pair g s text other a b
+one_plan_text g s exits.Unkeepable exits.Done text other a b = plan_or_pair g s other text b a
+one_plan_text g s exits.Done exits.Inventory text other a b = absurd b
+one_plan_text g s exits.Done exits.CommandLine text other a b = absurd b
+one_plan_text g s exits.Done exits.No text other a b = absurd b
+one_plan_text g s exits.Done exits.TooLong text other a b = absurd b
+one_plan_text g s exits.Done exits.Device text other a b = absurd b
+one_plan_text g s exits.Done exits.Memory text other a b = absurd b
+one_plan_text g s exits.Unkeepable exits.Inventory text other a b = absurd b
+one_plan_text g s exits.Unkeepable exits.CommandLine text other a b = absurd b
+one_plan_text g s exits.Unkeepable exits.No text other a b = absurd b
+one_plan_text g s exits.Unkeepable exits.TooLong text other a b = absurd b
+one_plan_text g s exits.Unkeepable exits.Device text other a b = absurd b
+one_plan_text g s exits.Unkeepable exits.Memory text other a b = absurd b
+one_plan_text g s exits.Inventory exit text other a b = absurd a
+one_plan_text g s exits.CommandLine exit text other a b = absurd a
+one_plan_text g s exits.No exit text other a b = absurd a
+one_plan_text g s exits.TooLong exit text other a b = absurd a
+one_plan_text g s exits.Device exit text other a b = absurd a
+one_plan_text g s exits.Memory exit text other a b = absurd a
+
+-- ---- check
+
+module _ (g : Grove) (forest : IsForest g) (text : List ℕ) where
+  one_cert : (c d : Cert) → Writes g.entries text c → Writes g.entries text d → c ≡ d
+  one_cert c d a b =
+      let read = written_is_read g forest text c a in
+      let read' = written_is_read g forest text d b in
+      cc
+
+  one_yes : (line other : List ℕ) → IsAccepted g text line → IsAccepted g text other → line ≡ other
+  one_yes line other a b = a.spelled ∙ sym b.spelled
+
+  yes_or_no : {X : Type 0} (line other : List ℕ) → IsAccepted g text line → IsRefused g text other → X
+  yes_or_no line other a b =
+      let same = one_cert a.cert b.cert a.writes b.writes in
+      let answers : Yes ≡ No b.cause = one_answer g b.cert Yes (No b.cause) (subst (λ c. IsAnswer g c Yes) same a.answer) b.answer in
+      absurd cc
+
+  read_or_not : {X : Type 0} (c : Cert) (other : List ℕ) → Writes g.entries text c → IsUnreadable g text other → X
+  read_or_not c other a b =
+      let read = written_is_read g forest text c a in
+      let fails = b.fails in
+      absurd cc
+
+  one_refusal : (line other : List ℕ) → IsRefused g text line → IsRefused g text other → line ≡ other
+  one_refusal line other a b =
+      let same = one_cert a.cert b.cert a.writes b.writes in
+      let answers : No a.cause ≡ No b.cause = one_answer g b.cert (No a.cause) (No b.cause) (subst (λ c. IsAnswer g c (No a.cause)) same a.answer) b.answer in
+      let cause : a.cause ≡ b.cause = cc in
+      a.spelled ∙ ap (no_line g.entries) cause ∙ sym b.spelled
+
+  one_fault : (line other : List ℕ) → IsUnreadable g text line → IsUnreadable g text other → line ≡ other
+  one_fault line other a b =
+      let fails = a.fails in
+      let fails' = b.fails in
+      let fault : a.fault ≡ b.fault = cc in
+      let lines : Some line ≡ Some other = sym a.spelled ∙ ap unreadable_line fault ∙ b.spelled in
+      cc
+
+  one_no : (line other : List ℕ) → IsJudged g text exits.No line → IsJudged g text exits.No other → line ≡ other
+  one_no line other x y =
+      elim x [
+        | inl a ↦ elim y [ inl b ↦ one_refusal line other a b | inr b ↦ read_or_not a.cert other a.writes b ]
+        | inr a ↦ elim y [ inl b ↦ read_or_not b.cert line b.writes a | inr b ↦ one_fault line other a b ]
+      ]
+
+  yes_and_no : {X : Type 0} (line other : List ℕ) → IsAccepted g text line → IsJudged g text exits.No other → X
+  yes_and_no line other a y = elim y [ inl b ↦ yes_or_no line other a b | inr b ↦ read_or_not a.cert other a.writes b ]
+
+pub one_check_text : OneCheckText
+one_check_text g text exits.Done exits.Done line other forest a b = (refl, one_yes g forest text line other a b)
+one_check_text g text exits.No exits.No line other forest a b = (refl, one_no g forest text line other a b)
+one_check_text g text exits.Done exits.No line other forest a b = yes_and_no g forest text line other a b
+one_check_text g text exits.No exits.Done line other forest a b = yes_and_no g forest text other line b a
+one_check_text g text exits.Done exits.Inventory line other forest a b = absurd b
+one_check_text g text exits.Done exits.CommandLine line other forest a b = absurd b
+one_check_text g text exits.Done exits.Unkeepable line other forest a b = absurd b
+one_check_text g text exits.Done exits.TooLong line other forest a b = absurd b
+one_check_text g text exits.Done exits.Device line other forest a b = absurd b
+one_check_text g text exits.Done exits.Memory line other forest a b = absurd b
+one_check_text g text exits.No exits.Inventory line other forest a b = absurd b
+one_check_text g text exits.No exits.CommandLine line other forest a b = absurd b
+one_check_text g text exits.No exits.Unkeepable line other forest a b = absurd b
+one_check_text g text exits.No exits.TooLong line other forest a b = absurd b
+one_check_text g text exits.No exits.Device line other forest a b = absurd b
+one_check_text g text exits.No exits.Memory line other forest a b = absurd b
+one_check_text g text exits.Inventory exit line other forest a b = absurd a
+one_check_text g text exits.CommandLine exit line other forest a b = absurd a
+one_check_text g text exits.Unkeepable exit line other forest a b = absurd a
+one_check_text g text exits.TooLong exit line other forest a b = absurd a
+one_check_text g text exits.Device exit line other forest a b = absurd a
+one_check_text g text exits.Memory exit line other forest a b = absurd a

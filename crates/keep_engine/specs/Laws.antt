@@ -1,0 +1,33 @@
+-- Laws of the runs. Each is the contract of a public function without a body.
+use Rattle.std.specs.Prelude.{◌≡◌, ℕ, ◌≤◌, List, Ok}
+use Rattle.keep_moment.specs.declared.moment.TheConstants.{LAST}
+use Rattle.keep_tree.specs.Forest.{Grove}
+use Rattle.keep_tree.specs.Push.{IsForest}
+use Rattle.keep_plan.specs.declared.decision.Decision.{Decision}
+use Rattle.keep_plan.specs.Decides.{Decides}
+use Rattle.keep_cert.specs.declared.cert.Cert.{Cert}
+use Rattle.keep_cert.specs.Printing.{Prints, claim}
+use Rattle.keep_cert.specs.Reading.{certificate_of}
+use Rattle.keep_check.specs.declared.answer.Answer.{Answer}
+use Rattle.keep_check.specs.declared.answer.Answer.TheVariants.{Yes}
+use Rattle.keep_check.specs.Answer.{IsAnswer}
+use Rattle.keep_check.specs.Fit.{CanBeJudged}
+use Rattle.keep_engine.specs.declared.exit.Exit.{Exit}
+use Rattle.keep_engine.specs.CheckRun.{IsJudged}
+use Rattle.keep_engine.specs.PlanRun.{IsCertified}
+
+-- what is printed of a decision for a forest is read back over it as a certificate that can be judged, and each right
+-- answer to that is Yes
+abbrev pub OwnCertificateLaw : Type 0
+OwnCertificateLaw =
+    (g : Grove) (s : ℕ) (d : Decision) (text : List ℕ) → IsForest g → s ≤ LAST → Decides g s d → Prints g.entries s (claim d) (Ok text) →
+    (c : Cert) × (certificate_of g.entries text ≡ Ok c) × CanBeJudged g c.body × ((answer : Answer) → IsAnswer g c answer → answer ≡ Yes)
+
+-- a forest and a start have one text of `plan`, and one exit: nothing else shows in them
+abbrev pub OnePlanText : Type 0
+OnePlanText = (g : Grove) (s : ℕ) (exit exit' : Exit) (text other : List ℕ) → IsCertified g s exit text → IsCertified g s exit' other → (exit ≡ exit') × (text ≡ other)
+
+-- a forest and a certificate's text have one line of `check`, and one exit: nothing else shows in them
+abbrev pub OneCheckText : Type 0
+OneCheckText =
+    (g : Grove) (text : List ℕ) (exit exit' : Exit) (line other : List ℕ) → IsForest g → IsJudged g text exit line → IsJudged g text exit' other → (exit ≡ exit') × (line ≡ other)

@@ -1,0 +1,41 @@
+ghost use Rattle.std.specs.Prelude.{◌≡◌};
+ghost use Rattle.keep_engine.specs.CheckRun.{CheckRun};
+
+use crate::check_text::check_text;
+use crate::exit::Exit;
+use crate::output::send;
+use std::alloc::Global;
+use vault_http::Sink;
+
+/// The command `check`: judges a certificate, whoever wrote it, by the inventory's forest and the certificate's own start.
+/// It writes `yes` and gives exit 0 exactly where the text is a certificate over the forest and what it claims holds: its
+/// moments are least and latest, or no plan keeps. Else it writes `no` with the first test that fails, or `unreadable` with
+/// the fault of the first line at fault, and gives exit 4.
+///
+/// The inventory is judged first (exit 1). The whole text is made before the first write, so this exit leaves `out`
+/// untouched; so does 7, but for a sink in memory that itself wants memory. Exit 6 comes only where a write of `out`
+/// failed. The exits 2, 3 and 5 never come.
+#[tactic(auto, using(crate::proofs::Judgements::check_done, crate::proofs::Judgements::check_stopped, crate::proofs::Judgements::check_unsent))]
+pub fn run_check<W: Sink, F: Sink>(
+    alloc: Global,
+    inventory: &[u8],
+    certificate: &[u8],
+    out: &mut W,
+    faults: &mut F,
+) -> Exit
+    ensures { CheckRun inventory.now certificate.now result (record {
+      old = W.written out.old;
+      new = W.written out.new;
+      failed_before = W.failed_calls out.old;
+      failed_after = W.failed_calls out.new;
+      is_in_memory = W.is_in_memory;
+    }) }
+{
+    match check_text(alloc, inventory, certificate) {
+        Err(stop) => stop.report(alloc, faults),
+        Ok(outcome) => match send(out, &outcome.text) {
+            Ok(()) => outcome.exit,
+            Err(stop) => stop.report(alloc, faults),
+        },
+    }
+}

@@ -1,0 +1,19 @@
+ghost use Rattle.keep_engine.specs.Laws.{OneCheckText, OnePlanText, OwnCertificateLaw};
+
+/// The law that own certificates are accepted: what `print` writes of a decision as `plan` gave it, with the start it was
+/// planned from, is read back over the same forest, and `check` can answer nothing but Yes.
+pub fn own_certificates_are_accepted()
+    ensures { OwnCertificateLaw }
+{}
+
+/// The law that what `plan` writes tells nothing but names, numbers and moments: of two inventories with one forest, as
+/// those that differ in the tokens' values and the lease ids alone, it writes the same and ends alike.
+pub fn no_secret_shows_in_plan()
+    ensures { OnePlanText }
+{}
+
+/// The same law of `check`. So it says `yes` exactly where the text is a certificate that gets Yes: for no text is there a
+/// right `yes` and a right other line.
+pub fn no_secret_shows_in_check()
+    ensures { OneCheckText }
+{}
