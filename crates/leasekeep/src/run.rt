@@ -1,7 +1,7 @@
 use crate::command::matches;
 use clap::ArgMatches;
 use clap::error::ErrorKind;
-use keep_engine::{Exit, report_input, run_ends};
+use keep_engine::{Exit, report_input, run_check, run_ends, run_plan};
 use keep_moment::{Moment, Text};
 use std::alloc::{AllocError, Global};
 use std::io::Write;
@@ -11,6 +11,9 @@ use vault_http::{Counted, InputFault, Sink, read_all, write_all};
 
 /// The most bytes of an inventory.
 const MOST_INVENTORY: usize = 1_048_576;
+
+/// The most bytes of a certificate.
+const MOST_CERTIFICATE: usize = 16_777_216;
 
 /// Runs the command that the words of the command line name, and gives the exit.
 pub fn run<R: Env + Files + AllocGlobal + Print + Eprint, E: Write + Drop>(
@@ -62,6 +65,8 @@ fn dispatch<R: Files + AllocGlobal + Print, F: Sink>(
 ) -> Exit {
     match matches.subcommand() {
         Some(("ends", matches)) => ends(rt, matches, faults),
+        Some(("plan", matches)) => plan(rt, matches, faults),
+        Some(("check", matches)) => check(rt, matches, faults),
         _ => Exit::CommandLine,
     }
 }
@@ -93,6 +98,67 @@ fn ends<R: Files + AllocGlobal + Print, F: Sink>(
         ),
         Err(fault) => report_input(alloc, fault, faults),
     }
+}
+
+/// `plan FILE START`
+fn plan<R: Files + AllocGlobal + Print, F: Sink>(
+    rt: &R,
+    matches: &ArgMatches<'_>,
+    faults: &mut F,
+) -> Exit {
+    let alloc = rt.alloc();
+    let Some(file) = matches.get_str("FILE") else {
+        return Exit::CommandLine;
+    };
+    let Some(start) = start_of(matches) else {
+        return Exit::CommandLine;
+    };
+    match read_file(rt, file, MOST_INVENTORY) {
+        Ok(text) => run_plan(
+            alloc,
+            text.list(),
+            start,
+            &mut Counted::new(io::writer(rt)),
+            faults,
+        ),
+        Err(fault) => report_input(alloc, fault, faults),
+    }
+}
+
+/// `check FILE CERT`
+fn check<R: Files + AllocGlobal + Print, F: Sink>(
+    rt: &R,
+    matches: &ArgMatches<'_>,
+    faults: &mut F,
+) -> Exit {
+    let alloc = rt.alloc();
+    let Some(file) = matches.get_str("FILE") else {
+        return Exit::CommandLine;
+    };
+    let Some(certificate) = matches.get_str("CERT") else {
+        return Exit::CommandLine;
+    };
+    match read_both(rt, file, certificate) {
+        Ok((text, certificate)) => run_check(
+            alloc,
+            text.list(),
+            certificate.list(),
+            &mut Counted::new(io::writer(rt)),
+            faults,
+        ),
+        Err(fault) => report_input(alloc, fault, faults),
+    }
+}
+
+/// The bytes of the inventory's file, then those of the certificate's.
+fn read_both<R: Files + AllocGlobal>(
+    rt: &R,
+    file: &str,
+    certificate: &str,
+) -> Result<(Text, Text), InputFault> {
+    let text = read_file(rt, file, MOST_INVENTORY)?;
+    let certificate = read_file(rt, certificate, MOST_CERTIFICATE)?;
+    Ok((text, certificate))
 }
 
 fn start_of(matches: &ArgMatches<'_>) -> Option<Moment> {
