@@ -20,7 +20,7 @@ slot_read slots i x h e = get_or_read slots i x h e no_slot
 
 pub ruleset reading = (slot_read)
 
-none_listed : (f : Row → Bool) (slots : List Slot) → ((i : ℕ) → i < length slots → f (slot_at slots i).row ≡ false) → find f (listed_rows slots) ≡ None
+pub none_listed : (f : Row → Bool) (slots : List Slot) → ((i : ℕ) → i < length slots → f (slot_at slots i).row ≡ false) → find f (listed_rows slots) ≡ None
 unfolding listed_rows slot_at
 none_listed f [] fails = refl
 none_listed f (s ∷ slots) fails =

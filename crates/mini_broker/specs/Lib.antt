@@ -5,6 +5,7 @@ pub mod Ledger
 pub mod Slots
 pub mod Request
 pub mod Subject
+pub mod Index
 pub mod Renewing
 pub mod Step
 pub mod Found

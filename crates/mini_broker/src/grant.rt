@@ -1,11 +1,13 @@
 ghost use Rattle.std.specs.Prelude.{◌≡◌, ◌<◌, IfOk, length};
 ghost use Rattle.mini_broker.specs.Found.{subject_at, row_granted, IsFoundWithin, IsGrantWithin};
+ghost use Rattle.mini_broker.specs.Index.{IsIndexed};
 ghost use Rattle.mini_broker.specs.Renewing.{asked_or, granted, is_deny, new_end, renewal, shortened, step_of};
 ghost use Rattle.mini_broker.specs.Slots.{listed_rows, slot_at};
 ghost use Rattle.keep_tree.specs.Renewal.{capped};
 
 use crate::call::Call;
 use crate::fault::Fault;
+use crate::index::Index;
 use crate::refusal::Refusal;
 use crate::row::Row;
 use crate::slot::{Slot, slot_in};
@@ -26,18 +28,20 @@ pub struct Grant {
 pub(crate) fn renewal(
     alloc: Global,
     slots: &[Slot],
+    index: &Option<Index>,
     t: Moment,
     call: Call,
     request: &Request,
     fault: Option<Fault>,
 ) -> Result<Result<Grant, Refusal>, AllocError>
+    requires { IsIndexed index.now slots.now }
     ensures granted { IfOk result (λ grant. row_granted slots.now grant ≡ renewal (listed_rows slots.now) t call request.now fault) }
     ensures within { IfOk result (λ grant. IsGrantWithin slots.now grant) }
 {
     if is_deny(fault) {
         return Ok(Err(Refusal::PermissionDenied));
     }
-    let found = subject(alloc, slots, call, request)?;
+    let found = subject(alloc, slots, index, call, request)?;
     Ok(granted(slots, t, fault, found))
 }
 

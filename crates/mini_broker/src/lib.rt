@@ -11,6 +11,7 @@ mod body;
 mod call;
 mod fault;
 mod grant;
+mod index;
 pub mod laws;
 mod refusal;
 mod row;

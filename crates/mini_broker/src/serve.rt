@@ -1,6 +1,7 @@
 ghost use Rattle.std.specs.Prelude.{◌≡◌, IfOk, OnOk, OnErr, Ok};
 ghost use Rattle.mini_broker.specs.Faults.{fault_at, next_number};
 ghost use Rattle.mini_broker.specs.Found.{row_granted, IsGrantWithin, GrantNamesText};
+ghost use Rattle.mini_broker.specs.Index.{IsIndexed, credentials_of};
 ghost use Rattle.mini_broker.specs.Ledger.{Ledger};
 ghost use Rattle.mini_broker.specs.Renewing.{renewal, rows_after};
 ghost use Rattle.mini_broker.specs.Request.{call_of};
@@ -13,6 +14,7 @@ use crate::body::body_of;
 use crate::call::{Call, call_of};
 use crate::fault::{Fault, NumberedFault, fault_at, next_number, take_fault};
 use crate::grant::{Grant, renewal};
+use crate::index::Index;
 use crate::refusal::Refusal;
 use crate::served::Served;
 use crate::slot::{Slot, set_end, slot_in};
@@ -26,17 +28,20 @@ use vault_json::errors;
 pub(crate) fn answer(
     alloc: Global,
     slots: &mut [Slot],
+    index: &Option<Index>,
     faults: &mut Vec<NumberedFault>,
     count: &mut u64,
     t: Moment,
     request: &Request,
 ) -> Result<Served, AllocError>
-    requires { AreSlots slots.old }
+    requires sound { AreSlots slots.old }
+    requires indexed { IsIndexed index.now slots.old }
     ensures says { IfOk result (λ served. Says t (by_call (record { rows = listed_rows slots.old; faults = faults.old.items; count = count.old }) t request.now (call_of request.now.path)).answer served) }
     ensures ledger { OnOk result (◌≡◌ {A = Ledger} (record { rows = listed_rows slots.new; faults = faults.new.items; count = count.new })
         (by_call (record { rows = listed_rows slots.old; faults = faults.old.items; count = count.old }) t request.now (call_of request.now.path)).ledger) }
     ensures unchanged { OnErr result ((slots.new ≡ slots.old) × (faults.new.items ≡ faults.old.items) × (count.new ≡ count.old)) }
     ensures sound { AreSlots slots.new }
+    ensures credentials { credentials_of slots.new ≡ credentials_of slots.old }
 {
     let Some(call) = call_of(request.path.list()) else {
         return refuse(alloc, Refusal::UnsupportedPath);
@@ -45,9 +50,9 @@ pub(crate) fn answer(
         return refuse(alloc, Refusal::UnsupportedMethod);
     }
     if call.is_renewal() {
-        renew(alloc, slots, faults, count, t, call, request)
+        renew(alloc, slots, index, faults, count, t, call, request)
     } else {
-        look_up(alloc, slots, t, call, request)
+        look_up(alloc, slots, index, t, call, request)
     }
 }
 
@@ -65,13 +70,15 @@ pub(crate) fn refuse(alloc: Global, refusal: Refusal) -> Result<Served, AllocErr
 fn look_up(
     alloc: Global,
     slots: &[Slot],
+    index: &Option<Index>,
     t: Moment,
     call: Call,
     request: &Request,
 ) -> Result<Served, AllocError>
+    requires { IsIndexed index.now slots.now }
     ensures { IfOk result (λ served. Says t (looked call (subject (listed_rows slots.now) call request.now)) served) }
 {
-    match subject(alloc, slots, call, request)? {
+    match subject(alloc, slots, index, call, request)? {
         Err(refusal) => refuse(alloc, refusal),
         Ok(found) => {
             let row = &slot_in(slots, found.place).row;
@@ -85,22 +92,25 @@ fn look_up(
 fn renew(
     alloc: Global,
     slots: &mut [Slot],
+    index: &Option<Index>,
     faults: &mut Vec<NumberedFault>,
     count: &mut u64,
     t: Moment,
     call: Call,
     request: &Request,
 ) -> Result<Served, AllocError>
-    requires { AreSlots slots.old }
+    requires sound { AreSlots slots.old }
+    requires indexed { IsIndexed index.now slots.old }
     ensures says { IfOk result (λ served. Says t (renews (record { rows = listed_rows slots.old; faults = faults.old.items; count = count.old }) t call request.now).answer served) }
     ensures ledger { OnOk result (◌≡◌ {A = Ledger} (record { rows = listed_rows slots.new; faults = faults.new.items; count = count.new })
         (renews (record { rows = listed_rows slots.old; faults = faults.old.items; count = count.old }) t call request.now).ledger) }
     ensures unchanged { OnErr result ((slots.new ≡ slots.old) × (faults.new.items ≡ faults.old.items) × (count.new ≡ count.old)) }
     ensures sound { AreSlots slots.new }
+    ensures credentials { credentials_of slots.new ≡ credentials_of slots.old }
 {
     let number = next_number(*count);
     let fault = fault_at(faults, number);
-    let grant = renewal(alloc, slots, t, call, request, fault)?;
+    let grant = renewal(alloc, slots, index, t, call, request, fault)?;
     let served = renewed(alloc, slots, t, call, fault, grant)?;
     // Nothing wants memory from here on, so a request that is refused for want of it was not counted.
     *count = number;
@@ -155,6 +165,7 @@ fn settle(slots: &mut [Slot], grant: Result<Grant, Refusal>)
     requires within { IsGrantWithin slots.old grant }
     ensures rows { listed_rows slots.new ≡ rows_after (listed_rows slots.old) (row_granted slots.old grant) }
     ensures sound { AreSlots slots.new }
+    ensures credentials { credentials_of slots.new ≡ credentials_of slots.old }
 {
     if let Ok(grant) = grant {
         set_end(slots, grant.place, grant.end);

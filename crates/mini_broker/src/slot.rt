@@ -6,6 +6,7 @@ ghost use Rattle.mini_broker.specs.Rows.{row_of, row_named};
 ghost use Rattle.mini_broker.specs.Renewing.{with_row};
 ghost use Rattle.mini_broker.specs.Sweep.{swept};
 ghost use Rattle.mini_broker.specs.Slots.{AreSlots, listed_rows, slot_of, slots_of, slot_at, is_listed, stands, swept_slots};
+ghost use Rattle.mini_broker.specs.Index.{credentials_of, if_listed};
 
 use crate::row::Row;
 use keep_inventory::Inventory;
@@ -84,6 +85,7 @@ pub(crate) fn sweep(slots: &mut [Slot], t: Moment)
     ensures swept { slots.new ≡ swept_slots t slots.old }
     ensures rows { listed_rows slots.new ≡ swept t (listed_rows slots.old) }
     ensures sound { AreSlots slots.new }
+    ensures credentials { credentials_of slots.new ≡ credentials_of slots.old }
 {
     for at in 0..slots.len() {
         relist(slots, at, t);
@@ -130,6 +132,23 @@ pub(crate) fn slot_in(slots: &[Slot], place: usize) -> &Slot
     &slots[place]
 }
 
+/// The place, where its slot is listed.
+pub(crate) fn if_listed(slots: &[Slot], place: Option<u32>) -> Option<usize>
+    requires { IfSome place (λ p. p < length slots.now) }
+    ensures { result ≡ if_listed slots.now place }
+{
+    match place {
+        None => None,
+        Some(place) => {
+            if slot_in(slots, place as usize).listed {
+                Some(place as usize)
+            } else {
+                None
+            }
+        }
+    }
+}
+
 /// The place of the listed row of that name.
 pub(crate) fn place_named(slots: &[Slot], name: &[u8]) -> Option<usize>
     ensures row { option_map (λ i. (slot_at slots.now i).row) result ≡ row_named (listed_rows slots.now) name.now }
@@ -160,6 +179,7 @@ pub(crate) fn set_end(slots: &mut [Slot], place: usize, end: u64)
     requires within { place < length slots.old }
     ensures rows { listed_rows slots.new ≡ with_row (listed_rows slots.old) (record (slot_at slots.old place).row { end = end }) }
     ensures sound { AreSlots slots.new }
+    ensures credentials { credentials_of slots.new ≡ credentials_of slots.old }
 {
     write_end(slots, place, end);
 }

@@ -1,14 +1,16 @@
 ghost use Rattle.std.specs.Prelude.{◌≡◌, ◌<◌, ◌&&◌, true, IfOk, IfSome, length, option_map, option_copied};
 ghost use Rattle.std.specs.List.{position};
 ghost use Rattle.mini_broker.specs.Found.{subject_at, IsFoundWithin, SubjectNamesText};
+ghost use Rattle.mini_broker.specs.Index.{IsIndexed};
 ghost use Rattle.mini_broker.specs.Slots.{listed_rows, slot_at};
 ghost use Rattle.mini_broker.specs.Subject.{bearer, belongs, is_lease_with, is_token_with, lease_with, named, subject, token_with};
 
 use crate::asked::{Asked, read_asked};
 use crate::call::Call;
+use crate::index::Index;
 use crate::refusal::Refusal;
 use crate::row::Row;
-use crate::slot::{Slot, slot_in};
+use crate::slot::{Slot, if_listed, slot_in};
 use keep_moment::{Name, Span, Text};
 use keep_tree::Kind;
 use std::alloc::{AllocError, Global};
@@ -26,35 +28,44 @@ pub struct Found {
 pub(crate) fn subject(
     alloc: Global,
     slots: &[Slot],
+    index: &Option<Index>,
     call: Call,
     request: &Request,
 ) -> Result<Result<Found, Refusal>, AllocError>
+    requires { IsIndexed index.now slots.now }
     ensures found { IfOk result (λ found. subject_at slots.now found ≡ subject (listed_rows slots.now) call request.now) }
     ensures within { IfOk result (λ found. IsFoundWithin slots.now found) }
 {
-    let Some(token) = bearer(slots, &request.token) else {
+    let Some(token) = bearer(slots, index, &request.token) else {
         return Ok(Err(Refusal::PermissionDenied));
     };
     let Some(asked) = read_asked(alloc, call, request.body.list())? else {
         return Ok(Err(Refusal::BadRequest));
     };
-    Ok(named(slots, token, &asked))
+    Ok(named(slots, index, token, &asked))
 }
 
 /// The place of the token row that a request's token names.
-fn bearer(slots: &[Slot], credential: &Option<Text>) -> Option<usize>
+fn bearer(slots: &[Slot], index: &Option<Index>, credential: &Option<Text>) -> Option<usize>
+    requires { IsIndexed index.now slots.now }
     ensures row { option_map (λ i. (slot_at slots.now i).row) result ≡ bearer (listed_rows slots.now) credential.now }
     ensures within { IfSome result (λ i. (i < length slots.now) × ((slot_at slots.now i).listed ≡ true)) }
 {
     match credential {
         None => None,
-        Some(credential) => place_of_token(slots, credential.list()),
+        Some(credential) => place_of_token(slots, index, credential.list()),
     }
 }
 
 /// The place of the row that a body asks about: the token's own, or that of the lease that it names.
-fn named(slots: &[Slot], token: usize, asked: &Asked) -> Result<Found, Refusal>
-    requires { token < length slots.now }
+fn named(
+    slots: &[Slot],
+    index: &Option<Index>,
+    token: usize,
+    asked: &Asked,
+) -> Result<Found, Refusal>
+    requires token { token < length slots.now }
+    requires indexed { IsIndexed index.now slots.now }
     ensures found { subject_at slots.now result ≡ named (listed_rows slots.now) (slot_at slots.now token).row asked.now.increment asked.now.lease_id }
     ensures within { IsFoundWithin slots.now result }
 {
@@ -64,7 +75,7 @@ fn named(slots: &[Slot], token: usize, asked: &Asked) -> Result<Found, Refusal>
             place: token,
             increment,
         }),
-        Some(id) => match place_of_lease(slots, id.list()) {
+        Some(id) => match place_of_lease(slots, index, id.list()) {
             None => Err(Refusal::UnknownLease),
             Some(place) => {
                 let lease = slot_in(slots, place);
@@ -89,11 +100,15 @@ fn belongs(parent: &Option<Name>, name: &[u8]) -> bool
 }
 
 /// The place of the listed token row with that credential.
-pub(crate) fn place_of_token(slots: &[Slot], credential: &[u8]) -> Option<usize>
+fn place_of_token(slots: &[Slot], index: &Option<Index>, credential: &[u8]) -> Option<usize>
+    requires { IsIndexed index.now slots.now }
     ensures row { option_map (λ i. (slot_at slots.now i).row) result ≡ token_with (listed_rows slots.now) credential.now }
     ensures within { IfSome result (λ i. (i < length slots.now) × ((slot_at slots.now i).listed ≡ true)) }
 {
-    first_token(slots, credential)
+    match index {
+        None => first_token(slots, credential),
+        Some(index) => if_listed(slots, index.token(credential)),
+    }
 }
 
 fn first_token(slots: &[Slot], credential: &[u8]) -> Option<usize>
@@ -105,11 +120,15 @@ fn first_token(slots: &[Slot], credential: &[u8]) -> Option<usize>
 }
 
 /// The place of the listed lease row with that id.
-pub(crate) fn place_of_lease(slots: &[Slot], id: &[u8]) -> Option<usize>
+fn place_of_lease(slots: &[Slot], index: &Option<Index>, id: &[u8]) -> Option<usize>
+    requires { IsIndexed index.now slots.now }
     ensures row { option_map (λ i. (slot_at slots.now i).row) result ≡ lease_with (listed_rows slots.now) id.now }
     ensures within { IfSome result (λ i. (i < length slots.now) × ((slot_at slots.now i).listed ≡ true)) }
 {
-    first_lease(slots, id)
+    match index {
+        None => first_lease(slots, id),
+        Some(index) => if_listed(slots, index.lease(id)),
+    }
 }
 
 fn first_lease(slots: &[Slot], id: &[u8]) -> Option<usize>

@@ -6,6 +6,7 @@ ghost use Rattle.mini_broker.specs.Step.{Says, after_sweep, step};
 ghost use Rattle.mini_broker.specs.Stream.{CountsStream, Fails, Handles, IsStreamed, Leaves};
 
 use crate::fault::{Fault, NumberedFault, SetFault, fault_refusal};
+use crate::index::{Index, index_of};
 use crate::refusal::Refusal;
 use crate::serve::{answer, refuse};
 use crate::served::{ServeFault, Served};
@@ -23,11 +24,13 @@ use vault_http::{HttpFault, Request, Sink, Source, read_request};
 #[derive(Debug, Drop)]
 pub struct Table {
     slots: Vec<Slot>,
+    index: Option<Index>,
     faults: Vec<NumberedFault>,
     count: u64,
 }
 
 impl Model for Table {
+    ghost use Rattle.mini_broker.specs.Index.{IsIndexed};
     ghost use Rattle.mini_broker.specs.Ledger.{Ledger};
     ghost use Rattle.mini_broker.specs.Slots.{AreSlots, listed_rows};
 
@@ -35,7 +38,7 @@ impl Model for Table {
 
     ghost view = { λ t. record { rows = listed_rows t.slots.items; faults = t.faults.items; count = t.count } };
 
-    ghost invariant = { λ t. AreSlots t.slots.items };
+    ghost invariant = { λ t. AreSlots t.slots.items × IsIndexed t.index t.slots.items };
 }
 
 impl Table {
@@ -43,8 +46,11 @@ impl Table {
     pub fn load(alloc: Global, inventory: &Inventory) -> Result<Table, AllocError>
         ensures { IfOk result (λ table. table ≡ record { rows = rows_of inventory.now; faults = []; count = 0 }) }
     {
+        let slots = slots_of(alloc, inventory)?;
+        let index = index_of(alloc, &slots)?;
         Ok(Table {
-            slots: slots_of(alloc, inventory)?,
+            slots,
+            index,
             faults: Vec::new(alloc),
             count: 0,
         })
@@ -102,6 +108,7 @@ impl Table {
         let served = answer(
             alloc,
             &mut self.slots,
+            &self.index,
             &mut self.faults,
             &mut self.count,
             t,

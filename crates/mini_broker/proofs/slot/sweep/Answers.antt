@@ -1,5 +1,7 @@
 use Rattle.std.proofs.Common.{◌≡◌, ◌∙◌, ap, arith, length, subst, sym}
 use Rattle.mini_broker.specs.Slots.{AreSlots, listed_rows, swept_slots}
+use Rattle.mini_broker.specs.Index.{credentials_of}
+use Rattle.mini_broker.proofs.Indexed.{swept_credentials}
 use Rattle.mini_broker.proofs.Living.{judged_all, judged_first, judged_more, over_within, swept_rows, swept_sound}
 use Rattle.mini_broker.proofs.slot.sweep.Goals as goal
 
@@ -22,3 +24,7 @@ returns-clause-rows c =
 pub returns-clause-sound : goal.returns-clause-sound
 returns-clause-sound c =
     subst AreSlots (sym (judged_all c.args.slots.now c.args.t c.loop-at.at c.loop-at.slots (omega arith) c.loop-at.invariant)) (swept_sound c.args.slots.now c.args.t c.requires)
+
+pub returns-clause-credentials : goal.returns-clause-credentials
+returns-clause-credentials c =
+    ap credentials_of (judged_all c.args.slots.now c.args.t c.loop-at.at c.loop-at.slots (omega arith) c.loop-at.invariant) ∙ swept_credentials c.args.t c.args.slots.now

@@ -1,6 +1,7 @@
-use Rattle.std.proofs.Common.{◌≡◌, ◌∙◌, [], ap, List}
+use Rattle.std.proofs.Common.{◌≡◌, ◌∙◌, [], ap, subst, List}
 use Rattle.mini_broker.specs.declared.fault.NumberedFault.{NumberedFault}
 use Rattle.mini_broker.specs.declared.row.Row.{Row}
+use Rattle.mini_broker.specs.Index.{IsIndexed}
 use Rattle.mini_broker.specs.Ledger.{Ledger}
 use Rattle.mini_broker.specs.Rows.{rows_of}
 use Rattle.mini_broker.specs.Slots.{listed_rows}
@@ -12,4 +13,7 @@ ledgers rows rows' faults faults' e f = ap (λ rs. record { rows = rs; faults = 
 
 pub returns : goal.returns
 returns c =
-    ledgers _ _ _ _ (ap listed_rows c.in_ok-slots_of.ensures.slots ∙ rows_of_slots c.args.inventory.now) c.new.ensures.items
+    ledgers _ _ _ _ (ap listed_rows c.in_ok-slots.ensures.slots ∙ rows_of_slots c.args.inventory.now) c.new.ensures.items
+
+pub invariant_of-result : goal.invariant_of-result
+invariant_of-result c = (c.in_ok-slots.ensures.sound, subst (IsIndexed c.in_ok-index.index) c.deref.ensures.value c.in_ok-index.ensures)

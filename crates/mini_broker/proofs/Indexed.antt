@@ -1,0 +1,255 @@
+-- An index finds what a walk over the slots finds: when a slot more is entered, in the look-ups, and after a change that
+-- leaves each slot its kind and its credential.
+use Rattle.std.proofs.Common.{◌≡◌, ℕ, ◌+◌, ◌<◌, Bool, true, false, cond, not, ◌&&◌, List, ◌∷◌, ◌++◌, [], take, drop, Option, Some, None, Result, Ok, Err, IfOk, IfSome, Vec, Global, is_none, is_some, length, get_or, map, option_map, bytes_eq, refl, sym, ap, ◌∙◌, subst, arith, ⊎_elim}
+use Rattle.std.proofs.lemmas.Bool.{cases_Bool, cases_lt, cond-true, cond-false, false_from_ne_true}
+use Rattle.std.proofs.lemmas.List.{append-nil, drop_all, get_or-map, length-map, take_all}
+use Rattle.std.proofs.lemmas.Map.Text.{is_eq-slice_cmp}
+use Rattle.std.proofs.Math.Seq.{map-set_same}
+use Rattle.std.specs.BTreeMap.{BTreeMap, IsEmpty, Updates}
+use Rattle.std.specs.Cmp.{eq_by_cmp_equiv}
+use Rattle.std.specs.Cmp.Lexicographic.{slice_cmp, nat_list_eq_equiv, nat_list_cmp_total, bytes_decides}
+use Rattle.std.specs.List.{find}
+use Rattle.std.specs.Map.{KeepsOthers, IsKeyTest, AreApart, lookup}
+use Rattle.std.specs.Ordering.{nat_cmp, is_eq}
+use Rattle.keep_tree.specs.declared.entry.Kind.{Kind}
+use Rattle.keep_tree.specs.declared.entry.Kind.TheVariants.{Token, Lease}
+use Rattle.keep_tree.specs.Push.{is_lease}
+use Rattle.mini_broker.specs.declared.row.Row.{Row}
+use Rattle.mini_broker.specs.declared.slot.Slot.{Slot}
+use Rattle.mini_broker.specs.declared.index.Index.{Index}
+use Rattle.mini_broker.specs.Index.{Enters, Finds, IsIndexOf, IsIndexOfNone, IsIndexed, credentials_of, if_listed, place_in}
+use Rattle.mini_broker.specs.Slots.{listed_rows, no_slot, relisted, slot_at, swept_slots}
+use Rattle.mini_broker.specs.Subject.{is_lease_with, is_token_with}
+use Rattle.mini_broker.specs.Sweep.{lives}
+use Rattle.mini_broker.proofs.Listed.{found_listed, none_listed}
+use Rattle.mini_broker.proofs.Replaced.{ended}
+
+-- ---- a credential more in the map
+
+none_in : (m : BTreeMap (Vec ℕ Global) ℕ) → IsEmpty m → (q : List ℕ) → place_in m q ≡ None
+none_in m empty q = ap (lookup (λ k. is_eq (slice_cmp nat_cmp q k.items))) empty
+
+apart : (bs cs ks : List ℕ) → bytes_eq bs cs ≡ false → is_eq (slice_cmp nat_cmp bs ks) ≡ true → is_eq (slice_cmp nat_cmp cs ks) ≡ false
+apart bs cs ks n y =
+    is_eq-slice_cmp cs ks ∙ nat_list_eq_equiv.symm cs ks ∙ sym (nat_list_eq_equiv.congr bs ks cs (sym (is_eq-slice_cmp bs ks) ∙ y)) ∙ n
+
+module _ {K : Type 0} (eq : K → K → Bool) (test : K → Bool) where
+  other_entries : {X : Type 0} (old new : List (K × X)) → KeepsOthers eq test old new → (other : K → Bool) → IsKeyTest eq other → AreApart test other → lookup other new ≡ lookup other old
+  unfolding KeepsOthers
+  other_entries old new h = h
+
+pub place_entered : (m n : BTreeMap (Vec ℕ Global) ℕ) (key : Vec ℕ Global) (w : Option ℕ) → Updates (λ x y. slice_cmp nat_cmp x.items y.items) m n key w → (q : List ℕ) → place_in n q ≡ cond (bytes_eq key.items q) w (place_in m q)
+place_entered m n key w h q =
+    ⊎_elim
+    (λ y. subst (λ l. place_in n l ≡ w) ((bytes_decides key.items q).0 y) h.1 ∙ sym (cond-true (bytes_eq key.items q) w (place_in m q) y))
+    (λ e. other_entries _ _ _ _ h.3 _ (λ x y. (eq_by_cmp_equiv nat_list_cmp_total).congr q x.items y.items) (λ k. apart key.items q k.items e)
+    ∙ sym (cond-false (bytes_eq key.items q) w (place_in m q) e))
+    (cases_Bool (bytes_eq key.items q))
+
+-- ---- a slot more in the index
+
+some_more : (b : Bool) (n : ℕ) (o : Option ℕ) (P Q : ℕ → Type 0) → (b ≡ true → Q n) → ((i : ℕ) → P i → Q i) → IfSome o P → IfSome (cond b (Some n) o) Q
+some_more true n o P Q here more old = here refl
+some_more false n None P Q here more old = tt
+some_more false n (Some i) P Q here more old = more i old
+
+last_or_before : (n i : ℕ) (P : Type 0) → i < n + 1 → (i ≡ n → P) → (i < n → P) → P
+last_or_before n i P h last before = ⊎_elim (λ below. before below) (λ above. last (omega (arith, above, h))) (cases_lt i n)
+
+found_more :
+    (has : List ℕ → Row → Bool) (slots : List Slot) (n : ℕ) (m new : BTreeMap (Vec ℕ Global) ℕ) (credential : List ℕ) →
+    ((q : List ℕ) → has q (slot_at slots n).row ≡ bytes_eq credential q) → place_in m credential ≡ None →
+    ((q : List ℕ) → place_in new q ≡ cond (bytes_eq credential q) (Some n) (place_in m q)) → Finds m has slots n →
+    (q : List ℕ) (i : ℕ) → i < n + 1 → has q (slot_at slots i).row ≡ true → place_in new q ≡ Some i
+found_more has slots n m new credential is none entered finds q i h pass =
+    last_or_before n i (place_in new q ≡ Some i) h
+    (λ here.
+    let same : bytes_eq credential q ≡ true = sym (is q) ∙ subst (λ k. has q (slot_at slots k).row ≡ true) here pass in
+    entered q ∙ cond-true (bytes_eq credential q) (Some n) (place_in m q) same ∙ ap Some (sym here))
+    (λ before.
+    let old : place_in m q ≡ Some i = finds.found q i before pass in
+    let other : bytes_eq credential q ≡ false =
+    false_from_ne_true (bytes_eq credential q) (λ same. absurd (let both : None ≡ Some i = sym none ∙ ap (place_in m) ((bytes_decides credential q).0 same) ∙ old in cc)) in
+    entered q ∙ cond-false (bytes_eq credential q) (Some n) (place_in m q) other ∙ old)
+
+-- a slot of the kind, with a credential that none before it has
+finds_more :
+    (has : List ℕ → Row → Bool) (slots : List Slot) (n : ℕ) (m new : BTreeMap (Vec ℕ Global) ℕ) (credential : List ℕ) →
+    ((q : List ℕ) → has q (slot_at slots n).row ≡ bytes_eq credential q) → place_in m credential ≡ None →
+    ((q : List ℕ) → place_in new q ≡ cond (bytes_eq credential q) (Some n) (place_in m q)) → Finds m has slots n → Finds new has slots (n + 1)
+finds_more has slots n m new credential is none entered finds = record {
+  found = found_more has slots n m new credential is none entered finds;
+  within = λ q.
+      subst (λ o. IfSome o (λ i. (i < n + 1) × (has q (slot_at slots i).row ≡ true))) (sym (entered q))
+      (some_more (bytes_eq credential q) n (place_in m q) (λ i. (i < n) × (has q (slot_at slots i).row ≡ true)) (λ i. (i < n + 1) × (has q (slot_at slots i).row ≡ true))
+      (λ same. (omega arith, is q ∙ same))
+      (λ i w. let below : i < n = w.0 in (omega (arith, below), w.1))
+      (finds.within q));
+}
+
+-- a slot of the other kind
+finds_past : (has : List ℕ → Row → Bool) (slots : List Slot) (n : ℕ) (m : BTreeMap (Vec ℕ Global) ℕ) → ((q : List ℕ) → has q (slot_at slots n).row ≡ false) → Finds m has slots n → Finds m has slots (n + 1)
+finds_past has slots n m fails finds = record {
+  found = λ q i h pass.
+      last_or_before n i (place_in m q ≡ Some i) h
+      (λ here. absurd (let both : false ≡ true = sym (fails q) ∙ subst (λ k. has q (slot_at slots k).row ≡ true) here pass in cc))
+      (λ before. finds.found q i before pass);
+  within = λ q.
+      some_more false n (place_in m q) (λ i. (i < n) × (has q (slot_at slots i).row ≡ true)) (λ i. (i < n + 1) × (has q (slot_at slots i).row ≡ true))
+      (λ e. absurd cc)
+      (λ i w. let below : i < n = w.0 in (omega (arith, below), w.1))
+      (finds.within q);
+}
+
+token_by : (r : Row) (q : List ℕ) → r.kind ≡ Token → is_token_with q r ≡ bytes_eq r.credential q
+unfolding is_token_with
+token_by r q kind = ap (λ k. not (is_lease k) && bytes_eq r.credential q) kind
+
+no_token : (r : Row) (q : List ℕ) → r.kind ≡ Lease → is_token_with q r ≡ false
+unfolding is_token_with
+no_token r q kind = ap (λ k. not (is_lease k) && bytes_eq r.credential q) kind
+
+lease_by : (r : Row) (q : List ℕ) → r.kind ≡ Lease → is_lease_with q r ≡ bytes_eq r.credential q
+unfolding is_lease_with
+lease_by r q kind = ap (λ k. is_lease k && bytes_eq r.credential q) kind
+
+no_lease : (r : Row) (q : List ℕ) → r.kind ≡ Token → is_lease_with q r ≡ false
+unfolding is_lease_with
+no_lease r q kind = ap (λ k. is_lease k && bytes_eq r.credential q) kind
+
+-- what `is_none` answers
+pub none_told : (o : Option ℕ) (b : Bool) → is_some o ≡ not b → b ≡ is_none o
+none_told None true e = refl
+none_told None false e = absurd cc
+none_told (Some i) true e = absurd cc
+none_told (Some i) false e = refl
+
+none_if : (o : Option ℕ) → is_none o ≡ true → o ≡ None
+none_if None e = refl
+none_if (Some i) e = absurd cc
+
+pub token_enters :
+    {E : Type 0} (answer : Result Bool E) (x : Index) (new : BTreeMap (Vec ℕ Global) ℕ) (r : Row) (n : ℕ) (credential : List ℕ) → r.kind ≡ Token → credential ≡ r.credential →
+    IfOk answer (λ fresh. fresh ≡ is_none (place_in x.tokens credential)) →
+    IfOk answer (λ fresh. (q : List ℕ) → place_in new q ≡ cond (bytes_eq credential q) (Some n) (place_in x.tokens q)) →
+    IfOk answer (λ fresh. Enters x (record x { tokens = new }) r n fresh)
+token_enters (Err e) x new r n credential kind is told entered = tt
+token_enters (Ok fresh) x new r n credential kind is told entered = λ slots yes there old. record {
+  tokens = finds_more is_token_with slots n x.tokens new credential (λ q. ap (is_token_with q) there ∙ token_by r q kind ∙ ap (λ bs. bytes_eq bs q) (sym is)) (none_if (place_in x.tokens credential) (sym told ∙ yes)) entered old.tokens;
+  leases = finds_past is_lease_with slots n x.leases (λ q. ap (is_lease_with q) there ∙ no_lease r q kind) old.leases;
+}
+
+pub lease_enters :
+    {E : Type 0} (answer : Result Bool E) (x : Index) (new : BTreeMap (Vec ℕ Global) ℕ) (r : Row) (n : ℕ) (credential : List ℕ) → r.kind ≡ Lease → credential ≡ r.credential →
+    IfOk answer (λ fresh. fresh ≡ is_none (place_in x.leases credential)) →
+    IfOk answer (λ fresh. (q : List ℕ) → place_in new q ≡ cond (bytes_eq credential q) (Some n) (place_in x.leases q)) →
+    IfOk answer (λ fresh. Enters x (record x { leases = new }) r n fresh)
+lease_enters (Err e) x new r n credential kind is told entered = tt
+lease_enters (Ok fresh) x new r n credential kind is told entered = λ slots yes there old. record {
+  tokens = finds_past is_token_with slots n x.tokens (λ q. ap (is_token_with q) there ∙ no_token r q kind) old.tokens;
+  leases = finds_more is_lease_with slots n x.leases new credential (λ q. ap (is_lease_with q) there ∙ lease_by r q kind ∙ ap (λ bs. bytes_eq bs q) (sym is)) (none_if (place_in x.leases credential) (sym told ∙ yes)) entered old.leases;
+}
+
+finds_none : (has : List ℕ → Row → Bool) (slots : List Slot) (m : BTreeMap (Vec ℕ Global) ℕ) → IsEmpty m → Finds m has slots 0
+finds_none has slots m empty = record {
+  found = λ q i h pass. absurd (omega (arith, h));
+  within = λ q. subst (λ o. IfSome o (λ i. (i < 0) × (has q (slot_at slots i).row ≡ true))) (sym (none_in m empty q)) tt;
+}
+
+pub index_of_none : (x : Index) → IsEmpty x.tokens → IsEmpty x.leases → IsIndexOfNone x
+index_of_none x tokens leases = λ slots. record { tokens = finds_none is_token_with slots x.tokens tokens; leases = finds_none is_lease_with slots x.leases leases }
+
+-- ---- the look-ups
+
+pub place_is_within : (has : List ℕ → Row → Bool) (slots : List Slot) (m : BTreeMap (Vec ℕ Global) ℕ) (q : List ℕ) (o : Option ℕ) → o ≡ place_in m q → Finds m has slots (length slots) → IfSome o (λ p. p < length slots)
+place_is_within has slots m q None e finds = tt
+place_is_within has slots m q (Some p) e finds =
+    (subst (λ o. IfSome o (λ i. (i < length slots) × (has q (slot_at slots i).row ≡ true))) (sym e) (finds.within q)).0
+
+row_if : (slots : List Slot) (p : ℕ) (b : Bool) → option_map (λ i. (slot_at slots i).row) (cond b (Some p) None) ≡ cond b (Some (slot_at slots p).row) None
+row_if slots p true = refl
+row_if slots p false = refl
+
+-- the slot in the place has the row that the look-up among the listed rows finds
+pub row_by_index :
+    (has : List ℕ → Row → Bool) (slots : List Slot) (m : BTreeMap (Vec ℕ Global) ℕ) (q : List ℕ) (o : Option ℕ) → o ≡ place_in m q → Finds m has slots (length slots) →
+    option_map (λ i. (slot_at slots i).row) (if_listed slots o) ≡ find (λ r. has q r) (listed_rows slots)
+row_by_index has slots m q None e finds =
+    sym (none_listed (λ r. has q r) slots (λ i h. false_from_ne_true (has q (slot_at slots i).row) (λ pass. absurd (let both : None ≡ Some i = e ∙ finds.found q i h pass in cc))))
+row_by_index has slots m q (Some p) e finds =
+    let there : (p < length slots) × (has q (slot_at slots p).row ≡ true) = subst (λ o. IfSome o (λ i. (i < length slots) × (has q (slot_at slots i).row ≡ true))) (sym e) (finds.within q) in
+    row_if slots p (slot_at slots p).listed
+    ∙ sym (found_listed (λ r. has q r) slots p there.0 there.1 (λ i h pass. let both : Some p ≡ Some i = e ∙ finds.found q i h pass in cc))
+
+listed_if : (slots : List Slot) (p : ℕ) (b : Bool) → b ≡ (slot_at slots p).listed → p < length slots → IfSome (cond b (Some p) None) (λ i. (i < length slots) × ((slot_at slots i).listed ≡ true))
+listed_if slots p true e h = (h, sym e)
+listed_if slots p false e h = tt
+
+pub listed_by_index : (slots : List Slot) (o : Option ℕ) → IfSome o (λ p. p < length slots) → IfSome (if_listed slots o) (λ i. (i < length slots) × ((slot_at slots i).listed ≡ true))
+listed_by_index slots None h = tt
+listed_by_index slots (Some p) h = listed_if slots p (slot_at slots p).listed refl h
+
+-- ---- after a change
+
+finds_like :
+    (has : List ℕ → Row → Bool) (slots now : List Slot) (n : ℕ) (m : BTreeMap (Vec ℕ Global) ℕ) →
+    ((i : ℕ) → i < n → (q : List ℕ) → has q (slot_at now i).row ≡ has q (slot_at slots i).row) → Finds m has slots n → Finds m has now n
+finds_like has slots now n m like finds = record {
+  found = λ q i h pass. finds.found q i h (sym (like i h q) ∙ pass);
+  within = λ q.
+      some_more false n (place_in m q) (λ i. (i < n) × (has q (slot_at slots i).row ≡ true)) (λ i. (i < n) × (has q (slot_at now i).row ≡ true))
+      (λ e. absurd cc)
+      (λ i w. (w.0, like i w.0 q ∙ w.1))
+      (finds.within q);
+}
+
+abbrev pair : Row → Kind × List ℕ
+pair r = (r.kind, r.credential)
+
+like_token : (a b : Row) (q : List ℕ) → pair a ≡ pair b → is_token_with q a ≡ is_token_with q b
+unfolding is_token_with
+like_token a b q e = ap (λ (p : Kind × List ℕ). not (is_lease p.0) && bytes_eq p.1 q) e
+
+like_lease : (a b : Row) (q : List ℕ) → pair a ≡ pair b → is_lease_with q a ≡ is_lease_with q b
+unfolding is_lease_with
+like_lease a b q e = ap (λ (p : Kind × List ℕ). is_lease p.0 && bytes_eq p.1 q) e
+
+pub same_length : (slots now : List Slot) → credentials_of now ≡ credentials_of slots → length now ≡ length slots
+unfolding credentials_of
+same_length slots now e = sym (length-map now (λ (s : Slot). pair s.row)) ∙ ap length e ∙ length-map slots (λ (s : Slot). pair s.row)
+
+same_pair : (slots now : List Slot) → credentials_of now ≡ credentials_of slots → (i : ℕ) → i < length slots → pair (slot_at now i).row ≡ pair (slot_at slots i).row
+unfolding credentials_of slot_at
+same_pair slots now e i h =
+    let count = same_length slots now e in
+    let none : Kind × List ℕ = pair no_slot.row in
+    sym (get_or-map (λ (s : Slot). pair s.row) now i no_slot none (omega arith))
+    ∙ ap (λ us. get_or us i none) e
+    ∙ get_or-map (λ (s : Slot). pair s.row) slots i no_slot none h
+
+pub indexed_like : (index : Option Index) (slots now : List Slot) → credentials_of now ≡ credentials_of slots → IsIndexed index slots → IsIndexed index now
+indexed_like None slots now e is = tt
+indexed_like (Some x) slots now e is =
+    let like = same_pair slots now e in
+    subst (λ n. IsIndexOf x now n) (sym (same_length slots now e)) (record {
+      tokens = finds_like is_token_with slots now (length slots) x.tokens (λ i h q. like_token (slot_at now i).row (slot_at slots i).row q (like i h)) is.tokens;
+      leases = finds_like is_lease_with slots now (length slots) x.leases (λ i h q. like_lease (slot_at now i).row (slot_at slots i).row q (like i h)) is.leases;
+    })
+
+relisted_credentials : (test : Row → Bool) (slots : List Slot) → credentials_of (map (relisted test) slots) ≡ credentials_of slots
+unfolding credentials_of relisted
+relisted_credentials test [] = refl
+relisted_credentials test (s ∷ slots) = ap (λ us. pair s.row ∷ us) (relisted_credentials test slots)
+
+pub swept_credentials : (t : ℕ) (slots : List Slot) → credentials_of (swept_slots t slots) ≡ credentials_of slots
+unfolding swept_slots
+swept_credentials t slots = relisted_credentials (lives (listed_rows slots) t) slots
+
+pub ended_credentials : (slots : List Slot) (p end : ℕ) → credentials_of (ended slots p end) ≡ credentials_of slots
+unfolding credentials_of slot_at
+ended_credentials slots p end = map-set_same (λ (s : Slot). pair s.row) slots p (record (slot_at slots p) { row = record (slot_at slots p).row { end = end } }) no_slot refl
+
+-- what a slice of a whole vector was made to hold is what the vector holds
+pub written_back : (n : ℕ) (slots now : List Slot) → n ≡ length slots → length now ≡ length slots → take n (now ++ drop (length now) slots) ≡ now
+written_back n slots now count same =
+    ap (λ us. take n (now ++ us)) (drop_all (length now) slots (omega arith)) ∙ ap (take n) (append-nil now) ∙ take_all n now (omega arith)
