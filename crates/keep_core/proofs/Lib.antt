@@ -10,3 +10,4 @@ pub mod Passing
 pub mod Made
 pub mod Waiting
 pub mod Taken
+pub mod ByRule

@@ -6,7 +6,7 @@ use Rattle.std.specs.List.{list_any, range_with_len}
 use Rattle.keep_tree.proofs.Carrying.{or_left, or_parts, or_right}
 use Rattle.keep_core.specs.Keeping.{flag, waited_for}
 
-kept_test : (p : ℕ → Bool) (n a i : ℕ) → list_any (λ j. j == i) (filter p (range_with_len a n)) ≡ true → p i ≡ true
+pub kept_test : (p : ℕ → Bool) (n a i : ℕ) → list_any (λ j. j == i) (filter p (range_with_len a n)) ≡ true → p i ≡ true
 kept_test p zero a i e = absurd cc
 kept_test p (suc n) a i e =
     let rest = filter p (range_with_len (a + 1) n) in
@@ -18,7 +18,7 @@ kept_test p (suc n) a i e =
       | inr fails ↦ kept_test p n (a + 1) i (sym (ap (λ b. list_any (λ j. j == i) (cond b (a ∷ rest) rest)) fails) ∙ e)
     ]
 
-kept_there : (p : ℕ → Bool) (n a i : ℕ) → a ≤ i → i < a + n → p i ≡ true → list_any (λ j. j == i) (filter p (range_with_len a n)) ≡ true
+pub kept_there : (p : ℕ → Bool) (n a i : ℕ) → a ≤ i → i < a + n → p i ≡ true → list_any (λ j. j == i) (filter p (range_with_len a n)) ≡ true
 kept_there p zero a i low high e = absurd (omega arith)
 kept_there p (suc n) a i low high e =
     let rest = filter p (range_with_len (a + 1) n) in
