@@ -11,3 +11,5 @@ pub mod Made
 pub mod Waiting
 pub mod Taken
 pub mod ByRule
+pub mod Hearing
+pub mod Heard

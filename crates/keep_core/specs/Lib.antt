@@ -10,3 +10,4 @@ pub mod Keeping
 pub mod LawsOfNeeds
 pub mod LawsOfPlans
 pub mod LawsOfRuns
+pub mod Hearing

@@ -3,6 +3,7 @@
 //! Begin with `event`.
 #![tactic(auto)]
 
+mod answer;
 mod event;
 mod fault;
 mod keeper;

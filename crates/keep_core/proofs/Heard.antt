@@ -1,0 +1,225 @@
+-- A keeper that has heard an answer: its invariant, and the plan that stands where the last answer is the rule's.
+use Rattle.std.proofs.Common.{◌≡◌, ◌≢◌, ◌==◌, ◌∙◌, ◌++◌, ℕ, ◌+◌, ◌<◌, ◌&&◌, Bool, true, false, List, [], ◌∷◌, Option, Some, None, Err, IfSome, length, nat_lt, set, refl, sym, ap, subst, arith, inl, inr}
+use Rattle.std.proofs.lemmas.Bool.{cases_lt}
+use Rattle.std.proofs.lemmas.Bool.Decides.{nat_tests}
+use Rattle.std.proofs.lemmas.List.{append-nil, length-set}
+use Rattle.keep_tree.specs.declared.entry.Entry.{Entry}
+use Rattle.keep_tree.specs.Forest.{Grove, entry_at}
+use Rattle.keep_tree.specs.Renewal.{renewal}
+use Rattle.keep_tree.proofs.Carrying.{and_left, and_right}
+use Rattle.keep_needs.specs.Carried.{IsCarried}
+use Rattle.keep_schedule.specs.Forces.{moments_of}
+use Rattle.keep_plan.specs.Planned.{Planned, to_come}
+use Rattle.keep_core.specs.declared.event.Event.{Event}
+use Rattle.keep_core.specs.declared.event.Event.TheVariants.{Tick, Told, Refused, Lost, Need}
+use Rattle.keep_core.specs.declared.event.Output.{Output}
+use Rattle.keep_core.specs.declared.fault.StepFault.{StepFault}
+use Rattle.keep_core.specs.declared.fault.StepFault.TheVariants.{ClockBack, RoundOpen, NotAsked, BadIndex, OutOfRange, TooLong, OutOfMemory}
+use Rattle.keep_core.specs.declared.round.OpenRound.{OpenRound}
+use Rattle.keep_core.specs.declared.shortened.ShortNeed.{ShortNeed}
+use Rattle.keep_core.specs.Hearing.{TellsSpan, is_rules, others}
+use Rattle.keep_core.specs.Keeping.{IsByRule, IsKeeper, IsOpen, flag, seen, waited_for}
+use Rattle.keep_core.specs.LawsOfRuns.{IsAnswer}
+use Rattle.keep_core.specs.Passes.{PlanFails}
+use Rattle.keep_core.specs.Refusal.{refusal, waits_for}
+use Rattle.keep_core.specs.Replan.{IsPlanOf, Replan}
+use Rattle.keep_core.specs.Runs.{Turn}
+use Rattle.keep_core.specs.Shorten.{pairs, shorten}
+use Rattle.keep_core.specs.State.{Round, State}
+use Rattle.keep_core.specs.Step.{Step, StepAnswer, StepTooLong, AnswerTooLong, answered, change, left, of_entry, without}
+use Rattle.keep_core.proofs.ByRule.{closes_by_rule, more_by_rule}
+use Rattle.keep_core.proofs.Hearing.{answer_taken, carried_heard, waited_less, waited_set}
+use Rattle.keep_core.proofs.Made.{count_moments}
+use Rattle.keep_core.proofs.Waiting.{waits_flag}
+
+-- an answer that an round_is round takes
+pub record Takes (h : Grove) (r : OpenRound) (event : Event) : Type 0 where
+  pub seconds : TellsSpan event
+  pub within : of_entry event < length h.entries
+  pub there : of_entry event < length r.waiting.items
+  pub waits : flag r.waiting.items (of_entry event) ≡ true
+
+pub flag_waits : (flags : List Bool) (round : Option Round) (at i : ℕ) → i < length flags → round ≡ Some (record { at = at; unanswered = waited_for flags }) → waits_for round i ≡ true → flag flags i ≡ true
+flag_waits flags round at i within is waits = sym (waits_flag flags i within) ∙ sym (ap (λ o. waits_for o i) is) ∙ waits
+
+pub takes : (s : State) (p : Planned) (r : OpenRound) (event : Event) → s.round ≡ seen (Some r) → IsOpen s.forest s.last p r → IsAnswer event → refusal s event ≡ None → Takes s.forest r event
+takes s p r event is round_is answer none =
+    let taken = answer_taken s event answer none in
+    let there : of_entry event < length r.waiting.items = (let c = round_is.count in let w = taken.within in omega arith) in
+    record { seconds = taken.seconds; within = taken.within; there = there; waits = flag_waits r.waiting.items s.round r.at (of_entry event) there is taken.waits }
+
+-- the rule's answer
+rules_told :
+    (at : ℕ) (event : Event) (e : Entry) → is_rules at event e ≡ true → (end : ℕ) × ((end ≡ renewal e at) × (answered at event e ≡ record e { end = end; renewable = true }))
+unfolding is_rules answered
+rules_told at (Told i seconds renewable) e rules =
+    let able = and_left renewable (at + seconds == renewal e at) rules in
+    let ends : (at + seconds == renewal e at) ≡ true = and_right renewable (at + seconds == renewal e at) rules in
+    (at + seconds, (grind (arith, nat_tests), ap (λ b. record e { end = at + seconds; renewable = b }) able))
+rules_told at (Tick t) e rules = absurd cc
+rules_told at (Refused i) e rules = absurd cc
+rules_told at (Lost i) e rules = absurd cc
+rules_told at (Need i until) e rules = absurd cc
+
+pub by_rule_more :
+    (h : Grove) (last : ℕ) (p : Planned) (r : OpenRound) (event : Event) → IsOpen h last p r → Takes h r event → r.by_rule ≡ true → is_rules r.at event (entry_at h.entries (of_entry event)) ≡ true →
+    IsByRule (change h (of_entry event) (answered r.at event)) last p (set r.waiting.items (of_entry event) false)
+by_rule_more h last p r event round_is taken by_rule rules =
+    let i = of_entry event in
+    let e = entry_at h.entries i in
+    let told = rules_told r.at event e rules in
+    let rule = more_by_rule h last p r.waiting.items (round_is.by_rule by_rule) i told.0 taken.there taken.within taken.waits (told.1.0 ∙ ap (renewal e) round_is.at) in
+    subst (λ (x : Entry). IsByRule (record { entries = set h.entries i x; margin = h.margin }) last p (set r.waiting.items i false)) (sym told.1.1) rule
+
+some_is : (r n : OpenRound) → Some r ≡ Some n → r ≡ n
+some_is r n is = ap (λ (o : Option OpenRound). elim o [ None ↦ r | Some x ↦ x ]) is
+
+-- one answer more, and others are waited for
+pub heard_keeper :
+    (h k : Grove) (last : ℕ) (p : Planned) (r n : OpenRound) (event : Event) → IsKeeper h last p (Some r) → Takes h r event → k ≡ change h (of_entry event) (answered r.at event) →
+    n.at ≡ r.at → n.waiting.items ≡ set r.waiting.items (of_entry event) false → n.left + 1 ≡ r.left → n.by_rule ≡ r.by_rule && is_rules r.at event (entry_at h.entries (of_entry event)) →
+    0 < length (without (of_entry event) (waited_for r.waiting.items)) → IsKeeper k last p (Some n)
+heard_keeper h k last p r n event keeper taken is at flags less by_rule others =
+    let i = of_entry event in
+    let round_is = keeper.open_round r refl in
+    let fewer = waited_less r.waiting.items i taken.there taken.waits in
+    let set' = waited_set r.waiting.items i taken.there in
+    let opened : IsOpen k last p n = record {
+      at = at ∙ round_is.at;
+      count = ap length flags ∙ length-set r.waiting.items i false ∙ round_is.count ∙ sym (ap (λ (g : Grove). length g.entries) is ∙ length-set h.entries i (answered r.at event (entry_at h.entries i)));
+      left = (let e = ap (λ xs. length (waited_for xs)) flags in let l = round_is.left in omega arith);
+      some = (let e = ap length set' in let l = round_is.left in omega arith);
+      by_rule = λ yes'.
+          let both = sym by_rule ∙ yes' in
+          let rule = by_rule_more h last p r event round_is taken (and_left r.by_rule _ both) (and_right r.by_rule _ both) in
+          subst (λ xs. IsByRule k last p xs) (sym flags) (subst (λ g. IsByRule g last p (set r.waiting.items i false)) (sym is) rule);
+    } in
+    record {
+      carried = subst (λ g. IsCarried g p.start p.carried) (sym is) (carried_heard h i r.at event taken.within p.start p.carried keeper.carried);
+      start = keeper.start;
+      few = keeper.few;
+      best = λ none. absurd cc;
+      forced = λ none. absurd cc;
+      open_round = λ m same. subst (λ x. IsOpen k last p x) (some_is n m same) opened;
+    }
+
+-- the last answer, where all are the rule's: the rest of the plan stands
+pub record Stays (k : Grove) (t : ℕ) (p : Planned) : Type 0 where
+  pub shorten : shorten k t ≡ k
+  pub pairs : pairs k t ≡ []
+  pub keeper : IsKeeper k t p None
+
+empty : (xs : List ℕ) → length xs ≡ 0 → xs ≡ []
+empty [] e = refl
+empty (x ∷ xs) e = absurd (omega arith)
+
+pub stays :
+    (h k : Grove) (last : ℕ) (p : Planned) (r : OpenRound) (event : Event) → IsKeeper h last p (Some r) → Takes h r event → k ≡ change h (of_entry event) (answered r.at event) →
+    r.by_rule ≡ true → is_rules r.at event (entry_at h.entries (of_entry event)) ≡ true → length (without (of_entry event) (waited_for r.waiting.items)) ≡ 0 → Stays k last p
+stays h k last p r event keeper taken is by_rule rules none =
+    let i = of_entry event in
+    let round_is = keeper.open_round r refl in
+    let rule = subst (λ g. IsByRule g last p (set r.waiting.items i false)) (sym is) (by_rule_more h last p r event round_is taken by_rule rules) in
+    let nobody = waited_set r.waiting.items i taken.there ∙ empty (without i (waited_for r.waiting.items)) none in
+    let closes = closes_by_rule k last p (set r.waiting.items i false) rule nobody in
+    record {
+      shorten = closes.0;
+      pairs = closes.1;
+      keeper = record {
+        carried = subst (λ g. IsCarried g p.start p.carried) (sym is) (carried_heard h i r.at event taken.within p.start p.carried keeper.carried);
+        start = keeper.start;
+        few = keeper.few;
+        best = λ _. closes.2;
+        forced = λ _. closes.3;
+        open_round = λ m same. absurd cc;
+      };
+    }
+
+-- a plan that stands is what planning anew gives
+pub stays_planned :
+    (s : State) (t : ℕ) (k : Grove) (p : Planned) → k ≡ s.forest → s.round ≡ None → Stays k t p → Replan s t (record { forest = k; last = t; to_come = moments_of (to_come p); round = None; shortened = s.shortened })
+stays_planned s t k p is closed stay =
+    let ts = moments_of (to_come p) in
+    let same : k ≡ shorten s.forest t = sym stay.shorten ∙ ap (λ g. shorten g t) is in
+    let none : s.shortened ≡ s.shortened ++ pairs s.forest t = sym (append-nil s.shortened) ∙ ap (λ xs. s.shortened ++ xs) (sym stay.pairs ∙ ap (λ g. pairs g t) is) in
+    record {
+      moments = ts;
+      best = subst (λ g. IsPlanOf g t ts) same (stay.keeper.best refl);
+      few = (let l = count_moments (to_come p) in let f = stay.keeper.few in omega arith);
+      is = ap (λ g. record { forest = g; last = t; to_come = ts; round = None; shortened = s.shortened }) same
+          ∙ ap (λ xs. record { forest = shorten s.forest t; last = t; to_come = ts; round = None; shortened = xs }) none
+          ∙ ap (λ o. record { forest = shorten s.forest t; last = t; to_come = ts; round = o; shortened = s.shortened ++ pairs s.forest t }) (sym closed);
+    }
+
+-- Turns of answers.
+
+pub as_answer : (old : State) (event : Event) (output : Output) (new : State) → IsAnswer event → StepAnswer old event output new → Step old event output new
+as_answer old (Tick t) output new answer step = absurd answer
+as_answer old (Told i seconds renewable) output new answer step = step
+as_answer old (Refused i) output new answer step = step
+as_answer old (Lost i) output new answer step = step
+as_answer old (Need i until) output new answer step = absurd answer
+
+as_long : (old : State) (event : Event) → IsAnswer event → AnswerTooLong old event → StepTooLong old event
+as_long old (Tick t) answer long = absurd answer
+as_long old (Told i seconds renewable) answer long = long
+as_long old (Refused i) answer long = long
+as_long old (Lost i) answer long = long
+as_long old (Need i until) answer long = absurd answer
+
+pub fails_turn :
+    (old new : State) (event : Event) (round : Round) (fault : StepFault) → IsAnswer event → refusal old event ≡ None → old.round ≡ Some round → (left round (of_entry event)).unanswered ≡ [] →
+    PlanFails (change old.forest (of_entry event) (answered round.at event)) round.at fault → new ≡ old → Turn old event (Err fault) new
+fails_turn old new event round TooLong answer none is last fails same = (none, (as_long old event answer (round, (is, (last, fails))), same))
+fails_turn old new event round OutOfMemory answer none is last fails same = (none, same)
+fails_turn old new event round ClockBack answer none is last fails same = absurd fails
+fails_turn old new event round RoundOpen answer none is last fails same = absurd fails
+fails_turn old new event round NotAsked answer none is last fails same = absurd fails
+fails_turn old new event round BadIndex answer none is last fails same = absurd fails
+fails_turn old new event round OutOfRange answer none is last fails same = absurd fails
+
+pub nobody : (xs : List ℕ) → length xs ≡ 0 → xs ≡ []
+nobody xs none = empty xs none
+
+pub somebody : (xs : List ℕ) → 0 < length xs → xs ≢ []
+somebody xs some = λ none. let e = ap length none in omega arith
+
+-- For the code: what a keeper has that is handed an answer.
+
+pub record Hears (h : Grove) (last : ℕ) (p : Planned) (r : OpenRound) (event : Event) : Type 0 where
+  pub keeper : IsKeeper h last p (Some r)
+  pub taken : Takes h r event
+  pub at : r.at ≡ last
+  pub some : 0 < r.left
+
+-- the state that callers see of these parts
+abbrev pub state_of : Grove → ℕ → Planned → Option OpenRound → List ShortNeed → State
+state_of h last p round list = record { forest = h; last = last; to_come = moments_of (to_come p); round = seen round; shortened = list }
+
+pub hears :
+    (h : Grove) (last : ℕ) (p : Planned) (round : Option OpenRound) (list : List ShortNeed) (now : State) (r : OpenRound) (event : Event) → state_of h last p round list ≡ now → IsKeeper h last p round →
+    round ≡ Some r → IsAnswer event → refusal now event ≡ None → Hears h last p r event
+hears h last p round list now r event view keeper is answer none =
+    let opened = keeper.open_round r is in
+    let old = state_of h last p round list in
+    record {
+      keeper = subst (IsKeeper h last p) is keeper;
+      taken = takes old p r event (ap seen is) opened answer (subst (λ (s : State). refusal s event ≡ None) (sym view) none);
+      at = opened.at;
+      some = opened.some;
+    }
+
+pub others_are : (round : Option Round) (r : OpenRound) (i j : ℕ) → round ≡ seen (Some r) → j ≡ i → length (others round i) ≡ length (without j (waited_for r.waiting.items))
+others_are round r i j is same = ap (λ o. length (others o i)) is ∙ ap (λ n. length (without n (waited_for r.waiting.items))) (sym same)
+
+pub one_more : (n m : ℕ) → m + 1 ≡ n → nat_lt 1 n ≡ nat_lt 0 m
+one_more n m less = elim (cases_lt 0 m) [
+  | inl some ↦ let one : nat_lt 1 n ≡ true = grind (arith, nat_tests) in let other : nat_lt 0 m ≡ true = grind (arith, nat_tests) in one ∙ sym other
+  | inr none ↦ let one : nat_lt 1 n ≡ false = grind (arith, nat_tests) in let other : nat_lt 0 m ≡ false = grind (arith, nat_tests) in one ∙ sym other
+]
+
+pub if_some : (o : Option Round) (r : Round) (P : Round → Type 0) → o ≡ Some r → P r → IfSome o P
+if_some o r P is there = subst (λ (x : Option Round). IfSome x P) (sym is) there
+
+pub of_some : (o : Option Round) (r : Round) (P : Round → Type 0) → o ≡ Some r → IfSome o P → P r
+of_some o r P is there = subst (λ (x : Option Round). IfSome x P) is there

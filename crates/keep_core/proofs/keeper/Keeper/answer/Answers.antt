@@ -1,0 +1,65 @@
+use Rattle.std.proofs.Common.{◌≡◌, ◌∙◌, ◌<◌, None, Some, ap, arith, false, length, nat_lt, subst, sym, true}
+use Rattle.std.proofs.lemmas.Result.{err_from_is_err_and}
+use Rattle.std.proofs.lemmas.Bool.Decides.{nat_tests}
+use Rattle.keep_core.specs.declared.event.Output.TheVariants as out
+use Rattle.keep_core.specs.Hearing.{heard_in, others}
+use Rattle.keep_core.specs.Passes.{PlanFails}
+use Rattle.keep_core.specs.Refusal.{waits_for}
+use Rattle.keep_core.specs.Replan.{Replan}
+use Rattle.keep_core.specs.State.{Round}
+use Rattle.keep_core.specs.Step.{answered, change, heard, of_entry}
+use Rattle.keep_core.proofs.Heard.{as_answer, fails_turn, nobody, of_some, somebody}
+use Rattle.keep_core.proofs.Hearing.{answer_taken, waits_in}
+use Rattle.keep_core.proofs.keeper.Keeper.answer.Goals as goal
+
+pub waits_for_others-requires-clause-within : goal.waits_for_others-requires-clause-within
+waits_for_others-requires-clause-within c =
+    let now = c.args.self.now in
+    subst (λ i. i < length now.forest.entries) c.requires.entry (answer_taken now c.args.event c.requires.answer c.requires.taken).within
+
+pub waits_for_others-requires-clause-asked : goal.waits_for_others-requires-clause-asked
+waits_for_others-requires-clause-asked c =
+    let now = c.args.self.now in
+    subst (λ i. waits_for now.round i ≡ true) c.requires.entry (answer_taken now c.args.event c.requires.answer c.requires.taken).waits
+
+pub returns-then-waits_for_others : goal.returns-then-waits_for_others
+returns-then-waits_for_others c =
+    let now = c.args.self.now in
+    let event = c.args.event in
+    let taken = answer_taken now event c.requires.answer c.requires.taken in
+    let round = waits_in now.round (of_entry event) taken.waits in
+    let test : nat_lt 0 (length (others now.round c.args.i)) ≡ true = sym c.waits_for_others.ensures ∙ c.if-waits_for_others.true in
+    let some : 0 < length (others now.round c.args.i) = grind (arith, nat_tests) in
+    let left = ap (λ o. length (others o c.args.i)) round.1 ∙ ap (λ i. length (others (Some round.0) i)) (sym c.requires.entry) in (
+      c.requires.taken,
+      as_answer now event out.Waiting c.hear.new.self c.requires.answer
+          (round.0, (round.1, (somebody _ (subst (λ n. 0 < n) left some), c.hear.ensures ∙ ap (λ o. heard_in o now event) round.1))),
+    )
+
+pub returns-in_err-close : goal.returns-in_err-close
+returns-in_err-close c =
+    let now = c.args.self.now in
+    let event = c.args.event in
+    let taken = answer_taken now event c.requires.answer c.requires.taken in
+    let round = waits_in now.round (of_entry event) taken.waits in
+    let test : nat_lt 0 (length (others now.round c.args.i)) ≡ false = sym c.waits_for_others.ensures ∙ c.if-waits_for_others.false in
+    let none : length (others now.round c.args.i) ≡ 0 = grind (arith, nat_tests) in
+    let left = ap (λ o. length (others o c.args.i)) round.1 ∙ ap (λ i. length (others (Some round.0) i)) (sym c.requires.entry) in
+    let fails = of_some now.round round.0 (λ (r : Round). PlanFails (change now.forest c.args.i (answered r.at event)) r.at c.in_err-close.field-0.0) round.1 c.in_err-close.ensures.refused in
+    let p = err_from_is_err_and c.from_residual.result c.from_residual.ensures.1 in
+    rw (p.1, p.2)
+    (fails_turn now c.close.new.self event round.0 c.in_err-close.field-0.0 c.requires.answer c.requires.taken round.1 (nobody _ (sym left ∙ none))
+    (subst (λ i. PlanFails (change now.forest i (answered round.0.at event)) round.0.at c.in_err-close.field-0.0) (sym c.requires.entry) fails) c.in_err-close.ensures.unchanged)
+
+pub returns : goal.returns
+returns c =
+    let now = c.args.self.now in
+    let event = c.args.event in
+    let new = c.close.new.self in
+    let taken = answer_taken now event c.requires.answer c.requires.taken in
+    let round = waits_in now.round (of_entry event) taken.waits in
+    let test : nat_lt 0 (length (others now.round c.args.i)) ≡ false = sym c.waits_for_others.ensures ∙ c.if-waits_for_others.false in
+    let none : length (others now.round c.args.i) ≡ 0 = grind (arith, nat_tests) in
+    let left = ap (λ o. length (others o c.args.i)) round.1 ∙ ap (λ i. length (others (Some round.0) i)) (sym c.requires.entry) in
+    let planned = of_some now.round round.0 (λ (r : Round). Replan (heard now event r.at None) r.at new) round.1 c.in_ok-close.ensures.planned in
+    (c.requires.taken, as_answer now event (out.Round c.next_seconds.result) new c.requires.answer (round.0, (round.1, (nobody _ (sym left ∙ none), (planned, c.next_seconds.ensures)))))

@@ -1,0 +1,141 @@
+use Rattle.std.proofs.Common.{◌∙◌, ◌++◌, ◌<◌, None, Option, ap, arith, length, refl, subst, sym}
+use Rattle.keep_tree.specs.Forest.{entry_at}
+use Rattle.keep_tree.proofs.Carrying.{and_left, and_right}
+use Rattle.keep_schedule.specs.Forces.{moments_of}
+use Rattle.keep_plan.specs.Planned.{to_come}
+use Rattle.keep_core.specs.declared.round.OpenRound.{OpenRound}
+use Rattle.keep_core.specs.Hearing.{is_rules}
+use Rattle.keep_core.specs.Keeping.{IsKeeper, seen}
+use Rattle.keep_core.specs.Replan.{Replan}
+use Rattle.keep_core.specs.Shorten.{pairs, shorten}
+use Rattle.keep_core.specs.State.{State}
+use Rattle.keep_core.specs.Step.{answered, change, heard, of_entry}
+use Rattle.keep_core.proofs.Heard.{Stays, hears, if_some, others_are, state_of, stays, stays_planned}
+use Rattle.keep_core.proofs.Made.{made, made_keeper}
+use Rattle.keep_core.proofs.keeper.Keeper.close.Goals as goal
+
+pub is_rules-requires-clause-within : goal.is_rules-requires-clause-within
+is_rules-requires-clause-within c =
+    let h = c.self.inside.forest in
+    let r = c.in-Some.round in
+    let event = c.args.event in
+    let is = sym c.take.ensures.value ∙ c.in-Some.is in
+    let hears = hears h c.self.inside.last c.self.inside.plan c.self.inside.round c.self.inside.shortened.items c.args.self.now r event c.self.view_is c.self.invariant is c.requires.answer c.requires.taken in
+    subst (λ i. i < length h.entries) c.requires.entry hears.taken.within
+
+pub is_rules-requires-clause-seconds : goal.is_rules-requires-clause-seconds
+is_rules-requires-clause-seconds c =
+    let h = c.self.inside.forest in
+    let r = c.in-Some.round in
+    let event = c.args.event in
+    let is = sym c.take.ensures.value ∙ c.in-Some.is in
+    let hears = hears h c.self.inside.last c.self.inside.plan c.self.inside.round c.self.inside.shortened.items c.args.self.now r event c.self.view_is c.self.invariant is c.requires.answer c.requires.taken in
+    hears.taken.seconds
+
+pub tell-requires-clause-within : goal.tell-requires-clause-within
+tell-requires-clause-within c =
+    let h = c.self.inside.forest in
+    let r = c.in-Some.round in
+    let event = c.args.event in
+    let is = sym c.take.ensures.value ∙ c.in-Some.is in
+    let hears = hears h c.self.inside.last c.self.inside.plan c.self.inside.round c.self.inside.shortened.items c.args.self.now r event c.self.view_is c.self.invariant is c.requires.answer c.requires.taken in
+    subst (λ i. i < length h.entries) c.requires.entry hears.taken.within
+
+pub tell-requires-clause-seconds : goal.tell-requires-clause-seconds
+tell-requires-clause-seconds c =
+    let h = c.self.inside.forest in
+    let r = c.in-Some.round in
+    let event = c.args.event in
+    let is = sym c.take.ensures.value ∙ c.in-Some.is in
+    let hears = hears h c.self.inside.last c.self.inside.plan c.self.inside.round c.self.inside.shortened.items c.args.self.now r event c.self.view_is c.self.invariant is c.requires.answer c.requires.taken in
+    hears.taken.seconds
+
+pub invariant_of-self-then-round-is_rules : goal.invariant_of-self-then-round-is_rules
+invariant_of-self-then-round-is_rules c =
+    let h = c.self.inside.forest in
+    let r = c.in-Some.round in
+    let event = c.args.event in
+    let is = sym c.take.ensures.value ∙ c.in-Some.is in
+    let hears = hears h c.self.inside.last c.self.inside.plan c.self.inside.round c.self.inside.shortened.items c.args.self.now r event c.self.view_is c.self.invariant is c.requires.answer c.requires.taken in
+    let told = c.tell.ensures ∙ ap (λ i. change h i (answered r.at event)) (sym c.requires.entry) in
+    let rules = c.is_rules.ensures ∙ ap (λ i. is_rules r.at event (entry_at h.entries i)) (sym c.requires.entry) in
+    let now_is = sym (ap (λ (s : State). s.round) c.self.view_is) ∙ ap seen is in
+    let others = others_are c.args.self.now.round r c.args.i (of_entry event) now_is c.requires.entry in
+    let p = c.self.inside.plan in
+    let k = c.tell.new.forest in
+    let both = c.if-round-is_rules.true in
+    let none = c.requires.last in
+    let stay = stays h k c.self.inside.last p r event hears.keeper hears.taken told (and_left r.by_rule c.is_rules.result both) (sym rules ∙ and_right r.by_rule c.is_rules.result both) (omega arith) in
+    subst (IsKeeper k c.self.inside.last p) (sym c.take.ensures.after) stay.keeper
+
+pub returns-then-round-is_rules-clause-planned : goal.returns-then-round-is_rules-clause-planned
+returns-then-round-is_rules-clause-planned c =
+    let h = c.self.inside.forest in
+    let r = c.in-Some.round in
+    let event = c.args.event in
+    let is = sym c.take.ensures.value ∙ c.in-Some.is in
+    let hears = hears h c.self.inside.last c.self.inside.plan c.self.inside.round c.self.inside.shortened.items c.args.self.now r event c.self.view_is c.self.invariant is c.requires.answer c.requires.taken in
+    let told = c.tell.ensures ∙ ap (λ i. change h i (answered r.at event)) (sym c.requires.entry) in
+    let rules = c.is_rules.ensures ∙ ap (λ i. is_rules r.at event (entry_at h.entries i)) (sym c.requires.entry) in
+    let now_is = sym (ap (λ (s : State). s.round) c.self.view_is) ∙ ap seen is in
+    let others = others_are c.args.self.now.round r c.args.i (of_entry event) now_is c.requires.entry in
+    let p = c.self.inside.plan in
+    let k = c.tell.new.forest in
+    let both = c.if-round-is_rules.true in
+    let none = c.requires.last in
+    let stay = stays h k c.self.inside.last p r event hears.keeper hears.taken told (and_left r.by_rule c.is_rules.result both) (sym rules ∙ and_right r.by_rule c.is_rules.result both) (omega arith) in
+    let list = c.self.inside.shortened.items in
+    let old = state_of h c.self.inside.last p c.self.inside.round list in
+    let there = stays_planned (heard old event r.at None) r.at k p told refl (subst (λ t. Stays k t p) (sym hears.at) stay) in
+    let last = subst (λ t. Replan (heard old event r.at None) r.at (record { forest = k; last = t; to_come = moments_of (to_come p); round = None; shortened = list })) hears.at there in
+    let closed = subst (λ (o : Option OpenRound). Replan (heard old event r.at None) r.at (state_of k c.self.inside.last p o list)) (sym c.take.ensures.after) last in
+    if_some c.args.self.now.round _ _ now_is (subst (λ (s : State). Replan (heard s event r.at None) r.at (state_of k c.self.inside.last p c.take.new.self list)) c.self.view_is closed)
+
+pub replan_with_answer-requires-clause-within : goal.replan_with_answer-requires-clause-within
+replan_with_answer-requires-clause-within c =
+    let h = c.self.inside.forest in
+    let r = c.in-Some.round in
+    let event = c.args.event in
+    let is = sym c.take.ensures.value ∙ c.in-Some.is in
+    let hears = hears h c.self.inside.last c.self.inside.plan c.self.inside.round c.self.inside.shortened.items c.args.self.now r event c.self.view_is c.self.invariant is c.requires.answer c.requires.taken in
+    subst (λ i. i < length h.entries) c.requires.entry hears.taken.within
+
+pub replan_with_answer-requires-clause-seconds : goal.replan_with_answer-requires-clause-seconds
+replan_with_answer-requires-clause-seconds c =
+    let h = c.self.inside.forest in
+    let r = c.in-Some.round in
+    let event = c.args.event in
+    let is = sym c.take.ensures.value ∙ c.in-Some.is in
+    let hears = hears h c.self.inside.last c.self.inside.plan c.self.inside.round c.self.inside.shortened.items c.args.self.now r event c.self.view_is c.self.invariant is c.requires.answer c.requires.taken in
+    hears.taken.seconds
+
+pub invariant_of-self-in-Ok-1 : goal.invariant_of-self-in-Ok-1
+invariant_of-self-in-Ok-1 c =
+    let h = c.self.inside.forest in
+    let r = c.in-Some.round in
+    let event = c.args.event in
+    let is = sym c.take.ensures.value ∙ c.in-Some.is in
+    let hears = hears h c.self.inside.last c.self.inside.plan c.self.inside.round c.self.inside.shortened.items c.args.self.now r event c.self.view_is c.self.invariant is c.requires.answer c.requires.taken in
+    let k = c.replan_with_answer.new.forest in
+    let p = c.in-Ok.anew.plan in
+    subst (IsKeeper k c.self.inside.last p) (sym c.take.ensures.after) (subst (λ t. IsKeeper k t p None) hears.at (made_keeper k r.at p c.in-Ok.ensures.planned))
+
+pub returns-in-Ok-clause-planned : goal.returns-in-Ok-clause-planned
+returns-in-Ok-clause-planned c =
+    let h = c.self.inside.forest in
+    let r = c.in-Some.round in
+    let event = c.args.event in
+    let is = sym c.take.ensures.value ∙ c.in-Some.is in
+    let hears = hears h c.self.inside.last c.self.inside.plan c.self.inside.round c.self.inside.shortened.items c.args.self.now r event c.self.view_is c.self.invariant is c.requires.answer c.requires.taken in
+    let k = c.replan_with_answer.new.forest in
+    let p = c.in-Ok.anew.plan in
+    let list = c.in-Ok.anew.shortened.items in
+    let old = state_of h c.self.inside.last c.self.inside.plan c.self.inside.round c.self.inside.shortened.items in
+    let now_is = sym (ap (λ (s : State). s.round) c.self.view_is) ∙ ap seen is in
+    let told = ap (λ i. change h i (answered r.at event)) (sym c.requires.entry) in
+    let short = c.in-Ok.ensures.shortened.0 ∙ ap (λ g. shorten g r.at) told in
+    let noted = c.in-Ok.ensures.shortened.1 ∙ ap (λ xs. xs ++ pairs (change h c.args.i (answered r.at event)) r.at) c.deref.ensures.value ∙ ap (λ g. c.self.inside.shortened.items ++ pairs g r.at) told in
+    let there = made (heard old event r.at None) r.at k p list short noted c.in-Ok.ensures.planned in
+    let last = subst (λ t. Replan (heard old event r.at None) r.at (record { forest = k; last = t; to_come = moments_of (to_come p); round = None; shortened = list })) hears.at there in
+    let closed = subst (λ (o : Option OpenRound). Replan (heard old event r.at None) r.at (state_of k c.self.inside.last p o list)) (sym c.take.ensures.after) last in
+    if_some c.args.self.now.round _ _ now_is (subst (λ (s : State). Replan (heard s event r.at None) r.at (state_of k c.self.inside.last p c.take.new.self list)) c.self.view_is closed)

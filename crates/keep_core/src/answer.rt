@@ -1,0 +1,188 @@
+ghost use Rattle.std.specs.Prelude.{◌≡◌, ◌++◌, ◌<◌, None, true, length, nat_lt, IfErr, IfOk, IfSome, OnErr};
+ghost use Rattle.keep_tree.specs.Forest.{entry_at};
+ghost use Rattle.keep_tree.specs.Renewal.{renewal};
+ghost use Rattle.keep_rule.specs.Asks.{first_of};
+ghost use Rattle.keep_plan.specs.Decides.{IsKept};
+ghost use Rattle.keep_core.specs.Hearing.{TellsSpan, heard_in, is_rules, others};
+ghost use Rattle.keep_core.specs.LawsOfRuns.{IsAnswer};
+ghost use Rattle.keep_core.specs.Passes.{PlanFails};
+ghost use Rattle.keep_core.specs.Refusal.{refusal, waits_for};
+ghost use Rattle.keep_core.specs.Replan.{Replan};
+ghost use Rattle.keep_core.specs.Runs.{Turn};
+ghost use Rattle.keep_core.specs.Shorten.{pairs, shorten};
+ghost use Rattle.keep_core.specs.Step.{answered, change, heard, of_entry};
+
+use crate::event::{Event, Output};
+use crate::fault::StepFault;
+use crate::keeper::Keeper;
+use crate::replan::{Replanned, replan};
+use crate::shortened::ShortNeed;
+use keep_moment::Moment;
+use keep_tree::{Entry, Forest};
+use std::alloc::Global;
+
+impl Keeper {
+    /// An answer for entry `i`, which is waited for. The last one closes the round.
+    pub(crate) fn answer(&mut self, i: u32, event: Event) -> Result<Output, StepFault>
+        requires taken { refusal self.old event ≡ None }
+        requires answer { IsAnswer event }
+        requires entry { of_entry event ≡ i }
+        ensures { Turn self.old event result self.new }
+    {
+        if self.waits_for_others(i) {
+            self.hear(i, event);
+            return Ok(Output::Waiting);
+        }
+        self.close(i, event)?;
+        Ok(Output::Round {
+            next: self.next_seconds(),
+        })
+    }
+
+    /// The first moment of the plan in force, in seconds since 1970-01-01T00:00:00Z.
+    fn next_seconds(&self) -> Option<u64>
+        ensures { result ≡ first_of self.now.to_come }
+    {
+        self.next_wake().map(|at| at.get())
+    }
+
+    /// Whether the answer of another entry is waited for than of this one, which is.
+    fn waits_for_others(&self, i: u32) -> bool
+        requires within { i < length self.now.forest.entries }
+        requires asked { waits_for self.now.round i ≡ true }
+        ensures { result ≡ nat_lt 0 (length (others self.now.round i)) }
+    {
+        match &self.round {
+            None => false,
+            Some(round) => round.left > 1,
+        }
+    }
+
+    /// An answer to a round that others are still to answer.
+    fn hear(&mut self, i: u32, event: Event)
+        requires taken { refusal self.old event ≡ None }
+        requires answer { IsAnswer event }
+        requires entry { of_entry event ≡ i }
+        requires others { 0 < length (others self.old.round i) }
+        ensures { self.new ≡ heard_in self.old.round self.old event }
+    {
+        let Some(mut round) = self.round.take() else {
+            return;
+        };
+        round.by_rule &= is_rules(&self.forest, i, event, round.at);
+        round.waiting[i as usize] = false;
+        round.left -= 1;
+        tell(&mut self.forest, i, event, round.at);
+        self.round = Some(round);
+    }
+
+    /// The last answer of a round, which closes it. Where each entry was told the rule's end and stays renewable, the rest
+    /// of the plan is what planning anew would give, and stands; else it is made anew from the round's moment. Refused, the
+    /// round stays open and the answer untaken.
+    fn close(&mut self, i: u32, event: Event) -> Result<(), StepFault>
+        requires taken { refusal self.old event ≡ None }
+        requires answer { IsAnswer event }
+        requires entry { of_entry event ≡ i }
+        requires last { length (others self.old.round i) ≡ 0 }
+        ensures planned { IfOk result (λ _. IfSome self.old.round (λ round. Replan (heard self.old event round.at None) round.at self.new)) }
+        ensures refused { IfErr result (λ fault. IfSome self.old.round (λ round. PlanFails (change self.old.forest i (answered round.at event)) round.at fault)) }
+        ensures unchanged { OnErr result (self.new ≡ self.old) }
+    {
+        let Some(round) = self.round.take() else {
+            return Ok(());
+        };
+        if round.by_rule & is_rules(&self.forest, i, event, round.at) {
+            tell(&mut self.forest, i, event, round.at);
+            return Ok(());
+        }
+        let alloc = *self.shortened.allocator();
+        match replan_with_answer(alloc, &mut self.forest, &self.shortened, i, event, round.at) {
+            Ok(anew) => {
+                self.plan = anew.plan;
+                self.shortened = anew.shortened;
+                Ok(())
+            }
+            Err(fault) => {
+                self.round = Some(round);
+                Err(fault)
+            }
+        }
+    }
+}
+
+/// Whether the answer to a round at `at` gives the entry the rule's end and leaves it renewable.
+#[tactic(auto, unfolding(crate::specs::Hearing::is_rules))]
+fn is_rules(forest: &Forest, i: u32, event: Event, at: Moment) -> bool
+    requires within { i < length forest.now.entries }
+    requires seconds { TellsSpan event }
+    ensures { result ≡ is_rules at event (entry_at forest.now.entries i) }
+{
+    match event {
+        Event::Told {
+            seconds,
+            renewable,
+            ..
+        } => renewable && at.get() + seconds == ruled_end(forest.get(i), at),
+        _ => false,
+    }
+}
+
+/// The end that a renewal at `at` gives by the rule, in seconds since 1970-01-01T00:00:00Z.
+#[tactic(auto, unfolding(keep_tree::specs::Renewal::renewal, keep_tree::specs::Renewal::capped))]
+fn ruled_end(entry: &Entry, at: Moment) -> u64
+    ensures { result ≡ renewal entry.now at }
+{
+    let end = at.plus(entry.step);
+    match entry.ceiling {
+        None => end,
+        Some(ceiling) => end.min(ceiling),
+    }
+}
+
+/// What an answer to a round at `at` makes of its entry.
+fn tell(forest: &mut Forest, i: u32, event: Event, at: Moment)
+    requires within { i < length forest.old.entries }
+    requires seconds { TellsSpan event }
+    ensures { forest.new ≡ change forest.old i (answered at event) }
+{
+    match event {
+        Event::Told {
+            seconds,
+            renewable,
+            ..
+        } => {
+            forest.set_end(i, at.get() + seconds);
+            forest.set_renewable(i, renewable);
+        }
+        Event::Refused(_) => forest.set_renewable(i, false),
+        Event::Lost(_) | Event::Tick(_) | Event::Need { .. } => {}
+    }
+}
+
+/// Takes an answer to a round at `at` and plans anew from there. Refused, the forest is as it was.
+fn replan_with_answer(
+    alloc: Global,
+    forest: &mut Forest,
+    shortened: &[ShortNeed],
+    i: u32,
+    event: Event,
+    at: Moment,
+) -> Result<Replanned, StepFault>
+    requires within { i < length forest.old.entries }
+    requires seconds { TellsSpan event }
+    ensures shortened { IfOk result (λ anew. (forest.new ≡ shorten (change forest.old i (answered at event)) at)
+        × (anew.shortened.items ≡ shortened.now ++ pairs (change forest.old i (answered at event)) at)) }
+    ensures planned { IfOk result (λ anew. IsKept forest.new at anew.plan) }
+    ensures refused { IfErr result (λ fault. PlanFails (change forest.old i (answered at event)) at fault) }
+    ensures unchanged { OnErr result (forest.new ≡ forest.old) }
+{
+    let end = forest.get(i).end;
+    let renewable = forest.get(i).renewable;
+    tell(forest, i, event, at);
+    let planned = replan(alloc, forest, shortened, at);
+    if planned.is_err() {
+        forest.set_end(i, end);
+        forest.set_renewable(i, renewable);
+    }
+    planned
+}
