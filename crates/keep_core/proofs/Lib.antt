@@ -11,3 +11,4 @@ pub mod Made
 pub mod Waiting
 pub mod Taken
 pub mod ByRule
+pub mod Waking

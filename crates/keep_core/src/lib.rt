@@ -11,6 +11,7 @@ mod laws_of_plans;
 mod laws_of_runs;
 mod least;
 mod need;
+mod opening;
 mod refusal;
 mod replan;
 mod round;
@@ -18,6 +19,7 @@ mod shorten;
 mod shortened;
 #[cfg(test)]
 mod tests;
+mod tick;
 
 pub use event::{Event, Output};
 pub use fault::StepFault;
