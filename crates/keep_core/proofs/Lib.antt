@@ -13,3 +13,4 @@ pub mod Taken
 pub mod ByRule
 pub mod Hearing
 pub mod Heard
+pub mod Waking

@@ -7,6 +7,7 @@ pub mod Runs
 pub mod InForce
 pub mod Passes
 pub mod Keeping
+pub mod Waking
 pub mod LawsOfNeeds
 pub mod LawsOfPlans
 pub mod LawsOfRuns

@@ -12,6 +12,7 @@ mod laws_of_plans;
 mod laws_of_runs;
 mod least;
 mod need;
+mod opening;
 mod refusal;
 mod replan;
 mod round;
@@ -19,6 +20,7 @@ mod shorten;
 mod shortened;
 #[cfg(test)]
 mod tests;
+mod tick;
 
 pub use event::{Event, Output};
 pub use fault::StepFault;

@@ -1,0 +1,6 @@
+use Rattle.std.proofs.Common.{take}
+use Rattle.keep_core.specs.Waking.{AreFlags}
+use Rattle.keep_core.proofs.opening.flags.Given as goal
+
+abbrev pub invariant-loop-index : goal.invariant-loop-index
+invariant-loop-index l = AreFlags l.entries (take l.index-index l.asked) l.flags.items

@@ -1,0 +1,71 @@
+ghost use Rattle.std.specs.Prelude.{◌≡◌, ◌≤◌, false, IfErr, IfOk};
+ghost use Rattle.keep_tree.specs.Push.{IsForest};
+ghost use Rattle.keep_rule.specs.Plans.{asks_past};
+ghost use Rattle.keep_needs.specs.Carried.{IsCarried};
+ghost use Rattle.keep_plan.specs.Planned.{to_come};
+ghost use Rattle.keep_schedule.specs.Forces.{moments_of};
+ghost use Rattle.keep_core.specs.declared.fault.StepFault.TheVariants.{OutOfMemory};
+ghost use Rattle.keep_core.specs.Replan.{IsPlanOf};
+ghost use Rattle.keep_core.specs.Waking.{AreFlags, Opens};
+
+use crate::fault::StepFault;
+use crate::round::OpenRound;
+use keep_moment::Moment;
+use keep_plan::Plan;
+use keep_tree::{Forest, Indices};
+use std::alloc::{AllocError, Global};
+
+/// What opens a round: the entries to ask, and the round that waits for their answers.
+#[derive(Drop)]
+pub(crate) struct Opening {
+    pub asked: Indices,
+    pub round: OpenRound,
+}
+
+/// What opens a round at `at`, where no wake-up of the plan comes before; `None` where the first comes after, or there is
+/// none. Then it costs nothing that grows with the entries. The only error is want of memory.
+pub(crate) fn opening_at(
+    alloc: Global,
+    forest: &Forest,
+    plan: &Plan,
+    at: Moment,
+) -> Result<Option<Opening>, StepFault>
+    requires carried { IsCarried forest.now plan.now.start plan.now.carried }
+    requires start { plan.now.start ≤ at }
+    requires best { IsPlanOf forest.now at (moments_of (to_come plan.now)) }
+    ensures opens { IfOk result (λ opening. Opens forest.now at (moments_of (to_come plan.now)) opening) }
+    ensures sound { IsForest forest.now }
+    ensures memory { IfErr result (λ fault. fault ≡ OutOfMemory) }
+{
+    let entries = forest.len();
+    let Some(first) = plan.wakes().next() else {
+        return Ok(None);
+    };
+    if at.get() < first.at.get() {
+        return Ok(None);
+    }
+    let asked = plan.asks(forest, at)?;
+    let waiting = flags(alloc, entries, asked.list())?;
+    let left = asked.list().len() as u32;
+    Ok(Some(Opening {
+        asked,
+        round: OpenRound {
+            at,
+            waiting,
+            left,
+            by_rule: true,
+        },
+    }))
+}
+
+/// For each of so many entries whether it is among these. The only error is want of memory.
+fn flags(alloc: Global, entries: u32, asked: &[u32]) -> Result<Vec<bool>, AllocError>
+    requires { asks_past entries asked.now ≡ false }
+    ensures { IfOk result (λ flags. AreFlags entries asked.now flags.items) }
+{
+    let mut flags = vec![in alloc; false; entries as usize]?;
+    for index in asked {
+        flags[*index as usize] = true;
+    }
+    Ok(flags)
+}
