@@ -9,3 +9,5 @@ pub mod Lasts
 pub mod Judged
 pub mod Spans
 pub mod Written
+pub mod Jumps
+pub mod GapTrees

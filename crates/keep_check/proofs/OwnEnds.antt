@@ -8,9 +8,8 @@ use Rattle.keep_tree.specs.Renewal.{capped, renewal}
 use Rattle.keep_rule.specs.Forced.{latest_end}
 use Rattle.keep_rule.proofs.Asking.{Covers}
 use Rattle.keep_rule.proofs.Keeping.{IsRising, renewal_later}
-use Rattle.keep_check.specs.declared.span.Span.{Span}
 use Rattle.keep_check.specs.Kept.{own_after, own_end}
-use Rattle.keep_check.specs.Steps.{AllBridged, HasSpan, last_behind}
+use Rattle.keep_check.specs.Steps.{AllBridged, last_behind}
 
 and_false : (a b : Bool) → b ≡ false → a && b ≡ false
 and_false true b e = e
@@ -144,11 +143,11 @@ reached e t v short later = by_ceiling e.ceiling short where
   by_ceiling None h = absurd (omega arith)
   by_ceiling (Some c) h = omega arith
 
-last_rises : (t : ℕ) (ts : List ℕ) → IsRising t ts → t ≤ last_behind t ts
+pub last_rises : (t : ℕ) (ts : List ℕ) → IsRising t ts → t ≤ last_behind t ts
 last_rises t [] rising = omega arith
 last_rises t (u ∷ us) rising = let l : t ≤ u = rising.0 in let r = last_rises u us rising.1 in omega arith
 
-own_bridged :
+pub own_bridged :
     (e : Entry) (margin end gap : ℕ) → e.renewable ≡ true → gap + margin ≤ e.step → (t : ℕ) (us : List ℕ) → IsRising t us → AllBridged gap t us →
     own_end e margin (max end (renewal e t)) us ≡ max end (renewal e (last_behind t us))
 unfolding own_end
@@ -169,17 +168,3 @@ own_bridged e margin end gap renewable step t (u ∷ us) rising bridged =
           let same = reached e t (last_behind u us) (omega arith) (omega arith) in
           stays ∙ sym (ap (max end) same)
     ]
-
-pub own_by_span :
-    (e : Entry) (margin end low : ℕ) (x : Span) (ts : List ℕ) → e.renewable ≡ true → x.gap + margin ≤ e.step → HasSpan ts x → IsRising low ts → x.first + margin ≤ end →
-    max end (renewal e x.last) ≡ own_end e margin end ts
-unfolding own_end
-own_by_span e margin end low x ts renewable step span rising first =
-    let us = span.later in
-    let risen : IsRising low (x.first ∷ us) = subst (IsRising low) span.starts rising in
-    let bridged : AllBridged x.gap x.first (x.first ∷ us) = subst (AllBridged x.gap x.first) span.starts span.bridged in
-    let last : x.last ≡ last_behind x.first us = span.ends ∙ ap (last_behind x.first) span.starts in
-    ap (λ m. max end (renewal e m)) last
-    ∙ sym (own_bridged e margin end x.gap renewable step x.first us risen.1 bridged.1)
-    ∙ sym (ap (λ m. own_end e margin m us) (own_yes e margin end x.first renewable first))
-    ∙ sym (ap (own_end e margin end) span.starts)

@@ -15,7 +15,7 @@ use Rattle.keep_check.proofs.Run.{run_first}
 
 -- where the step does not bridge the gap, the end decides; where it does, the ceiling, if there is one
 
-renewal_most : (e : Entry) (t : ℕ) → renewal e t ≤ t + e.step
+pub renewal_most : (e : Entry) (t : ℕ) → renewal e t ≤ t + e.step
 unfolding renewal capped
 renewal_most e t = by_ceiling e.ceiling where
   by_ceiling : (c : Option ℕ) → capped c (t + e.step) ≤ t + e.step
@@ -90,7 +90,7 @@ own_run e margin end r k renewable some first few stops =
 
 -- over a list of runs
 
-own_append : (e : Entry) (margin end : ℕ) (ws vs : List Force) → own_end e margin end (moments_of (ws ++ vs)) ≡ own_end e margin (own_end e margin end (moments_of ws)) (moments_of vs)
+pub own_append : (e : Entry) (margin end : ℕ) (ws vs : List Force) → own_end e margin end (moments_of (ws ++ vs)) ≡ own_end e margin (own_end e margin end (moments_of ws)) (moments_of vs)
 unfolding own_end
 own_append e margin end [] vs = refl
 own_append e margin end (w ∷ ws) vs = own_append e margin (own_after e margin end w.at) ws vs

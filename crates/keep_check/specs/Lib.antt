@@ -4,3 +4,4 @@ pub mod Fit
 pub mod Answer
 pub mod Laws
 pub mod Steps
+pub mod Gaps

@@ -7,7 +7,6 @@ use Rattle.keep_tree.specs.Renewal.{all_last, renewal}
 use Rattle.keep_rule.specs.Forced.{latest_end}
 use Rattle.keep_schedule.specs.declared.force.Force.{Force}
 use Rattle.keep_check.specs.declared.answer.Cause.{Cause}
-use Rattle.keep_check.specs.declared.span.Span.{Span}
 use Rattle.keep_check.specs.Walk.{fault}
 
 -- what a walk over the wake-ups us finds, by the present ends, whatever follows them: with no fault in them it goes on
@@ -54,16 +53,3 @@ AllBridged gap t (u ∷ us) = (u ≤ t + gap) × AllBridged gap u us
 abbrev pub last_behind : ℕ → List ℕ → ℕ
 last_behind t [] = t
 last_behind t (u ∷ us) = last_behind u us
-
--- moments with this first and last one, of which neighbours are no further apart than the gap
-pub record HasSpan (ts : List ℕ) (x : Span) : Type 0 where
-  pub later : List ℕ
-  pub starts : ts ≡ x.first ∷ later
-  pub bridged : AllBridged x.gap x.first ts
-  pub ends : x.last ≡ last_behind x.first ts
-  pub within : x.last ≤ LAST
-  pub start_within : x.first ≤ LAST
-
-abbrev pub IsSpan : List ℕ → Option Span → Type 0
-IsSpan ts None = ts ≡ []
-IsSpan ts (Some x) = HasSpan ts x

@@ -10,6 +10,7 @@ ghost use Rattle.keep_check.specs.Fit.{AllFit, CanBeJudged};
 ghost use Rattle.keep_check.specs.Laws.{Holds};
 
 use crate::answer::{Answer, Cause, CheckFault};
+use crate::gap_tree::GapTree;
 use crate::kept::first_short;
 use crate::walk::first_fault;
 use keep_cert::{Body, Cert};
@@ -25,8 +26,8 @@ use std::alloc::{AllocError, Global};
 /// Of runs it is the answer of a walk over the wake-ups that they mean: for each in turn, whether it is at or after the
 /// start and after the one before it, and whether the named pair forces it; then, for each entry by rising index, whether
 /// it is kept when each wake-up asks its Asks. Of a pair, whether it is unkeepable. Yes says that the moments are least
-/// and latest, or that no plan keeps. It costs runs times entries at most, whatever the number of wake-ups: a pass over
-/// the runs, and one more for each entry whose step does not bridge the greatest distance between neighbouring moments.
+/// and latest, or that no plan keeps. Whatever the number of wake-ups, it costs a pass over the runs, and for each entry a
+/// few searches whose steps grow with the logarithm of the runs; its memory grows with the runs and the entries.
 ///
 /// The certificate's indices are those of entries, its runs have at least one wake-up each and at most [`LIMIT`] in all,
 /// and no moment is after `keep_moment::LAST`: all of this is so for a certificate that was read from a text.
@@ -67,7 +68,8 @@ fn check_runs(
         Some(cause) => return Ok(Answer::No(cause)),
         None => {}
     }
-    match first_short(alloc, forest, start, runs)? {
+    let gaps = GapTree::over(alloc, runs)?;
+    match first_short(alloc, forest, start, &gaps, runs)? {
         Some(index) => Ok(Answer::No(Cause::NotKept(index))),
         None => Ok(Answer::Yes),
     }

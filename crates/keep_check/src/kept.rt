@@ -1,4 +1,4 @@
-ghost use Rattle.std.specs.Prelude.{◌≡◌, ℕ, ◌+◌, ◌-◌, ◌*◌, ◌<◌, ◌≤◌, true, IfOk, IsTrue, length};
+ghost use Rattle.std.specs.Prelude.{◌≡◌, ℕ, ◌+◌, ◌-◌, ◌*◌, ◌<◌, ◌≤◌, ◌⊎◌, true, IfOk, length, slice_index};
 ghost use Rattle.keep_moment.specs.declared.moment.TheConstants.{LAST};
 ghost use Rattle.keep_tree.specs.Forest.{end_of, entry_at};
 ghost use Rattle.keep_tree.specs.Push.{IsForest};
@@ -6,34 +6,38 @@ ghost use Rattle.keep_rule.specs.Schedule.{RisesStrictly};
 ghost use Rattle.keep_schedule.specs.Forces.{moments_of};
 ghost use Rattle.keep_schedule.specs.Runs.{all_wakes, wakes};
 ghost use Rattle.keep_check.specs.Fit.{AllFit};
+ghost use Rattle.keep_check.specs.Gaps.{AllNarrow, HasMarks, IsIdleAt, gaps_in, gaps_of};
 ghost use Rattle.keep_check.specs.Kept.{own, own_end};
-ghost use Rattle.keep_check.specs.Steps.{FirstShort, IsSpan, Stops, least_with};
+ghost use Rattle.keep_check.specs.Steps.{FirstShort, Stops, least_with};
 
 use crate::bound::renewal;
+use crate::gap_tree::GapTree;
 use crate::gaps::gaps_within;
-use crate::span::{Span, span_of};
+use crate::walk::last_of;
 use keep_schedule::Run;
 use keep_tree::{Entry, Forest};
 use std::alloc::{AllocError, Global};
 
-/// The lowest entry over which one, asked by itself at each moment of the runs, does not last until its need. It costs a
-/// pass over the runs, and one more for each entry whose step does not bridge the greatest gap.
+/// The lowest entry over which one, asked by itself at each moment of the runs, does not last until its need. For each entry
+/// it costs a few searches whose steps grow with the logarithm of the runs.
 pub(crate) fn first_short(
     alloc: Global,
     forest: &Forest,
     start: u64,
+    gaps: &GapTree,
     runs: &[Run],
 ) -> Result<Option<u32>, AllocError>
     requires fit { AllFit (length forest.now.entries) runs.now }
     requires rising { RisesStrictly start (moments_of (all_wakes runs.now)) }
+    requires marks { HasMarks gaps.now }
+    requires gaps { gaps_in gaps.now ≡ gaps_of runs.now }
     ensures short { IfOk result (λ found. FirstShort forest.now start (own forest.now.entries forest.now.margin (end_of forest.now.entries) (moments_of (all_wakes runs.now))) found) }
     ensures sound { IsForest forest.now }
 {
-    let span = span_of(runs);
     // The least own end over each entry, itself included.
     let mut lasts = Vec::new(alloc);
     for index in 0..forest.len() {
-        let end = own_end(forest, index, start, span, runs);
+        let end = own_end(forest, index, start, gaps, runs);
         let last = least_over(forest, index, end, &lasts);
         let need = forest.get(index).need;
         if start < need && last < need {
@@ -57,59 +61,80 @@ fn least_over(forest: &Forest, index: u32, end: u64, lasts: &[u64]) -> u64
     }
 }
 
-/// The last end of an entry that is asked by itself at each moment of the runs: by the last moment alone where the step
-/// bridges every gap, else by a pass over the runs.
-fn own_end(forest: &Forest, index: u32, start: u64, span: Option<Span>, runs: &[Run]) -> u64
+/// The last end of an entry that is asked by itself at each moment of the runs.
+fn own_end(forest: &Forest, index: u32, start: u64, gaps: &GapTree, runs: &[Run]) -> u64
     requires within { index < length forest.now.entries }
     requires fit { AllFit (length forest.now.entries) runs.now }
     requires rising { RisesStrictly start (moments_of (all_wakes runs.now)) }
-    requires span { IsSpan (moments_of (all_wakes runs.now)) span }
+    requires marks { HasMarks gaps.now }
+    requires gaps { gaps_in gaps.now ≡ gaps_of runs.now }
     ensures { result ≡ own forest.now.entries forest.now.margin (end_of forest.now.entries) (moments_of (all_wakes runs.now)) index }
 {
     let entry = forest.get(index);
-    match span {
-        Some(span) => {
-            if is_bridged(entry, forest.margin(), span) {
-                entry.end.max(renewal(entry, span.last))
-            } else {
-                own_end_by_runs(forest, index, start, runs)
-            }
-        }
-        None => entry.end,
+    if entry.renewable {
+        renewed_end(entry, forest.margin(), start, gaps, runs)
+    } else {
+        entry.end
     }
 }
 
-/// Whether the first moment finds the entry in time, and its step bridges every gap.
-fn is_bridged(entry: &Entry, margin: u32, span: Span) -> bool
-    requires { span.first ≤ LAST }
-    ensures { IsTrue result → (entry.now.renewable ≡ true) × ((span.first + margin ≤ entry.now.end) × (span.gap + margin ≤ entry.now.step)) }
-{
-    entry.renewable
-        && span.first + margin as u64 <= entry.end
-        && margin <= entry.step
-        && span.gap <= (entry.step - margin) as u64
-}
-
-/// The last end of an entry that is asked by itself at each moment of the runs, run by run.
-fn own_end_by_runs(forest: &Forest, index: u32, start: u64, runs: &[Run]) -> u64
-    requires within { index < length forest.now.entries }
-    requires fit { AllFit (length forest.now.entries) runs.now }
+/// The last end of a renewable entry that is asked by itself at each moment of the runs. From the first moment that gains on
+/// the end is at most a step after the last one that came in time, so the first gap that the step does not bridge ends it.
+/// So the loop turns four times at most: it may take the run in which the first moment gains, passes at once all runs whose
+/// gaps are bridged, takes the one behind them, and finds the next too late.
+fn renewed_end(entry: &Entry, margin: u32, start: u64, gaps: &GapTree, runs: &[Run]) -> u64
+    requires renewable { entry.now.renewable ≡ true }
+    requires fit { (n : ℕ) × AllFit n runs.now }
     requires rising { RisesStrictly start (moments_of (all_wakes runs.now)) }
-    ensures { result ≡ own forest.now.entries forest.now.margin (end_of forest.now.entries) (moments_of (all_wakes runs.now)) index }
+    requires marks { HasMarks gaps.now }
+    requires gaps { gaps_in gaps.now ≡ gaps_of runs.now }
+    ensures { result ≡ own_end entry.now margin entry.now.end (moments_of (all_wakes runs.now)) }
 {
-    let entry = forest.get(index);
-    if !entry.renewable {
-        return entry.end;
-    }
-    let margin = forest.margin();
+    // The least gap that the step does not bridge.
+    let too_wide = (entry.step as u64 + 1).saturating_sub(margin as u64);
     let mut end = entry.end;
-    for run in runs {
-        if end < run.first + margin as u64 {
+    let mut at = first_gaining(entry, start, runs);
+    while at < runs.len() {
+        if end < runs[at].first + margin as u64 {
             return end;
         }
-        end = own_after_run(entry, margin, end, run);
+        let wide = wide_from(gaps, at, too_wide, runs);
+        if at < wide {
+            end = end.max(renewal(entry, last_of(&runs[wide - 1])));
+            at = wide;
+        } else {
+            end = own_after_run(entry, margin, end, &runs[at]);
+            at += 1;
+        }
     }
     end
+}
+
+/// The place of the first run, `at` or behind it, whose gap is at least `too_wide`; the number of runs where there is none.
+fn wide_from(gaps: &GapTree, at: usize, too_wide: u64, runs: &[Run]) -> usize
+    requires marks { HasMarks gaps.now }
+    requires gaps { gaps_in gaps.now ≡ gaps_of runs.now }
+    ensures within { result ≤ length runs.now }
+    ensures narrow { AllNarrow (gaps_of runs.now) at result too_wide }
+    ensures wide { result < length runs.now → (at ≤ result) × (too_wide ≤ slice_index (gaps_of runs.now) result) }
+{
+    gaps.first_from(at, too_wide).unwrap_or(runs.len())
+}
+
+/// The place of the last run at whose first moment a renewal gives no more than the present end: before that run no moment
+/// gains. 0 where there is no such run.
+fn first_gaining(entry: &Entry, start: u64, runs: &[Run]) -> usize
+    requires fit { (n : ℕ) × AllFit n runs.now }
+    requires rising { RisesStrictly start (moments_of (all_wakes runs.now)) }
+    ensures idle { (result ≡ 0) ⊎ IsIdleAt entry.now entry.now.end runs.now result }
+    ensures last { (at : ℕ) → result < at → IsIdleAt entry.now entry.now.end runs.now at → ⊥ }
+{
+    match entry.end.checked_sub(entry.step as u64) {
+        Some(idle) => runs
+            .partition_point(|run| run.first <= idle)
+            .saturating_sub(1),
+        None => 0,
+    }
 }
 
 /// The end after a run, whose first moment comes in time, of an entry that is asked by itself at each of its moments.

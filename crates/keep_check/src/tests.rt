@@ -241,6 +241,41 @@ fn judges_ten_million_wake_ups(rt: HostRuntime) -> Result<(), Fail> {
     Ok(())
 }
 
+// A thousand runs of one wake-up, 59 seconds apart from 1059 to 60000, that the first entry forces, and a run of three, 99
+// seconds apart from 60099, that the second one forces. The third entry's step bridges 59 seconds and not 99, so its last
+// renewal is at 60000. That of the fourth bridges neither; its first moment that gains is 49970, and the next is too late.
+#[test]
+fn judges_entries_over_many_runs(rt: HostRuntime) -> Result<(), Fail> {
+    let alloc = rt.alloc();
+    let mut runs = Vec::new(alloc);
+    for i in 0..1000 {
+        runs.push((1059 + 59 * i, 0, 1, 0, 0))?;
+    }
+    runs.push((60099, 99, 3, 1, 1))?;
+    for (third, fourth, want) in [
+        (60099, 50029, Answer::Yes),
+        (60100, 50029, Answer::No(Cause::NotKept(2))),
+        (60099, 50030, Answer::No(Cause::NotKept(3))),
+    ] {
+        let mut rows = [
+            orphan(1060, 60, 60060),
+            orphan(1100, 100, 60397),
+            orphan(1100, 99, third),
+            orphan(50000, 59, fourth),
+        ];
+        for row in &mut rows {
+            row.ceiling = None;
+        }
+        let forest = forest_of(alloc, 1, &rows)?;
+        assert_eq!(rt;
+            answer_to(alloc, &forest, 1000, &runs)?,
+            want,
+            "{third} {fourth}"
+        );
+    }
+    Ok(())
+}
+
 // Token and lease, and the same under a low ceiling: whether the token cannot be led to the need of the lease.
 #[test]
 fn judges_pairs(rt: HostRuntime) -> Result<(), Fail> {

@@ -24,8 +24,8 @@ returns-in-Some-2 c =
     let short = subst (λ s. FirstShort g s (own g.entries g.margin (end_of g.entries) (moments_of ws)) c.in_ok-index.field-0) c.get-start.ensures.value c.in_ok-index.ensures.short in
     walk_unkept g c.first_short.ensures.sound c.args.start ws c.in-Some-2.index found (subst (FirstShort g c.args.start (own g.entries g.margin (end_of g.entries) (moments_of ws))) c.in-Some-2.is short)
 
-pub returns-in-None-2 : goal.returns-in-None-2
-returns-in-None-2 c =
+pub returns : goal.returns
+returns c =
     let g = c.args.forest.now in
     let ws = all_wakes c.args.runs.now in
     let found = subst (λ s. None ≡ first_fault g s ws) c.get-start.ensures.value c.in-None.ensures in

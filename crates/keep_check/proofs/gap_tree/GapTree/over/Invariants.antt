@@ -1,0 +1,6 @@
+use Rattle.std.proofs.Common.{◌≡◌, ◌++◌, drop}
+use Rattle.keep_check.specs.Gaps.{gaps_of}
+use Rattle.keep_check.proofs.gap_tree.GapTree.over.Given as goal
+
+abbrev pub invariant-loop-at : goal.invariant-loop-at
+invariant-loop-at l = l.gaps.items ++ gaps_of (drop l.at l.runs) ≡ gaps_of l.runs

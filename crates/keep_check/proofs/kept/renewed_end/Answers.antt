@@ -1,0 +1,98 @@
+use Rattle.std.proofs.Common.{◌≡◌, ◌∙◌, ◌+◌, ◌-◌, ◌<◌, ◌≤◌, List, ap, arith, drop, get_or, inl, inr, length, max, subst, sym}
+use Rattle.std.proofs.lemmas.List.{drop_all, drop_more}
+use Rattle.keep_tree.specs.Renewal.{renewal}
+use Rattle.keep_rule.proofs.Keeping.{IsRising}
+use Rattle.keep_schedule.specs.declared.run.Run.{Run}
+use Rattle.keep_schedule.specs.Forces.{moments_of}
+use Rattle.keep_schedule.specs.Runs.{all_wakes}
+use Rattle.keep_check.specs.Kept.{own_end}
+use Rattle.keep_check.proofs.Jumps.{fit_at, jumps, rising_from, skips}
+use Rattle.keep_check.proofs.Keeping.{rising_strictly}
+use Rattle.keep_check.proofs.OwnRuns.{blank, own_done, own_nothing, own_turn}
+use Rattle.keep_check.proofs.kept.renewed_end.Goals as goal
+
+pub loop-at-init : goal.loop-at-init
+loop-at-init c =
+    let e = c.args.entry.now in
+    let m = c.args.margin in
+    let runs = c.args.runs.now in
+    let rising = rising_strictly c.args.start (moments_of (all_wakes runs)) c.requires.rising in
+    elim c.first_gaining-at.ensures.idle [
+      | inl first ↦ ap (λ k. own_end e m e.end (moments_of (all_wakes (drop k runs)))) first
+      | inr idle ↦ skips e m e.end c.args.start c.requires.fit.0 c.first_gaining-at.result runs c.requires.fit.1 rising idle.0 (idle.1 blank)
+    ]
+
+pub overflow_add-runs : goal.overflow_add-runs
+overflow_add-runs c =
+    let within = (fit_at c.requires.fit.0 c.args.runs.now c.loop-at.at c.requires.fit.1 c.loop-at-test.true).within in
+    omega (arith, within, c.ranges.margin.fits)
+
+pub returns-then-end-runs : goal.returns-then-end-runs
+returns-then-end-runs c =
+    let e = c.args.entry.now in
+    let m = c.args.margin in
+    let runs = c.args.runs.now in
+    let l = c.loop-at in
+    let r = get_or runs l.at blank in
+    let rest = drop (l.at + 1) runs in
+    let same = drop_more runs l.at blank c.loop-at-test.true in
+    let some = (fit_at c.requires.fit.0 runs l.at c.requires.fit.1 c.loop-at-test.true).some in
+    let risen = rising_from c.args.start l.at runs (rising_strictly c.args.start (moments_of (all_wakes runs)) c.requires.rising) in
+    let rising = subst (λ (rs : List Run). IsRising risen.0 (moments_of (all_wakes rs))) same risen.1 in
+    sym (ap (λ (rs : List Run). own_end e m l.end (moments_of (all_wakes rs))) same ∙ own_done e m l.end risen.0 r rest some rising c.if-end-runs.true) ∙ l.invariant
+
+pub bounds-runs-wide : goal.bounds-runs-wide
+bounds-runs-wide c = omega (arith, c.wide_from-wide.ensures.within, c.if-at-wide.true)
+
+pub last_of-requires-clause-some : goal.last_of-requires-clause-some
+last_of-requires-clause-some c = (fit_at c.requires.fit.0 c.args.runs.now (c.wide_from-wide.result - 1) c.requires.fit.1 (omega (arith, c.wide_from-wide.ensures.within, c.if-at-wide.true))).some
+
+pub last_of-requires-clause-within : goal.last_of-requires-clause-within
+last_of-requires-clause-within c = (fit_at c.requires.fit.0 c.args.runs.now (c.wide_from-wide.result - 1) c.requires.fit.1 (omega (arith, c.wide_from-wide.ensures.within, c.if-at-wide.true))).within
+
+pub renewal-requires : goal.renewal-requires
+renewal-requires c =
+    let within = (fit_at c.requires.fit.0 c.args.runs.now (c.wide_from-wide.result - 1) c.requires.fit.1 (omega (arith, c.wide_from-wide.ensures.within, c.if-at-wide.true))).within in
+    omega (arith, within, c.last_of.ensures)
+
+pub loop-at-preserved-then-at-wide : goal.loop-at-preserved-then-at-wide
+loop-at-preserved-then-at-wide c =
+    let e = c.args.entry.now in
+    let m = c.args.margin in
+    let runs = c.args.runs.now in
+    let l = c.loop-at in
+    let wide = c.wide_from-wide.result in
+    let too_wide = c.saturating_sub-too_wide.result in
+    let total = own_end e m e.end (moments_of (all_wakes runs)) in
+    let rising = rising_strictly c.args.start (moments_of (all_wakes runs)) c.requires.rising in
+    let now = c.max-end.ensures ∙ ap (max l.end) (c.renewal.ensures ∙ ap (renewal e) c.last_of.ensures) in
+    ap (λ end. own_end e m end (moments_of (all_wakes (drop wide runs)))) now
+    ∙ jumps e m l.end total too_wide c.args.start c.requires.fit.0 l.at wide runs c.requires.renewable c.saturating_sub-too_wide.ensures c.requires.fit.1 rising c.if-at-wide.true
+    c.wide_from-wide.ensures.within c.wide_from-wide.ensures.narrow c.if-end-runs.false l.invariant
+
+pub own_after_run-end-requires-clause-some : goal.own_after_run-end-requires-clause-some
+own_after_run-end-requires-clause-some c = (fit_at c.requires.fit.0 c.args.runs.now c.loop-at.at c.requires.fit.1 c.loop-at-test.true).some
+
+pub own_after_run-end-requires-clause-within : goal.own_after_run-end-requires-clause-within
+own_after_run-end-requires-clause-within c = (fit_at c.requires.fit.0 c.args.runs.now c.loop-at.at c.requires.fit.1 c.loop-at-test.true).within
+
+pub loop-at-preserved : goal.loop-at-preserved
+loop-at-preserved c =
+    let e = c.args.entry.now in
+    let m = c.args.margin in
+    let runs = c.args.runs.now in
+    let l = c.loop-at in
+    let total = own_end e m e.end (moments_of (all_wakes runs)) in
+    let same = drop_more runs l.at blank c.loop-at-test.true in
+    let whole = subst (λ (rs : List Run). own_end e m l.end (moments_of (all_wakes rs)) ≡ total) same l.invariant in
+    own_turn e m l.end c.own_after_run-end.result total (get_or runs l.at blank) (drop (l.at + 1) runs) whole c.own_after_run-end.ensures
+
+pub returns : goal.returns
+returns c =
+    let e = c.args.entry.now in
+    let m = c.args.margin in
+    let runs = c.args.runs.now in
+    let l = c.loop-at in
+    sym (own_nothing e m l.end)
+    ∙ sym (ap (λ (rs : List Run). own_end e m l.end (moments_of (all_wakes rs))) (drop_all l.at runs (omega (arith, c.loop-at-test.false))))
+    ∙ l.invariant
