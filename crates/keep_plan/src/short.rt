@@ -1,8 +1,7 @@
 ghost use Rattle.std.specs.Prelude.{◌≡◌, ◌<◌, length, MatchOption};
-ghost use Rattle.keep_tree.specs.Carried.{carried};
 ghost use Rattle.keep_tree.specs.Forest.{end_of};
 ghost use Rattle.keep_rule.specs.Reach.{reach};
-ghost use Rattle.keep_needs.specs.Carried.{IsCarried};
+ghost use Rattle.keep_needs.specs.Carried.{IsCarried, load_at};
 ghost use Rattle.keep_rule.specs.Unkeepable.{AllKeepable};
 ghost use Rattle.keep_plan.specs.Decides.{NoneKeeps, SomeKeeps};
 ghost use Rattle.keep_plan.specs.Shortfall.{IsShortfall, falls_short};
@@ -24,7 +23,7 @@ pub fn shortfall(forest: &Forest, carried: &Carried, start: Moment) -> Option<Sh
     ensures keeps { MatchOption result (SomeKeeps forest.now start) (λ _. NoneKeeps forest.now start) }
 {
     for entry in 0..forest.len() {
-        if falls_short(reach(forest, entry, start), carried.need(entry)) {
+        if falls_short(forest, carried, start, entry) {
             let needed = carried.from(entry)?;
             return Some(Shortfall { entry, needed });
         }
@@ -32,11 +31,14 @@ pub fn shortfall(forest: &Forest, carried: &Carried, start: Moment) -> Option<Sh
     None
 }
 
-/// Whether this reach, `None` for no limit, is less than the need.
-fn falls_short(reach: Option<u64>, need: u64) -> bool
-    ensures { result ≡ falls_short reach need }
+/// Whether the entry's reach, `None` for no limit, is less than the need that it carries.
+fn falls_short(forest: &Forest, carried: &Carried, start: Moment, entry: u32) -> bool
+    requires within { entry < length forest.now.entries }
+    requires carried { length carried.now ≡ length forest.now.entries }
+    ensures { result ≡ falls_short (reach forest.now.entries forest.now.margin start (end_of forest.now.entries) entry) (load_at carried.now entry).need }
 {
-    match reach {
+    let need = carried.need(entry);
+    match reach(forest, entry, start) {
         None => false,
         Some(most) => most < need,
     }

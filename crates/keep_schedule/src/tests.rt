@@ -3,6 +3,8 @@ ghost use Rattle.keep_tree.specs.Forest.{end_of};
 ghost use Rattle.keep_rule.specs.Unkeepable.{AllKeepable};
 ghost use Rattle.keep_needs.specs.Carried.{IsCarried};
 
+mod seeded;
+
 use crate::{Force, QueueSchedule, Run, ScanSchedule, Schedule};
 use keep_moment::{Moment, Name};
 use keep_needs::{Carried, carry};
@@ -91,13 +93,13 @@ fn is_keepable(forest: &Forest, carried: &Carried, start: Moment) -> bool
 
 fn drained<S: Schedule>(alloc: Global, schedule: &mut S) -> Result<Vec<Forced>, Fail> {
     let mut all = Vec::new(alloc);
-    for _ in 0..20 {
+    for _ in 0..100 {
         let Some(Force { at, entry, needed }) = schedule.next() else {
             return Ok(all);
         };
         all.push((at.get(), entry, needed))?;
     }
-    Err("more than 20 wake-ups")?
+    Err("more than 100 wake-ups")?
 }
 
 fn runs_of(alloc: Global, queue: &mut QueueSchedule, most: u64) -> Result<Vec<Grouped>, Fail>

@@ -20,7 +20,7 @@ returns-then-falls_short-clause-pair c =
     let i = c.loop-entry.entry in
     let within : i < length g.entries = omega (arith, c.len-entry-end.ensures.value) in
     let judged : c.falls_short.result ≡ falls_short (reach g.entries g.margin s (end_of g.entries) i) (carried g.entries s i) =
-    c.falls_short.ensures ∙ ap (λ o. falls_short o c.need.result) c.reach.ensures ∙ ap (falls_short (reach g.entries g.margin s (end_of g.entries) i)) (c.need.ensures ∙ c.requires.need i within) in
+    c.falls_short.ensures ∙ ap (falls_short (reach g.entries g.margin s (end_of g.entries) i)) (c.requires.need i within) in
     let named : NamesFrom g.entries s i (Some c.in_ok-needed.needed) = subst (NamesFrom g.entries s i) (sym c.from.ensures ∙ c.in_ok-needed.was) (c.requires.from i within) in
     record {
       pair = unkeepable_from g.entries g.margin s (end_of g.entries) i c.in_ok-needed.needed (sym judged ∙ c.if-falls_short.true) named.1;
@@ -35,7 +35,7 @@ loop-entry-preserved c =
     let i = c.loop-entry.entry in
     let within : i < length g.entries = omega (arith, c.len-entry-end.ensures.value) in
     let judged : c.falls_short.result ≡ falls_short (reach g.entries g.margin s (end_of g.entries) i) (carried g.entries s i) =
-    c.falls_short.ensures ∙ ap (λ o. falls_short o c.need.result) c.reach.ensures ∙ ap (falls_short (reach g.entries g.margin s (end_of g.entries) i)) (c.need.ensures ∙ c.requires.need i within) in
+    c.falls_short.ensures ∙ ap (falls_short (reach g.entries g.margin s (end_of g.entries) i)) (c.requires.need i within) in
     λ k f below pair. elim (cases_lt k i) [
       | inl before ↦ c.loop-entry.invariant k f before pair
       | inr after ↦ not_unkeepable g.entries g.margin s (end_of g.entries) i f (sym judged ∙ c.if-falls_short.false)
