@@ -17,7 +17,7 @@ use Rattle.keep_tree.specs.Push.{is_lease}
 use Rattle.mini_broker.specs.declared.row.Row.{Row}
 use Rattle.mini_broker.specs.declared.slot.Slot.{Slot}
 use Rattle.mini_broker.specs.declared.index.Index.{Index}
-use Rattle.mini_broker.specs.Index.{Enters, Finds, IsIndexOf, IsIndexOfNone, IsIndexed, credentials_of, if_listed, place_in}
+use Rattle.mini_broker.specs.Index.{Enters, Finds, IsIndexOf, IsIndexOfNone, IsIndexed, IsTaken, TellsTaken, credentials_of, if_listed, place_in}
 use Rattle.mini_broker.specs.Slots.{listed_rows, no_slot, relisted, slot_at, swept_slots}
 use Rattle.mini_broker.specs.Subject.{is_lease_with, is_token_with}
 use Rattle.mini_broker.specs.Sweep.{lives}
@@ -127,6 +127,47 @@ none_told (Some i) false e = refl
 none_if : (o : Option ℕ) → is_none o ≡ true → o ≡ None
 none_if None e = refl
 none_if (Some i) e = absurd cc
+
+token_passes : (k : Kind) (b : Bool) → (not (is_lease k) && b) ≡ true → (k ≡ Token) × (b ≡ true)
+token_passes Token b e = (refl, e)
+token_passes Lease b e = absurd cc
+
+lease_passes : (k : Kind) (b : Bool) → (is_lease k && b) ≡ true → (k ≡ Lease) × (b ≡ true)
+lease_passes Token b e = absurd cc
+lease_passes Lease b e = (refl, e)
+
+token_like : (r : Row) (q : List ℕ) → is_token_with q r ≡ true → (r.kind ≡ Token) × (r.credential ≡ q)
+unfolding is_token_with
+token_like r q e = let passed = token_passes r.kind (bytes_eq r.credential q) e in (passed.0, (bytes_decides r.credential q).0 passed.1)
+
+lease_like : (r : Row) (q : List ℕ) → is_lease_with q r ≡ true → (r.kind ≡ Lease) × (r.credential ≡ q)
+unfolding is_lease_with
+lease_like r q e = let passed = lease_passes r.kind (bytes_eq r.credential q) e in (passed.0, (bytes_decides r.credential q).0 passed.1)
+
+-- a place that is found is that of a slot with the kind and the credential
+taken_if :
+    (has : List ℕ → Row → Bool) (kind : Kind) (slots : List Slot) (n : ℕ) (m : BTreeMap (Vec ℕ Global) ℕ) (r : Row) (credential : List ℕ) (o : Option ℕ) →
+    ((row : Row) → has credential row ≡ true → (row.kind ≡ kind) × (row.credential ≡ credential)) → r.kind ≡ kind → credential ≡ r.credential →
+    o ≡ place_in m credential → is_none o ≡ false → Finds m has slots n → IsTaken r slots n
+taken_if has kind slots n m r credential None like of is e stale finds = absurd cc
+taken_if has kind slots n m r credential (Some i) like of is e stale finds =
+    let there : (i < n) × (has credential (slot_at slots i).row ≡ true) = subst (λ o. IfSome o (λ i. (i < n) × (has credential (slot_at slots i).row ≡ true))) (sym e) (finds.within credential) in
+    let same : ((slot_at slots i).row.kind ≡ kind) × ((slot_at slots i).row.credential ≡ credential) = like (slot_at slots i).row there.1 in
+    record { place = i; before = there.0; kind = same.0 ∙ sym of; credential = same.1 ∙ is }
+
+pub token_taken :
+    {E : Type 0} (answer : Result Bool E) (x : Index) (r : Row) (n : ℕ) (credential : List ℕ) → r.kind ≡ Token → credential ≡ r.credential →
+    IfOk answer (λ fresh. fresh ≡ is_none (place_in x.tokens credential)) → IfOk answer (λ fresh. TellsTaken x r n fresh)
+token_taken (Err e) x r n credential kind is told = tt
+token_taken (Ok fresh) x r n credential kind is told = λ slots stale old.
+    taken_if is_token_with Token slots n x.tokens r credential (place_in x.tokens credential) (λ row. token_like row credential) kind is refl (sym told ∙ stale) old.tokens
+
+pub lease_taken :
+    {E : Type 0} (answer : Result Bool E) (x : Index) (r : Row) (n : ℕ) (credential : List ℕ) → r.kind ≡ Lease → credential ≡ r.credential →
+    IfOk answer (λ fresh. fresh ≡ is_none (place_in x.leases credential)) → IfOk answer (λ fresh. TellsTaken x r n fresh)
+lease_taken (Err e) x r n credential kind is told = tt
+lease_taken (Ok fresh) x r n credential kind is told = λ slots stale old.
+    taken_if is_lease_with Lease slots n x.leases r credential (place_in x.leases credential) (λ row. lease_like row credential) kind is refl (sym told ∙ stale) old.leases
 
 pub token_enters :
     {E : Type 0} (answer : Result Bool E) (x : Index) (new : BTreeMap (Vec ℕ Global) ℕ) (r : Row) (n : ℕ) (credential : List ℕ) → r.kind ≡ Token → credential ≡ r.credential →

@@ -1,5 +1,5 @@
 -- An index: for each credential the place of the slot whose row has it, listed or not.
-use Rattle.std.specs.Prelude.{◌≡◌, ℕ, ◌+◌, ◌<◌, Bool, true, List, Option, Some, None, IfSome, Vec, length, map, if◌then◌else◌}
+use Rattle.std.specs.Prelude.{◌≡◌, ℕ, ◌+◌, ◌<◌, Bool, true, false, List, Option, Some, None, IfSome, Vec, length, map, if◌then◌else◌}
 use Rattle.std.specs.BTreeMap.{BTreeMap, get_by}
 use Rattle.std.specs.Cmp.Lexicographic.{slice_cmp}
 use Rattle.std.specs.Ordering.{nat_cmp}
@@ -32,6 +32,23 @@ IsIndexOfNone index = (slots : List Slot) → IsIndexOf index slots 0
 -- the row of slot n is entered: if its credential is fresh, an index of the first n slots is one of the first n + 1
 abbrev pub Enters : Index → Index → Row → ℕ → Bool → Type 0
 Enters old new row n fresh = (slots : List Slot) → fresh ≡ true → (slot_at slots n).row ≡ row → IsIndexOf old slots n → IsIndexOf new slots (n + 1)
+
+-- one of the first n slots has the kind and the credential of a row
+pub record IsTaken (row : Row) (slots : List Slot) (n : ℕ) : Type 0 where
+  pub place : ℕ
+  pub before : place < n
+  pub kind : (slot_at slots place).row.kind ≡ row.kind
+  pub credential : (slot_at slots place).row.credential ≡ row.credential
+
+-- the row of slot n is not fresh only if it is taken
+abbrev pub TellsTaken : Index → Row → ℕ → Bool → Type 0
+TellsTaken old row n fresh = (slots : List Slot) → fresh ≡ false → IsIndexOf old slots n → IsTaken row slots n
+
+-- two of the slots have the same kind and the same credential: there is no index of such slots
+pub record Share (slots : List Slot) : Type 0 where
+  pub place : ℕ
+  pub within : place < length slots
+  pub taken : IsTaken (slot_at slots place).row slots place
 
 -- an index of these slots, if there is one
 abbrev pub IsIndexed : Option Index → List Slot → Type 0

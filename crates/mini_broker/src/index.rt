@@ -1,5 +1,5 @@
-ghost use Rattle.std.specs.Prelude.{◌≡◌, ℕ, List, Some, IfOk, is_none, bytes_eq, if◌then◌else◌};
-ghost use Rattle.mini_broker.specs.Index.{Enters, IsIndexOfNone, IsIndexed, place_in};
+ghost use Rattle.std.specs.Prelude.{◌≡◌, ℕ, List, None, Some, IfOk, is_none, bytes_eq, if◌then◌else◌};
+ghost use Rattle.mini_broker.specs.Index.{Enters, IsIndexOfNone, IsIndexed, Share, TellsTaken, place_in};
 ghost use Rattle.mini_broker.specs.Slots.{AreSlots};
 
 use crate::row::Row;
@@ -16,11 +16,12 @@ pub struct Index {
     leases: BTreeMap<Vec<u8>, u32>,
 }
 
-/// The index of these slots, `None` where two tokens, or two leases, have the same credential. The only error is want of
-/// memory.
+/// The index of these slots; `None` exactly where two tokens, or two leases, have the same credential. The only error is
+/// want of memory.
 pub(crate) fn index_of(alloc: Global, slots: &[Slot]) -> Result<Option<Index>, AllocError>
     requires { AreSlots slots.now }
-    ensures { IfOk result (λ index. IsIndexed index slots.now) }
+    ensures indexed { IfOk result (λ index. IsIndexed index slots.now) }
+    ensures shared { IfOk result (λ index. index ≡ None → Share slots.now) }
 {
     let mut index = Index::new(alloc);
     for place in 0..slots.len() {
@@ -45,7 +46,8 @@ impl Index {
 
     /// Enters the row of the next slot, and says whether no row of its kind before it has its credential.
     fn add(&mut self, alloc: Global, row: &Row, place: u32) -> Result<bool, AllocError>
-        ensures { IfOk result (λ fresh. Enters self.old self.new row.now place fresh) }
+        ensures enters { IfOk result (λ fresh. Enters self.old self.new row.now place fresh) }
+        ensures taken { IfOk result (λ fresh. TellsTaken self.old row.now place fresh) }
     {
         let credential = row.credential.list();
         match row.kind {
