@@ -7,8 +7,6 @@
 
 mod check;
 mod check_lines;
-#[cfg(test)]
-mod check_tests;
 mod check_text;
 mod ends;
 mod ends_text;
@@ -17,8 +15,6 @@ mod laws;
 mod outcome;
 mod output;
 mod plan;
-#[cfg(test)]
-mod plan_tests;
 mod plan_text;
 mod stop;
 #[cfg(test)]
