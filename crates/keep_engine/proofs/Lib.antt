@@ -3,3 +3,4 @@ pub mod Outcomes
 pub mod Judgements
 pub mod Own
 pub mod OneText
+mod Sizes

@@ -1,5 +1,5 @@
 -- Laws of the runs. Each is the contract of a public function without a body.
-use Rattle.std.specs.Prelude.{◌≡◌, ℕ, ◌≤◌, List, Ok}
+use Rattle.std.specs.Prelude.{◌≡◌, ℕ, ◌≤◌, List, Ok, length}
 use Rattle.keep_moment.specs.declared.moment.TheConstants.{LAST}
 use Rattle.keep_tree.specs.Forest.{Grove}
 use Rattle.keep_tree.specs.Push.{IsForest}
@@ -13,15 +13,16 @@ use Rattle.keep_check.specs.declared.answer.Answer.TheVariants.{Yes}
 use Rattle.keep_check.specs.Answer.{IsAnswer}
 use Rattle.keep_check.specs.Fit.{CanBeJudged}
 use Rattle.keep_engine.specs.declared.exit.Exit.{Exit}
+use Rattle.keep_engine.specs.declared.limits.TheConstants.{MOST_CERTIFICATE}
 use Rattle.keep_engine.specs.CheckRun.{IsJudged}
 use Rattle.keep_engine.specs.PlanRun.{IsCertified}
 
 -- what is printed of a decision for a forest is read back over it as a certificate that can be judged, and each right
--- answer to that is Yes
+-- answer to that is Yes. It is at most MOST_CERTIFICATE bytes long, so that a file of it is read
 abbrev pub OwnCertificateLaw : Type 0
 OwnCertificateLaw =
     (g : Grove) (s : ℕ) (d : Decision) (text : List ℕ) → IsForest g → s ≤ LAST → Decides g s d → Prints g.entries s (claim d) (Ok text) →
-    (c : Cert) × (certificate_of g.entries text ≡ Ok c) × CanBeJudged g c.body × ((answer : Answer) → IsAnswer g c answer → answer ≡ Yes)
+    (c : Cert) × (certificate_of g.entries text ≡ Ok c) × CanBeJudged g c.body × ((answer : Answer) → IsAnswer g c answer → answer ≡ Yes) × (length text ≤ MOST_CERTIFICATE)
 
 -- a forest and a start have one text of `plan`, and one exit: nothing else shows in them
 abbrev pub OnePlanText : Type 0

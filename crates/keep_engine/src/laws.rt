@@ -1,7 +1,8 @@
 ghost use Rattle.keep_engine.specs.Laws.{OneCheckText, OnePlanText, OwnCertificateLaw};
 
 /// The law that own certificates are accepted: what `print` writes of a decision as `plan` gave it, with the start it was
-/// planned from, is read back over the same forest, and `check` can answer nothing but Yes.
+/// planned from, is read back over the same forest, and `check` can answer nothing but Yes. It has at most
+/// [`MOST_CERTIFICATE`](crate::MOST_CERTIFICATE) bytes, so a file of it does not pass the limit.
 pub fn own_certificates_are_accepted()
     ensures { OwnCertificateLaw }
 {}
