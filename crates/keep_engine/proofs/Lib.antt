@@ -4,3 +4,4 @@ pub mod Judgements
 pub mod Own
 pub mod OneText
 mod Sizes
+mod OwnText

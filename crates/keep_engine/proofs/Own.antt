@@ -1,5 +1,5 @@
 -- Own certificates: a walk over forces finds no fault, so what is printed of a decision gets Yes.
-use Rattle.std.proofs.Common.{◌≡◌, ◌∙◌, ℕ, ◌+◌, ◌<◌, ◌≤◌, ◌&&◌, true, cond, List, [], ◌∷◌, Option, Some, None, Ok, length, nat_le, nat_lt, refl, sym, ap, subst, arith}
+use Rattle.std.proofs.Common.{◌≡◌, ◌∙◌, ℕ, ◌+◌, ◌<◌, ◌≤◌, ◌&&◌, true, cond, List, [], ◌∷◌, Option, Some, None, Ok, nat_le, nat_lt, refl, sym, ap, subst, arith}
 use Rattle.std.proofs.lemmas.Bool.{cond-true}
 use Rattle.std.proofs.lemmas.Bool.Decides.{nat_tests}
 use Rattle.keep_moment.specs.declared.moment.TheConstants.{LAST}
@@ -32,9 +32,7 @@ use Rattle.keep_check.specs.Fit.{CanBeJudged}
 use Rattle.keep_check.specs.Walk.{fault, is_forced, rises}
 use Rattle.keep_check.proofs.Answers.{forced_tests, from_behind, one_answer}
 use Rattle.keep_check.proofs.Written.{body_fits}
-use Rattle.keep_engine.specs.declared.limits.TheConstants.{MOST_CERTIFICATE}
 use Rattle.keep_engine.specs.Laws.{OwnCertificateLaw}
-use Rattle.keep_engine.proofs.Sizes.{certificate_size, claim_has_few_runs}
 
 rises_behind : (s : ℕ) (prev : Option ℕ) (t : ℕ) → s ≤ t → from_behind s prev ≤ t → rises s prev t ≡ true
 unfolding rises
@@ -61,7 +59,7 @@ best_is_keepable : (g : Grove) (s : ℕ) (rs : List Run) → AreBest g s rs → 
 best_is_keepable g s rs best = λ entry needed pair. unkeepable g.entries g.margin s (end_of g.entries) entry needed pair best.least.plan best.least.in_order best.least.kept
 
 -- the forces of a plan get Yes
-best_gets_yes : (g : Grove) (s : ℕ) (rs : List Run) → IsForest g → AreBest g s rs → IsWalkAnswer g s (all_wakes rs) Yes
+pub best_gets_yes : (g : Grove) (s : ℕ) (rs : List Run) → IsForest g → AreBest g s rs → IsWalkAnswer g s (all_wakes rs) Yes
 best_gets_yes g s rs forest best =
     let es = g.entries in
     let law = forces_are_best g s forest (best_is_keepable g s rs best) in
@@ -94,5 +92,4 @@ own_accepted g s d text forest start decides printed =
       ap (certificate_of g.entries) found.2 ∙ printed_is_read g s d b forest start decides found.1,
       body_fits g Two b (claim_is_body g s d b forest decides found.1),
       λ answer is. one_answer g c answer Yes is (claim_gets_yes g s d b forest decides found.1),
-      subst (λ t. length t ≤ MOST_CERTIFICATE) (sym found.2) (certificate_size g forest s start b (claim_is_body g s d b forest decides found.1) (claim_has_few_runs g s d b decides found.1)),
     )

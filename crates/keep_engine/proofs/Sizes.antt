@@ -1,5 +1,5 @@
--- Sizes: what is printed of a decision for a forest is short, so that a file of it is read.
-use Rattle.std.proofs.Common.{◌≡◌, ◌↔◌, ℕ, ◌+◌, ◌-◌, ◌*◌, ◌<◌, ◌≤◌, ◌++◌, List, [], ◌∷◌, Some, subst, codes, decimal, flat_map, length, true, nat_le, arith, inl, inr}
+-- Sizes: the certificate of few runs, or of a pair, over a forest is short, so that a file of it is read.
+use Rattle.std.proofs.Common.{◌≡◌, ◌↔◌, ℕ, ◌+◌, ◌-◌, ◌*◌, ◌<◌, ◌≤◌, ◌++◌, List, [], ◌∷◌, codes, decimal, flat_map, length, true, nat_le, arith, inl, inr}
 use Rattle.std.specs.List.{join_with_byte, list_all}
 use Rattle.std.proofs.lemmas.Bool.{and_parts, cases_lt}
 use Rattle.std.proofs.lemmas.Bool.Decides.{nat_tests}
@@ -12,14 +12,11 @@ use Rattle.keep_tree.specs.Push.{IsForest, is_name, is_name_byte}
 use Rattle.keep_tree.specs.declared.forest.TheConstants.{NAME_MAX}
 use Rattle.keep_schedule.specs.declared.limit.TheConstants.{LIMIT}
 use Rattle.keep_schedule.specs.declared.run.Run.{Run}
-use Rattle.keep_plan.specs.declared.decision.Decision.{Decision}
-use Rattle.keep_plan.specs.declared.decision.Decision.TheVariants as decision
-use Rattle.keep_plan.specs.Decides.{Decides}
 use Rattle.keep_cert.specs.declared.cert.Body.{Body}
 use Rattle.keep_cert.specs.declared.cert.Body.TheVariants.{Runs, Unkeepable}
 use Rattle.keep_cert.specs.declared.cert.Version.TheVariants.{Two}
 use Rattle.keep_cert.specs.CertificateText.{AreRuns, IsBody, IsRun, body_text, certificate_text, counted, end_text, header_text, line_text, name_of, run_text, start_text, unkeepable_text}
-use Rattle.keep_cert.specs.Printing.{certified, claim}
+use Rattle.keep_cert.specs.Printing.{certified}
 use Rattle.keep_engine.specs.declared.limits.TheConstants.{MOST_CERTIFICATE}
 
 -- the sizes of words, each with the byte behind it
@@ -120,13 +117,3 @@ certificate_size g forest s start b is few =
     let second = start_size s start in
     let rest = body_size g forest b is few in
     omega arith
-
--- what a decision claims has few runs
-pub claim_has_few_runs : (g : Grove) (s : ℕ) (d : Decision) (b : Body) → Decides g s d → claim d ≡ Some b → HasFewRuns g b
-claim_has_few_runs g s (decision.Keep p) b decides is =
-    let is' : Runs p.runs ≡ b = cc in
-    subst (HasFewRuns g) is' decides.best.few_runs
-claim_has_few_runs g s (decision.Unkeepable entry needed) b decides is =
-    let is' : Unkeepable entry needed ≡ b = cc in
-    subst (HasFewRuns g) is' tt
-claim_has_few_runs g s decision.TooLong b decides is = absurd cc
