@@ -11,8 +11,6 @@ mod fault;
 mod laws;
 mod number;
 mod pieces;
-#[cfg(test)]
-mod print_tests;
 mod printer;
 mod reader;
 mod run_line;

@@ -3,3 +3,5 @@ pub mod Outcomes
 pub mod Judgements
 pub mod Own
 pub mod OneText
+mod Sizes
+mod OwnText

@@ -59,7 +59,7 @@ best_is_keepable : (g : Grove) (s : ℕ) (rs : List Run) → AreBest g s rs → 
 best_is_keepable g s rs best = λ entry needed pair. unkeepable g.entries g.margin s (end_of g.entries) entry needed pair best.least.plan best.least.in_order best.least.kept
 
 -- the forces of a plan get Yes
-best_gets_yes : (g : Grove) (s : ℕ) (rs : List Run) → IsForest g → AreBest g s rs → IsWalkAnswer g s (all_wakes rs) Yes
+pub best_gets_yes : (g : Grove) (s : ℕ) (rs : List Run) → IsForest g → AreBest g s rs → IsWalkAnswer g s (all_wakes rs) Yes
 best_gets_yes g s rs forest best =
     let es = g.entries in
     let law = forces_are_best g s forest (best_is_keepable g s rs best) in

@@ -1,5 +1,5 @@
 -- Laws of the runs. Each is the contract of a public function without a body.
-use Rattle.std.specs.Prelude.{◌≡◌, ℕ, ◌≤◌, List, Ok}
+use Rattle.std.specs.Prelude.{◌≡◌, ℕ, ◌≤◌, List, Ok, codes, length}
 use Rattle.keep_moment.specs.declared.moment.TheConstants.{LAST}
 use Rattle.keep_tree.specs.Forest.{Grove}
 use Rattle.keep_tree.specs.Push.{IsForest}
@@ -13,7 +13,9 @@ use Rattle.keep_check.specs.declared.answer.Answer.TheVariants.{Yes}
 use Rattle.keep_check.specs.Answer.{IsAnswer}
 use Rattle.keep_check.specs.Fit.{CanBeJudged}
 use Rattle.keep_engine.specs.declared.exit.Exit.{Exit}
-use Rattle.keep_engine.specs.CheckRun.{IsJudged}
+use Rattle.keep_engine.specs.declared.exit.Exit.TheVariants as exits
+use Rattle.keep_engine.specs.declared.limits.TheConstants.{MOST_CERTIFICATE}
+use Rattle.keep_engine.specs.CheckRun.{IsAccepted, IsJudged}
 use Rattle.keep_engine.specs.PlanRun.{IsCertified}
 
 -- what is printed of a decision for a forest is read back over it as a certificate that can be judged, and each right
@@ -22,6 +24,16 @@ abbrev pub OwnCertificateLaw : Type 0
 OwnCertificateLaw =
     (g : Grove) (s : ℕ) (d : Decision) (text : List ℕ) → IsForest g → s ≤ LAST → Decides g s d → Prints g.entries s (claim d) (Ok text) →
     (c : Cert) × (certificate_of g.entries text ≡ Ok c) × CanBeJudged g c.body × ((answer : Answer) → IsAnswer g c answer → answer ≡ Yes)
+
+-- a text that `check` accepts with `yes`, with no other line and no other exit, and that is short enough to be read
+pub record IsOwnText (g : Grove) (text : List ℕ) : Type 0 where
+  pub accepted : IsAccepted g text (codes "yes\n")
+  pub alone : (exit : Exit) (line : List ℕ) → IsJudged g text exit line → (exit ≡ exits.Done) × (line ≡ codes "yes\n")
+  pub short : length text ≤ MOST_CERTIFICATE
+
+-- what `plan` writes, of whichever exit, is such a text
+abbrev pub OwnTextLaw : Type 0
+OwnTextLaw = (g : Grove) (s : ℕ) (exit : Exit) (text : List ℕ) → IsForest g → s ≤ LAST → IsCertified g s exit text → IsOwnText g text
 
 -- a forest and a start have one text of `plan`, and one exit: nothing else shows in them
 abbrev pub OnePlanText : Type 0

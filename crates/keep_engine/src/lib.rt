@@ -7,18 +7,15 @@
 
 mod check;
 mod check_lines;
-#[cfg(test)]
-mod check_tests;
 mod check_text;
 mod ends;
 mod ends_text;
 mod exit;
 mod laws;
+mod limits;
 mod outcome;
 mod output;
 mod plan;
-#[cfg(test)]
-mod plan_tests;
 mod plan_text;
 mod stop;
 #[cfg(test)]
@@ -28,5 +25,6 @@ pub use check::run_check;
 pub use ends::{no_secret_shows_in_ends, run_ends};
 pub use exit::Exit;
 pub use laws::{no_secret_shows_in_check, no_secret_shows_in_plan, own_certificates_are_accepted};
+pub use limits::{MOST_CERTIFICATE, MOST_INVENTORY};
 pub use plan::run_plan;
 pub use stop::report_input;

@@ -1,19 +1,15 @@
 use crate::command::matches;
 use clap::ArgMatches;
 use clap::error::ErrorKind;
-use keep_engine::{Exit, report_input, run_check, run_ends, run_plan};
+use keep_engine::{
+    Exit, MOST_CERTIFICATE, MOST_INVENTORY, report_input, run_check, run_ends, run_plan,
+};
 use keep_moment::{Moment, Text};
 use std::alloc::{AllocError, Global};
 use std::io::Write;
 use std::rt::{Env, Files};
 use std::{env, fs, io};
 use vault_http::{Counted, InputFault, Sink, read_all, write_all};
-
-/// The most bytes of an inventory.
-const MOST_INVENTORY: usize = 1_048_576;
-
-/// The most bytes of a certificate.
-const MOST_CERTIFICATE: usize = 16_777_216;
 
 /// Runs the command that the words of the command line name, and gives the exit.
 pub fn run<R: Env + Files + AllocGlobal + Print + Eprint, E: Write + Drop>(

@@ -1,5 +1,9 @@
 use Rattle.keep_engine.proofs.Own.{own_accepted}
+use Rattle.keep_engine.proofs.OwnText.{own_text}
 use Rattle.keep_engine.proofs.laws.own_certificates_are_accepted.Goals as goal
 
-pub returns : goal.returns
-returns c = own_accepted
+pub returns-clause-printed : goal.returns-clause-printed
+returns-clause-printed c = own_accepted
+
+pub returns-clause-written : goal.returns-clause-written
+returns-clause-written c = own_text

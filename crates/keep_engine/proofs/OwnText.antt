@@ -1,0 +1,64 @@
+-- Own texts: what `plan` writes is a certificate that gets Yes, and short enough to be read, so that `check` says `yes`.
+use Rattle.std.proofs.Common.{◌≡◌, ◌∙◌, ℕ, ◌-◌, ◌*◌, ◌≤◌, List, None, codes, length, refl, sym, subst, arith}
+use Rattle.keep_moment.specs.declared.moment.TheConstants.{LAST}
+use Rattle.keep_tree.specs.Forest.{Grove}
+use Rattle.keep_tree.specs.Push.{IsForest}
+use Rattle.keep_schedule.specs.declared.run.Run.{Run}
+use Rattle.keep_plan.specs.declared.decision.Decision.TheVariants as decision
+use Rattle.keep_plan.specs.Decides.{AreBest}
+use Rattle.keep_cert.specs.declared.cert.Body.{Body}
+use Rattle.keep_cert.specs.declared.cert.Body.TheVariants as body
+use Rattle.keep_cert.specs.declared.cert.Version.TheVariants.{Two}
+use Rattle.keep_cert.specs.CertificateText.{IsBody, certificate_text}
+use Rattle.keep_cert.specs.Printing.{certified}
+use Rattle.keep_cert.proofs.Printing.{claim_is_body, counted_wakes, runs_within}
+use Rattle.keep_check.specs.declared.answer.Answer.TheVariants.{Yes}
+use Rattle.keep_check.specs.Answer.{IsAnswer}
+use Rattle.keep_check.proofs.Answers.{yes_holds}
+use Rattle.keep_check.proofs.Written.{body_fits}
+use Rattle.keep_engine.specs.declared.exit.Exit.TheVariants as exits
+use Rattle.keep_engine.specs.declared.limits.TheConstants.{MOST_CERTIFICATE}
+use Rattle.keep_engine.specs.CheckRun.{IsAccepted}
+use Rattle.keep_engine.specs.Laws.{IsOwnText, OwnTextLaw}
+use Rattle.keep_engine.proofs.OneText.{one_check_text}
+use Rattle.keep_engine.proofs.Own.{best_gets_yes}
+use Rattle.keep_engine.proofs.Sizes.{HasFewRuns, certificate_size}
+
+-- the runs of a plan are those of a certificate
+best_is_body : (g : Grove) (s : ℕ) (rs : List Run) → IsForest g → AreBest g s rs → IsBody Two g.entries (body.Runs rs)
+best_is_body g s rs forest best =
+    let few_runs = best.few_runs in
+    let entries = forest.few in
+    let few = best.few in
+    let same = counted_wakes rs in
+    (runs_within g forest s None rs best.runs best.forces, (omega arith, omega arith))
+
+body_accepted : (g : Grove) (s : ℕ) (b : Body) (text : List ℕ) → IsForest g → s ≤ LAST → IsBody Two g.entries b → HasFewRuns g b → IsAnswer g (certified s b) Yes
+    → text ≡ certificate_text g.entries (certified s b) → IsOwnText g text
+body_accepted g s b text forest start is few right spelled =
+    let c = certified s b in
+    let accepted : IsAccepted g text (codes "yes\n") = record {
+      cert = c;
+      writes = record { certificate = (start, is); spelled = spelled };
+      answer = right;
+      holds = yes_holds g c (body_fits g Two b is) right;
+      spelled = refl;
+    } in
+    record {
+      accepted = accepted;
+      alone = λ exit line judged. one_check_text g text exit exits.Done line (codes "yes\n") forest judged accepted;
+      short = subst (λ t. length t ≤ MOST_CERTIFICATE) (sym spelled) (certificate_size g forest s start b is few);
+    }
+
+pub own_text : OwnTextLaw
+own_text g s exits.Done text forest start is =
+    body_accepted g s (body.Runs is.runs) text forest start (best_is_body g s is.runs forest is.best) is.best.few_runs (best_gets_yes g s is.runs forest is.best) is.spelled
+own_text g s exits.Unkeepable text forest start is =
+    let pair = body.Unkeepable is.entry is.needed in
+    body_accepted g s pair text forest start (claim_is_body g s (decision.Unkeepable is.entry is.needed) pair forest (is.short, is.none) refl) tt is.short.pair is.spelled
+own_text g s exits.Inventory text forest start is = absurd is
+own_text g s exits.CommandLine text forest start is = absurd is
+own_text g s exits.No text forest start is = absurd is
+own_text g s exits.TooLong text forest start is = absurd is
+own_text g s exits.Device text forest start is = absurd is
+own_text g s exits.Memory text forest start is = absurd is
