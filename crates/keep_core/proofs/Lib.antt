@@ -14,3 +14,4 @@ pub mod ByRule
 pub mod Hearing
 pub mod Heard
 pub mod Waking
+pub mod Stepping

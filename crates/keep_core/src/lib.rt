@@ -16,8 +16,10 @@ mod opening;
 mod refusal;
 mod replan;
 mod round;
+mod run;
 mod shorten;
 mod shortened;
+mod step;
 #[cfg(test)]
 mod tests;
 mod tick;
