@@ -15,3 +15,4 @@ pub mod Hearing
 pub mod Heard
 pub mod Waking
 pub mod Stepping
+pub mod States

@@ -12,3 +12,4 @@ pub mod Hearing
 pub mod LawsOfNeeds
 pub mod LawsOfPlans
 pub mod LawsOfRuns
+pub mod LawsOfSteps
