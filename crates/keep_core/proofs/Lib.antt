@@ -14,3 +14,5 @@ pub mod ByRule
 pub mod Hearing
 pub mod Heard
 pub mod Waking
+pub mod Stepping
+pub mod States

@@ -393,7 +393,7 @@ outcome (event ∷ rest) (Err OutOfRange ∷ results) old new round is some answ
 outcome (event ∷ rest) (Err OutOfMemory ∷ results) old new round is some answers well run = absurd well
 
 -- planning anew gives one state
-replan_once : (s : State) (t : ℕ) (x y : State) → Replan s t x → Replan s t y → x ≡ y
+pub replan_once : (s : State) (t : ℕ) (x y : State) → Replan s t x → Replan s t y → x ≡ y
 replan_once s t x y a b =
     let h = shorten s.forest t in
     a.is ∙ ap (planned s t) (one_least h.entries h.margin t (end_of h.entries) a.moments b.moments a.best b.best) ∙ sym b.is

@@ -17,7 +17,7 @@ pub replan_force : (old : State) (t : ℕ) (new : State) → Replan old t new �
 replan_force old t new r = subst InForce (sym r.is) (r.best, r.few)
 
 -- an open round asks for no plan in force
-open_sound : (s : State) (round : Round) → s.round ≡ Some round → IsSound s
+pub open_sound : (s : State) (round : Round) → s.round ≡ Some round → IsSound s
 open_sound s round is closed = absurd (let bad : Some round ≡ None = sym is ∙ closed in cc)
 
 tick_sound : (old : State) (t : ℕ) (output : Output) (new : State) → StepTick old t output new → IsSound new

@@ -21,7 +21,6 @@ use Rattle.keep_plan.specs.Planned.{IsTail, Planned, next_after, to_come}
 use Rattle.keep_core.specs.declared.event.Output.{Output}
 use Rattle.keep_core.specs.declared.event.Output.TheVariants as out
 use Rattle.keep_core.specs.declared.opening.Opening.{Opening}
-use Rattle.keep_core.specs.declared.round.OpenRound.{OpenRound}
 use Rattle.keep_core.specs.InForce.{AllForcedAs}
 use Rattle.keep_core.specs.Keeping.{IsKeeper, IsOpen, flag, waited_for}
 use Rattle.keep_core.specs.Replan.{IsPlanOf, Replan}
@@ -30,7 +29,7 @@ use Rattle.keep_core.specs.Step.{StepTick, opened}
 use Rattle.keep_core.specs.Waking.{AreFlags, IsOpening, Wakes, is_late}
 use Rattle.keep_core.proofs.ByRule.{next_is, opens_by_rule, rises_strictly}
 use Rattle.keep_core.proofs.Forces.{still_forced}
-use Rattle.keep_core.proofs.Standing.{best_first, someone, tick}
+use Rattle.keep_core.proofs.Standing.{best_first, tick}
 use Rattle.keep_core.proofs.Waiting.{kept_test, kept_there}
 
 -- tests that agree on a range keep the same of it

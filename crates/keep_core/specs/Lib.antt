@@ -8,7 +8,8 @@ pub mod InForce
 pub mod Passes
 pub mod Keeping
 pub mod Waking
+pub mod Hearing
 pub mod LawsOfNeeds
 pub mod LawsOfPlans
 pub mod LawsOfRuns
-pub mod Hearing
+pub mod LawsOfSteps

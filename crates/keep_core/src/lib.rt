@@ -1,6 +1,9 @@
 //! The executor's core: it is handed ticks, answers and new needs, and says when to wake and whom to ask.
 //!
-//! Begin with `event`.
+//! Its one contract is that of [`Keeper::step`]: an event gives its step by the definition, or a refusal that leaves the
+//! keeper as it was. [`Keeper::run`] takes a list of events, and the laws speak of every such list.
+//!
+//! Begin with `event`, then `step`.
 #![tactic(auto)]
 
 mod answer;
@@ -10,14 +13,17 @@ mod keeper;
 mod laws_of_needs;
 mod laws_of_plans;
 mod laws_of_runs;
+mod laws_of_steps;
 mod least;
 mod need;
 mod opening;
 mod refusal;
 mod replan;
 mod round;
+mod run;
 mod shorten;
 mod shortened;
+mod step;
 #[cfg(test)]
 mod tests;
 mod tick;
@@ -28,4 +34,5 @@ pub use keeper::Keeper;
 pub use laws_of_needs::{keepable_law, plannable_law, shortened_law, unchanged_law};
 pub use laws_of_plans::{kept_plan_law, someone_law, still_forced_law, tail_kept_law, tick_law};
 pub use laws_of_runs::{in_force_law, order_law};
+pub use laws_of_steps::{adds_law, ask_law, state_law};
 pub use shortened::{ShortNeed, Shortened};

@@ -1,4 +1,4 @@
-use Rattle.std.proofs.Common.{◌≡◌, ◌∙◌, ap, length, subst, sym}
+use Rattle.std.proofs.Common.{◌∙◌, ap, length, subst, sym}
 use Rattle.keep_tree.specs.Forest.{Grove, entry_at}
 use Rattle.keep_core.specs.Passes.{AreNeeds}
 use Rattle.keep_core.proofs.Passing.{restored}

@@ -1,4 +1,4 @@
-use Rattle.std.proofs.Common.{◌≡◌, ◌∙◌, ◌≤◌, ◌++◌, ℕ, Option, None, ap, arith, false, length, subst, sym}
+use Rattle.std.proofs.Common.{◌≡◌, ◌∙◌, ◌≤◌, ◌++◌, Option, None, ap, arith, false, length, subst, sym}
 use Rattle.keep_rule.specs.Asks.{first_of}
 use Rattle.keep_schedule.specs.Forces.{moments_of}
 use Rattle.keep_schedule.specs.declared.limit.TheConstants.{LIMIT}

@@ -2,7 +2,6 @@ use Rattle.std.proofs.Common.{◌≡◌, ◌∙◌, Option, Some, None, ap, subs
 use Rattle.keep_schedule.specs.Forces.{moments_of}
 use Rattle.keep_plan.specs.Planned.{Planned, to_come}
 use Rattle.keep_core.specs.declared.opening.Opening.{Opening}
-use Rattle.keep_core.specs.declared.round.OpenRound.{OpenRound}
 use Rattle.keep_core.specs.Keeping.{IsKeeper}
 use Rattle.keep_core.specs.State.{State}
 use Rattle.keep_core.specs.Waking.{IsOpening, Opens}

@@ -1,0 +1,59 @@
+-- One event after another: a refusal is a turn of its own, and a run goes on with one turn more.
+use Rattle.std.proofs.Common.{◌≡◌, ◌++◌, Bool, true, false, cond, List, [], ◌∷◌, Option, Some, None, IfSome, Result, Err, is_some, length, nat_le, nat_lt, refl, subst}
+use Rattle.keep_moment.specs.declared.moment.TheConstants.{LAST}
+use Rattle.keep_core.specs.declared.event.Event.{Event}
+use Rattle.keep_core.specs.declared.event.Event.TheVariants.{Tick, Told, Refused, Lost, Need}
+use Rattle.keep_core.specs.declared.event.Output.{Output}
+use Rattle.keep_core.specs.declared.fault.StepFault.{StepFault}
+use Rattle.keep_core.specs.declared.fault.StepFault.TheVariants.{ClockBack, RoundOpen, NotAsked, BadIndex, OutOfRange, TooLong, OutOfMemory}
+use Rattle.keep_core.specs.Refusal.{LONGEST, refusal, waits_for}
+use Rattle.keep_core.specs.Runs.{Run, Turn}
+use Rattle.keep_core.specs.State.{Round, State}
+
+-- a fault that does not come of planning anew
+abbrev IsEarly : StepFault → Type 0
+IsEarly TooLong = ⊥
+IsEarly OutOfMemory = ⊥
+IsEarly fault = Unit {0}
+
+by_test : (b : Bool) (fault : StepFault) (o : Option StepFault) → IsEarly fault → IfSome o IsEarly → IfSome (cond b (Some fault) o) IsEarly
+by_test true fault o early rest = early
+by_test false fault o early rest = rest
+
+while_open : (round : Option Round) → IfSome (cond (is_some round) (Some RoundOpen) None) IsEarly
+while_open None = tt
+while_open (Some round) = tt
+
+not_waited : (there waited : Bool) → IfSome (cond there (Some BadIndex) (cond waited None (Some NotAsked))) IsEarly
+not_waited true waited = tt
+not_waited false true = tt
+not_waited false false = tt
+
+refusal_early : (s : State) (event : Event) → IfSome (refusal s event) IsEarly
+unfolding refusal
+refusal_early s (Tick t) = by_test (nat_lt LAST t) OutOfRange _ tt (by_test (nat_lt t s.last) ClockBack _ tt (while_open s.round))
+refusal_early s (Told i seconds renewable) = by_test (nat_lt LONGEST seconds) OutOfRange _ tt (not_waited (nat_le (length s.forest.entries) i) (waits_for s.round i))
+refusal_early s (Refused i) = not_waited (nat_le (length s.forest.entries) i) (waits_for s.round i)
+refusal_early s (Lost i) = not_waited (nat_le (length s.forest.entries) i) (waits_for s.round i)
+refusal_early s (Need i until) = by_test (nat_lt LAST until) OutOfRange _ tt (by_test (nat_le (length s.forest.entries) i) BadIndex _ tt (while_open s.round))
+
+-- a refused event is a turn that leaves the state
+pub refused : (s : State) (event : Event) (fault : StepFault) → refusal s event ≡ Some fault → Turn s event (Err fault) s
+refused s event fault is = by_fault fault is (subst (λ o. IfSome o IsEarly) is (refusal_early s event)) where
+  by_fault : (fault : StepFault) → refusal s event ≡ Some fault → IsEarly fault → Turn s event (Err fault) s
+  by_fault ClockBack is early = (is, refl)
+  by_fault RoundOpen is early = (is, refl)
+  by_fault NotAsked is early = (is, refl)
+  by_fault BadIndex is early = (is, refl)
+  by_fault OutOfRange is early = (is, refl)
+  by_fault TooLong is early = absurd early
+  by_fault OutOfMemory is early = absurd early
+
+-- one turn more
+pub run_more :
+    (old mid new : State) (events : List Event) (event : Event) (results : List (Result Output StepFault)) (result : Result Output StepFault) →
+    Run old events results mid → Turn mid event result new → Run old (events ++ event ∷ []) (results ++ result ∷ []) new
+run_more old mid new [] event [] result run turn = (new, (subst (λ s. Turn s event result new) run turn, refl))
+run_more old mid new [] event (r ∷ results) result run turn = absurd run
+run_more old mid new (e ∷ events) event [] result run turn = absurd run
+run_more old mid new (e ∷ events) event (r ∷ results) result run turn = (run.0, (run.1.0, run_more run.0 mid new events event results result run.1.1 turn))

@@ -1,0 +1,6 @@
+use Rattle.std.proofs.Common.{◌∙◌, sym}
+use Rattle.keep_core.proofs.Stepping.{refused}
+use Rattle.keep_core.proofs.keeper.Keeper.step.Goals as goal
+
+pub returns-in-Some : goal.returns-in-Some
+returns-in-Some c = refused c.args.self.now c.args.event c.in-Some.fault (sym c.refusal.ensures ∙ c.in-Some.is)

@@ -1,0 +1,5 @@
+use Rattle.keep_core.proofs.States.{adds}
+use Rattle.keep_core.proofs.laws_of_steps.adds_law.Goals as goal
+
+pub returns : goal.returns
+returns c = adds

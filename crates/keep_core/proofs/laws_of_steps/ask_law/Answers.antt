@@ -1,0 +1,5 @@
+use Rattle.keep_core.proofs.States.{asked_at}
+use Rattle.keep_core.proofs.laws_of_steps.ask_law.Goals as goal
+
+pub returns : goal.returns
+returns c = asked_at

@@ -1,0 +1,5 @@
+use Rattle.keep_core.proofs.States.{states}
+use Rattle.keep_core.proofs.laws_of_steps.state_law.Goals as goal
+
+pub returns : goal.returns
+returns c = states

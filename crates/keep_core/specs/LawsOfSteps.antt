@@ -1,0 +1,61 @@
+-- Laws of steps: what holds of every state that events lead to, which needs an event shortens, and when entries are asked.
+-- Each is the contract of a public function without a body.
+use Rattle.std.specs.Prelude.{◌≡◌, ◌≢◌, ℕ, ◌≤◌, ◌<◌, List, ◌∷◌, ◌++◌, Some, Result, Ok, length}
+use Rattle.std.specs.List.{All, Contains}
+use Rattle.keep_moment.specs.declared.moment.TheConstants.{LAST}
+use Rattle.keep_tree.specs.Forest.{Grove, end_of, entry_at}
+use Rattle.keep_tree.specs.Push.{IsForest}
+use Rattle.keep_rule.specs.Asks.{asks, first_of}
+use Rattle.keep_core.specs.declared.event.Event.{Event}
+use Rattle.keep_core.specs.declared.event.Event.TheVariants.{Tick, Need}
+use Rattle.keep_core.specs.declared.event.Output.{Output}
+use Rattle.keep_core.specs.declared.event.Output.TheVariants as out
+use Rattle.keep_core.specs.declared.fault.StepFault.{StepFault}
+use Rattle.keep_core.specs.declared.shortened.ShortNeed.{ShortNeed}
+use Rattle.keep_core.specs.InForce.{InForce, IsSound}
+use Rattle.keep_core.specs.LawsOfNeeds.{IsShortened}
+use Rattle.keep_core.specs.Replan.{Replan}
+use Rattle.keep_core.specs.Runs.{Run, Turn}
+use Rattle.keep_core.specs.State.{Round, State, unplanned}
+
+-- a forest and a last moment; a round that is open since then; and a plan in force wherever no round is open
+pub record IsState (s : State) : Type 0 where
+  pub forest : IsForest s.forest
+  pub last : s.last ≤ LAST
+  pub open_since : (round : Round) → s.round ≡ Some round → round.at ≡ s.last
+  pub sound : IsSound s
+
+-- whatever events come after the opening, and whatever of them is refused, they lead to such a state
+abbrev pub StateLaw : Type 0
+StateLaw =
+    (g : Grove) (start : ℕ) (old new : State) (events : List Event) (results : List (Result Output StepFault)) → IsForest g → start ≤ LAST → Replan (unplanned g) start old →
+    Run old events results new → IsState old × IsState new
+
+-- what an event adds to the needs that were shortened: each is shortened, as far as it has to be and no farther, by the ends
+-- and needs as the event leaves them. No other need is changed but by Need
+pub record Adds (old : State) (event : Event) (new : State) : Type 0 where
+  pub pairs : List ShortNeed
+  pub noted : new.shortened ≡ old.shortened ++ pairs
+  pub each : All (λ pair. (g : Grove) × IsShortened g new.forest new.last pair) pairs
+  pub others : (i : ℕ) → ((until : ℕ) → event ≢ Need i until) → ((need : ℕ) → Contains pairs (record { entry = i; need = need }) → ⊥)
+      → (entry_at new.forest.entries i).need ≡ (entry_at old.forest.entries i).need
+
+abbrev pub AddsLaw : Type 0
+AddsLaw = (old new : State) (event : Event) (result : Result Output StepFault) → IsState old → Turn old event result new → Adds old event new
+
+-- these entries are asked at t: the first moment of the plan in force there, which is that of before where the tick is not
+-- late. They are the Asks, and someone is asked
+pub record IsAskedAt (old : State) (t : ℕ) (asked : List ℕ) (new : State) : Type 0 where
+  pub plan : State
+  pub made : Replan old t plan
+  pub in_force : InForce plan
+  pub kept : All (λ u. t ≤ u) old.to_come → plan ≡ record old { last = t }
+  pub first : plan.to_come ≡ t ∷ new.to_come
+  pub asks : asked ≡ asks plan.forest.entries plan.forest.margin t (end_of plan.forest.entries) t (first_of new.to_come)
+  pub someone : 0 < length asked
+
+-- Ask is answered to such a tick alone
+abbrev pub AskLaw : Type 0
+AskLaw =
+    (old new : State) (event : Event) (asked : List ℕ) → IsState old → Turn old event (Ok (out.Ask asked)) new →
+    (t : ℕ) × ((event ≡ Tick t) × IsAskedAt old t asked new)

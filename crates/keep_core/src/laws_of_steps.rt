@@ -1,0 +1,19 @@
+ghost use Rattle.keep_core.specs.LawsOfSteps.{AddsLaw, AskLaw, StateLaw};
+
+/// The law of states: whatever events come after the opening, and whatever of them is refused, the forest stays one, a round
+/// is open since the last moment, and the plan is in force whenever no round is open.
+pub fn state_law()
+    ensures { StateLaw }
+{}
+
+/// The law of added pairs: each need that an event notes as shortened is shortened as far as it has to be and no farther, and
+/// no other need is changed but by [`Event::Need`](crate::Event::Need).
+pub fn adds_law()
+    ensures { AddsLaw }
+{}
+
+/// The law of asking: entries are asked only at a tick, at the first moment of the plan in force, which is made anew where
+/// the tick is late; they are the Asks, and there is at least one.
+pub fn ask_law()
+    ensures { AskLaw }
+{}
