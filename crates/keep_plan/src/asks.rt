@@ -1,8 +1,8 @@
-ghost use Rattle.std.specs.Prelude.{◌≡◌, ℕ, ◌+◌, ◌<◌, Option, length, IfOk};
+ghost use Rattle.std.specs.Prelude.{◌≡◌, ℕ, ◌+◌, ◌<◌, Option, length, nat_lt, IfOk};
 ghost use Rattle.keep_tree.specs.Forest.{end_of};
-ghost use Rattle.keep_tree.specs.Renewal.{all_last};
+ghost use Rattle.keep_tree.specs.Renewal.{all_last, renewed};
 ghost use Rattle.keep_rule.specs.Asks.{asks, is_due, is_wanted};
-ghost use Rattle.keep_needs.specs.Carried.{IsCarried};
+ghost use Rattle.keep_needs.specs.Carried.{IsCarried, load_at};
 ghost use Rattle.keep_plan.specs.Living.{AreLiving, waits_until};
 
 use keep_moment::Moment;
@@ -78,10 +78,29 @@ fn is_wanted(
         → until ≡ waits_until forest.now.margin next → result ≡ is_wanted forest.now.entries forest.now.margin s (end_of forest.now.entries) at next index }
 {
     let entry = forest.get(index);
-    if !lives || !entry.renewable || carried.need(index) <= entry.end {
+    if !lives || !entry.renewable || !falls_short(forest, carried, index) {
         return false;
     }
-    is_before(entry.end, until) && entry.end < granted_end(forest, index, at)
+    is_before(entry.end, until) && gains(forest, index, at)
+}
+
+/// Whether the entry ends before the need that it carries.
+#[tactic(auto, unfolding(keep_tree::specs::Forest::end_of))]
+fn falls_short(forest: &Forest, carried: &Carried, index: u32) -> bool
+    requires within { index < length forest.now.entries }
+    requires carried { length carried.now ≡ length forest.now.entries }
+    ensures { result ≡ nat_lt (end_of forest.now.entries index) (load_at carried.now index).need }
+{
+    forest.get(index).end < carried.need(index)
+}
+
+/// Whether a renewal at `at` gives the entry a later end.
+#[tactic(auto, unfolding(keep_tree::specs::Forest::end_of))]
+fn gains(forest: &Forest, index: u32, at: Moment) -> bool
+    requires { index < length forest.now.entries }
+    ensures { result ≡ nat_lt (end_of forest.now.entries index) (renewed forest.now.entries forest.now.margin (end_of forest.now.entries) at index) }
+{
+    forest.get(index).end < granted_end(forest, index, at)
 }
 
 /// Whether the end comes before that moment; it does where there is none.

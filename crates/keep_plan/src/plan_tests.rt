@@ -6,11 +6,19 @@ use keep_tree::{Forest, Kind};
 use std::alloc::Global;
 use std::test::Fail;
 
-// A token with this step, no ceiling in reach.
+// A token with this step.
 fn renewed(end: u64, step: u32, need: u64) -> Row {
     Row {
         step,
         ..token(None, end, true, need)
+    }
+}
+
+// A token of end 1002 and step 2, with this ceiling.
+fn quick(ceiling: u64, need: u64) -> Row {
+    Row {
+        ceiling: Some(ceiling),
+        ..renewed(1002, 2, need)
     }
 }
 
@@ -66,7 +74,7 @@ fn planned(alloc: Global, margin: u32, rows: &[Row]) -> Result<Plan, Fail> {
 // One token, or none.
 #[test]
 fn gives_the_runs_of_one_token(rt: HostRuntime) -> Result<(), Fail> {
-    let cases: [(&[Row], &[Run]); 9] = [
+    let cases: [(&[Row], &[Run]); 10] = [
         (&[web(1200)], &[run(1059, 59, 3, 0)]),
         (&[web(1060)], &[]),
         (&[web(1061)], &[run(1059, 0, 1, 0)]),
@@ -74,8 +82,9 @@ fn gives_the_runs_of_one_token(rt: HostRuntime) -> Result<(), Fail> {
         (&[token(None, 1000, true, 1000)], &[]),
         (&[renewed(1002, 2, 1010)], &[run(1001, 1, 8, 0)]),
         (&[pay(1100)], &[run(1059, 0, 1, 0)]),
-        (&[renewed(1002, 2, 101003)], &[run(1001, 1, 100001, 0)]),
-        (&[renewed(1002, 2, 10001002)], &[run(1001, 1, 10000000, 0)]),
+        (&[quick(201000, 101002)], &[run(1001, 1, 100000, 0)]),
+        (&[quick(201000, 101003)], &[run(1001, 1, 100001, 0)]),
+        (&[quick(20001000, 10001002)], &[run(1001, 1, 10000000, 0)]),
     ];
     for (i, case) in cases.iter().enumerate() {
         let (rows, want) = *case;
@@ -91,11 +100,7 @@ fn gives_the_runs_of_several(rt: HostRuntime) -> Result<(), Fail> {
     let fixed = token(None, 1060, false, 0);
     let cases: [(u32, &[Row], &[Run]); 6] = [
         (1, &token_and_lease(10000), &[run(1059, 59, 3, 1)]),
-        (
-            1,
-            &[web(1200), token(None, 6000, true, 0), lease(1, 5000, 4000)],
-            &[run(1059, 59, 3, 0)],
-        ),
+        (1, &with_big(1060), &[run(1059, 59, 3, 0)]),
         (
             1,
             &[web(1100), renewed(1100, 100, 1400)],
@@ -151,7 +156,7 @@ fn names_why_there_is_no_plan(rt: HostRuntime) -> Result<(), Fail> {
             ],
             Some((0, 1)),
         ),
-        (&[renewed(1002, 2, 10001003)], None),
+        (&[quick(20001000, 10001003)], None),
     ];
     for (i, case) in cases.iter().enumerate() {
         let (rows, want) = *case;
@@ -170,14 +175,15 @@ fn names_why_there_is_no_plan(rt: HostRuntime) -> Result<(), Fail> {
 #[test]
 fn asks_what_cannot_wait(rt: HostRuntime) -> Result<(), Fail> {
     let alloc = rt.alloc();
-    let big = [web(1200), token(None, 6000, true, 0), lease(1, 5000, 4000)];
-    let cases: [(&[Row], u64, &[u32]); 6] = [
+    let cases: [(&[Row], u64, &[u32]); 8] = [
         (&pair(1100, 1060), 1059, &[0, 1]),
         (&pair(1159, 1119), 1118, &[0, 1]),
         (&pair(1218, 1178), 1177, &[1]),
         (&pair(1130, 1060), 1059, &[1]),
         (&pair(1130, 1119), 1118, &[0, 1]),
-        (&big, 1059, &[0]),
+        (&with_big(1060), 1059, &[0]),
+        (&with_big(1119), 1118, &[0]),
+        (&with_big(1178), 1177, &[0]),
     ];
     for (i, case) in cases.iter().enumerate() {
         let (rows, at, want) = *case;
@@ -200,5 +206,14 @@ fn pair(token: u64, lease: u64) -> [Row; 2] {
             end: lease,
             ..under
         },
+    ]
+}
+
+// Web with this end, base and its lease big.
+fn with_big(web: u64) -> [Row; 3] {
+    [
+        token(None, web, true, 1200),
+        token(None, 6000, true, 0),
+        lease(1, 5000, 4000),
     ]
 }

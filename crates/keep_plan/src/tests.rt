@@ -17,7 +17,7 @@ pub(crate) struct Row {
     pub(crate) need: u64,
 }
 
-// A token with the step 60 and no ceiling.
+// A token with the step 60 and the ceiling 10000.
 pub(crate) fn token(parent: Option<u32>, end: u64, renewable: bool, need: u64) -> Row {
     Row {
         kind: Kind::Token,
@@ -25,7 +25,7 @@ pub(crate) fn token(parent: Option<u32>, end: u64, renewable: bool, need: u64) -
         end,
         renewable,
         step: 60,
-        ceiling: None,
+        ceiling: Some(10000),
         need,
     }
 }
@@ -42,7 +42,7 @@ pub(crate) fn token_and_lease(ceiling: u64) -> [Row; 2] {
         ceiling: Some(ceiling),
         ..token(None, 1100, true, 0)
     };
-    [over, lease]
+    [over, token(Some(0), 1060, true, 1200)]
 }
 
 pub(crate) fn forest_of(alloc: Global, rows: &[Row]) -> Result<Forest, Fail> {

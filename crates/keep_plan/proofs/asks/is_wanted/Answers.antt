@@ -7,7 +7,7 @@ use Rattle.keep_tree.specs.Renewal.{renewed}
 use Rattle.keep_rule.specs.Asks.{is_due}
 use Rattle.keep_plan.proofs.Wanted.{due_until, unwanted_enough, unwanted_fixed, unwanted_gone, wanted_due, wanted_late}
 use Rattle.keep_plan.proofs.asks.is_wanted.Goals as goal
-use Rattle.keep_plan.proofs.asks.is_wanted.Goals.{then-not-lives-via-then-not-lives, then-not-lives-via-else-not-lives+then-not-entry, then-not-lives-via-else-not-lives+else-not-entry+then-need-entry}
+use Rattle.keep_plan.proofs.asks.is_wanted.Goals.{then-not-lives-via-then-not-lives, then-not-lives-via-else-not-lives+then-not-entry, then-not-lives-via-else-not-lives+else-not-entry+then-not-falls_short}
 
 pub returns-then-not-lives : goal.returns-then-not-lives
 unfolding end_of
@@ -20,10 +20,9 @@ returns-then-not-lives c = λ s next is lives waits.
       | then-not-lives-via-then-not-lives w ↦ sym (unwanted_gone es g.margin s c.args.at next i (sym lives ∙ w.if-not-lives.true))
       | then-not-lives-via-else-not-lives+then-not-entry w ↦
           sym (unwanted_fixed es g.margin s c.args.at next i (sym (ap (λ (e : Entry). e.renewable) c.get-entry.ensures.value) ∙ w.if-not-entry.true))
-      | then-not-lives-via-else-not-lives+else-not-entry+then-need-entry w ↦
-          let carries : w.need.result ≡ carried es s i = w.need.ensures ∙ is.need i c.requires.within in
-          let enough : nat_lt (end_of es i) (carried es s i) ≡ false = grind (arith, nat_tests, w.if-need-entry.true) in
-          sym (unwanted_enough es g.margin s c.args.at next i enough)
+      | then-not-lives-via-else-not-lives+else-not-entry+then-not-falls_short w ↦
+          let short : w.falls_short.result ≡ nat_lt (end_of es i) (carried es s i) = w.falls_short.ensures ∙ ap (nat_lt (end_of es i)) (is.need i c.requires.within) in
+          sym (unwanted_enough es g.margin s c.args.at next i (sym short ∙ w.if-not-falls_short.true))
     ]
 
 pub returns-then-is_before : goal.returns-then-is_before
@@ -33,12 +32,12 @@ returns-then-is_before c = λ s next is lives waits.
     let es = g.entries in
     let i = c.args.index in
     let end : c.get-entry.result.now.end ≡ end_of es i = ap (λ (e : Entry). e.end) c.get-entry.ensures.value in
-    let carries : c.need.result ≡ carried es s i = c.need.ensures ∙ is.need i c.requires.within in
-    let short : nat_lt (end_of es i) (carried es s i) ≡ true = grind (arith, nat_tests, c.if-need-entry.false) in
+    let judged : c.falls_short.result ≡ nat_lt (end_of es i) (carried es s i) = c.falls_short.ensures ∙ ap (nat_lt (end_of es i)) (is.need i c.requires.within) in
+    let short = sym judged ∙ c.if-not-falls_short.false in
     let due = sym (ap (is_due 0 c.args.until) end) in
     sym (wanted_due es g.margin s c.args.at next i (sym (ap (λ (e : Entry). e.renewable) c.get-entry.ensures.value) ∙ c.if-not-entry.false) (sym lives ∙ c.if-not-lives.false) short
     (sym (due_until g.margin (end_of es i) next c.args.until waits) ∙ due ∙ sym c.is_before.ensures ∙ c.if-is_before.true)
-    ∙ ap (λ e. nat_lt e (renewed es g.margin (end_of es) c.args.at i)) (sym end) ∙ ap (nat_lt c.get-entry.result.now.end) (sym c.granted_end.ensures))
+    ∙ sym c.gains.ensures)
 
 pub returns-else-is_before : goal.returns-else-is_before
 unfolding end_of
@@ -47,8 +46,8 @@ returns-else-is_before c = λ s next is lives waits.
     let es = g.entries in
     let i = c.args.index in
     let end : c.get-entry.result.now.end ≡ end_of es i = ap (λ (e : Entry). e.end) c.get-entry.ensures.value in
-    let carries : c.need.result ≡ carried es s i = c.need.ensures ∙ is.need i c.requires.within in
-    let short : nat_lt (end_of es i) (carried es s i) ≡ true = grind (arith, nat_tests, c.if-need-entry.false) in
+    let judged : c.falls_short.result ≡ nat_lt (end_of es i) (carried es s i) = c.falls_short.ensures ∙ ap (nat_lt (end_of es i)) (is.need i c.requires.within) in
+    let short = sym judged ∙ c.if-not-falls_short.false in
     let due = sym (ap (is_due 0 c.args.until) end) in
     c.if-is_before.false
     ∙ sym (wanted_late es g.margin s c.args.at next i (sym (ap (λ (e : Entry). e.renewable) c.get-entry.ensures.value) ∙ c.if-not-entry.false) (sym lives ∙ c.if-not-lives.false) short
