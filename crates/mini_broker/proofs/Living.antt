@@ -1,11 +1,10 @@
 -- Which slots live at a moment, step by step up the tree, and what one pass over the slots therefore does: for the sweep.
-use Rattle.std.proofs.Common.{◌≡◌, ℕ, zero, suc, ◌+◌, ◌<◌, ◌≤◌, ◌-◌, Bool, true, false, cond, ◌&&◌, List, [], ◌∷◌, ◌++◌, Option, Some, None, IfSome, length, get_or, map, take, drop, set, nat_lt, refl, sym, ap, ◌∙◌, subst, arith}
+use Rattle.std.proofs.Common.{◌≡◌, ℕ, zero, suc, ◌+◌, ◌<◌, ◌≤◌, ◌-◌, Bool, true, false, cond, ◌&&◌, List, ◌++◌, Option, Some, None, IfSome, length, get_or, map, take, drop, set, nat_lt, refl, sym, ap, ◌∙◌, subst, arith}
 use Rattle.std.proofs.lemmas.List.{drop_all, get_or-append_right, get_or_append_left, get_or-drop, get_or-map, get_or-take, get_or_default, append-nil, length-append, length-drop, length-map, length-take-le, take_all}
 use Rattle.std.proofs.lemmas.List.Edits.{map_over_more}
 use Rattle.keep_tree.specs.declared.forest.TheConstants.{MAX_ENTRIES}
 use Rattle.mini_broker.specs.declared.row.Row.{Row}
 use Rattle.mini_broker.specs.declared.slot.Slot.{Slot}
-use Rattle.mini_broker.specs.Rows.{row_named}
 use Rattle.mini_broker.specs.Sweep.{lives, lives_of, parent_passes, passes, swept}
 use Rattle.mini_broker.specs.Slots.{AreSlots, IsTied, is_listed, listed_rows, no_slot, relisted, slot_at, stands, swept_slots}
 use Rattle.mini_broker.proofs.Listed.{listed_passing, named_listed}

@@ -1,5 +1,5 @@
 -- The id of a lease that a request names is a text, and so is the credential of the lease that it finds: for the replies.
-use Rattle.std.proofs.Common.{◌≡◌, ℕ, Bool, true, false, cond, ◌&&◌, List, [], ◌∷◌, Option, Some, None, IfSome, IsUtf8, bytes_eq, refl, sym, ap, ◌∙◌, subst}
+use Rattle.std.proofs.Common.{◌≡◌, ℕ, Bool, true, false, cond, ◌&&◌, List, [], ◌∷◌, Option, Some, None, IfSome, IsUtf8, bytes_eq, refl, sym, subst}
 use Rattle.std.proofs.Common.{Result, Ok, Err}
 use Rattle.std.proofs.lemmas.Str.{IsUtf8-from_is_utf8}
 use Rattle.std.specs.Cmp.Lexicographic.{bytes_decides}
@@ -8,15 +8,14 @@ use Rattle.std.specs.Str.{is_utf8}
 use Rattle.keep_tree.specs.Push.{is_lease}
 use Rattle.vault_http.specs.declared.request.Request.{Request}
 use Rattle.mini_broker.specs.declared.row.Row.{Row}
-use Rattle.mini_broker.specs.declared.asked.Asked.{Asked}
 use Rattle.mini_broker.specs.declared.call.Call.{Call}
 use Rattle.mini_broker.specs.declared.call.Call.TheVariants.{RenewSelf, RenewLease, LookupSelf, LookupLease}
 use Rattle.mini_broker.specs.declared.fault.Fault.{Fault}
 use Rattle.mini_broker.specs.declared.refusal.Refusal.{Refusal}
-use Rattle.mini_broker.specs.Found.{GrantNamesText, NamesText, SubjectNamesText}
+use Rattle.mini_broker.specs.Found.{GrantNamesText, SubjectNamesText}
 use Rattle.mini_broker.specs.Renewing.{granted, is_deny, new_end, renewal}
 use Rattle.mini_broker.specs.Request.{a_text, asked, increment_in, lease_id_in, of_lease}
-use Rattle.mini_broker.specs.Subject.{Subject, bearer, belongs, is_lease_with, lease_with, named, owned, subject, with_asked, with_bearer}
+use Rattle.mini_broker.specs.Subject.{Subject, bearer, belongs, is_lease_with, lease_with, owned, subject, with_asked, with_bearer}
 
 text_if : (b : Bool) (id : List ℕ) → b ≡ is_utf8 id → IfSome (cond b (Some id) None) IsUtf8
 text_if true id e = IsUtf8-from_is_utf8 id (sym e)

@@ -1,7 +1,7 @@
 -- What a request asks: which of four calls, with which method, and what its body says.
 -- Source: Vault, HTTP API: `auth/token`, "Renew a token (self)" and "Lookup a token (self)"; `sys/leases`, "Renew lease"
 -- and "Read lease".
-use Rattle.std.specs.Prelude.{ℕ, Bool, true, false, ◌||◌, List, Option, Some, None, Result, Ok, Err, codes, bytes_eq, option_map, if◌then◌else◌}
+use Rattle.std.specs.Prelude.{ℕ, Bool, true, false, ◌||◌, List, Option, Some, None, Result, Ok, Err, codes, bytes_eq, if◌then◌else◌}
 use Rattle.std.specs.Str.{is_utf8}
 use Rattle.vault_json.specs.Request.{increment_answer, lease_id_answer}
 use Rattle.vault_json.specs.declared.fault.ReplyFault.{ReplyFault}

@@ -1,6 +1,6 @@
 -- Of which row a request speaks, or why it is refused. In Vault a policy decides which leases a token may renew; here
 -- each token may renew and look up its own.
-use Rattle.std.specs.Prelude.{ℕ, Bool, true, false, not, ◌&&◌, List, Option, Some, None, Result, Ok, Err, bytes_eq, if◌then◌else◌}
+use Rattle.std.specs.Prelude.{ℕ, Bool, false, not, ◌&&◌, List, Option, Some, None, Result, Ok, Err, bytes_eq, if◌then◌else◌}
 use Rattle.std.specs.List.{find}
 use Rattle.keep_tree.specs.Push.{is_lease}
 use Rattle.vault_http.specs.declared.request.Request.{Request}

@@ -1,4 +1,7 @@
-ghost use Rattle.std.specs.Prelude.{◌≡◌, ◌++◌, ◌∷◌, [], None, Err, IfErr, IfOk, IfSome, OnErr, OnOk, IsOkUnless, is_some, option_map};
+ghost use Rattle.std.specs.Prelude.{◌≡◌, ◌++◌, ◌∷◌, [], None, Err, IfErr, IfOk, IfSome, IsErrOf, OnErr, OnOk, IsOkUnless, is_some, option_map};
+ghost use Rattle.std.specs.Io.KnownBytes.{Keeps};
+ghost use Rattle.vault_http.specs.Holding.{HandedNone};
+ghost use Rattle.vault_http.specs.Messages.{IsRequest};
 ghost use Rattle.mini_broker.specs.Rows.{rows_of, row_named};
 ghost use Rattle.mini_broker.specs.Sweep.{swept};
 ghost use Rattle.mini_broker.specs.Faults.{fault_refusal};
@@ -120,8 +123,9 @@ impl Table {
     /// Reads one request of at most 1 MiB, serves it at `t`, and writes the reply, if there is one. A request that cannot
     /// be read is refused with status 400, and is not counted; one that ends too soon gets no reply.
     ///
-    /// `ReadFailed`: a read failed, and the table is as it was. `WriteFailed`: a write failed; the table is as serving the
-    /// request has left it. `OutOfMemory`: the table is as it was, or as serving has left it.
+    /// `ReadFailed`: a read failed before the bytes held a whole request; the table is as it was, and nothing was written.
+    /// `WriteFailed`: a write failed; the table is as serving the request has left it. `OutOfMemory`: the table is as it
+    /// was, or as serving has left it.
     pub fn serve_stream<S: Source + Sink>(
         &mut self,
         t: Moment,
@@ -130,6 +134,8 @@ impl Table {
         ensures streamed { OnOk result (IsStreamed (record { remaining = S.remaining stream.old; reads_left = S.reads_left stream.old; old = S.written stream.old; new = S.written stream.new }) self.old t self.new) }
         ensures left { IfErr result (λ fault. Leaves (record { remaining = S.remaining stream.old; reads_left = S.reads_left stream.old; old = S.written stream.old; new = S.written stream.new }) self.old t fault self.new) }
         ensures count { CountsStream result (S.failed_calls stream.old) (S.failed_calls stream.new) }
+        ensures unread { IsErrOf result StreamFault.ReadFailed → HandedNone (IsRequest MOST_REQUEST) (S.remaining stream.old) (S.remaining stream.new) }
+        ensures unwritten { IsErrOf result StreamFault.ReadFailed → Keeps (S.written stream.old) (S.written stream.new) }
     {
         let alloc = *self.slots.allocator();
         let message = read_request(alloc, stream, MOST_REQUEST);

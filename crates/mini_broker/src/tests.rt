@@ -17,9 +17,10 @@ const TOKEN_AND_LEASE: &str =
     "[[token]]\nname = \"T\"\nissued = 1000\nend = 1100\nincrement = 100\nmax_ttl = 9000\n\n\
     [[lease]]\nname = \"L\"\ntoken = \"T\"\nissued = 1000\nend = 1060\nincrement = 60\nmax_ttl = 9000\nneed = 1200\n";
 
-const TWO_TREES: &str =
+const THREE_TOKENS: &str =
     "[[token]]\nname = \"T\"\nissued = 1000\nend = 1100\nincrement = 100\nexplicit_max_ttl = 500\nsecret = \"s.T\"\n\
     [[token]]\nname = \"O\"\nparent = \"T\"\nissued = 900\nend = 1100\nincrement = 100\nrenewable = false\n\
+    [[token]]\nname = \"P\"\nissued = 1000\nend = 1100\nincrement = 100\n\
     [[lease]]\nname = \"L\"\ntoken = \"T\"\nissued = 1000\nend = 1060\nincrement = 60\nlease_id = \"db/creds/1\"\n";
 
 const PERIODIC: &str =
@@ -125,10 +126,10 @@ fn serves_a_token_and_its_lease(rt: HostRuntime) -> Result<(), Fail> {
             "{\"lease_duration\":60,\"lease_id\":\"L\",\"renewable\":true}",
         ),
         (
-            "PUT",
+            "POST",
             RENEW_LEASE,
             "T",
-            "{\"lease_id\":\"X\"}",
+            "{\"increment\":60,\"lease_id\":\"X\"}",
             400,
             "{\"errors\":[\"unknown lease\"]}",
         ),
@@ -182,9 +183,16 @@ fn serves_a_token_and_its_lease(rt: HostRuntime) -> Result<(), Fail> {
     Ok(())
 }
 
+/// Whether a renewal at 1100 is refused, and T and L are listed no more.
+fn both_ended_at_1100(table: &mut Table, renewal: &Request) -> Result<bool, Fail> {
+    let refused = reply(table, 1100, renewal)?.status == 403;
+    Ok(refused & !table.alive(b"T") & !table.alive(b"L") & table.end_of(b"L").is_none())
+}
+
 #[test]
 fn ends_a_lease_with_its_token(rt: HostRuntime) -> Result<(), Fail> {
     let alloc = rt.alloc();
+    let mut fresh = table(alloc, TOKEN_AND_LEASE)?;
     let mut table = table(alloc, TOKEN_AND_LEASE)?;
     let renewal = request(
         alloc,
@@ -196,10 +204,8 @@ fn ends_a_lease_with_its_token(rt: HostRuntime) -> Result<(), Fail> {
     assert_eq!(rt; reply(&mut table, 1059, &renewal)?.status, 200);
     assert_eq!(rt; table.end_of(b"L"), Some(1119));
     assert!(rt; table.alive(b"T"));
-    assert_eq!(rt; reply(&mut table, 1100, &renewal)?.status, 403);
-    assert!(rt; !table.alive(b"T"));
-    assert!(rt; !table.alive(b"L"));
-    assert_eq!(rt; table.end_of(b"L"), None);
+    assert!(rt; both_ended_at_1100(&mut table, &renewal)?);
+    assert!(rt; both_ended_at_1100(&mut fresh, &renewal)?);
     Ok(())
 }
 
@@ -215,7 +221,7 @@ fn grants_what_is_asked_up_to_the_ceiling(rt: HostRuntime) -> Result<(), Fail> {
     );
     assert_eq!(rt; web.end_of(b"web"), Some(1010));
     let mut pay = table(alloc, PERIODIC)?;
-    let five = request(alloc, "PUT", RENEW_SELF, "pay", "{\"increment\":\"5s\"}")?;
+    let five = request(alloc, "PUT", RENEW_SELF, "pay", "{\"increment\":5}")?;
     let got = reply(&mut pay, 1059, &five)?;
     assert_eq!(rt;
         got.body.list(),
@@ -224,7 +230,7 @@ fn grants_what_is_asked_up_to_the_ceiling(rt: HostRuntime) -> Result<(), Fail> {
     Ok(())
 }
 
-// Two tokens, one the child of the other, and a lease of the first, at 1010.
+// Three tokens, T, its child O, and P of another tree, and a lease of T, at 1010.
 #[test]
 fn looks_up_what_is_the_tokens_own(rt: HostRuntime) -> Result<(), Fail> {
     let alloc = rt.alloc();
@@ -264,6 +270,14 @@ fn looks_up_what_is_the_tokens_own(rt: HostRuntime) -> Result<(), Fail> {
         (
             "POST",
             LOOKUP_LEASE,
+            "P",
+            "{\"lease_id\":\"db/creds/1\"}",
+            403,
+            "{\"errors\":[\"permission denied\"]}",
+        ),
+        (
+            "POST",
+            LOOKUP_LEASE,
             "s.T",
             "",
             400,
@@ -279,7 +293,7 @@ fn looks_up_what_is_the_tokens_own(rt: HostRuntime) -> Result<(), Fail> {
         ),
     ];
     for (name, path, token, body, status, text) in cases {
-        let mut table = table(alloc, TWO_TREES)?;
+        let mut table = table(alloc, THREE_TOKENS)?;
         let got = reply(&mut table, 1010, &request(alloc, name, path, token, body)?)?;
         assert_eq!(rt; got.status, status);
         assert_eq!(rt; got.body.list(), text.as_bytes());

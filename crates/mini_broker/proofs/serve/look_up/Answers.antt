@@ -1,4 +1,4 @@
-use Rattle.std.proofs.Common.{◌≡◌, Ok, subst, sym}
+use Rattle.std.proofs.Common.{Ok, subst, sym}
 use Rattle.mini_broker.specs.declared.slot.Slot.{Slot}
 use Rattle.mini_broker.specs.Found.{NamesText, SubjectNamesText, subject_at}
 use Rattle.mini_broker.specs.Slots.{listed_rows}

@@ -1,4 +1,4 @@
-use Rattle.std.proofs.Common.{◌≡◌, ◌∙◌, ap, subst, sym}
+use Rattle.std.proofs.Common.{◌∙◌, ap, subst, sym}
 use Rattle.mini_broker.specs.Slots.{AreSlots, listed_rows}
 use Rattle.mini_broker.specs.Index.{credentials_of}
 use Rattle.mini_broker.proofs.Indexed.{ended_credentials}

@@ -1,7 +1,7 @@
 use Rattle.std.proofs.Common.{◌≡◌, ◌∙◌, ap, arith, length, subst, sym}
 use Rattle.keep_tree.specs.Forest.{Grove}
 use Rattle.keep_tree.specs.Push.{IsForest}
-use Rattle.mini_broker.specs.Slots.{AreSlots, slots_of}
+use Rattle.mini_broker.specs.Slots.{AreSlots}
 use Rattle.mini_broker.proofs.Loaded.{all_slots, slots_are_sound, slots_more}
 use Rattle.mini_broker.proofs.slot.slots_of.Goals as goal
 

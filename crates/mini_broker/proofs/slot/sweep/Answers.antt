@@ -1,5 +1,5 @@
-use Rattle.std.proofs.Common.{◌≡◌, ◌∙◌, ap, arith, length, subst, sym}
-use Rattle.mini_broker.specs.Slots.{AreSlots, listed_rows, swept_slots}
+use Rattle.std.proofs.Common.{◌∙◌, ap, arith, subst, sym}
+use Rattle.mini_broker.specs.Slots.{AreSlots, listed_rows}
 use Rattle.mini_broker.specs.Index.{credentials_of}
 use Rattle.mini_broker.proofs.Indexed.{swept_credentials}
 use Rattle.mini_broker.proofs.Living.{judged_all, judged_first, judged_more, over_within, swept_rows, swept_sound}

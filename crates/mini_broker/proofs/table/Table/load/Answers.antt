@@ -1,9 +1,8 @@
-use Rattle.std.proofs.Common.{◌≡◌, ◌∙◌, [], ap, subst, List}
+use Rattle.std.proofs.Common.{◌≡◌, ◌∙◌, ap, subst, List}
 use Rattle.mini_broker.specs.declared.fault.NumberedFault.{NumberedFault}
 use Rattle.mini_broker.specs.declared.row.Row.{Row}
 use Rattle.mini_broker.specs.Index.{IsIndexed}
 use Rattle.mini_broker.specs.Ledger.{Ledger}
-use Rattle.mini_broker.specs.Rows.{rows_of}
 use Rattle.mini_broker.specs.Slots.{listed_rows}
 use Rattle.mini_broker.proofs.Loaded.{rows_of_slots}
 use Rattle.mini_broker.proofs.table.Table.load.Goals as goal

@@ -1,6 +1,5 @@
-use Rattle.std.proofs.Common.{◌≡◌, IfSome}
 use Rattle.std.specs.Io.KnownBytes.{Appends}
-use Rattle.mini_broker.specs.Stream.{Ends, IsHandled, IsStreamed, sent_of}
+use Rattle.mini_broker.specs.Stream.{Ends, IsHandled, sent_of}
 use Rattle.mini_broker.proofs.Streamed.{kept_appends, left_by_sending, of_ok}
 use Rattle.mini_broker.proofs.table.Table.serve_stream.Goals as goal
 
