@@ -1,16 +1,13 @@
 -- What a decision for a forest holds: it can be printed, and what is printed is read back.
-use Rattle.std.proofs.Common.{◌≡◌, ◌∙◌, ℕ, zero, suc, ◌+◌, ◌-◌, ◌*◌, ◌<◌, ◌≤◌, ◌++◌, All, List, [], ◌∷◌, Option, Some, None, length, refl, sym, ap, subst, arith, inl, inr}
+use Rattle.std.proofs.Common.{◌≡◌, ℕ, zero, suc, ◌<◌, ◌≤◌, ◌++◌, All, List, [], ◌∷◌, Option, Some, None, length, refl, ap, subst, arith, inl, inr}
 use Rattle.std.proofs.lemmas.Bool.{cases_lt}
 use Rattle.std.proofs.lemmas.List.Elements.{All-cons, All-nil}
-use Rattle.keep_moment.specs.declared.moment.TheConstants.{LAST}
 use Rattle.keep_tree.specs.declared.entry.Entry.{Entry}
-use Rattle.keep_tree.specs.Carried.{IsFrom, carried}
 use Rattle.keep_tree.specs.Forest.{Grove, end_of, entry_at}
 use Rattle.keep_tree.specs.Over.{Over}
 use Rattle.keep_tree.specs.Push.{IsForest}
 use Rattle.keep_tree.proofs.Entries.{entry_at_past}
 use Rattle.keep_tree.proofs.Placed.{parents_first}
-use Rattle.keep_rule.specs.Forced.{bound}
 use Rattle.keep_schedule.specs.declared.force.Force.{Force}
 use Rattle.keep_schedule.specs.declared.limit.TheConstants.{LIMIT}
 use Rattle.keep_schedule.specs.declared.run.Run.{Run}
@@ -18,7 +15,7 @@ use Rattle.keep_schedule.specs.Forces.{AreForces, IsForce}
 use Rattle.keep_schedule.specs.Runs.{all_wakes, wakes, wakes_of}
 use Rattle.keep_plan.specs.declared.decision.Decision.{Decision}
 use Rattle.keep_plan.specs.declared.decision.Decision.TheVariants as decision
-use Rattle.keep_plan.specs.Decides.{AreBest, Decides}
+use Rattle.keep_plan.specs.Decides.{Decides}
 use Rattle.keep_plan.specs.Planned as planned
 use Rattle.keep_plan.specs.Planned.{IsPlanned, Planned}
 use Rattle.keep_plan.proofs.Unkeepables.{over_at_most}
@@ -26,9 +23,9 @@ use Rattle.keep_plan.proofs.Walking.{length_all_cons}
 use Rattle.keep_cert.specs.declared.cert.Body.{Body}
 use Rattle.keep_cert.specs.declared.cert.Body.TheVariants.{Runs, Unkeepable}
 use Rattle.keep_cert.specs.declared.cert.Version.TheVariants.{Two}
-use Rattle.keep_cert.specs.CertificateText.{AreRuns, IsAmong, IsBody, IsRun, certificate_text, counted}
+use Rattle.keep_cert.specs.CertificateText.{AreRuns, IsAmong, IsBody, certificate_text, counted}
 use Rattle.keep_cert.specs.Laws.{DecidedIsOf, PrintedIsRead}
-use Rattle.keep_cert.specs.Printing.{IsOf, certified, claim}
+use Rattle.keep_cert.specs.Printing.{certified, claim}
 use Rattle.keep_cert.proofs.ReadBackAll.{written_is_read}
 
 -- the wake-ups of runs are counted by their lines
