@@ -6,8 +6,8 @@ pub fn state_law()
     ensures { StateLaw }
 {}
 
-/// The law of added pairs: each need that an event notes as shortened is shortened as far as it has to be and no farther, and
-/// no other need is changed but by [`Event::Need`](crate::Event::Need).
+/// The law of added pairs: each need that the opening or an event notes as shortened is shortened as far as it has to be and
+/// no farther, and no other need is changed but by [`Event::Need`](crate::Event::Need).
 pub fn adds_law()
     ensures { AddsLaw }
 {}
