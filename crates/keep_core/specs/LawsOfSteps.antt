@@ -1,6 +1,6 @@
 -- Laws of steps: what holds of every state that events lead to, which needs an event shortens, and when entries are asked.
 -- Each is the contract of a public function without a body.
-use Rattle.std.specs.Prelude.{◌≡◌, ◌≢◌, ℕ, ◌≤◌, ◌<◌, List, ◌∷◌, ◌++◌, Some, Result, Ok, length}
+use Rattle.std.specs.Prelude.{◌≡◌, ◌≢◌, ℕ, ◌≤◌, ◌<◌, List, ◌∷◌, ◌++◌, Some, Result, Ok, Err, length}
 use Rattle.std.specs.List.{All, Contains}
 use Rattle.keep_moment.specs.declared.moment.TheConstants.{LAST}
 use Rattle.keep_tree.specs.Forest.{Grove, end_of, entry_at}
@@ -11,6 +11,7 @@ use Rattle.keep_core.specs.declared.event.Event.TheVariants.{Tick, Need}
 use Rattle.keep_core.specs.declared.event.Output.{Output}
 use Rattle.keep_core.specs.declared.event.Output.TheVariants as out
 use Rattle.keep_core.specs.declared.fault.StepFault.{StepFault}
+use Rattle.keep_core.specs.declared.fault.StepFault.TheVariants.{OutOfMemory}
 use Rattle.keep_core.specs.declared.shortened.ShortNeed.{ShortNeed}
 use Rattle.keep_core.specs.InForce.{InForce, IsSound}
 use Rattle.keep_core.specs.LawsOfNeeds.{IsShortened}
@@ -61,3 +62,9 @@ abbrev pub AskLaw : Type 0
 AskLaw =
     (old new : State) (event : Event) (asked : List ℕ) → IsState old → Turn old event (Ok (out.Ask asked)) new →
     (t : ℕ) × ((event ≡ Tick t) × IsAskedAt old t asked new)
+
+-- an event gives one result and one state, want of memory aside
+abbrev pub OnceLaw : Type 0
+OnceLaw =
+    (old x y : State) (event : Event) (result other : Result Output StepFault) → result ≢ Err OutOfMemory → other ≢ Err OutOfMemory → Turn old event result x →
+    Turn old event other y → (result ≡ other) × (x ≡ y)
