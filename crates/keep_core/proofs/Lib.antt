@@ -16,3 +16,4 @@ pub mod Heard
 pub mod Waking
 pub mod Stepping
 pub mod States
+pub mod Once

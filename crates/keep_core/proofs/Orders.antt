@@ -399,7 +399,7 @@ replan_once s t x y a b =
     a.is ∙ ap (planned s t) (one_least h.entries h.margin t (end_of h.entries) a.moments b.moments a.best b.best) ∙ sym b.is
 
 -- and is not too long where it gives one
-not_both : (s : State) (t : ℕ) (x : State) → Replan s t x → IsTooLong s.forest t → ⊥
+pub not_both : (s : State) (t : ℕ) (x : State) → Replan s t x → IsTooLong s.forest t → ⊥
 not_both s t x a b =
     let h = shorten s.forest t in
     let same = ap length (one_least h.entries h.margin t (end_of h.entries) a.moments b.moments a.best b.best) in

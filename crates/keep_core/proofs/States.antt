@@ -118,9 +118,9 @@ planned_state s t new forest late closed r = record {
 
 -- and adds the pairs of that planning
 planned_adds :
-    (old : State) (event : Event) (s : State) (t : ℕ) (new : State) → IsForest s.forest → s.shortened ≡ old.shortened →
-    ((i : ℕ) → ((until : ℕ) → event ≢ Need i until) → (entry_at s.forest.entries i).need ≡ (entry_at old.forest.entries i).need) → Replan s t new → Adds old event new
-planned_adds old event s t new forest same needs r =
+    (old : State) (of_these : ℕ → Type 0) (s : State) (t : ℕ) (new : State) → IsForest s.forest → s.shortened ≡ old.shortened →
+    ((i : ℕ) → of_these i → (entry_at s.forest.entries i).need ≡ (entry_at old.forest.entries i).need) → Replan s t new → Adds old new of_these
+planned_adds old of_these s t new forest same needs r =
     let h = shorten s.forest t in
     let none : ShortNeed = record { entry = 0; need = 0 } in
     let each : All (λ pair. (g : Grove) × IsShortened g h t pair) (pairs s.forest t) =
@@ -134,8 +134,8 @@ planned_adds old event s t new forest same needs r =
     }
 
 -- what plans nothing anew adds none
-adds_none : (old : State) (event : Event) (new : State) → new.shortened ≡ old.shortened → ((i : ℕ) → (entry_at new.forest.entries i).need ≡ (entry_at old.forest.entries i).need) → Adds old event new
-adds_none old event new same needs = record { pairs = []; noted = same ∙ sym (append-nil old.shortened); each = All-nil _; others = λ i other whole. needs i }
+adds_none : (old : State) (of_these : ℕ → Type 0) (new : State) → new.shortened ≡ old.shortened → ((i : ℕ) → (entry_at new.forest.entries i).need ≡ (entry_at old.forest.entries i).need) → Adds old new of_these
+adds_none old of_these new same needs = record { pairs = []; noted = same ∙ sym (append-nil old.shortened); each = All-nil _; others = λ i other whole. needs i }
 
 -- an answer changes no need
 heard_need : (s : State) (event : Event) → Hears s event → (at : ℕ) (i : ℕ) → (entry_at (change s.forest (of_entry event) (answered at event)).entries i).need ≡ (entry_at s.forest.entries i).need
@@ -148,15 +148,19 @@ heard_need s event hears at i =
       | inr apart ↦ ap (λ (x : Entry). x.need) (entry_at_set_other es k i e apart)
     ]
 
+-- an event sets no need of i
+abbrev Unset : Event → ℕ → Type 0
+Unset event i = (until : ℕ) → event ≢ Need i until
+
 abbrev Leads : State → Event → State → Type 0
-Leads old event new = IsState new × Adds old event new
+Leads old event new = IsState new × Adds old new (Unset event)
 
 tick_leads : (old : State) (t : ℕ) (output : Output) (new : State) → IsState old → refusal old (Tick t) ≡ None → StepTick old t output new → Leads old (Tick t) new
 tick_leads old t output new state taken step = by_output output step where
   planned_leads : (mid : State) → Replan old t mid → Leads old (Tick t) mid
   planned_leads mid r =
       let parts = tick_taken old t taken in
-      (planned_state old t mid state.forest parts.0 parts.2 r, planned_adds old (Tick t) old t mid state.forest refl (λ i other. refl) r)
+      (planned_state old t mid state.forest parts.0 parts.2 r, planned_adds old (Unset (Tick t)) old t mid state.forest refl (λ i other. refl) r)
 
   by_output : (output : Output) → StepTick old t output new → Leads old (Tick t) new
   by_output out.Idle step = planned_leads new step.0
@@ -202,7 +206,7 @@ answer_leads old event out.Waiting new state hears step =
             sym at ∙ since ∙ ap (λ (s : State). s.last) (sym is);
         sound = open_sound new _ (ap (λ (s : State). s.round) is);
       },
-      adds_none old event new (ap (λ (s : State). s.shortened) is) (λ i. ap (λ (s : State). (entry_at s.forest.entries i).need) is ∙ heard_need old event hears round.at i),
+      adds_none old (Unset event) new (ap (λ (s : State). s.shortened) is) (λ i. ap (λ (s : State). (entry_at s.forest.entries i).need) is ∙ heard_need old event hears round.at i),
     )
 answer_leads old event (out.Round next) new state hears step =
     let round = step.0 in
@@ -210,7 +214,7 @@ answer_leads old event (out.Round next) new state hears step =
     let late = state.last in
     let from = heard old event round.at None in
     let forest : IsForest from.forest = hears.forest round.at (omega arith) in
-    (planned_state from round.at new forest (omega arith) refl step.1.1.1.0, planned_adds old event from round.at new forest refl (λ i other. heard_need old event hears round.at i) step.1.1.1.0)
+    (planned_state from round.at new forest (omega arith) refl step.1.1.1.0, planned_adds old (Unset event) from round.at new forest refl (λ i other. heard_need old event hears round.at i) step.1.1.1.0)
 answer_leads old event out.Idle new state hears step = absurd step
 answer_leads old event (out.Sleep w) new state hears step = absurd step
 answer_leads old event (out.Ask asked) new state hears step = absurd step
@@ -224,7 +228,7 @@ need_leads old i until out.Planned new state taken step =
     let from = needed old i until in
     let forest : IsForest from.forest = changed_forest old.forest state.forest i parts.1 x.end until x.renewable range.end parts.0 in (
       planned_state from old.last new forest state.last parts.2 step,
-      planned_adds old (Need i until) from old.last new forest refl
+      planned_adds old (Unset (Need i until)) from old.last new forest refl
           (λ k other. elim (cases_eq k i) [
             | inl same ↦ absurd (other until (ap (λ j. Need j until) (sym same)))
             | inr apart ↦ ap (λ (e : Entry). e.need) (entry_at_set_other old.forest.entries i k (record x { need = until }) apart)
@@ -238,7 +242,7 @@ need_leads old i until out.Waiting new state taken step = absurd step
 need_leads old i until (out.Round next) new state taken step = absurd step
 
 stays_leads : (old : State) (event : Event) (new : State) → IsState old → new ≡ old → Leads old event new
-stays_leads old event new state same = (subst IsState (sym same) state, adds_none old event new (ap (λ (s : State). s.shortened) same) (λ i. ap (λ (s : State). (entry_at s.forest.entries i).need) same))
+stays_leads old event new state same = (subst IsState (sym same) state, adds_none old (Unset event) new (ap (λ (s : State). s.shortened) same) (λ i. ap (λ (s : State). (entry_at s.forest.entries i).need) same))
 
 turn_leads : (old : State) (event : Event) (result : Result Output StepFault) (new : State) → IsState old → Turn old event result new → Leads old event new
 turn_leads old (Tick t) (Ok output) new state turn = tick_leads old t output new state turn.0 turn.1
@@ -255,7 +259,10 @@ turn_leads old event (Err TooLong) new state turn = stays_leads old event new st
 turn_leads old event (Err OutOfMemory) new state turn = stays_leads old event new state turn.1
 
 pub adds : AddsLaw
-adds old new event result state turn = (turn_leads old event result new state turn).1
+adds = (
+  λ g start new forest r. planned_adds (unplanned g) (λ i. Unit {0}) (unplanned g) start new forest refl (λ i all. refl) r,
+  λ old new event result state turn. (turn_leads old event result new state turn).1,
+)
 
 run_state : (old new : State) (events : List Event) (results : List (Result Output StepFault)) → IsState old → Run old events results new → IsState new
 run_state old new [] [] state run = subst IsState (sym run) state

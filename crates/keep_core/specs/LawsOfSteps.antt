@@ -1,6 +1,6 @@
 -- Laws of steps: what holds of every state that events lead to, which needs an event shortens, and when entries are asked.
 -- Each is the contract of a public function without a body.
-use Rattle.std.specs.Prelude.{◌≡◌, ◌≢◌, ℕ, ◌≤◌, ◌<◌, List, ◌∷◌, ◌++◌, Some, Result, Ok, length}
+use Rattle.std.specs.Prelude.{◌≡◌, ◌≢◌, ℕ, ◌≤◌, ◌<◌, List, ◌∷◌, ◌++◌, Some, Result, Ok, Err, length}
 use Rattle.std.specs.List.{All, Contains}
 use Rattle.keep_moment.specs.declared.moment.TheConstants.{LAST}
 use Rattle.keep_tree.specs.Forest.{Grove, end_of, entry_at}
@@ -11,6 +11,7 @@ use Rattle.keep_core.specs.declared.event.Event.TheVariants.{Tick, Need}
 use Rattle.keep_core.specs.declared.event.Output.{Output}
 use Rattle.keep_core.specs.declared.event.Output.TheVariants as out
 use Rattle.keep_core.specs.declared.fault.StepFault.{StepFault}
+use Rattle.keep_core.specs.declared.fault.StepFault.TheVariants.{OutOfMemory}
 use Rattle.keep_core.specs.declared.shortened.ShortNeed.{ShortNeed}
 use Rattle.keep_core.specs.InForce.{InForce, IsSound}
 use Rattle.keep_core.specs.LawsOfNeeds.{IsShortened}
@@ -31,17 +32,19 @@ StateLaw =
     (g : Grove) (start : ℕ) (old new : State) (events : List Event) (results : List (Result Output StepFault)) → IsForest g → start ≤ LAST → Replan (unplanned g) start old →
     Run old events results new → IsState old × IsState new
 
--- what an event adds to the needs that were shortened: each is shortened, as far as it has to be and no farther, by the ends
--- and needs as the event leaves them. No other need is changed but by Need
-pub record Adds (old : State) (event : Event) (new : State) : Type 0 where
+-- what planning anew adds to the needs that were shortened: each is shortened, as far as it has to be and no farther, by the
+-- ends and needs as they then are. Of the entries of which this is asked, no other need is changed
+pub record Adds (old new : State) (of_these : ℕ → Type 0) : Type 0 where
   pub pairs : List ShortNeed
   pub noted : new.shortened ≡ old.shortened ++ pairs
   pub each : All (λ pair. (g : Grove) × IsShortened g new.forest new.last pair) pairs
-  pub others : (i : ℕ) → ((until : ℕ) → event ≢ Need i until) → ((need : ℕ) → Contains pairs (record { entry = i; need = need }) → ⊥)
-      → (entry_at new.forest.entries i).need ≡ (entry_at old.forest.entries i).need
+  pub others : (i : ℕ) → of_these i → ((need : ℕ) → Contains pairs (record { entry = i; need = need }) → ⊥) → (entry_at new.forest.entries i).need ≡ (entry_at old.forest.entries i).need
 
+-- the opening adds such pairs, and so does each event. No other need is changed but by Need
 abbrev pub AddsLaw : Type 0
-AddsLaw = (old new : State) (event : Event) (result : Result Output StepFault) → IsState old → Turn old event result new → Adds old event new
+AddsLaw =
+    ((g : Grove) (start : ℕ) (new : State) → IsForest g → Replan (unplanned g) start new → Adds (unplanned g) new (λ i. Unit {0}))
+    × ((old new : State) (event : Event) (result : Result Output StepFault) → IsState old → Turn old event result new → Adds old new (λ i. (until : ℕ) → event ≢ Need i until))
 
 -- these entries are asked at t: the first moment of the plan in force there, which is that of before where the tick is not
 -- late. They are the Asks, and someone is asked
@@ -59,3 +62,9 @@ abbrev pub AskLaw : Type 0
 AskLaw =
     (old new : State) (event : Event) (asked : List ℕ) → IsState old → Turn old event (Ok (out.Ask asked)) new →
     (t : ℕ) × ((event ≡ Tick t) × IsAskedAt old t asked new)
+
+-- an event gives one result and one state, want of memory aside
+abbrev pub OnceLaw : Type 0
+OnceLaw =
+    (old x y : State) (event : Event) (result other : Result Output StepFault) → result ≢ Err OutOfMemory → other ≢ Err OutOfMemory → Turn old event result x →
+    Turn old event other y → (result ≡ other) × (x ≡ y)

@@ -66,6 +66,7 @@ impl Keeper {
         requires others { 0 < length (others self.old.round i) }
         ensures { self.new ≡ heard_in self.old.round self.old event }
     {
+        // an answer is taken only where a round is open
         let Some(mut round) = self.round.take() else {
             return;
         };
@@ -88,6 +89,7 @@ impl Keeper {
         ensures refused { IfErr result (λ fault. IfSome self.old.round (λ round. PlanFails (change self.old.forest i (answered round.at event)) round.at fault)) }
         ensures unchanged { OnErr result (self.new ≡ self.old) }
     {
+        // an answer is taken only where a round is open
         let Some(round) = self.round.take() else {
             return Ok(());
         };

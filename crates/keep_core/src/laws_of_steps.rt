@@ -1,4 +1,4 @@
-ghost use Rattle.keep_core.specs.LawsOfSteps.{AddsLaw, AskLaw, StateLaw};
+ghost use Rattle.keep_core.specs.LawsOfSteps.{AddsLaw, AskLaw, OnceLaw, StateLaw};
 
 /// The law of states: whatever events come after the opening, and whatever of them is refused, the forest stays one, a round
 /// is open since the last moment, and the plan is in force whenever no round is open.
@@ -6,8 +6,8 @@ pub fn state_law()
     ensures { StateLaw }
 {}
 
-/// The law of added pairs: each need that an event notes as shortened is shortened as far as it has to be and no farther, and
-/// no other need is changed but by [`Event::Need`](crate::Event::Need).
+/// The law of added pairs: each need that the opening or an event notes as shortened is shortened as far as it has to be and
+/// no farther, and no other need is changed but by [`Event::Need`](crate::Event::Need).
 pub fn adds_law()
     ensures { AddsLaw }
 {}
@@ -16,4 +16,9 @@ pub fn adds_law()
 /// the tick is late; they are the Asks, and there is at least one.
 pub fn ask_law()
     ensures { AskLaw }
+{}
+
+/// The law of one answer: want of memory aside, an event gives one result, and leaves one state.
+pub fn once_law()
+    ensures { OnceLaw }
 {}
