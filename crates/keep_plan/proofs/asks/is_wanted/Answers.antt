@@ -1,9 +1,7 @@
-use Rattle.std.proofs.Common.{◌≡◌, ◌∙◌, true, false, ap, arith, nat_lt, sym}
-use Rattle.std.proofs.lemmas.Bool.Decides.{nat_tests}
+use Rattle.std.proofs.Common.{◌≡◌, ◌∙◌, ap, nat_lt, sym}
 use Rattle.keep_tree.specs.declared.entry.Entry.{Entry}
 use Rattle.keep_tree.specs.Carried.{carried}
 use Rattle.keep_tree.specs.Forest.{end_of}
-use Rattle.keep_tree.specs.Renewal.{renewed}
 use Rattle.keep_rule.specs.Asks.{is_due}
 use Rattle.keep_plan.proofs.Wanted.{due_until, unwanted_enough, unwanted_fixed, unwanted_gone, wanted_due, wanted_late}
 use Rattle.keep_plan.proofs.asks.is_wanted.Goals as goal
