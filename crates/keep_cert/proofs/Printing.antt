@@ -18,7 +18,7 @@ use Rattle.keep_plan.specs.declared.decision.Decision.TheVariants as decision
 use Rattle.keep_plan.specs.Decides.{Decides}
 use Rattle.keep_plan.specs.Planned as planned
 use Rattle.keep_plan.specs.Planned.{IsPlanned, Planned}
-use Rattle.keep_plan.proofs.Unkeepables.{over_at_most}
+use Rattle.keep_schedule.proofs.Bridge.{over_at_most}
 use Rattle.keep_plan.proofs.Walking.{length_all_cons}
 use Rattle.keep_cert.specs.declared.cert.Body.{Body}
 use Rattle.keep_cert.specs.declared.cert.Body.TheVariants.{Runs, Unkeepable}

@@ -1,30 +1,13 @@
 -- Unkeepable: it holds of an entry and some other exactly where the reach falls short of the carried need; for `shortfall`.
-use Rattle.std.proofs.Common.{◌≡◌, ◌==◌, ◌∙◌, ℕ, zero, suc, ◌<◌, ◌≤◌, true, false, List, Option, Some, None, nat_lt, refl, sym, subst, arith}
+use Rattle.std.proofs.Common.{◌≡◌, ℕ, ◌<◌, ◌≤◌, true, false, List, Option, Some, None, nat_lt, refl, subst, arith}
 use Rattle.std.proofs.lemmas.Bool.Decides.{nat_tests}
 use Rattle.keep_tree.specs.declared.entry.Entry.{Entry}
 use Rattle.keep_tree.specs.Forest.{entry_at}
-use Rattle.keep_tree.specs.Over.{Over, is_over}
 use Rattle.keep_tree.specs.Carried.{IsFrom, carried}
-use Rattle.keep_tree.proofs.Carrying.{carried_at_least, carried_is_of, or_parts}
-use Rattle.keep_tree.proofs.Chains.{ParentsFirst, cases_Option, over_child, over_root}
+use Rattle.keep_tree.proofs.Carrying.{carried_at_least, carried_is_of}
 use Rattle.keep_rule.specs.Reach.{reach}
 use Rattle.keep_rule.specs.Unkeepable.{Unkeepable}
 use Rattle.keep_plan.specs.Shortfall.{falls_short}
-
--- what is over an entry has no higher index
-over_from : (es : List Entry) → ParentsFirst es → (n a f : ℕ) → f < n → Over es a f → a ≤ f
-over_from es first zero a f h over = absurd (omega arith)
-over_from es first (suc n) a f h over =
-    cases_Option (entry_at es f).parent (a ≤ f)
-    (λ root. let same : (f == a) ≡ true = sym (over_root es a f root) ∙ over in grind (arith, nat_tests))
-    (λ p child.
-    let below : p < f = first f p child in
-    or_parts (f == a) (is_over es a p) (a ≤ f) (sym (over_child es a f p first child) ∙ over)
-    (λ same. grind (arith, nat_tests))
-    (λ up. let rest = over_from es first n a p (omega arith) up in omega arith))
-
-pub over_at_most : (es : List Entry) → ParentsFirst es → (a f : ℕ) → Over es a f → a ≤ f
-over_at_most es first a f over = over_from es first (suc f) a f (omega arith) over
 
 -- a need after s that is carried
 pub carried_after : (es : List Entry) (s i b : ℕ) → b < carried es s i → s < carried es s i

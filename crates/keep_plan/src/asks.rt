@@ -78,7 +78,7 @@ fn is_wanted(
         → until ≡ waits_until forest.now.margin next → result ≡ is_wanted forest.now.entries forest.now.margin s (end_of forest.now.entries) at next index }
 {
     let entry = forest.get(index);
-    if !lives || !entry.renewable || !falls_short(forest, carried, index) {
+    if !lives || !entry.renewable || !ends_too_soon(forest, carried, index) {
         return false;
     }
     is_before(entry.end, until) && gains(forest, index, at)
@@ -86,7 +86,7 @@ fn is_wanted(
 
 /// Whether the entry ends before the need that it carries.
 #[tactic(auto, unfolding(keep_tree::specs::Forest::end_of))]
-fn falls_short(forest: &Forest, carried: &Carried, index: u32) -> bool
+fn ends_too_soon(forest: &Forest, carried: &Carried, index: u32) -> bool
     requires within { index < length forest.now.entries }
     requires carried { length carried.now ≡ length forest.now.entries }
     ensures { result ≡ nat_lt (end_of forest.now.entries index) (load_at carried.now index).need }

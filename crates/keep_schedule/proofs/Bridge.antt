@@ -168,15 +168,18 @@ forces_schedule es margin s ends prev [] forces = forces
 forces_schedule es margin s ends prev (x ∷ xs) forces =
     (record { entry = x.entry; short = forces.0.short; earliest = forces.0.least; moment = forces.0.moment }, forces_schedule es margin s ends (Some x.at) xs forces.1)
 
--- an entry stands over none before it
-over_below : (es : List Entry) → ParentsFirst es → (n a f : ℕ) → f < n → Over es a f → a ≤ f
-over_below es first zero a f h over = absurd (omega arith)
-over_below es first (suc n) a f h over =
+-- what is over an entry has no higher index
+over_from : (es : List Entry) → ParentsFirst es → (n a f : ℕ) → f < n → Over es a f → a ≤ f
+over_from es first zero a f h over = absurd (omega arith)
+over_from es first (suc n) a f h over =
     cases_Option (entry_at es f).parent (a ≤ f)
     (λ none. let e : f == a ≡ true = sym (over_root es a f none) ∙ over in let k : f ≡ a = grind (arith, nat_tests) in omega arith)
     (λ p is. or_parts (f == a) (is_over es a p) (a ≤ f) (sym (over_child es a f p first is) ∙ over)
     (λ e. let k : f ≡ a = grind (arith, nat_tests) in omega arith)
-    (λ up. let l = first f p is in let k = over_below es first n a p (omega arith) up in omega arith))
+    (λ up. let l = first f p is in let k = over_from es first n a p (omega arith) up in omega arith))
+
+pub over_at_most : (es : List Entry) → ParentsFirst es → (a f : ℕ) → Over es a f → a ≤ f
+over_at_most es first a f over = over_from es first (suc f) a f (omega arith) over
 
 pub carried_past : (g : Grove) (s i : ℕ) → IsForest g → length g.entries ≤ i → carried g.entries s i ≡ 0
 carried_past g s i forest past =
@@ -184,7 +187,7 @@ carried_past g s i forest past =
       | inl some ↦ absurd (
           let found = carrier g.entries s i some in
           let f = found.0 in
-          let low = over_below g.entries (parents_first g forest) (suc f) i f (omega arith) found.1 in
+          let low = over_at_most g.entries (parents_first g forest) i f found.1 in
           let none : (entry_at g.entries f).need ≡ 0 = ap (λ (e : Entry). e.need) (entry_at_past g.entries f (omega arith)) in
           let later : s < (entry_at g.entries f).need = found.2 in
           omega arith)

@@ -33,7 +33,23 @@ const TOKEN: Row = Row(None, 1100, 100, 0);
 
 const LEASE: Row = Row(Some(0), 1060, 60, 1200);
 
+const BASE: Row = Row(None, 6000, 60, 0);
+
+const BIG: Row = Row(Some(1), 5000, 60, 4000);
+
 const SLOW: Row = Row(None, 100, 1000, 10000);
+
+// One token that ends at 1002, renewed by two seconds and needed until 1010.
+const INCREMENT_TWO: [Forced; 8] = [
+    (1001, 0, 0),
+    (1002, 0, 0),
+    (1003, 0, 0),
+    (1004, 0, 0),
+    (1005, 0, 0),
+    (1006, 0, 0),
+    (1007, 0, 0),
+    (1008, 0, 0),
+];
 
 // SLOW with one of end 1500, step 500 and need 1600. That joins at 1098, and then lasts until 1598, short of its need.
 const SLOW_AND_LATE: [Forced; 11] = [
@@ -163,15 +179,19 @@ fn gives_runs(
     Ok(runs_of(alloc, &mut queue, most)?.as_slice() == runs)
 }
 
-// The web example, a token with its lease, two tokens in turn, and others. Of two that are alike the lower index forces.
+// The web example, also with other needs and beside a base token and its big lease; a token with its lease; two tokens in
+// turn; increment two; and others. Of two that are alike the lower index forces.
 #[test]
 fn both_schedules_give_the_forces(rt: HostRuntime) -> Result<(), Fail> {
     let alloc = rt.alloc();
     let web = [(1059, 0, 0), (1118, 0, 0), (1177, 0, 0)];
-    let cases: [(&[Row], &[Forced]); 7] = [
+    let cases: [(&[Row], &[Forced]); 10] = [
         (&[WEB], &web),
         (&[Row(None, 1060, 60, 1060)], &[]),
+        (&[Row(None, 1060, 60, 1061)], &[(1059, 0, 0)]),
         (&[], &[]),
+        (&[Row(None, 1002, 2, 1010)], &INCREMENT_TWO),
+        (&[WEB, BASE, BIG], &web),
         (&[TOKEN, LEASE], &[(1059, 1, 1), (1118, 1, 1), (1177, 1, 1)]),
         (
             &[A, B],

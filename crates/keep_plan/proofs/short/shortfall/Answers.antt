@@ -1,16 +1,15 @@
 use Rattle.std.proofs.Common.{◌≡◌, ◌∙◌, ◌<◌, Some, length, ap, arith, subst, sym, inl, inr}
 use Rattle.std.proofs.lemmas.Bool.{cases_lt}
-use Rattle.keep_tree.specs.declared.entry.Entry.{Entry}
 use Rattle.keep_tree.specs.Carried.{carried}
-use Rattle.keep_tree.specs.Forest.{end_of, entry_at}
-use Rattle.keep_tree.proofs.Entries.{entry_at_past}
-use Rattle.keep_tree.proofs.Placed.{parents_first}
+use Rattle.keep_tree.specs.Forest.{end_of}
+use Rattle.keep_tree.proofs.Carrying.{carried_at_least}
 use Rattle.keep_rule.specs.Reach.{reach}
 use Rattle.keep_rule.specs.Unkeepable.{Unkeepable}
 use Rattle.keep_needs.specs.Carried.{NamesFrom}
+use Rattle.keep_schedule.proofs.Bridge.{carried_past}
 use Rattle.keep_plan.specs.Shortfall.{falls_short}
 use Rattle.keep_plan.proofs.Deciding.{none_keeps, some_keeps}
-use Rattle.keep_plan.proofs.Unkeepables.{not_unkeepable, over_at_most, unkeepable_from}
+use Rattle.keep_plan.proofs.Unkeepables.{not_unkeepable, unkeepable_from}
 use Rattle.keep_plan.proofs.short.shortfall.Goals as goal
 
 pub returns-then-falls_short-clause-pair : goal.returns-then-falls_short-clause-pair
@@ -45,13 +44,12 @@ loop-entry-preserved c =
 pub returns-clause-pair : goal.returns-clause-pair
 returns-clause-pair c =
     let es = c.args.forest.now.entries in
-    let first = parents_first c.args.forest.now c.len-entry-end.ensures.sound in
     let count = c.len-entry-end.ensures.value in
     λ k f pair. elim (cases_lt k (length es)) [
       | inl within ↦ c.loop-entry.invariant k f (omega arith) pair
       | inr past ↦
-          let under = over_at_most es first k f pair.over in
-          let none : (entry_at es f).need ≡ 0 = ap (λ (e : Entry). e.need) (entry_at_past es f (omega arith)) in
+          let none = carried_past c.args.forest.now c.args.start k c.len-entry-end.ensures.sound past in
+          let least = carried_at_least es c.args.start k f pair.over pair.later in
           let later = pair.later in
           omega arith
     ]
