@@ -5,7 +5,6 @@ use Rattle.std.proofs.lemmas.List.{take_all, take_rest}
 use Rattle.httparse.specs.Grammar.{print_response, print_request, HasNoResponse, HasNoRequest, status_code}
 use Rattle.httparse.specs.Spans.{name_and_value}
 use Rattle.httparse.proofs.GrammarLemmas.{response_unique, request_unique}
-use Rattle.vault_http.specs.declared.body.BodyFault.{BodyFault}
 use Rattle.vault_http.specs.declared.framing.Framing.{Framing}
 use Rattle.vault_http.specs.declared.framing.LengthFault.{LengthFault}
 use Rattle.vault_http.specs.declared.heads.Start.{Start}
@@ -17,7 +16,7 @@ use Rattle.vault_http.specs.declared.verdict.Verdict.TheVariants.{More, Done}
 use Rattle.vault_http.specs.Heads.{FoundReply, FoundRequest, framing_of_response, framing_of_request, token_of}
 use Rattle.vault_http.specs.Holding.{HasLineBehind, Lacks}
 use Rattle.vault_http.specs.Judging.{IsWaiting}
-use Rattle.vault_http.specs.Messages.{IsOpenReply, IsOpenRequest, IsBehind, IsFramed, is_informational, reply_of, request_of, IsReply, IsRequest}
+use Rattle.vault_http.specs.Messages.{IsOpenReply, IsOpenRequest, IsBehind, IsFramed, is_informational, request_of, IsReply, IsRequest}
 use Rattle.vault_http.specs.Verdicts.{IfWants}
 use Rattle.vault_http.proofs.EmptyLines.{empty_line, front_split, line_behind, response_ends, request_ends}
 use Rattle.vault_http.proofs.MessageLemmas.{head_on}

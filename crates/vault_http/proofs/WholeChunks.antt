@@ -1,12 +1,12 @@
 -- A body in chunks is whole or cut off, and never both; and where it is whole, it ends with an empty line.
-use Rattle.std.proofs.Common.{◌≡◌, ℕ, ◌+◌, ◌-◌, ◌<◌, ◌≤◌, ◌⊎◌, inl, inr, List, [], ◌∷◌, ◌++◌, length, take, drop, refl, sym, ap, ◌∙◌, arith, append_assoc, append-nil, subst, length-append, Result, Ok, Err}
+use Rattle.std.proofs.Common.{◌≡◌, ℕ, ◌+◌, ◌-◌, ◌≤◌, ◌⊎◌, inl, inr, List, [], ◌∷◌, ◌++◌, length, drop, refl, sym, ap, ◌∙◌, arith, append_assoc, subst, length-append, Result, Ok, Err}
 use Rattle.std.proofs.lemmas.Bool.{cases_lt}
-use Rattle.std.proofs.lemmas.List.{drop_at, nil_from_length}
+use Rattle.std.proofs.lemmas.List.{drop_at}
 use Rattle.std.specs.List.{AllByRecursion}
 use Rattle.httparse.specs.Grammar.{crlf}
 use Rattle.vault_http.specs.declared.body.BodyFault.{BodyFault}
 use Rattle.vault_http.specs.declared.body.BodyFault.TheVariants.{TooLong, Truncated, BadChunk, OutOfMemory}
-use Rattle.vault_http.specs.Chunks.{line_end, IsSize, IsData, size, HasPart, MayHave, Chunk, IsChunk, print_chunk, print_chunks, content, joined, Fits, StopsAt, IsChunked}
+use Rattle.vault_http.specs.Chunks.{line_end, IsSize, IsData, size, HasPart, MayHave, Chunk, IsChunk, print_chunk, print_chunks, content, joined, StopsAt, IsChunked}
 use Rattle.vault_http.specs.Framing.{is_digit}
 use Rattle.vault_http.specs.Holding.{HasLineBehind}
 use Rattle.vault_http.proofs.EmptyLines.{empty_line, ends_more, front_split, line_behind}

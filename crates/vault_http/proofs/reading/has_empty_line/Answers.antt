@@ -1,5 +1,5 @@
 -- The walk is over.
-use Rattle.std.proofs.Common.{◌≡◌, [], length, drop, ap, sym, ◌∙◌, arith}
+use Rattle.std.proofs.Common.{◌≡◌, [], drop, ap, ◌∙◌, arith}
 use Rattle.std.proofs.lemmas.List.{drop_all}
 use Rattle.vault_http.proofs.EmptyLines.{meets, none_met}
 use Rattle.vault_http.proofs.reading.has_empty_line.Goals as goal
