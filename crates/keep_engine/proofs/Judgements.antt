@@ -1,5 +1,5 @@
 -- Judgements: from the line about a certificate to the run, for `run_check`.
-use Rattle.std.proofs.Common.{◌≡◌, ℕ, ◌<◌, ◌≤◌, List, Option, Some, None, Result, Ok, Err, length, codes, refl, sym, ap, subst, inl, inr, arith}
+use Rattle.std.proofs.Common.{◌≡◌, ℕ, List, Some, Result, Ok, Err, length, inl, inr}
 use Rattle.std.proofs.lemmas.Bool.{cases_lt}
 use Rattle.std.specs.Io.KnownBytes.{Appends, Keeps}
 use Rattle.keep_tree.specs.Forest.{Grove}
@@ -17,7 +17,6 @@ use Rattle.keep_check.specs.declared.answer.Cause.{Cause}
 use Rattle.keep_check.specs.declared.answer.Cause.TheVariants as cause
 use Rattle.keep_check.specs.Answer.{IsAnswer, IsBodyAnswer}
 use Rattle.keep_check.proofs.Judged.{kept_past}
-use Rattle.keep_inventory.specs.Inventory.{inventory}
 use Rattle.keep_engine.specs.declared.exit.Exit.{Exit}
 use Rattle.keep_engine.specs.declared.exit.Exit.TheVariants as exits
 use Rattle.keep_engine.specs.declared.outcome.Outcome.{Outcome}

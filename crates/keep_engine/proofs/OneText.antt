@@ -1,5 +1,5 @@
 -- One text: what `plan` and `check` write is a function of the forest, the start and the certificate.
-use Rattle.std.proofs.Common.{◌≡◌, ◌∙◌, ℕ, zero, suc, ◌+◌, ◌-◌, ◌*◌, ◌<◌, ◌≤◌, ◌++◌, List, [], ◌∷◌, Option, Some, None, Ok, Err, length, refl, sym, ap, subst, arith, inl, inr}
+use Rattle.std.proofs.Common.{◌≡◌, ◌∙◌, ℕ, zero, suc, ◌+◌, ◌-◌, ◌<◌, ◌≤◌, ◌++◌, List, [], ◌∷◌, Some, None, length, refl, sym, ap, subst, arith, inl, inr}
 use Rattle.std.proofs.lemmas.Bool.{cases_lt}
 use Rattle.std.proofs.lemmas.List.{append_cancel_left}
 use Rattle.keep_tree.specs.Carried.{IsFrom}
@@ -12,25 +12,20 @@ use Rattle.keep_schedule.proofs.Bridge.{one_from}
 use Rattle.keep_schedule.proofs.Forces.{one_list}
 use Rattle.keep_plan.specs.Decides.{AreBest, AreLongest}
 use Rattle.keep_plan.specs.Planned.{AreRuns, IsRun}
-use Rattle.keep_plan.specs.Shortfall.{IsShortfall}
 use Rattle.keep_plan.proofs.Walking.{length_all_cons}
 use Rattle.keep_cert.specs.declared.cert.Body.TheVariants as body
 use Rattle.keep_cert.specs.declared.cert.Cert.{Cert}
-use Rattle.keep_cert.specs.declared.fault.CertFault.{CertFault}
 use Rattle.keep_cert.specs.CertificateText.{Writes, certificate_text}
 use Rattle.keep_cert.specs.Printing.{certified}
-use Rattle.keep_cert.specs.Reading.{certificate_of}
 use Rattle.keep_cert.proofs.ReadBackAll.{written_is_read}
-use Rattle.keep_check.specs.declared.answer.Answer.{Answer}
 use Rattle.keep_check.specs.declared.answer.Answer.TheVariants.{No, Yes}
 use Rattle.keep_check.specs.Answer.{IsAnswer}
 use Rattle.keep_check.proofs.Answers.{one_answer}
-use Rattle.keep_engine.specs.declared.exit.Exit.{Exit}
 use Rattle.keep_engine.specs.declared.exit.Exit.TheVariants as exits
 use Rattle.keep_engine.specs.CheckRun.{IsAccepted, IsJudged, IsRefused, IsUnreadable}
 use Rattle.keep_engine.specs.CheckText.{no_line, unreadable_line}
 use Rattle.keep_engine.specs.Laws.{OneCheckText, OnePlanText}
-use Rattle.keep_engine.specs.PlanRun.{IsCertified, IsPairText, IsPlanText}
+use Rattle.keep_engine.specs.PlanRun.{IsPairText, IsPlanText}
 
 -- ---- wake-ups have one list of longest runs
 

@@ -1,5 +1,5 @@
 -- Outcomes: from the text that is made before the first write to the run, for `run_plan`.
-use Rattle.std.proofs.Common.{◌≡◌, ℕ, IsTrue, ◌⊎◌, List, Option, Some, None, Result, Ok, Err, refl, sym, ap, subst, inl, inr}
+use Rattle.std.proofs.Common.{ℕ, List, Ok, Err, inl, inr}
 use Rattle.std.specs.Io.KnownBytes.{Appends, Keeps}
 use Rattle.keep_tree.specs.Forest.{Grove}
 use Rattle.keep_plan.specs.declared.decision.Decision.{Decision}
@@ -7,11 +7,7 @@ use Rattle.keep_plan.specs.declared.decision.Decision.TheVariants as decision
 use Rattle.keep_plan.specs.Decides.{Decides}
 use Rattle.keep_cert.specs.declared.printer.PrintFault.{PrintFault}
 use Rattle.keep_cert.specs.declared.printer.PrintFault.TheVariants as prints
-use Rattle.keep_cert.specs.CertificateText.{certificate_text}
 use Rattle.keep_cert.specs.Printing.{Prints, claim}
-use Rattle.keep_inventory.specs.Stock.{Stock}
-use Rattle.keep_inventory.specs.Inventory.{inventory}
-use Rattle.keep_moment.specs.declared.text.Text.{Text}
 use Rattle.keep_engine.specs.declared.exit.Exit.{Exit}
 use Rattle.keep_engine.specs.declared.exit.Exit.TheVariants as exits
 use Rattle.keep_engine.specs.declared.outcome.Outcome.{Outcome}

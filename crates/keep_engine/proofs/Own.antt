@@ -1,8 +1,7 @@
 -- Own certificates: a walk over forces finds no fault, so what is printed of a decision gets Yes.
-use Rattle.std.proofs.Common.{◌≡◌, ◌∙◌, ℕ, ◌+◌, ◌<◌, ◌≤◌, ◌&&◌, true, cond, List, [], ◌∷◌, Option, Some, None, Ok, nat_le, nat_lt, refl, sym, ap, subst, arith}
+use Rattle.std.proofs.Common.{◌≡◌, ◌∙◌, ℕ, ◌+◌, ◌<◌, ◌≤◌, ◌&&◌, true, List, [], ◌∷◌, Option, Some, None, Ok, nat_le, nat_lt, refl, sym, ap, subst, arith}
 use Rattle.std.proofs.lemmas.Bool.{cond-true}
 use Rattle.std.proofs.lemmas.Bool.Decides.{nat_tests}
-use Rattle.keep_moment.specs.declared.moment.TheConstants.{LAST}
 use Rattle.keep_tree.specs.declared.entry.Entry.{Entry}
 use Rattle.keep_tree.specs.Forest.{Grove, end_of}
 use Rattle.keep_tree.specs.Push.{IsForest}
@@ -11,7 +10,7 @@ use Rattle.keep_rule.specs.Unkeepable.{AllKeepable}
 use Rattle.keep_rule.proofs.Keeping.{unkeepable}
 use Rattle.keep_schedule.specs.declared.force.Force.{Force}
 use Rattle.keep_schedule.specs.declared.run.Run.{Run}
-use Rattle.keep_schedule.specs.Forces.{AreForced, AreForces, moments_of}
+use Rattle.keep_schedule.specs.Forces.{AreForced, moments_of}
 use Rattle.keep_schedule.specs.Runs.{all_wakes}
 use Rattle.keep_schedule.proofs.Forces.{forces_are_best}
 use Rattle.keep_plan.specs.declared.decision.Decision.{Decision}
@@ -19,16 +18,13 @@ use Rattle.keep_plan.specs.declared.decision.Decision.TheVariants as decision
 use Rattle.keep_plan.specs.Decides.{AreBest, Decides}
 use Rattle.keep_cert.specs.declared.cert.Body.{Body}
 use Rattle.keep_cert.specs.declared.cert.Body.TheVariants as body
-use Rattle.keep_cert.specs.declared.cert.Cert.{Cert}
 use Rattle.keep_cert.specs.declared.cert.Version.TheVariants.{Two}
 use Rattle.keep_cert.specs.CertificateText.{certificate_text}
 use Rattle.keep_cert.specs.Printing.{Prints, certified, claim}
 use Rattle.keep_cert.specs.Reading.{certificate_of}
 use Rattle.keep_cert.proofs.Printing.{claim_is_body, printed_is_read}
-use Rattle.keep_check.specs.declared.answer.Answer.{Answer}
 use Rattle.keep_check.specs.declared.answer.Answer.TheVariants.{Yes}
-use Rattle.keep_check.specs.Answer.{IsAnswer, IsWalkAnswer, first_fault}
-use Rattle.keep_check.specs.Fit.{CanBeJudged}
+use Rattle.keep_check.specs.Answer.{IsAnswer, IsWalkAnswer}
 use Rattle.keep_check.specs.Walk.{fault, is_forced, rises}
 use Rattle.keep_check.proofs.Answers.{forced_tests, from_behind, one_answer}
 use Rattle.keep_check.proofs.Written.{body_fits}

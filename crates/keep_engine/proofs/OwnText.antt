@@ -1,5 +1,5 @@
 -- Own texts: what `plan` writes is a certificate that gets Yes, and short enough to be read, so that `check` says `yes`.
-use Rattle.std.proofs.Common.{◌≡◌, ◌∙◌, ℕ, ◌-◌, ◌*◌, ◌≤◌, List, None, codes, length, refl, sym, subst, arith}
+use Rattle.std.proofs.Common.{◌≡◌, ℕ, ◌≤◌, List, None, codes, length, refl, sym, subst, arith}
 use Rattle.keep_moment.specs.declared.moment.TheConstants.{LAST}
 use Rattle.keep_tree.specs.Forest.{Grove}
 use Rattle.keep_tree.specs.Push.{IsForest}

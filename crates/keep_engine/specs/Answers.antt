@@ -1,6 +1,6 @@
 -- Words for the parts of a run: the text that is made before the first write, and its sending. No public clause cites them.
-use Rattle.std.specs.Prelude.{◌≡◌, ℕ, IsTrue, List, Option, Some, Result, Ok, Err, length, slice_index}
-use Rattle.std.specs.Io.KnownBytes.{Appends, Keeps}
+use Rattle.std.specs.Prelude.{◌≡◌, ℕ, IsTrue, List, Some, Result, Ok, Err, length, slice_index}
+use Rattle.std.specs.Io.KnownBytes.{Appends}
 use Rattle.keep_tree.specs.Forest.{Grove}
 use Rattle.keep_rule.specs.Plans.{wake_fault}
 use Rattle.keep_inventory.specs.Stock.{Stock}

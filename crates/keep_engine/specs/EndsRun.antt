@@ -1,7 +1,6 @@
 -- The run `ends`: what it has written, and when it gives which exit.
 use Rattle.std.specs.Prelude.{◌≡◌, ℕ, IsTrue, ◌⊎◌, List, Some, Ok, Err, length}
 use Rattle.std.specs.Io.KnownBytes.{Appends, Keeps}
-use Rattle.keep_tree.specs.Forest.{Grove}
 use Rattle.keep_rule.specs.declared.wake.WakeFault.{WakeFault}
 use Rattle.keep_rule.specs.Plans.{wake_fault}
 use Rattle.keep_inventory.specs.declared.fault.InvFault.{InvFault}

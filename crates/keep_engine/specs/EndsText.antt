@@ -1,6 +1,6 @@
 -- Ends: what the command `ends` writes about a forest.
 -- Source: this project's own; the ends are those of the Renewal rule (Vault, "Lease, renew, and revoke").
-use Rattle.std.specs.Prelude.{◌≡◌, ◌↔◌, ℕ, Bool, true, false, IsTrue, List, [], ◌∷◌, ◌++◌, None, codes, decimal, length, map, flat_map, slice_index}
+use Rattle.std.specs.Prelude.{◌≡◌, ◌↔◌, ℕ, Bool, true, false, IsTrue, List, [], ◌∷◌, ◌++◌, None, codes, decimal, length, map, flat_map}
 use Rattle.std.specs.List.{range_with_len}
 use Rattle.keep_tree.specs.declared.entry.Entry.{Entry}
 use Rattle.keep_tree.specs.Forest.{Grove, end_of, entry_at}

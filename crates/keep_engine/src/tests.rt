@@ -4,6 +4,7 @@ mod checks;
 mod ends;
 mod exits;
 mod faulty;
+mod fronts;
 mod inventories;
 mod plans;
 

@@ -6,14 +6,15 @@ use std::process::Abort;
 use std::test::Fail;
 use vault_http::MemorySink;
 
-// The certificate of the web example in version 2, and in version 1.
-const IN_RUNS: &str = "leasekeep-plan 2\nstart 1000\nrun 1059 59 3 web web\nend 3\n";
+/// The certificate of the web example in version 2.
+pub const IN_RUNS: &str = "leasekeep-plan 2\nstart 1000\nrun 1059 59 3 web web\nend 3\n";
 
-const IN_WAKES: &str =
+/// The same in version 1.
+pub const IN_WAKES: &str =
     "leasekeep-plan 1\nstart 1000\nwake 1059 web web\nwake 1118 web web\nwake 1177 web web\nend 3\n";
 
-// The line of `check` about a certificate: exit 0 with `yes`, and 4 with any other.
-fn judges<R: AllocGlobal + Abort>(
+/// The line of `check` about a certificate: exit 0 with `yes`, and 4 with any other.
+pub fn judges<R: AllocGlobal + Abort>(
     rt: &R,
     inventory: &str,
     certificate: &[u8],
@@ -244,53 +245,6 @@ fn altered_runs_are_judged(rt: HostRuntime) -> Result<(), Fail> {
         judges(&rt, inventory, text.as_bytes(), line)?;
     }
     Ok(())
-}
-
-// For which lengths, both ends counted, a front of the certificate in runs is unreadable, and with which line.
-const FRONTS_OF_RUNS: [(usize, usize, &str); 7] = [
-    (0, 16, "unreadable bad-header\n"),
-    (17, 17, "unreadable truncated\n"),
-    (18, 27, "unreadable bad-line 2\n"),
-    (28, 28, "unreadable truncated\n"),
-    (29, 49, "unreadable bad-line 3\n"),
-    (50, 50, "unreadable truncated\n"),
-    (51, 55, "unreadable bad-line 4\n"),
-];
-
-// The same of the certificate in wake-ups.
-const FRONTS_OF_WAKES: [(usize, usize, &str); 11] = [
-    (0, 16, "unreadable bad-header\n"),
-    (17, 17, "unreadable truncated\n"),
-    (18, 27, "unreadable bad-line 2\n"),
-    (28, 28, "unreadable truncated\n"),
-    (29, 45, "unreadable bad-line 3\n"),
-    (46, 46, "unreadable truncated\n"),
-    (47, 63, "unreadable bad-line 4\n"),
-    (64, 64, "unreadable truncated\n"),
-    (65, 81, "unreadable bad-line 5\n"),
-    (82, 82, "unreadable truncated\n"),
-    (83, 87, "unreadable bad-line 6\n"),
-];
-
-fn judges_fronts<R: AllocGlobal + Abort>(
-    rt: &R,
-    text: &str,
-    fronts: &[(usize, usize, &str)],
-) -> Result<(), Fail> {
-    for (from, to, line) in fronts {
-        for length in *from..=*to {
-            let front = text.as_bytes().get(..length).ok_or("a front")?;
-            judges(rt, WEB, front, *line)?;
-        }
-    }
-    Ok(())
-}
-
-// Each front of the certificate of `web` is unreadable, in both versions.
-#[test]
-fn fronts_are_unreadable(rt: HostRuntime) -> Result<(), Fail> {
-    judges_fronts(&rt, IN_RUNS, &FRONTS_OF_RUNS)?;
-    judges_fronts(&rt, IN_WAKES, &FRONTS_OF_WAKES)
 }
 
 // Each call of the output fails in turn: exit 6.

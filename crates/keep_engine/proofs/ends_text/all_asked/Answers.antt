@@ -1,6 +1,5 @@
-use Rattle.std.proofs.Common.{◌≡◌, ◌∙◌, ◌++◌, ◌∷◌, [], ap, sym, length, take, arith, get_or}
+use Rattle.std.proofs.Common.{◌∙◌, ◌++◌, ◌∷◌, [], ap, sym, length, arith}
 use Rattle.std.proofs.lemmas.List.{get_or_read}
-use Rattle.keep_engine.specs.EndsText.{all_asked}
 use Rattle.keep_engine.proofs.Lines.{all_asked_more, all_asked_none}
 use Rattle.keep_engine.proofs.ends_text.all_asked.Goals as goal
 

@@ -1,4 +1,4 @@
-use Rattle.std.proofs.Common.{◌≡◌, ◌∙◌, ◌++◌, ap, sym, subst}
+use Rattle.std.proofs.Common.{◌∙◌, ◌++◌, ap, sym}
 use Rattle.std.proofs.lemmas.List.{append-nil, append_assoc}
 use Rattle.keep_tree.specs.Forest.{entry_at}
 use Rattle.keep_engine.specs.Answers.{at_index}
