@@ -44,7 +44,7 @@ wake_found n es before line r key e =
     subst (IsRunLine One es before line) (ok_same {A = Run} (record { first = k; step = 0; count = 1; entry = i; needed = j }) r e4)
     (record {
       text = line_from_words line _ same;
-      run = record { entry = entry.0; needed = needed.0; some = omega arith; lone = (λ h. refl, λ h. refl); within = omega (arith, number.1); form = refl };
+      run = record { fit = record { entry = entry.0; needed = needed.0; some = omega arith; within = omega (arith, number.1) }; lone = (λ h. refl, λ h. refl); form = refl };
       room = tt;
     })))))
 
@@ -88,11 +88,8 @@ run_found n es before line r key e =
     (record {
       text = line_from_words line _ same;
       run = record {
-        entry = entry.0;
-        needed = needed.0;
-        some = ltb-true _ _ q.0;
+        fit = record { entry = entry.0; needed = needed.0; some = ltb-true _ _ q.0; within = leb-true _ _ o.1 };
         lone = (λ h. eqb-true _ _ (lone.0 (eq-eqb _ _ h)), λ h. eqb-true _ _ (lone.1 (eq-eqb _ _ h)));
-        within = leb-true _ _ o.1;
         form = tt;
       };
       room = leb-true _ _ p.0;

@@ -197,7 +197,7 @@ found_writes es text (Err e) h = tt
 
 among : (v : Version) (es : List Entry) (rs : List Run) → AreRuns v es rs → All (IsAmong (length es)) rs
 among v es [] each = All-nil (IsAmong (length es))
-among v es (r ∷ rs) each = All-cons (IsAmong (length es)) r rs (record { entry = each.0.entry; needed = each.0.needed }) (among v es rs each.1)
+among v es (r ∷ rs) each = All-cons (IsAmong (length es)) r rs (record { entry = each.0.fit.entry; needed = each.0.fit.needed }) (among v es rs each.1)
 
 can_be_written : (v : Version) (es : List Entry) (body : Body) → IsBody v es body → CanBeWritten es body
 can_be_written v es (Runs rs) h = (among v es rs h.0, h.1.1)

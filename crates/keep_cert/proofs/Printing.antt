@@ -74,11 +74,11 @@ runs_within g forest s prev [] runs forces = tt
 runs_within g forest s prev (r ∷ rs) runs forces =
     let here = first_of_run g forest s prev r.first r.step r.count r.entry r.needed (all_wakes rs) runs.0.some forces in
     let later = forces_behind g.entries g.margin s (end_of g.entries) prev (wakes r) (all_wakes rs) forces in
-    (record { entry = here.0; needed = here.1; some = runs.0.some; lone = runs.0.lone; within = runs.0.last; form = tt }, runs_within g forest s later.0 rs runs.1 later.1)
+    (record { fit = record { entry = here.0; needed = here.1; some = runs.0.some; within = runs.0.last }; lone = runs.0.lone; form = tt }, runs_within g forest s later.0 rs runs.1 later.1)
 
 among_of_runs : (es : List Entry) (rs : List Run) → AreRuns Two es rs → All (IsAmong (length es)) rs
 among_of_runs es [] each = All-nil (IsAmong (length es))
-among_of_runs es (r ∷ rs) each = All-cons (IsAmong (length es)) r rs (record { entry = each.0.entry; needed = each.0.needed }) (among_of_runs es rs each.1)
+among_of_runs es (r ∷ rs) each = All-cons (IsAmong (length es)) r rs (record { entry = each.0.fit.entry; needed = each.0.fit.needed }) (among_of_runs es rs each.1)
 
 pub decided_is_of : DecidedIsOf
 decided_is_of g s (decision.Keep p) forest decides = among_of_runs g.entries p.runs (runs_within g forest s None p.runs decides.best.runs decides.best.forces)

@@ -92,16 +92,16 @@ step_within first step count lone some within =
     ]
 
 pub run_small : (v : Version) (es : List Entry) (r : Run) → IsRun v es r → r.count ≤ LIMIT → AreSmall r
-run_small v es r h few = record { first = omega (arith, h.within); step = step_within r.first r.step r.count h.lone h.some h.within; count = omega (arith, few) }
+run_small v es r h few = record { first = omega (arith, h.fit.within); step = step_within r.first r.step r.count h.lone h.fit.some h.fit.within; count = omega (arith, few) }
 
 module _ (g : Grove) (f : IsForest g) where
   pub run_words_are : (v : Version) (r : Run) → IsRun v g.entries r → r.count ≤ LIMIT → AreWords (run_words v g.entries r)
   run_words_are One r h few =
       let s = run_small One g.entries r h few in
-      (record { spaces = refl; feeds = refl }, (decimal_is_word r.first (omega (arith, s.first)), (name_word g f r.entry h.entry, (name_word g f r.needed h.needed, tt))))
+      (record { spaces = refl; feeds = refl }, (decimal_is_word r.first (omega (arith, s.first)), (name_word g f r.entry h.fit.entry, (name_word g f r.needed h.fit.needed, tt))))
   run_words_are Two r h few =
       let s = run_small Two g.entries r h few in
-      (record { spaces = refl; feeds = refl }, (decimal_is_word r.first (omega (arith, s.first)), (decimal_is_word r.step (omega (arith, s.step)), (decimal_is_word r.count (omega (arith, s.count)), (name_word g f r.entry h.entry, (name_word g f r.needed h.needed, tt))))))
+      (record { spaces = refl; feeds = refl }, (decimal_is_word r.first (omega (arith, s.first)), (decimal_is_word r.step (omega (arith, s.step)), (decimal_is_word r.count (omega (arith, s.count)), (name_word g f r.entry h.fit.entry, (name_word g f r.needed h.fit.needed, tt))))))
 
 both_same : (a b : Bool) → (a ≡ true) ↔ (b ≡ true) → beq a b ≡ true
 both_same true true h = refl
@@ -126,8 +126,8 @@ module _ (g : Grove) (f : IsForest g) (n before : ℕ) (r : Run) where
       let step_is : r.step ≡ 0 = h.lone.1 count_is in
       value_on (four_words n (run_as_line One es r)) _ (codes "wake", decimal r.first, name_of es r.entry, name_of es r.needed) (ap (λ ws. ok_or (four ws) (BadLine n)) words)
       ∙ value_on (number_at n (decimal r.first)) _ r.first (number_back n r.first s.first)
-      ∙ value_on (entry_named n es (name_of es r.entry)) _ r.entry (entry_back g f n r.entry h.entry)
-      ∙ value_on (entry_named n es (name_of es r.needed)) _ r.needed (entry_back g f n r.needed h.needed)
+      ∙ value_on (entry_named n es (name_of es r.entry)) _ r.entry (entry_back g f n r.entry h.fit.entry)
+      ∙ value_on (entry_named n es (name_of es r.needed)) _ r.needed (entry_back g f n r.needed h.fit.needed)
       ∙ ap (λ (k : ℕ). Ok (record { first = r.first; step = k; count = 1; entry = r.entry; needed = r.needed })) (sym step_is)
       ∙ ap (λ (k : ℕ). Ok (record { first = r.first; step = r.step; count = k; entry = r.entry; needed = r.needed })) (sym count_is)
 
@@ -137,14 +137,14 @@ module _ (g : Grove) (f : IsForest g) (n before : ℕ) (r : Run) where
       let es = g.entries in
       let s = run_small Two es r h few in
       let words = words_back (codes "run") (run_tail g.entries r) (run_words_are g f Two r h few) in
-      let fits = is_run_back before r.first r.step r.count room h.some h.lone h.within in
+      let fits = is_run_back before r.first r.step r.count room h.fit.some h.lone h.fit.within in
       value_on (six_words n (run_as_line Two es r)) _ (codes "run", decimal r.first, decimal r.step, decimal r.count, name_of es r.entry, name_of es r.needed) (ap (λ ws. ok_or (six ws) (BadLine n)) words)
       ∙ value_on (number_at n (decimal r.first)) _ r.first (number_back n r.first s.first)
       ∙ value_on (number_at n (decimal r.step)) _ r.step (number_back n r.step s.step)
       ∙ value_on (number_at n (decimal r.count)) _ r.count (number_back n r.count s.count)
       ∙ value_on (right n (is_run before r.first r.step r.count)) _ tt (ap (right n) fits)
-      ∙ value_on (entry_named n es (name_of es r.entry)) _ r.entry (entry_back g f n r.entry h.entry)
-      ∙ value_on (entry_named n es (name_of es r.needed)) _ r.needed (entry_back g f n r.needed h.needed)
+      ∙ value_on (entry_named n es (name_of es r.entry)) _ r.entry (entry_back g f n r.entry h.fit.entry)
+      ∙ value_on (entry_named n es (name_of es r.needed)) _ r.needed (entry_back g f n r.needed h.fit.needed)
 
 pub run_line_back : (g : Grove) → IsForest g → (v : Version) (n before : ℕ) (r : Run) → IsRun v g.entries r → before + r.count ≤ LIMIT
     → run_line v n g.entries before (run_as_line v g.entries r) ≡ Ok r

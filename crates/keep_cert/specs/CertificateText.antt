@@ -62,13 +62,17 @@ abbrev pub HasForm : Version → Run → Type 0
 HasForm One r = r.count ≡ 1
 HasForm Two r = Unit {0}
 
--- a run of these entries: it has a wake-up, a step only where it has more than one, and its last moment is at most LAST
-pub record IsRun (v : Version) (es : List Entry) (r : Run) : Type 0 where
-  pub entry : r.entry < length es
-  pub needed : r.needed < length es
+-- a run among n entries: its indices are theirs, it has a wake-up, and its last moment is at most LAST
+pub record IsFit (n : ℕ) (r : Run) : Type 0 where
+  pub entry : r.entry < n
+  pub needed : r.needed < n
   pub some : 0 < r.count
-  pub lone : (r.step ≡ 0) ↔ (r.count ≡ 1)
   pub within : r.first + (r.count - 1) * r.step ≤ LAST
+
+-- a run of these entries: it has a step exactly where it has more than one wake-up
+pub record IsRun (v : Version) (es : List Entry) (r : Run) : Type 0 where
+  pub fit : IsFit (length es) r
+  pub lone : (r.step ≡ 0) ↔ (r.count ≡ 1)
   pub form : HasForm v r
 
 abbrev pub AreRuns : Version → List Entry → List Run → Type 0

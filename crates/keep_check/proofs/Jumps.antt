@@ -11,7 +11,8 @@ use Rattle.keep_schedule.specs.declared.force.Force.{Force}
 use Rattle.keep_schedule.specs.declared.run.Run.{Run}
 use Rattle.keep_schedule.specs.Forces.{moments_of}
 use Rattle.keep_schedule.specs.Runs.{all_wakes, wakes, wakes_of}
-use Rattle.keep_check.specs.Fit.{AllFit, IsFit}
+use Rattle.keep_cert.specs.CertificateText.{IsFit}
+use Rattle.keep_check.specs.Fit.{AllFit}
 use Rattle.keep_check.specs.Gaps.{AllNarrow, gap_of, gap_within, gaps_of, last_moment}
 use Rattle.keep_check.specs.Kept.{own_after, own_end}
 use Rattle.keep_check.specs.Steps.{last_behind}

@@ -12,7 +12,7 @@ use Rattle.keep_check.specs.Laws.{WrittenLaw}
 
 all_fit : (v : Version) (es : List Entry) (rs : List Run) → AreRuns v es rs → AllFit (length es) rs
 all_fit v es [] each = tt
-all_fit v es (r ∷ rs) each = (record { entry = each.0.entry; needed = each.0.needed; some = each.0.some; within = each.0.within }, all_fit v es rs each.1)
+all_fit v es (r ∷ rs) each = (each.0.fit, all_fit v es rs each.1)
 
 pub body_fits : (g : Grove) (v : Version) (b : Body) → IsBody v g.entries b → CanBeJudged g b
 body_fits g v (body.Runs rs) is = (all_fit v g.entries rs is.0, is.1.1)

@@ -1,21 +1,14 @@
 -- Fit: which certificates can be judged over a forest, as each that was read from a text can.
 -- Source: this project's own.
-use Rattle.std.specs.Prelude.{ℕ, ◌+◌, ◌-◌, ◌*◌, ◌≤◌, ◌<◌, List, [], ◌∷◌, length}
-use Rattle.keep_moment.specs.declared.moment.TheConstants.{LAST}
+use Rattle.std.specs.Prelude.{ℕ, ◌≤◌, ◌<◌, List, [], ◌∷◌, length}
 use Rattle.keep_tree.specs.Forest.{Grove}
 use Rattle.keep_schedule.specs.declared.run.Run.{Run}
 use Rattle.keep_cert.specs.declared.cert.Body.{Body}
 use Rattle.keep_cert.specs.declared.cert.Body.TheVariants as body
-use Rattle.keep_cert.specs.CertificateText.{counted}
+use Rattle.keep_cert.specs.CertificateText.{IsFit, counted}
 use Rattle.keep_schedule.specs.declared.limit.TheConstants.{LIMIT}
 
--- a run among n entries: its indices are theirs, it has a wake-up, and its last moment is at most LAST
-pub record IsFit (n : ℕ) (r : Run) : Type 0 where
-  pub entry : r.entry < n
-  pub needed : r.needed < n
-  pub some : 0 < r.count
-  pub within : r.first + (r.count - 1) * r.step ≤ LAST
-
+-- each is a run among n entries
 abbrev pub AllFit : ℕ → List Run → Type 0
 AllFit n [] = Unit {0}
 AllFit n (r ∷ rs) = IsFit n r × AllFit n rs

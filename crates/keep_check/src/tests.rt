@@ -1,7 +1,7 @@
 ghost use Rattle.std.specs.Prelude.{◌≡◌, ◌≤◌, IfSome, IsTrue};
 ghost use Rattle.keep_schedule.specs.declared.limit.TheConstants.{LIMIT};
-ghost use Rattle.keep_cert.specs.CertificateText.{counted};
-ghost use Rattle.keep_check.specs.Fit.{AllFit, IsFit};
+ghost use Rattle.keep_cert.specs.CertificateText.{IsFit, counted};
+ghost use Rattle.keep_check.specs.Fit.{AllFit};
 
 use crate::{Answer, Cause, LIMIT, check};
 use keep_cert::{Body, Cert, Runs, Version};
