@@ -16,10 +16,13 @@ use Rattle.keep_check.specs.declared.answer.Answer.TheVariants.{Yes}
 use Rattle.keep_check.specs.Answer.{IsAnswer}
 use Rattle.keep_check.proofs.Answers.{yes_holds}
 use Rattle.keep_check.proofs.Written.{body_fits}
+use Rattle.keep_inventory.proofs.Inventoried.{inventory_law}
+use Rattle.keep_engine.specs.declared.exit.Exit.{Exit}
 use Rattle.keep_engine.specs.declared.exit.Exit.TheVariants as exits
 use Rattle.keep_engine.specs.declared.limits.TheConstants.{MOST_CERTIFICATE}
 use Rattle.keep_engine.specs.CheckRun.{IsAccepted}
 use Rattle.keep_engine.specs.Laws.{IsOwnText, OwnTextLaw}
+use Rattle.keep_engine.specs.PlanRun.{IsCertified}
 use Rattle.keep_engine.proofs.OneText.{one_check_text}
 use Rattle.keep_engine.proofs.Own.{best_gets_yes}
 use Rattle.keep_engine.proofs.Sizes.{HasFewRuns, certificate_size}
@@ -50,15 +53,20 @@ body_accepted g s b text forest start is few right spelled =
       short = subst (λ t. length t ≤ MOST_CERTIFICATE) (sym spelled) (certificate_size g forest s start b is few);
     }
 
-pub own_text : OwnTextLaw
-own_text g s exits.Done text forest start is =
+certified_is_own : (g : Grove) (s : ℕ) (exit : Exit) (text : List ℕ) → IsForest g → s ≤ LAST → IsCertified g s exit text → IsOwnText g text
+certified_is_own g s exits.Done text forest start is =
     body_accepted g s (body.Runs is.runs) text forest start (best_is_body g s is.runs forest is.best) is.best.few_runs (best_gets_yes g s is.runs forest is.best) is.spelled
-own_text g s exits.Unkeepable text forest start is =
+certified_is_own g s exits.Unkeepable text forest start is =
     let pair = body.Unkeepable is.entry is.needed in
     body_accepted g s pair text forest start (claim_is_body g s (decision.Unkeepable is.entry is.needed) pair forest (is.short, is.none) refl) tt is.short.pair is.spelled
-own_text g s exits.Inventory text forest start is = absurd is
-own_text g s exits.CommandLine text forest start is = absurd is
-own_text g s exits.No text forest start is = absurd is
-own_text g s exits.TooLong text forest start is = absurd is
-own_text g s exits.Device text forest start is = absurd is
-own_text g s exits.Memory text forest start is = absurd is
+certified_is_own g s exits.Inventory text forest start is = absurd is
+certified_is_own g s exits.CommandLine text forest start is = absurd is
+certified_is_own g s exits.No text forest start is = absurd is
+certified_is_own g s exits.TooLong text forest start is = absurd is
+certified_is_own g s exits.Device text forest start is = absurd is
+certified_is_own g s exits.Memory text forest start is = absurd is
+
+pub own_text : OwnTextLaw
+own_text bytes stock s exit text read start is =
+    let forest = (inventory_law bytes stock read).0 in
+    (forest, certified_is_own stock.grove s exit text forest start is)

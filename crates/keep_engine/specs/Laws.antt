@@ -12,6 +12,8 @@ use Rattle.keep_check.specs.declared.answer.Answer.{Answer}
 use Rattle.keep_check.specs.declared.answer.Answer.TheVariants.{Yes}
 use Rattle.keep_check.specs.Answer.{IsAnswer}
 use Rattle.keep_check.specs.Fit.{CanBeJudged}
+use Rattle.keep_inventory.specs.Stock.{Stock}
+use Rattle.keep_inventory.specs.Inventory.{inventory}
 use Rattle.keep_engine.specs.declared.exit.Exit.{Exit}
 use Rattle.keep_engine.specs.declared.exit.Exit.TheVariants as exits
 use Rattle.keep_engine.specs.declared.limits.TheConstants.{MOST_CERTIFICATE}
@@ -31,9 +33,11 @@ pub record IsOwnText (g : Grove) (text : List ℕ) : Type 0 where
   pub alone : (exit : Exit) (line : List ℕ) → IsJudged g text exit line → (exit ≡ exits.Done) × (line ≡ codes "yes\n")
   pub short : length text ≤ MOST_CERTIFICATE
 
--- what `plan` writes, of whichever exit, is such a text
+-- what `plan` writes of the bytes of an inventory, of whichever exit, is such a text over the inventory's forest
 abbrev pub OwnTextLaw : Type 0
-OwnTextLaw = (g : Grove) (s : ℕ) (exit : Exit) (text : List ℕ) → IsForest g → s ≤ LAST → IsCertified g s exit text → IsOwnText g text
+OwnTextLaw =
+    (bytes : List ℕ) (stock : Stock) (s : ℕ) (exit : Exit) (text : List ℕ) → inventory bytes ≡ Ok stock → s ≤ LAST → IsCertified stock.grove s exit text →
+    IsForest stock.grove × IsOwnText stock.grove text
 
 -- a forest and a start have one text of `plan`, and one exit: nothing else shows in them
 abbrev pub OnePlanText : Type 0

@@ -2,8 +2,9 @@ ghost use Rattle.keep_engine.specs.Laws.{OneCheckText, OnePlanText, OwnCertifica
 
 /// The law that own certificates are accepted. What `print` writes of a decision as `plan` gave it, with the start it was
 /// planned from, is read back over the same forest, and `keep_check::check` can answer nothing but Yes. And what the command
-/// `plan` writes, of exit 0 or 3, is a certificate of which the command `check` can say nothing but `yes`; it has at most
-/// [`MOST_CERTIFICATE`](crate::MOST_CERTIFICATE) bytes, so that a file of it does not pass the limit.
+/// `plan` writes of the bytes of an inventory, of exit 0 or 3, is a certificate of which the command `check` with the same
+/// bytes can say nothing but `yes`; it has at most [`MOST_CERTIFICATE`](crate::MOST_CERTIFICATE) bytes, so that a file of it
+/// does not pass the limit.
 pub fn own_certificates_are_accepted()
     ensures printed { OwnCertificateLaw }
     ensures written { OwnTextLaw }

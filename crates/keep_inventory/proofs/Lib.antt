@@ -4,3 +4,4 @@ pub mod Trees
 pub mod Stocks
 pub mod Registers
 pub mod Matched
+pub mod Inventoried

@@ -21,7 +21,7 @@ use Rattle.keep_inventory.specs.Rows.{token_row, lease_row}
 use Rattle.keep_inventory.specs.Inventory.{token_entered, lease_entered, entered_by, intake_of}
 
 -- a chain that gives a value gives one at each step
-bind_ok : {A B P : Type 0} (r : Result A InvFault) (f : A → Result B InvFault) (y : B) → (r >>= f) ≡ Ok y → ((x : A) → r ≡ Ok x → f x ≡ Ok y → P) → P
+pub bind_ok : {A B P : Type 0} (r : Result A InvFault) (f : A → Result B InvFault) (y : B) → (r >>= f) ≡ Ok y → ((x : A) → r ≡ Ok x → f x ≡ Ok y → P) → P
 bind_ok (Ok x) f y e k = k x refl e
 bind_ok (Err d) f y e k = absurd (cc)
 

@@ -7,3 +7,4 @@ pub mod Found
 pub mod Intake
 pub mod Rows
 pub mod Inventory
+pub mod Laws
