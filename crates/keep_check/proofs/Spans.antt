@@ -1,14 +1,9 @@
 -- The moments of a run: their distances and the last of them.
-use Rattle.std.proofs.Common.{◌≡◌, ℕ, suc, zero, ◌+◌, ◌-◌, ◌*◌, ◌<◌, ◌≤◌, ◌⊎◌, ◌++◌, List, [], ◌∷◌, get_or, length, refl, sym, ap, ◌∙◌, subst, arith, inl, inr}
-use Rattle.keep_moment.specs.declared.moment.TheConstants.{LAST}
-use Rattle.keep_schedule.specs.declared.force.Force.{Force}
+use Rattle.std.proofs.Common.{◌≡◌, ℕ, suc, zero, ◌+◌, ◌-◌, ◌*◌, ◌<◌, ◌≤◌, ◌⊎◌, sym, ap, ◌∙◌, arith, inl, inr}
 use Rattle.keep_schedule.specs.declared.run.Run.{Run}
 use Rattle.keep_schedule.specs.Forces.{moments_of}
-use Rattle.keep_schedule.specs.Runs.{all_wakes, wakes, wakes_of}
-use Rattle.keep_check.specs.Fit.{AllFit}
+use Rattle.keep_schedule.specs.Runs.{wakes, wakes_of}
 use Rattle.keep_check.specs.Steps.{AllBridged, last_behind}
-use Rattle.keep_check.proofs.OwnRuns.{blank}
-use Rattle.keep_check.proofs.Run.{run_first}
 
 pub bridged_spaced : (gap step n t first entry needed : ℕ) → first ≤ t + gap → (n ≤ 1) ⊎ (step ≤ gap) → AllBridged gap t (moments_of (wakes_of first step n entry needed))
 unfolding wakes_of

@@ -1,5 +1,5 @@
 -- What a text writes can be judged.
-use Rattle.std.proofs.Common.{ℕ, List, [], ◌∷◌, length}
+use Rattle.std.proofs.Common.{List, [], ◌∷◌, length}
 use Rattle.keep_tree.specs.declared.entry.Entry.{Entry}
 use Rattle.keep_tree.specs.Forest.{Grove}
 use Rattle.keep_schedule.specs.declared.run.Run.{Run}

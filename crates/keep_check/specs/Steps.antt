@@ -1,6 +1,5 @@
 -- Words for the steps of the code, which goes run by run. No public clause cites them.
 use Rattle.std.specs.Prelude.{◌≡◌, ℕ, ◌+◌, ◌*◌, ◌≤◌, ◌<◌, ◌⊎◌, max, min, slice_index, true, false, List, [], ◌∷◌, ◌++◌, length, Option, Some, None}
-use Rattle.keep_moment.specs.declared.moment.TheConstants.{LAST}
 use Rattle.keep_tree.specs.declared.entry.Entry.{Entry}
 use Rattle.keep_tree.specs.Forest.{Grove, end_of, entry_at}
 use Rattle.keep_tree.specs.Renewal.{all_last, renewal}

@@ -1,4 +1,4 @@
-use Rattle.std.proofs.Common.{◌≡◌, ◌+◌, ◌-◌, arith, get_or, inl, inr, leb, leb-true, le-leb, rules, sym, ◌∙◌}
+use Rattle.std.proofs.Common.{arith, get_or, inl, inr, leb, leb-true, le-leb, rules}
 use Rattle.std.proofs.lemmas.Bool.{cases_eq}
 use Rattle.std.proofs.lemmas.List.Sorted.{IsPartitionPoint-from_clause, IsPartitionedBy-leb}
 use Rattle.keep_schedule.specs.declared.run.Run.{Run}

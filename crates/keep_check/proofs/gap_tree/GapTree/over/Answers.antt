@@ -1,4 +1,4 @@
-use Rattle.std.proofs.Common.{◌≡◌, ◌∙◌, ◌+◌, ◌++◌, List, [], ◌∷◌, ℕ, ap, append_assoc, arith, drop, get_or, sym}
+use Rattle.std.proofs.Common.{◌∙◌, ◌+◌, ◌++◌, List, [], ◌∷◌, ℕ, ap, append_assoc, arith, drop, sym}
 use Rattle.std.proofs.lemmas.List.{drop_more}
 use Rattle.keep_schedule.specs.declared.run.Run.{Run}
 use Rattle.keep_check.specs.Gaps.{first_gap, gaps_of}
