@@ -10,7 +10,8 @@ impl Keeper {
     /// - A tick plans anew from its moment; a plan whose first wake-up has not passed stays as it is. Nothing left to do is
     ///   [`Output::Idle`], a wake-up that is still to come [`Output::Sleep`] until then. One that is due opens a round:
     ///   [`Output::Ask`] lists the entries that are alive, end before a need that they carry, gain by a renewal and cannot
-    ///   wait for the next wake-up.
+    ///   wait for the next wake-up. A tick that is not late and opens no round costs nothing that grows with the entries,
+    ///   and takes no memory.
     /// - An answer is taken for an entry of the open round: told, the entry ends so many seconds after the round's moment
     ///   and is renewable as told; refused, it is not renewable any more; lost, it stays as it was. While others are waited
     ///   for, this is [`Output::Waiting`]; the last answer closes the round and plans anew from its moment,
