@@ -109,9 +109,9 @@ pub record Stays (k : Grove) (t : ℕ) (p : Planned) : Type 0 where
   pub pairs : pairs k t ≡ []
   pub keeper : IsKeeper k t p None
 
-empty : (xs : List ℕ) → length xs ≡ 0 → xs ≡ []
-empty [] e = refl
-empty (x ∷ xs) e = absurd (omega arith)
+pub nobody : (xs : List ℕ) → length xs ≡ 0 → xs ≡ []
+nobody [] none = refl
+nobody (x ∷ xs) none = absurd (omega arith)
 
 pub stays :
     (h k : Grove) (last : ℕ) (p : Planned) (r : OpenRound) (event : Event) → IsKeeper h last p (Some r) → Takes h r event → k ≡ change h (of_entry event) (answered r.at event) →
@@ -120,8 +120,8 @@ stays h k last p r event keeper taken is by_rule rules none =
     let i = of_entry event in
     let round_is = keeper.open_round r refl in
     let rule = subst (λ g. IsByRule g last p (set r.waiting.items i false)) (sym is) (by_rule_more h last p r event round_is taken by_rule rules) in
-    let nobody = waited_set r.waiting.items i taken.there ∙ empty (without i (waited_for r.waiting.items)) none in
-    let closes = closes_by_rule k last p (set r.waiting.items i false) rule nobody in
+    let all = waited_set r.waiting.items i taken.there ∙ nobody (without i (waited_for r.waiting.items)) none in
+    let closes = closes_by_rule k last p (set r.waiting.items i false) rule all in
     record {
       shorten = closes.0;
       pairs = closes.1;
@@ -177,9 +177,6 @@ fails_turn old new event round RoundOpen answer none is last fails same = absurd
 fails_turn old new event round NotAsked answer none is last fails same = absurd fails
 fails_turn old new event round BadIndex answer none is last fails same = absurd fails
 fails_turn old new event round OutOfRange answer none is last fails same = absurd fails
-
-pub nobody : (xs : List ℕ) → length xs ≡ 0 → xs ≡ []
-nobody xs none = empty xs none
 
 pub somebody : (xs : List ℕ) → 0 < length xs → xs ≢ []
 somebody xs some = λ none. let e = ap length none in omega arith
