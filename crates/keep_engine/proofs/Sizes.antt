@@ -62,12 +62,12 @@ run_size : (g : Grove) → IsForest g → (r : Run) → IsRun Two g.entries r �
 unfolding run_text
 run_size g forest r is few =
     let line = line_size (codes "run" ∷ decimal r.first ∷ decimal r.step ∷ decimal r.count ∷ name_of g.entries r.entry ∷ name_of g.entries r.needed ∷ []) in
-    let within = is.within in
+    let within = is.fit.within in
     let a = number_size r.first (omega arith) in
-    let b = number_size r.step (step_within r is.lone is.some within) in
+    let b = number_size r.step (step_within r is.lone is.fit.some within) in
     let c = number_size r.count (omega arith) in
-    let d = name_size g forest r.entry is.entry in
-    let e = name_size g forest r.needed is.needed in
+    let d = name_size g forest r.entry is.fit.entry in
+    let e = name_size g forest r.needed is.fit.needed in
     omega arith
 
 runs_size : (g : Grove) → IsForest g → (rs : List Run) → AreRuns Two g.entries rs → counted rs ≤ LIMIT → length (flat_map (run_text Two g.entries) rs) ≤ length rs * 174
