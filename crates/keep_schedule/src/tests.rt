@@ -3,6 +3,7 @@ ghost use Rattle.keep_tree.specs.Forest.{end_of};
 ghost use Rattle.keep_rule.specs.Unkeepable.{AllKeepable};
 ghost use Rattle.keep_needs.specs.Carried.{IsCarried};
 
+mod limited;
 mod seeded;
 
 use crate::{Force, QueueSchedule, Run, ScanSchedule, Schedule};
