@@ -12,8 +12,6 @@ mod decide;
 mod decision;
 mod fault;
 mod pair;
-#[cfg(test)]
-mod plan_tests;
 mod planned;
 mod runs;
 mod short;

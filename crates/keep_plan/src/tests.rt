@@ -1,3 +1,5 @@
+mod plans;
+
 use crate::{Shortfall, shortfall};
 use keep_moment::{Moment, Name};
 use keep_needs::carry;
@@ -7,18 +9,18 @@ use std::test::Fail;
 
 // An entry of an inventory. With a parent that it is a lease of, or a child.
 #[derive(Clone, Copy)]
-pub(crate) struct Row {
-    pub(crate) kind: Kind,
-    pub(crate) parent: Option<u32>,
-    pub(crate) end: u64,
-    pub(crate) renewable: bool,
-    pub(crate) step: u32,
-    pub(crate) ceiling: Option<u64>,
-    pub(crate) need: u64,
+struct Row {
+    kind: Kind,
+    parent: Option<u32>,
+    end: u64,
+    renewable: bool,
+    step: u32,
+    ceiling: Option<u64>,
+    need: u64,
 }
 
 // A token with the step 60 and the ceiling 10000.
-pub(crate) fn token(parent: Option<u32>, end: u64, renewable: bool, need: u64) -> Row {
+fn token(parent: Option<u32>, end: u64, renewable: bool, need: u64) -> Row {
     Row {
         kind: Kind::Token,
         parent,
@@ -31,7 +33,7 @@ pub(crate) fn token(parent: Option<u32>, end: u64, renewable: bool, need: u64) -
 }
 
 // A token that ends at 1100, with this ceiling, and its lease, which is needed until 1200.
-pub(crate) fn token_and_lease(ceiling: u64) -> [Row; 2] {
+fn token_and_lease(ceiling: u64) -> [Row; 2] {
     let lease = Row {
         kind: Kind::Lease,
         ceiling: Some(10000),
@@ -45,11 +47,11 @@ pub(crate) fn token_and_lease(ceiling: u64) -> [Row; 2] {
     [over, token(Some(0), 1060, true, 1200)]
 }
 
-pub(crate) fn forest_of(alloc: Global, rows: &[Row]) -> Result<Forest, Fail> {
+fn forest_of(alloc: Global, rows: &[Row]) -> Result<Forest, Fail> {
     fill(alloc, Forest::new(alloc), rows)
 }
 
-pub(crate) fn fill(alloc: Global, mut forest: Forest, rows: &[Row]) -> Result<Forest, Fail> {
+fn fill(alloc: Global, mut forest: Forest, rows: &[Row]) -> Result<Forest, Fail> {
     for (i, row) in rows.iter().enumerate() {
         let name = format!(in alloc; "e{i}")?;
         forest.push(Entry {

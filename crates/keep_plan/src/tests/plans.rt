@@ -1,4 +1,4 @@
-use crate::tests::{Row, fill, forest_of, token, token_and_lease};
+use super::{Row, fill, forest_of, token, token_and_lease};
 use crate::{Decision, Plan, plan};
 use keep_moment::Moment;
 use keep_schedule::Run;
