@@ -1,3 +1,6 @@
+ghost use Rattle.std.specs.Prelude.{◌≡◌};
+ghost use Rattle.keep_cert.specs.declared.cert.TheConstants.{MAX_LINES};
+ghost use Rattle.keep_schedule.specs.declared.limit.TheConstants.{LIMIT};
 ghost use Rattle.keep_cert.specs.Laws.{DecidedIsOf, PrintedIsRead, ReadIsWritten, WrittenIsRead};
 
 /// The laws that join text and reading: what is read from a text is what that text writes, and a text that writes a
@@ -6,6 +9,8 @@ ghost use Rattle.keep_cert.specs.Laws.{DecidedIsOf, PrintedIsRead, ReadIsWritten
 pub fn certificates_are_read_back()
     ensures found { ReadIsWritten }
     ensures only { WrittenIsRead }
+    ensures lines { MAX_LINES ≡ 100000 }
+    ensures most { LIMIT ≡ 10000000 }
 {}
 
 /// The laws that join a planner's decision and reading: a decision for a forest has the indices of its entries, so that it

@@ -1,4 +1,4 @@
-ghost use Rattle.std.specs.Prelude.{◌≡◌, ◌↔◌, ◌<◌, ◌≤◌, IfOk, IsTrue, Ok, length};
+ghost use Rattle.std.specs.Prelude.{◌≡◌, ℕ, IsOk, ◌↔◌, ◌<◌, ◌≤◌, IfOk, IsTrue, Ok, length};
 ghost use Rattle.keep_tree.specs.Forest.{end_of};
 ghost use Rattle.keep_rule.specs.Unkeepable.{Unkeepable};
 ghost use Rattle.keep_schedule.specs.Runs.{all_wakes};
@@ -8,6 +8,7 @@ ghost use Rattle.keep_check.specs.Answer.{IsAnswer, IsWalkAnswer};
 ghost use Rattle.keep_cert.specs.CertificateText.{counted};
 ghost use Rattle.keep_check.specs.Fit.{AllFit, CanBeJudged};
 ghost use Rattle.keep_check.specs.Laws.{Holds};
+ghost use Rattle.keep_cert.specs.declared.cert.Body.TheVariants as body;
 
 use crate::answer::{Answer, Cause, CheckFault};
 use crate::gap_tree::GapTree;
@@ -38,6 +39,7 @@ use std::alloc::{AllocError, Global};
 pub fn check(alloc: Global, forest: &Forest, cert: &Cert) -> Result<Answer, CheckFault>
     requires { CanBeJudged forest.now cert.now.body }
     ensures answer { IfOk result (IsAnswer forest.now cert.now) }
+    ensures pair { (entry needed : ℕ) → cert.now.body ≡ body.Unkeepable entry needed → IsOk result }
     ensures yes { result ≡ Ok Yes → Holds forest.now cert.now.start cert.now.body }
 {
     match &cert.body {

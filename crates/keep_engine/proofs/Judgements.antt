@@ -97,10 +97,10 @@ check_stopped bytes text stops.TooLong out checks kept = absurd checks.2
 check_stopped bytes text stops.Read out checks kept = absurd checks.2
 check_stopped bytes text stops.Write out checks kept = absurd checks.2
 
-pub check_unsent : (bytes text : List ℕ) (stop : Stop) (line : List ℕ) (out : Output) → Sends (Err stop) line out → CheckRun bytes text (exit_of stop) out
-check_unsent bytes text stops.Write line out says = says
-check_unsent bytes text stops.Memory line out says = inr says
-check_unsent bytes text (stops.Inventory fault) line out says = absurd says
-check_unsent bytes text (stops.Moments fault) line out says = absurd says
-check_unsent bytes text stops.TooLong line out says = absurd says
-check_unsent bytes text stops.Read line out says = absurd says
+pub check_unsent : (bytes text : List ℕ) (stop : Stop) (outcome : Outcome) (out : Output) → Checks bytes text (Ok outcome) → Sends (Err stop) outcome.text out → CheckRun bytes text (exit_of stop) out
+check_unsent bytes text stops.Write outcome out checks says = (says.0, (checks.0, checks.1, outcome.exit, outcome.text, checks.2, says.1))
+check_unsent bytes text stops.Memory outcome out checks says = inr (says.0, (checks.0, checks.1, outcome.exit, outcome.text, checks.2, says.1))
+check_unsent bytes text (stops.Inventory fault) outcome out checks says = absurd says
+check_unsent bytes text (stops.Moments fault) outcome out checks says = absurd says
+check_unsent bytes text stops.TooLong outcome out checks says = absurd says
+check_unsent bytes text stops.Read outcome out checks says = absurd says

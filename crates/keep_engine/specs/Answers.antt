@@ -6,6 +6,7 @@ use Rattle.keep_rule.specs.Plans.{wake_fault}
 use Rattle.keep_inventory.specs.Stock.{Stock}
 use Rattle.keep_inventory.specs.Inventory.{inventory}
 use Rattle.vault_http.specs.Failures.{HasFailed}
+use Rattle.vault_http.specs.Front.{AppendsFront}
 use Rattle.keep_moment.specs.declared.text.Text.{Text}
 use Rattle.keep_engine.specs.declared.stop.Stop.{Stop}
 use Rattle.keep_engine.specs.declared.stop.Stop.TheVariants as stops
@@ -29,9 +30,9 @@ Answers bytes s moments (Err (stops.Inventory fault)) = inventory bytes ≡ Err 
 Answers bytes s moments (Err stops.Memory) = Unit {0}
 Answers bytes s moments answer = (stock : Stock) × (inventory bytes ≡ Ok stock) × ReplayAnswers stock.grove s moments answer
 
--- a text that was sent whole, or why it was not
+-- a text that was sent whole, or why only a front of it was
 abbrev pub Sends : Result (Unit {0}) Stop → List ℕ → Output → Type 0
 Sends (Ok u) text out = Appends out.old out.new text
-Sends (Err stops.Write) text out = HasFailed out.failed_before out.failed_after
-Sends (Err stops.Memory) text out = IsTrue out.is_in_memory
+Sends (Err stops.Write) text out = HasFailed out.failed_before out.failed_after × AppendsFront out.old out.new text
+Sends (Err stops.Memory) text out = IsTrue out.is_in_memory × AppendsFront out.old out.new text
 Sends (Err stop) text out = ⊥

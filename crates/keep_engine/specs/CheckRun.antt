@@ -15,6 +15,7 @@ use Rattle.keep_inventory.specs.declared.fault.InvFault.{InvFault}
 use Rattle.keep_inventory.specs.Stock.{Stock}
 use Rattle.keep_inventory.specs.Inventory.{inventory}
 use Rattle.vault_http.specs.Failures.{HasFailed}
+use Rattle.vault_http.specs.Front.{AppendsFront}
 use Rattle.keep_engine.specs.declared.exit.Exit.{Exit}
 use Rattle.keep_engine.specs.declared.exit.Exit.TheVariants as exits
 use Rattle.keep_engine.specs.CheckText.{no_line, unreadable_line}
@@ -52,11 +53,15 @@ IsJudged g text exit line = ⊥
 abbrev pub WritesJudged : List ℕ → List ℕ → Exit → Output → Type 0
 WritesJudged bytes text exit out = (stock : Stock) × (inventory bytes ≡ Ok stock) × (line : List ℕ) × IsJudged stock.grove text exit line × Appends out.old out.new line
 
+-- no more than a front of the line about the text was written
+abbrev pub WritesFront : List ℕ → List ℕ → Output → Type 0
+WritesFront bytes text out = (stock : Stock) × (inventory bytes ≡ Ok stock) × (exit : Exit) × (line : List ℕ) × IsJudged stock.grove text exit line × AppendsFront out.old out.new line
+
 -- `check` over the bytes of an inventory and of a certificate, by exit
 abbrev pub CheckRun : List ℕ → List ℕ → Exit → Output → Type 0
 CheckRun bytes text exits.Done out = WritesJudged bytes text exits.Done out
 CheckRun bytes text exits.No out = WritesJudged bytes text exits.No out
 CheckRun bytes text exits.Inventory out = (fault : InvFault) × (inventory bytes ≡ Err fault) × Keeps out.old out.new
-CheckRun bytes text exits.Device out = HasFailed out.failed_before out.failed_after
-CheckRun bytes text exits.Memory out = Keeps out.old out.new ⊎ IsTrue out.is_in_memory
+CheckRun bytes text exits.Device out = HasFailed out.failed_before out.failed_after × WritesFront bytes text out
+CheckRun bytes text exits.Memory out = Keeps out.old out.new ⊎ (IsTrue out.is_in_memory × WritesFront bytes text out)
 CheckRun bytes text exit out = ⊥

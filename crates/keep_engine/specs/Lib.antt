@@ -8,4 +8,6 @@ pub mod PlanAnswers
 pub mod CheckText
 pub mod CheckRun
 pub mod CheckAnswers
+pub mod FaultLine
 pub mod Laws
+pub mod Secrecy

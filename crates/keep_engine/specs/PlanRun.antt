@@ -15,6 +15,7 @@ use Rattle.keep_inventory.specs.declared.fault.InvFault.{InvFault}
 use Rattle.keep_inventory.specs.Stock.{Stock}
 use Rattle.keep_inventory.specs.Inventory.{inventory}
 use Rattle.vault_http.specs.Failures.{HasFailed}
+use Rattle.vault_http.specs.Front.{AppendsFront}
 use Rattle.keep_engine.specs.declared.exit.Exit.{Exit}
 use Rattle.keep_engine.specs.declared.exit.Exit.TheVariants as exits
 use Rattle.keep_engine.specs.Output.{Output}
@@ -49,12 +50,16 @@ decided_exit decision.TooLong = exits.TooLong
 abbrev pub WritesCertified : List ℕ → ℕ → Exit → Output → Type 0
 WritesCertified bytes s exit out = (stock : Stock) × (inventory bytes ≡ Ok stock) × (text : List ℕ) × IsCertified stock.grove s exit text × Appends out.old out.new text
 
+-- no more than a front of the text for the inventory's forest was written
+abbrev pub WritesFront : List ℕ → ℕ → Output → Type 0
+WritesFront bytes s out = (stock : Stock) × (inventory bytes ≡ Ok stock) × (exit : Exit) × (text : List ℕ) × IsCertified stock.grove s exit text × AppendsFront out.old out.new text
+
 -- `plan` over the bytes of an inventory, by exit
 abbrev pub PlanRun : List ℕ → ℕ → Exit → Output → Type 0
 PlanRun bytes s exits.Done out = WritesCertified bytes s exits.Done out
 PlanRun bytes s exits.Unkeepable out = WritesCertified bytes s exits.Unkeepable out
 PlanRun bytes s exits.TooLong out = (stock : Stock) × (inventory bytes ≡ Ok stock) × IsTooLong stock.grove s × Keeps out.old out.new
 PlanRun bytes s exits.Inventory out = (fault : InvFault) × (inventory bytes ≡ Err fault) × Keeps out.old out.new
-PlanRun bytes s exits.Device out = HasFailed out.failed_before out.failed_after
-PlanRun bytes s exits.Memory out = Keeps out.old out.new ⊎ IsTrue out.is_in_memory
+PlanRun bytes s exits.Device out = HasFailed out.failed_before out.failed_after × WritesFront bytes s out
+PlanRun bytes s exits.Memory out = Keeps out.old out.new ⊎ (IsTrue out.is_in_memory × WritesFront bytes s out)
 PlanRun bytes s exit out = ⊥

@@ -45,7 +45,7 @@ pub(crate) fn unreadable_line(alloc: Global, fault: CertFault) -> Result<Text, S
 
 /// These words, a number and a line feed.
 #[tactic(auto, unfolding(crate::specs::CheckText::numbered))]
-fn numbered(alloc: Global, words: &[u8], number: u64) -> Result<Text, AllocError>
+pub(crate) fn numbered(alloc: Global, words: &[u8], number: u64) -> Result<Text, AllocError>
     ensures { IfOk result (λ line. line ≡ numbered words.now number) }
 {
     let number = number.to_string(alloc)?;

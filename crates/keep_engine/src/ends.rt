@@ -1,5 +1,5 @@
-ghost use Rattle.std.specs.Prelude.{◌≡◌};
 ghost use Rattle.keep_engine.specs.EndsRun.{EndsRun};
+ghost use Rattle.keep_engine.specs.FaultLine.{EndsTold};
 ghost use Rattle.keep_engine.specs.EndsText.{OneEndsText};
 
 use crate::ends_text::ends_text;
@@ -16,6 +16,7 @@ use vault_http::Sink;
 /// it (exit 2). The whole text is made before the first write, so these exits leave `out` untouched; so does 7, but for
 /// a sink in memory that itself wants memory. Exit 6 comes only where a write of `out` failed. The exits 3, 4 and 5 never
 /// come.
+#[tactic(auto, using(crate::proofs::Outcomes::ends_unsent, crate::proofs::Tellings::ends_stopped_told, crate::proofs::Tellings::unsent_ends_told))]
 pub fn run_ends<W: Sink, F: Sink>(
     alloc: Global,
     inventory: &[u8],
@@ -24,12 +25,19 @@ pub fn run_ends<W: Sink, F: Sink>(
     out: &mut W,
     faults: &mut F,
 ) -> Exit
-    ensures { EndsRun inventory.now start moments.now result (record {
+    ensures run { EndsRun inventory.now start moments.now result (record {
       old = W.written out.old;
       new = W.written out.new;
       failed_before = W.failed_calls out.old;
       failed_after = W.failed_calls out.new;
       is_in_memory = W.is_in_memory;
+    }) }
+    ensures told { EndsTold inventory.now start moments.now result (record {
+      old = F.written faults.old;
+      new = F.written faults.new;
+      failed_before = F.failed_calls faults.old;
+      failed_after = F.failed_calls faults.new;
+      is_in_memory = F.is_in_memory;
     }) }
 {
     match ends_text(alloc, inventory, start, moments) {

@@ -1,4 +1,5 @@
-ghost use Rattle.keep_engine.specs.Laws.{OneCheckText, OnePlanText, OwnCertificateLaw, OwnTextLaw};
+ghost use Rattle.keep_engine.specs.Laws.{OneCheckText, OnePlanRun, OnePlanText, OwnCertificateLaw, OwnTextLaw};
+ghost use Rattle.keep_engine.specs.Secrecy.{CheckSecrecy, EndsSecrecy, PlanSecrecy};
 
 /// The law that own certificates are accepted. What `print` writes of a decision as `plan` gave it, with the start it was
 /// planned from, is read back over the same forest, and `keep_check::check` can answer nothing but Yes. And what the command
@@ -20,4 +21,18 @@ pub fn no_secret_shows_in_plan()
 /// right `yes` and a right other line.
 pub fn no_secret_shows_in_check()
     ensures { OneCheckText }
+{}
+
+/// Of two inventories with one forest `plan` writes one text, with one exit.
+pub fn credentials_change_no_plan()
+    ensures { OnePlanRun }
+{}
+
+/// The law of secrecy over bytes. Of two good inventories whose documents differ in the keys `secret` and `lease_id` and
+/// their values alone, and with the same other arguments, each run writes a front of one text on `out`; and where no device
+/// and no want of memory cuts them short, the runs have one exit, write that text, and report by one fault line, or none.
+pub fn secrets_change_no_run()
+    ensures ends { EndsSecrecy }
+    ensures plan { PlanSecrecy }
+    ensures check { CheckSecrecy }
 {}

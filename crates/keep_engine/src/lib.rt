@@ -11,6 +11,7 @@ mod check_text;
 mod ends;
 mod ends_text;
 mod exit;
+mod fault_line;
 mod laws;
 mod limits;
 mod outcome;
@@ -24,7 +25,10 @@ mod tests;
 pub use check::run_check;
 pub use ends::{no_secret_shows_in_ends, run_ends};
 pub use exit::Exit;
-pub use laws::{no_secret_shows_in_check, no_secret_shows_in_plan, own_certificates_are_accepted};
+pub use laws::{
+    credentials_change_no_plan, no_secret_shows_in_check, no_secret_shows_in_plan,
+    own_certificates_are_accepted, secrets_change_no_run,
+};
 pub use limits::{MOST_CERTIFICATE, MOST_INVENTORY};
 pub use plan::run_plan;
 pub use stop::report_input;

@@ -1,5 +1,5 @@
-ghost use Rattle.std.specs.Prelude.{◌≡◌};
 ghost use Rattle.keep_engine.specs.PlanRun.{PlanRun};
+ghost use Rattle.keep_engine.specs.FaultLine.{Told};
 
 use crate::exit::Exit;
 use crate::output::send;
@@ -18,7 +18,7 @@ use vault_http::Sink;
 /// failed. The exits 2 and 4 never come.
 ///
 /// Source: Vault, "Lease, renew, and revoke"; Vault, "Tokens".
-#[tactic(auto, using(crate::proofs::Outcomes::plan_done, crate::proofs::Outcomes::plan_stopped, crate::proofs::Outcomes::plan_unsent))]
+#[tactic(auto, using(crate::proofs::Outcomes::plan_done, crate::proofs::Outcomes::plan_stopped, crate::proofs::Outcomes::plan_unsent, crate::proofs::Tellings::plan_done_told, crate::proofs::Tellings::plan_stopped_told, crate::proofs::Tellings::unsent_told))]
 pub fn run_plan<W: Sink, F: Sink>(
     alloc: Global,
     inventory: &[u8],
@@ -26,12 +26,19 @@ pub fn run_plan<W: Sink, F: Sink>(
     out: &mut W,
     faults: &mut F,
 ) -> Exit
-    ensures { PlanRun inventory.now start result (record {
+    ensures run { PlanRun inventory.now start result (record {
       old = W.written out.old;
       new = W.written out.new;
       failed_before = W.failed_calls out.old;
       failed_after = W.failed_calls out.new;
       is_in_memory = W.is_in_memory;
+    }) }
+    ensures told { Told inventory.now result (record {
+      old = F.written faults.old;
+      new = F.written faults.new;
+      failed_before = F.failed_calls faults.old;
+      failed_after = F.failed_calls faults.new;
+      is_in_memory = F.is_in_memory;
     }) }
 {
     match plan_text(alloc, inventory, start) {

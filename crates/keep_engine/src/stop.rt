@@ -1,8 +1,10 @@
 ghost use Rattle.std.specs.Prelude.{◌≡◌};
 ghost use Rattle.keep_engine.specs.Exits.{exit_of, stop_of_check, stop_of_input, stop_of_inventory, stop_of_plan, stop_of_print, stop_of_sink, stop_of_wakes};
+ghost use Rattle.keep_engine.specs.FaultLine.{Reports, fault_line};
 ghost use Rattle.keep_engine.specs.declared.stop.Stop.TheVariants.{Memory};
 
 use crate::exit::Exit;
+use crate::fault_line::fault_line;
 use keep_cert::PrintFault;
 use keep_check::CheckFault;
 use keep_inventory::InvFault;
@@ -111,7 +113,14 @@ impl From<InputFault> for Stop {
 /// Writes the fault line of an input that was not read, as a file that fails or passes its limit, and gives the exit:
 /// 7 where memory was refused, else 6.
 pub fn report_input<F: Sink>(alloc: Global, fault: InputFault, faults: &mut F) -> Exit
-    ensures { result ≡ exit_of (stop_of_input fault) }
+    ensures exit { result ≡ exit_of (stop_of_input fault) }
+    ensures told { Reports (fault_line (stop_of_input fault)) (record {
+      old = F.written faults.old;
+      new = F.written faults.new;
+      failed_before = F.failed_calls faults.old;
+      failed_after = F.failed_calls faults.new;
+      is_in_memory = F.is_in_memory;
+    }) }
 {
     Stop::from(fault).report(alloc, faults)
 }
@@ -143,54 +152,19 @@ impl Stop {
 
     /// Writes the fault line and gives the exit, which a failed write leaves as it is.
     pub(crate) fn report<F: Sink>(self, alloc: Global, faults: &mut F) -> Exit
-        ensures { result ≡ exit_of self }
+        ensures exit { result ≡ exit_of self }
+        ensures told { Reports (fault_line self) (record {
+          old = F.written faults.old;
+          new = F.written faults.new;
+          failed_before = F.failed_calls faults.old;
+          failed_after = F.failed_calls faults.new;
+          is_in_memory = F.is_in_memory;
+        }) }
     {
-        if let Ok(line) = self.line(alloc) {
-            let _ = write_all(faults, line.as_bytes());
+        if let Ok(line) = fault_line(alloc, self) {
+            let _ = write_all(faults, line.list());
             let _ = faults.flush();
         }
         self.exit()
-    }
-
-    /// The fault line, with its line feed.
-    fn line(self, alloc: Global) -> Result<String, AllocError> {
-        match self {
-            Stop::Inventory(fault) => inventory_line(alloc, fault),
-            Stop::Moments(fault) => format!(in alloc; "leasekeep: moments: {fault}\n"),
-            Stop::TooLong => String::from_str(alloc, "leasekeep: too long\n"),
-            Stop::Read => String::from_str(alloc, "leasekeep: read\n"),
-            Stop::Write => String::from_str(alloc, "leasekeep: write\n"),
-            Stop::Memory => String::from_str(alloc, "leasekeep: memory\n"),
-        }
-    }
-}
-
-/// The fault line of a text that is no inventory: the entry by its index, `-` for the top level.
-fn inventory_line(alloc: Global, fault: InvFault) -> Result<String, AllocError> {
-    match fault {
-        InvFault::NotToml => String::from_str(alloc, "leasekeep: inventory: not-toml\n"),
-        InvFault::MissingKey(entry, key) => {
-            let key = key.text();
-            format!(in alloc; "leasekeep: inventory: missing-key {entry} {key}\n")
-        }
-        InvFault::UnknownKey(Some(entry)) => format!(in alloc;
-            "leasekeep: inventory: unknown-key {entry}\n"
-        ),
-        InvFault::UnknownKey(None) => String::from_str(
-            alloc,
-            "leasekeep: inventory: unknown-key -\n",
-        ),
-        InvFault::BadValue(Some(entry), key) => {
-            let key = key.text();
-            format!(in alloc; "leasekeep: inventory: bad-value {entry} {key}\n")
-        }
-        InvFault::BadValue(None, key) => {
-            let key = key.text();
-            format!(in alloc; "leasekeep: inventory: bad-value - {key}\n")
-        }
-        InvFault::Tree(entry, fault) => format!(in alloc;
-            "leasekeep: inventory: tree {entry} {fault}\n"
-        ),
-        InvFault::OutOfMemory => String::from_str(alloc, "leasekeep: memory\n"),
     }
 }

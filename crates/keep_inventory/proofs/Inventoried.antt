@@ -23,7 +23,8 @@ use Rattle.keep_inventory.specs.Intake.{Intake, nothing, stock_of, appended, pus
 use Rattle.keep_inventory.specs.Rows.{token_row, lease_row}
 use Rattle.keep_inventory.specs.Inventory.{token_entered, lease_entered, entered_by, intake_of, inventory, inventory_of, tree_of}
 use Rattle.keep_inventory.specs.Laws.{InventoryLaw}
-use Rattle.keep_inventory.proofs.Matched.{bind_ok, intake_is_stock}
+use Rattle.keep_inventory.proofs.Matched.{bind_ok}
+use Rattle.keep_inventory.proofs.Apart.{intake_is_stock}
 
 within_test : (m n : ℕ) → nat_le m n ≡ true → m ≤ n
 within_test m n h = grind (arith, nat_tests)

@@ -4,4 +4,9 @@ pub mod Trees
 pub mod Stocks
 pub mod Registers
 pub mod Matched
+pub mod Parts
+pub mod Taken
+pub mod Apart
+pub mod Sendable
+pub mod Barely
 pub mod Inventoried

@@ -15,7 +15,7 @@ use Rattle.keep_inventory.specs.declared.row.Row.{Row}
 use Rattle.keep_inventory.specs.Answers.{◌>>=◌}
 use Rattle.keep_inventory.specs.Keys.{is_top_key}
 use Rattle.keep_inventory.specs.Values.{only, whole, tables, value_at}
-use Rattle.keep_inventory.specs.Stock.{IsStock}
+use Rattle.keep_inventory.specs.Stock.{Stock}
 use Rattle.keep_inventory.specs.Intake.{Intake, nothing, stock_of, appended, pushed, holds, distinct, with_token, with_lease}
 use Rattle.keep_inventory.specs.Rows.{token_row, lease_row}
 use Rattle.keep_inventory.specs.Inventory.{token_entered, lease_entered, entered_by, intake_of}
@@ -115,8 +115,11 @@ intake_matched ms t e =
     let second = all_kept (token_entered (unwrap_or system_max 2764800)) (token_step (unwrap_or system_max 2764800)) Token (nothing (unwrap_or margin 1)) u (unwrap_or tokens no_items) first f in
     all_kept (lease_entered (unwrap_or system_max 2764800)) (lease_step (unwrap_or system_max 2764800)) Lease u t (unwrap_or leases no_items) second e6))))))
 
-pub stock_of_matched : (s : Intake) → Matched s → IsStock (stock_of s)
+abbrev pub AreMatched : Stock → Type 0
+AreMatched s = (length s.credentials ≡ length s.grove.entries) × (length s.terms ≡ length s.grove.entries)
+
+pub stock_of_matched : (s : Intake) → Matched s → AreMatched (stock_of s)
 stock_of_matched s m = (length-append s.secrets s.lease_ids ∙ m.credentials, m.terms)
 
-pub intake_is_stock : (ms : Members) (t : Intake) → intake_of ms ≡ Ok t → IsStock (stock_of t)
-intake_is_stock ms t e = stock_of_matched t (intake_matched ms t e)
+pub intake_is_matched : (ms : Members) (t : Intake) → intake_of ms ≡ Ok t → AreMatched (stock_of t)
+intake_is_matched ms t e = stock_of_matched t (intake_matched ms t e)

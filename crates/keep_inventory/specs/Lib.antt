@@ -7,4 +7,5 @@ pub mod Found
 pub mod Intake
 pub mod Rows
 pub mod Inventory
+pub mod Bare
 pub mod Laws

@@ -2,7 +2,8 @@
 //!
 //! The contract for the layers above: [`read`] gives the forest, the credentials and the terms that the definition
 //! Inventory gives for the document's tree, or its first fault; [`Inventory`] has one credential and one set of terms for
-//! each entry of its forest. Begin with `document`, then `row`.
+//! each entry of its forest, and of one kind no
+//! credential twice. Begin with `document`, then `row`.
 #![tactic(auto)]
 
 mod document;
@@ -23,5 +24,5 @@ pub use document::{SYSTEM_MAX, read};
 pub use fault::InvFault;
 pub use inventory::{Credentials, Inventory};
 pub use key::Key;
-pub use laws::inventories_are_forests;
+pub use laws::{credentials_are_sendable, inventories_are_forests, secrets_stay_in_credentials};
 pub use terms::Terms;

@@ -1,6 +1,6 @@
 -- An index finds what a walk over the slots finds: when a slot more is entered, in the look-ups, and after a change that
 -- leaves each slot its kind and its credential.
-use Rattle.std.proofs.Common.{◌≡◌, ℕ, ◌+◌, ◌<◌, Bool, true, false, cond, not, ◌&&◌, List, ◌∷◌, ◌++◌, [], take, drop, Option, Some, None, Result, Ok, Err, IfOk, IfSome, Vec, Global, is_none, is_some, length, get_or, map, option_map, bytes_eq, refl, sym, ap, ◌∙◌, subst, arith, ⊎_elim}
+use Rattle.std.proofs.Common.{◌≡◌, ℕ, ◌+◌, ◌<◌, Bool, true, false, cond, not, ◌&&◌, List, ◌∷◌, ◌++◌, [], take, drop, Option, Some, None, Result, Ok, Err, OnOk, IfSome, Vec, Global, length, get_or, map, option_map, bytes_eq, refl, sym, ap, ◌∙◌, subst, arith, ⊎_elim}
 use Rattle.std.proofs.lemmas.Bool.{cases_Bool, cases_lt, cond-true, cond-false, false_from_ne_true}
 use Rattle.std.proofs.lemmas.List.{append-nil, drop_all, get_or-map, length-map, take_all}
 use Rattle.std.proofs.lemmas.Map.Text.{is_eq-slice_cmp}
@@ -17,7 +17,7 @@ use Rattle.keep_tree.specs.Push.{is_lease}
 use Rattle.mini_broker.specs.declared.row.Row.{Row}
 use Rattle.mini_broker.specs.declared.slot.Slot.{Slot}
 use Rattle.mini_broker.specs.declared.index.Index.{Index}
-use Rattle.mini_broker.specs.Index.{Enters, Finds, IsIndexOf, IsIndexOfNone, IsIndexed, IsTaken, TellsTaken, credentials_of, if_listed, place_in}
+use Rattle.mini_broker.specs.Index.{AreUnlike, Enters, Finds, IsFresh, IsIndexOf, IsIndexOfNone, IsIndexed, credentials_of, if_listed, place_in}
 use Rattle.mini_broker.specs.Slots.{listed_rows, no_slot, relisted, slot_at, swept_slots}
 use Rattle.mini_broker.specs.Subject.{is_lease_with, is_token_with}
 use Rattle.mini_broker.specs.Sweep.{lives}
@@ -117,17 +117,6 @@ no_lease : (r : Row) (q : List ℕ) → r.kind ≡ Token → is_lease_with q r �
 unfolding is_lease_with
 no_lease r q kind = ap (λ k. is_lease k && bytes_eq r.credential q) kind
 
--- what `is_none` answers
-pub none_told : (o : Option ℕ) (b : Bool) → is_some o ≡ not b → b ≡ is_none o
-none_told None true e = refl
-none_told None false e = absurd cc
-none_told (Some i) true e = absurd cc
-none_told (Some i) false e = refl
-
-none_if : (o : Option ℕ) → is_none o ≡ true → o ≡ None
-none_if None e = refl
-none_if (Some i) e = absurd cc
-
 token_passes : (k : Kind) (b : Bool) → (not (is_lease k) && b) ≡ true → (k ≡ Token) × (b ≡ true)
 token_passes Token b e = (refl, e)
 token_passes Lease b e = absurd cc
@@ -144,52 +133,44 @@ lease_like : (r : Row) (q : List ℕ) → is_lease_with q r ≡ true → (r.kind
 unfolding is_lease_with
 lease_like r q e = let passed = lease_passes r.kind (bytes_eq r.credential q) e in (passed.0, (bytes_decides r.credential q).0 passed.1)
 
--- a place that is found is that of a slot with the kind and the credential
-taken_if :
+-- the map has no place for the credential of a row of which none before it has the kind and the credential
+none_before :
     (has : List ℕ → Row → Bool) (kind : Kind) (slots : List Slot) (n : ℕ) (m : BTreeMap (Vec ℕ Global) ℕ) (r : Row) (credential : List ℕ) (o : Option ℕ) →
     ((row : Row) → has credential row ≡ true → (row.kind ≡ kind) × (row.credential ≡ credential)) → r.kind ≡ kind → credential ≡ r.credential →
-    o ≡ place_in m credential → is_none o ≡ false → Finds m has slots n → IsTaken r slots n
-taken_if has kind slots n m r credential None like of is e stale finds = absurd cc
-taken_if has kind slots n m r credential (Some i) like of is e stale finds =
+    o ≡ place_in m credential → IsFresh r slots n → Finds m has slots n → o ≡ None
+none_before has kind slots n m r credential None like of is e fresh finds = refl
+none_before has kind slots n m r credential (Some i) like of is e fresh finds =
     let there : (i < n) × (has credential (slot_at slots i).row ≡ true) = subst (λ o. IfSome o (λ i. (i < n) × (has credential (slot_at slots i).row ≡ true))) (sym e) (finds.within credential) in
     let same : ((slot_at slots i).row.kind ≡ kind) × ((slot_at slots i).row.credential ≡ credential) = like (slot_at slots i).row there.1 in
-    record { place = i; before = there.0; kind = same.0 ∙ sym of; credential = same.1 ∙ is }
-
-pub token_taken :
-    {E : Type 0} (answer : Result Bool E) (x : Index) (r : Row) (n : ℕ) (credential : List ℕ) → r.kind ≡ Token → credential ≡ r.credential →
-    IfOk answer (λ fresh. fresh ≡ is_none (place_in x.tokens credential)) → IfOk answer (λ fresh. TellsTaken x r n fresh)
-token_taken (Err e) x r n credential kind is told = tt
-token_taken (Ok fresh) x r n credential kind is told = λ slots stale old.
-    taken_if is_token_with Token slots n x.tokens r credential (place_in x.tokens credential) (λ row. token_like row credential) kind is refl (sym told ∙ stale) old.tokens
-
-pub lease_taken :
-    {E : Type 0} (answer : Result Bool E) (x : Index) (r : Row) (n : ℕ) (credential : List ℕ) → r.kind ≡ Lease → credential ≡ r.credential →
-    IfOk answer (λ fresh. fresh ≡ is_none (place_in x.leases credential)) → IfOk answer (λ fresh. TellsTaken x r n fresh)
-lease_taken (Err e) x r n credential kind is told = tt
-lease_taken (Ok fresh) x r n credential kind is told = λ slots stale old.
-    taken_if is_lease_with Lease slots n x.leases r credential (place_in x.leases credential) (λ row. lease_like row credential) kind is refl (sym told ∙ stale) old.leases
+    absurd (fresh i there.0 (same.0 ∙ sym of) (same.1 ∙ is))
 
 pub token_enters :
-    {E : Type 0} (answer : Result Bool E) (x : Index) (new : BTreeMap (Vec ℕ Global) ℕ) (r : Row) (n : ℕ) (credential : List ℕ) → r.kind ≡ Token → credential ≡ r.credential →
-    IfOk answer (λ fresh. fresh ≡ is_none (place_in x.tokens credential)) →
-    IfOk answer (λ fresh. (q : List ℕ) → place_in new q ≡ cond (bytes_eq credential q) (Some n) (place_in x.tokens q)) →
-    IfOk answer (λ fresh. Enters x (record x { tokens = new }) r n fresh)
-token_enters (Err e) x new r n credential kind is told entered = tt
-token_enters (Ok fresh) x new r n credential kind is told entered = λ slots yes there old. record {
-  tokens = finds_more is_token_with slots n x.tokens new credential (λ q. ap (is_token_with q) there ∙ token_by r q kind ∙ ap (λ bs. bytes_eq bs q) (sym is)) (none_if (place_in x.tokens credential) (sym told ∙ yes)) entered old.tokens;
+    {E : Type 0} (answer : Result (Unit {0}) E) (x : Index) (new : BTreeMap (Vec ℕ Global) ℕ) (r : Row) (n : ℕ) (credential : List ℕ) → r.kind ≡ Token → credential ≡ r.credential →
+    OnOk answer ((q : List ℕ) → place_in new q ≡ cond (bytes_eq credential q) (Some n) (place_in x.tokens q)) →
+    OnOk answer (Enters x (record x { tokens = new }) r n)
+token_enters (Err e) x new r n credential kind is entered = tt
+token_enters (Ok u) x new r n credential kind is entered = λ slots there fresh old. record {
+  tokens = finds_more is_token_with slots n x.tokens new credential (λ q. ap (is_token_with q) there ∙ token_by r q kind ∙ ap (λ bs. bytes_eq bs q) (sym is))
+      (none_before is_token_with Token slots n x.tokens r credential (place_in x.tokens credential) (λ row. token_like row credential) kind is refl fresh old.tokens) entered old.tokens;
   leases = finds_past is_lease_with slots n x.leases (λ q. ap (is_lease_with q) there ∙ no_lease r q kind) old.leases;
 }
 
 pub lease_enters :
-    {E : Type 0} (answer : Result Bool E) (x : Index) (new : BTreeMap (Vec ℕ Global) ℕ) (r : Row) (n : ℕ) (credential : List ℕ) → r.kind ≡ Lease → credential ≡ r.credential →
-    IfOk answer (λ fresh. fresh ≡ is_none (place_in x.leases credential)) →
-    IfOk answer (λ fresh. (q : List ℕ) → place_in new q ≡ cond (bytes_eq credential q) (Some n) (place_in x.leases q)) →
-    IfOk answer (λ fresh. Enters x (record x { leases = new }) r n fresh)
-lease_enters (Err e) x new r n credential kind is told entered = tt
-lease_enters (Ok fresh) x new r n credential kind is told entered = λ slots yes there old. record {
+    {E : Type 0} (answer : Result (Unit {0}) E) (x : Index) (new : BTreeMap (Vec ℕ Global) ℕ) (r : Row) (n : ℕ) (credential : List ℕ) → r.kind ≡ Lease → credential ≡ r.credential →
+    OnOk answer ((q : List ℕ) → place_in new q ≡ cond (bytes_eq credential q) (Some n) (place_in x.leases q)) →
+    OnOk answer (Enters x (record x { leases = new }) r n)
+lease_enters (Err e) x new r n credential kind is entered = tt
+lease_enters (Ok u) x new r n credential kind is entered = λ slots there fresh old. record {
   tokens = finds_past is_token_with slots n x.tokens (λ q. ap (is_token_with q) there ∙ no_token r q kind) old.tokens;
-  leases = finds_more is_lease_with slots n x.leases new credential (λ q. ap (is_lease_with q) there ∙ lease_by r q kind ∙ ap (λ bs. bytes_eq bs q) (sym is)) (none_if (place_in x.leases credential) (sym told ∙ yes)) entered old.leases;
+  leases = finds_more is_lease_with slots n x.leases new credential (λ q. ap (is_lease_with q) there ∙ lease_by r q kind ∙ ap (λ bs. bytes_eq bs q) (sym is))
+      (none_before is_lease_with Lease slots n x.leases r credential (place_in x.leases credential) (λ row. lease_like row credential) kind is refl fresh old.leases) entered old.leases;
 }
+
+-- the next of slots that are unlike is fresh
+pub fresh_next : (slots : List Slot) (n : ℕ) → AreUnlike slots → n < length slots → IsFresh (slot_at slots n).row slots n
+fresh_next slots n unlike h = λ i below kind same.
+    let here : i ≡ n = unlike i n (omega (arith, below, h)) h kind same in
+    omega (arith, here, below)
 
 finds_none : (has : List ℕ → Row → Bool) (slots : List Slot) (m : BTreeMap (Vec ℕ Global) ℕ) → IsEmpty m → Finds m has slots 0
 finds_none has slots m empty = record {
@@ -268,9 +249,8 @@ same_pair slots now e i h =
     ∙ ap (λ us. get_or us i none) e
     ∙ get_or-map (λ (s : Slot). pair s.row) slots i no_slot none h
 
-pub indexed_like : (index : Option Index) (slots now : List Slot) → credentials_of now ≡ credentials_of slots → IsIndexed index slots → IsIndexed index now
-indexed_like None slots now e is = tt
-indexed_like (Some x) slots now e is =
+pub indexed_like : (x : Index) (slots now : List Slot) → credentials_of now ≡ credentials_of slots → IsIndexed x slots → IsIndexed x now
+indexed_like x slots now e is =
     let like = same_pair slots now e in
     subst (λ n. IsIndexOf x now n) (sym (same_length slots now e)) (record {
       tokens = finds_like is_token_with slots now (length slots) x.tokens (λ i h q. like_token (slot_at now i).row (slot_at slots i).row q (like i h)) is.tokens;

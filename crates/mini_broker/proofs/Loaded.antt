@@ -6,8 +6,9 @@ use Rattle.std.proofs.lemmas.Bool.Decides.{nat_tests}
 use Rattle.keep_tree.specs.declared.entry.Entry.{Entry}
 use Rattle.keep_tree.specs.Forest.{Grove, entry_at, index_named}
 use Rattle.keep_tree.specs.Push.{IsForest, lacks_parent}
-use Rattle.keep_inventory.specs.Stock.{Stock}
+use Rattle.keep_inventory.specs.Stock.{AreApart, Stock}
 use Rattle.mini_broker.specs.declared.slot.Slot.{Slot}
+use Rattle.mini_broker.specs.Index.{AreUnlike}
 use Rattle.mini_broker.specs.Rows.{row_of, rows_of}
 use Rattle.mini_broker.specs.Slots.{AreSlots, IsTied, listed_rows, no_slot, slot_at, slot_of, slots_of}
 
@@ -48,6 +49,18 @@ slots_are_sound s forest =
           cc;
       tied = λ i h. tied_at s forest i (omega arith);
     }
+
+pub slots_are_unlike : (s : Stock) → AreApart s → AreUnlike (slots_of s)
+unfolding slot_of row_of
+slots_are_unlike s apart i j h k kinds same =
+    let count = count_of_slots s in
+    let hi : i < length s.grove.entries = omega (arith, h, count) in
+    let hj : j < length s.grove.entries = omega (arith, k, count) in
+    let one = slot_of_place s i hi in
+    let two = slot_of_place s j hj in
+    apart i j hi hj
+    (sym (ap (λ (u : Slot). u.row.kind) one) ∙ kinds ∙ ap (λ (u : Slot). u.row.kind) two)
+    (sym (ap (λ (u : Slot). u.row.credential) one) ∙ same ∙ ap (λ (u : Slot). u.row.credential) two)
 
 listed_of : (s : Stock) (is : List ℕ) → listed_rows (map (slot_of s) is) ≡ map (row_of s) is
 unfolding listed_rows slot_of

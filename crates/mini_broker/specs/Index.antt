@@ -1,5 +1,5 @@
 -- An index: for each credential the place of the slot whose row has it, listed or not.
-use Rattle.std.specs.Prelude.{◌≡◌, ℕ, ◌+◌, ◌<◌, Bool, true, false, List, Option, Some, None, IfSome, Vec, length, map, if◌then◌else◌}
+use Rattle.std.specs.Prelude.{◌≡◌, ◌≢◌, ℕ, ◌+◌, ◌<◌, Bool, true, List, Option, Some, None, IfSome, Vec, length, map, if◌then◌else◌}
 use Rattle.std.specs.BTreeMap.{BTreeMap, get_by}
 use Rattle.std.specs.Cmp.Lexicographic.{slice_cmp}
 use Rattle.std.specs.Ordering.{nat_cmp}
@@ -29,30 +29,24 @@ pub record IsIndexOf (index : Index) (slots : List Slot) (n : ℕ) : Type 0 wher
 abbrev pub IsIndexOfNone : Index → Type 0
 IsIndexOfNone index = (slots : List Slot) → IsIndexOf index slots 0
 
--- the row of slot n is entered: if its credential is fresh, an index of the first n slots is one of the first n + 1
-abbrev pub Enters : Index → Index → Row → ℕ → Bool → Type 0
-Enters old new row n fresh = (slots : List Slot) → fresh ≡ true → (slot_at slots n).row ≡ row → IsIndexOf old slots n → IsIndexOf new slots (n + 1)
+-- none of the first n slots has the kind and the credential of a row
+abbrev pub IsFresh : Row → List Slot → ℕ → Type 0
+IsFresh row slots n = (i : ℕ) → i < n → (slot_at slots i).row.kind ≡ row.kind → (slot_at slots i).row.credential ≢ row.credential
 
--- one of the first n slots has the kind and the credential of a row
-pub record IsTaken (row : Row) (slots : List Slot) (n : ℕ) : Type 0 where
-  pub place : ℕ
-  pub before : place < n
-  pub kind : (slot_at slots place).row.kind ≡ row.kind
-  pub credential : (slot_at slots place).row.credential ≡ row.credential
+-- the row of slot n is entered: if none before it has its kind and its credential, an index of the first n slots becomes
+-- one of the first n + 1
+abbrev pub Enters : Index → Index → Row → ℕ → Type 0
+Enters old new row n = (slots : List Slot) → (slot_at slots n).row ≡ row → IsFresh row slots n → IsIndexOf old slots n → IsIndexOf new slots (n + 1)
 
--- the row of slot n is not fresh only if it is taken
-abbrev pub TellsTaken : Index → Row → ℕ → Bool → Type 0
-TellsTaken old row n fresh = (slots : List Slot) → fresh ≡ false → IsIndexOf old slots n → IsTaken row slots n
+-- no two of the slots have the same kind and the same credential
+abbrev pub AreUnlike : List Slot → Type 0
+AreUnlike slots =
+    (i j : ℕ) → i < length slots → j < length slots → (slot_at slots i).row.kind ≡ (slot_at slots j).row.kind →
+    (slot_at slots i).row.credential ≡ (slot_at slots j).row.credential → i ≡ j
 
--- two of the slots have the same kind and the same credential: there is no index of such slots
-pub record Share (slots : List Slot) : Type 0 where
-  pub place : ℕ
-  pub within : place < length slots
-  pub taken : IsTaken (slot_at slots place).row slots place
-
--- an index of these slots, if there is one
-abbrev pub IsIndexed : Option Index → List Slot → Type 0
-IsIndexed index slots = IfSome index (λ x. IsIndexOf x slots (length slots))
+-- an index of these slots
+abbrev pub IsIndexed : Index → List Slot → Type 0
+IsIndexed index slots = IsIndexOf index slots (length slots)
 
 -- by what the slots are found
 unfoldable pub credentials_of : List Slot → List (Kind × List ℕ)

@@ -28,7 +28,7 @@ pub struct Grant {
 pub(crate) fn renewal(
     alloc: Global,
     slots: &[Slot],
-    index: &Option<Index>,
+    index: &Index,
     t: Moment,
     call: Call,
     request: &Request,

@@ -1,5 +1,5 @@
-ghost use Rattle.std.specs.Prelude.{◌≡◌, ℕ, List, None, Some, IfOk, is_none, bytes_eq, if◌then◌else◌};
-ghost use Rattle.mini_broker.specs.Index.{Enters, IsIndexOfNone, IsIndexed, Share, TellsTaken, place_in};
+ghost use Rattle.std.specs.Prelude.{◌≡◌, ℕ, List, Some, IfOk, OnOk, bytes_eq, if◌then◌else◌};
+ghost use Rattle.mini_broker.specs.Index.{AreUnlike, Enters, IsIndexOfNone, IsIndexed, place_in};
 ghost use Rattle.mini_broker.specs.Slots.{AreSlots};
 
 use crate::row::Row;
@@ -16,21 +16,18 @@ pub struct Index {
     leases: BTreeMap<Vec<u8>, u32>,
 }
 
-/// The index of these slots; `None` exactly where two tokens, or two leases, have the same credential. The only error is
-/// want of memory.
-pub(crate) fn index_of(alloc: Global, slots: &[Slot]) -> Result<Option<Index>, AllocError>
-    requires { AreSlots slots.now }
-    ensures indexed { IfOk result (λ index. IsIndexed index slots.now) }
-    ensures shared { IfOk result (λ index. index ≡ None → Share slots.now) }
+/// The index of these slots, of which no two tokens and no two leases have the same credential. The only error is want of
+/// memory.
+pub(crate) fn index_of(alloc: Global, slots: &[Slot]) -> Result<Index, AllocError>
+    requires sound { AreSlots slots.now }
+    requires unlike { AreUnlike slots.now }
+    ensures { IfOk result (λ index. IsIndexed index slots.now) }
 {
     let mut index = Index::new(alloc);
     for place in 0..slots.len() {
-        let fresh = index.add(alloc, &slot_in(slots, place).row, place as u32)?;
-        if !fresh {
-            return Ok(None);
-        }
+        index.add(alloc, &slot_in(slots, place).row, place as u32)?;
     }
-    Ok(Some(index))
+    Ok(index)
 }
 
 impl Index {
@@ -44,10 +41,9 @@ impl Index {
         }
     }
 
-    /// Enters the row of the next slot, and says whether no row of its kind before it has its credential.
-    fn add(&mut self, alloc: Global, row: &Row, place: u32) -> Result<bool, AllocError>
-        ensures enters { IfOk result (λ fresh. Enters self.old self.new row.now place fresh) }
-        ensures taken { IfOk result (λ fresh. TellsTaken self.old row.now place fresh) }
+    /// Enters the row of the next slot.
+    fn add(&mut self, alloc: Global, row: &Row, place: u32) -> Result<(), AllocError>
+        ensures { OnOk result (Enters self.old self.new row.now place) }
     {
         let credential = row.credential.list();
         match row.kind {
@@ -71,17 +67,16 @@ impl Index {
     }
 }
 
-/// Enters a place, and says whether there was none for that credential.
+/// Enters a place.
 fn enter(
     alloc: Global,
     places: &mut BTreeMap<Vec<u8>, u32>,
     credential: &[u8],
     place: u32,
-) -> Result<bool, AllocError>
-    ensures fresh { IfOk result (λ fresh. fresh ≡ is_none (place_in places.old credential.now)) }
-    ensures entered { IfOk result (λ fresh. (q : List ℕ) → place_in places.new q ≡ (if bytes_eq credential.now q then Some place else place_in places.old q)) }
+) -> Result<(), AllocError>
+    ensures { OnOk result ((q : List ℕ) → place_in places.new q ≡ (if bytes_eq credential.now q then Some place else place_in places.old q)) }
 {
     let key = Vec::from_slice(alloc, credential)?;
-    let before = places.insert(key, place)?;
-    Ok(before.is_none())
+    places.insert(key, place)?;
+    Ok(())
 }

@@ -28,7 +28,7 @@ use vault_json::errors;
 pub(crate) fn answer(
     alloc: Global,
     slots: &mut [Slot],
-    index: &Option<Index>,
+    index: &Index,
     faults: &mut Vec<NumberedFault>,
     count: &mut u64,
     t: Moment,
@@ -70,7 +70,7 @@ pub(crate) fn refuse(alloc: Global, refusal: Refusal) -> Result<Served, AllocErr
 fn look_up(
     alloc: Global,
     slots: &[Slot],
-    index: &Option<Index>,
+    index: &Index,
     t: Moment,
     call: Call,
     request: &Request,
@@ -92,7 +92,7 @@ fn look_up(
 fn renew(
     alloc: Global,
     slots: &mut [Slot],
-    index: &Option<Index>,
+    index: &Index,
     faults: &mut Vec<NumberedFault>,
     count: &mut u64,
     t: Moment,

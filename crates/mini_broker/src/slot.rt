@@ -6,7 +6,7 @@ ghost use Rattle.mini_broker.specs.Rows.{row_of, row_named};
 ghost use Rattle.mini_broker.specs.Renewing.{with_row};
 ghost use Rattle.mini_broker.specs.Sweep.{swept};
 ghost use Rattle.mini_broker.specs.Slots.{AreSlots, listed_rows, slot_of, slots_of, slot_at, is_listed, stands, swept_slots};
-ghost use Rattle.mini_broker.specs.Index.{credentials_of, if_listed};
+ghost use Rattle.mini_broker.specs.Index.{AreUnlike, credentials_of, if_listed};
 
 use crate::row::Row;
 use keep_inventory::Inventory;
@@ -27,6 +27,7 @@ pub struct Slot {
 pub(crate) fn slots_of(alloc: Global, inventory: &Inventory) -> Result<Vec<Slot>, AllocError>
     ensures slots { IfOk result (λ slots. slots.items ≡ slots_of inventory.now) }
     ensures sound { IfOk result (λ slots. AreSlots slots.items) }
+    ensures unlike { IfOk result (λ slots. AreUnlike slots.items) }
 {
     let mut slots = Vec::new(alloc);
     for index in 0..inventory.forest().len() {

@@ -1,18 +1,15 @@
-ghost use Rattle.std.specs.Prelude.{◌≡◌, ◌<◌, ◌&&◌, true, IfOk, IfSome, length, option_map, option_copied};
-ghost use Rattle.std.specs.List.{position};
+ghost use Rattle.std.specs.Prelude.{◌≡◌, ◌<◌, true, IfOk, IfSome, length, option_map, option_copied};
 ghost use Rattle.mini_broker.specs.Found.{subject_at, IsFoundWithin, SubjectNamesText};
 ghost use Rattle.mini_broker.specs.Index.{IsIndexed};
 ghost use Rattle.mini_broker.specs.Slots.{listed_rows, slot_at};
-ghost use Rattle.mini_broker.specs.Subject.{bearer, belongs, is_lease_with, is_token_with, lease_with, named, subject, token_with};
+ghost use Rattle.mini_broker.specs.Subject.{bearer, belongs, lease_with, named, subject, token_with};
 
 use crate::asked::{Asked, read_asked};
 use crate::call::Call;
 use crate::index::Index;
 use crate::refusal::Refusal;
-use crate::row::Row;
 use crate::slot::{Slot, if_listed, slot_in};
 use keep_moment::{Name, Span, Text};
-use keep_tree::Kind;
 use std::alloc::{AllocError, Global};
 use vault_http::Request;
 
@@ -28,7 +25,7 @@ pub struct Found {
 pub(crate) fn subject(
     alloc: Global,
     slots: &[Slot],
-    index: &Option<Index>,
+    index: &Index,
     call: Call,
     request: &Request,
 ) -> Result<Result<Found, Refusal>, AllocError>
@@ -46,7 +43,7 @@ pub(crate) fn subject(
 }
 
 /// The place of the token row that a request's token names.
-fn bearer(slots: &[Slot], index: &Option<Index>, credential: &Option<Text>) -> Option<usize>
+fn bearer(slots: &[Slot], index: &Index, credential: &Option<Text>) -> Option<usize>
     requires { IsIndexed index.now slots.now }
     ensures row { option_map (λ i. (slot_at slots.now i).row) result ≡ bearer (listed_rows slots.now) credential.now }
     ensures within { IfSome result (λ i. (i < length slots.now) × ((slot_at slots.now i).listed ≡ true)) }
@@ -58,12 +55,7 @@ fn bearer(slots: &[Slot], index: &Option<Index>, credential: &Option<Text>) -> O
 }
 
 /// The place of the row that a body asks about: the token's own, or that of the lease that it names.
-fn named(
-    slots: &[Slot],
-    index: &Option<Index>,
-    token: usize,
-    asked: &Asked,
-) -> Result<Found, Refusal>
+fn named(slots: &[Slot], index: &Index, token: usize, asked: &Asked) -> Result<Found, Refusal>
     requires token { token < length slots.now }
     requires indexed { IsIndexed index.now slots.now }
     ensures found { subject_at slots.now result ≡ named (listed_rows slots.now) (slot_at slots.now token).row asked.now.increment asked.now.lease_id }
@@ -100,61 +92,19 @@ fn belongs(parent: &Option<Name>, name: &[u8]) -> bool
 }
 
 /// The place of the listed token row with that credential.
-fn place_of_token(slots: &[Slot], index: &Option<Index>, credential: &[u8]) -> Option<usize>
+fn place_of_token(slots: &[Slot], index: &Index, credential: &[u8]) -> Option<usize>
     requires { IsIndexed index.now slots.now }
     ensures row { option_map (λ i. (slot_at slots.now i).row) result ≡ token_with (listed_rows slots.now) credential.now }
     ensures within { IfSome result (λ i. (i < length slots.now) × ((slot_at slots.now i).listed ≡ true)) }
 {
-    match index {
-        None => first_token(slots, credential),
-        Some(index) => if_listed(slots, index.token(credential)),
-    }
-}
-
-fn first_token(slots: &[Slot], credential: &[u8]) -> Option<usize>
-    ensures { result ≡ position (λ s. s.listed && is_token_with credential.now s.row) slots.now }
-{
-    slots
-        .iter()
-        .position(|slot| slot.listed && is_token_with(&slot.row, credential))
+    if_listed(slots, index.token(credential))
 }
 
 /// The place of the listed lease row with that id.
-fn place_of_lease(slots: &[Slot], index: &Option<Index>, id: &[u8]) -> Option<usize>
+fn place_of_lease(slots: &[Slot], index: &Index, id: &[u8]) -> Option<usize>
     requires { IsIndexed index.now slots.now }
     ensures row { option_map (λ i. (slot_at slots.now i).row) result ≡ lease_with (listed_rows slots.now) id.now }
     ensures within { IfSome result (λ i. (i < length slots.now) × ((slot_at slots.now i).listed ≡ true)) }
 {
-    match index {
-        None => first_lease(slots, id),
-        Some(index) => if_listed(slots, index.lease(id)),
-    }
-}
-
-fn first_lease(slots: &[Slot], id: &[u8]) -> Option<usize>
-    ensures { result ≡ position (λ s. s.listed && is_lease_with id.now s.row) slots.now }
-{
-    slots
-        .iter()
-        .position(|slot| slot.listed && is_lease_with(&slot.row, id))
-}
-
-#[tactic(auto, unfolding(crate::specs::Subject::is_token_with))]
-fn is_token_with(row: &Row, credential: &[u8]) -> bool
-    ensures { result ≡ is_token_with credential.now row.now }
-{
-    match row.kind {
-        Kind::Token => row.credential.list() == credential,
-        Kind::Lease => false,
-    }
-}
-
-#[tactic(auto, unfolding(crate::specs::Subject::is_lease_with))]
-fn is_lease_with(row: &Row, id: &[u8]) -> bool
-    ensures { result ≡ is_lease_with id.now row.now }
-{
-    match row.kind {
-        Kind::Token => false,
-        Kind::Lease => row.credential.list() == id,
-    }
+    if_listed(slots, index.lease(id))
 }

@@ -27,7 +27,7 @@ use vault_http::{HttpFault, Request, Sink, Source, read_request};
 #[derive(Debug, Drop)]
 pub struct Table {
     slots: Vec<Slot>,
-    index: Option<Index>,
+    index: Index,
     faults: Vec<NumberedFault>,
     count: u64,
 }

@@ -1,4 +1,5 @@
 pub mod Failures
+pub mod Front
 pub mod Room
 pub mod Memory
 pub mod Whole

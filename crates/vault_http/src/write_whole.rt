@@ -1,14 +1,16 @@
-ghost use Rattle.std.specs.Prelude.{◌≡◌, OnOk, IsErrOf, IsTrue};
+ghost use Rattle.std.specs.Prelude.{◌≡◌, OnErr, OnOk, IsErrOf, IsTrue};
 ghost use Rattle.std.specs.Io.KnownBytes.{Keeps, Appends};
 ghost use Rattle.vault_http.specs.declared.fault.SinkFault.TheVariants.{OutOfMemory};
 ghost use Rattle.vault_http.specs.Failures.{Counts};
+ghost use Rattle.vault_http.specs.Front.{AppendsFront};
 
 use crate::{Sink, SinkFault};
 
-/// Writes all of `bytes`, in as many writes as the sink takes. It stops at the first write that fails; how much went out
-/// before is then not said. Only a sink in memory answers `OutOfMemory`.
+/// Writes all of `bytes`, in as many writes as the sink takes. It stops at the first write that fails, when
+/// a front of them has gone out. Only a sink in memory answers `OutOfMemory`.
 pub fn write_all<W: Sink>(sink: &mut W, bytes: &[u8]) -> Result<(), SinkFault>
     ensures written { OnOk result (Appends (W.written sink.old) (W.written sink.new) bytes.now) }
+    ensures front { OnErr result (AppendsFront (W.written sink.old) (W.written sink.new) bytes.now) }
     ensures remaining { Keeps (W.remaining sink.old) (W.remaining sink.new) }
     ensures memory { IsErrOf result OutOfMemory → IsTrue W.is_in_memory }
     ensures count { Counts result (W.failed_calls sink.old) (W.failed_calls sink.new) }

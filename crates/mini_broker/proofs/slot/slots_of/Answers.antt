@@ -1,8 +1,9 @@
 use Rattle.std.proofs.Common.{◌≡◌, ◌∙◌, ap, arith, length, subst, sym}
 use Rattle.keep_tree.specs.Forest.{Grove}
 use Rattle.keep_tree.specs.Push.{IsForest}
+use Rattle.mini_broker.specs.Index.{AreUnlike}
 use Rattle.mini_broker.specs.Slots.{AreSlots}
-use Rattle.mini_broker.proofs.Loaded.{all_slots, slots_are_sound, slots_more}
+use Rattle.mini_broker.proofs.Loaded.{all_slots, slots_are_sound, slots_are_unlike, slots_more}
 use Rattle.mini_broker.proofs.slot.slots_of.Goals as goal
 
 pub loop-index-preserved : goal.loop-index-preserved
@@ -20,3 +21,8 @@ returns-clause-sound c =
     let count : c.len-index-end.result ≡ length c.args.inventory.now.grove.entries = c.len-index-end.ensures.value ∙ ap (λ (g : Grove). length g.entries) c.forest.ensures.value in
     let forest : IsForest c.args.inventory.now.grove = subst IsForest c.forest.ensures.value c.len-index-end.ensures.sound in
     subst AreSlots (sym (all_slots c.args.inventory.now c.loop-index.index c.loop-index.slots.items c.loop-index.invariant (omega arith))) (slots_are_sound c.args.inventory.now forest)
+
+pub returns-clause-unlike : goal.returns-clause-unlike
+returns-clause-unlike c =
+    let count : c.len-index-end.result ≡ length c.args.inventory.now.grove.entries = c.len-index-end.ensures.value ∙ ap (λ (g : Grove). length g.entries) c.forest.ensures.value in
+    subst AreUnlike (sym (all_slots c.args.inventory.now c.loop-index.index c.loop-index.slots.items c.loop-index.invariant (omega arith))) (slots_are_unlike c.args.inventory.now c.forest.ensures.sound.2)

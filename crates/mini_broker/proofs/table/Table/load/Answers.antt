@@ -15,4 +15,4 @@ returns c =
     ledgers _ _ _ _ (ap listed_rows c.in_ok-slots.ensures.slots ∙ rows_of_slots c.args.inventory.now) c.new.ensures.items
 
 pub invariant_of-result : goal.invariant_of-result
-invariant_of-result c = (c.in_ok-slots.ensures.sound, subst (IsIndexed c.in_ok-index.index) c.deref.ensures.value c.in_ok-index.ensures.indexed)
+invariant_of-result c = (c.in_ok-slots.ensures.sound, subst (IsIndexed c.in_ok-index.index) c.deref.ensures.value c.in_ok-index.ensures)

@@ -1,0 +1,28 @@
+use Rattle.std.proofs.Common.{◌≡◌, ◌∙◌, List, ℕ, subst, sym, inl, inr}
+use Rattle.std.proofs.KnownBytes.{Keeps-refl}
+use Rattle.keep_engine.specs.FaultLine.{Reports, fault_line}
+use Rattle.keep_engine.specs.Output.{Output}
+use Rattle.keep_engine.proofs.Tellings.{reported}
+use Rattle.keep_engine.proofs.stop.Stop.report.Goals.{in-Ok, in_default}
+use Rattle.keep_engine.proofs.stop.Stop.report.Goals as goal
+
+pub returns-clause-told : goal.returns-clause-told
+returns-clause-told g c =
+    let before = c.args.faults.now in
+    let out : _ → Output = λ f. record {
+      old = g.F.Device.written before;
+      new = g.F.Device.written f;
+      failed_before = g.F.Device.failed_calls before;
+      failed_after = g.F.Device.failed_calls f;
+      is_in_memory = g.F.Device.is_in_memory;
+    } in
+    elim c.match-fault_line.branch [
+      | in-Ok w ↦
+          let line : w.list.result.now ≡ fault_line c.args.self = w.list.ensures ∙ w.in-Ok.ensures in
+          subst (λ f. Reports (fault_line c.args.self) (out f)) (sym w.faults-is)
+          (subst (λ (l : List ℕ). Reports l (out w.flush.new.self)) line
+          (reported w.list.result.now (out w.flush.new.self) (g.F.Device.written w.write_all.new.sink) (g.F.Device.failed_calls w.write_all.new.sink) w.write_all.result w.flush.result
+          w.write_all.ensures.written w.write_all.ensures.front w.write_all.ensures.memory w.write_all.ensures.count w.flush.ensures.bytes w.flush.ensures.count))
+      | in_default w ↦
+          subst (λ f. Reports (fault_line c.args.self) (out f)) (sym w.faults-is) (inr (inl (Keeps-refl (g.F.Device.written before))))
+    ]

@@ -1,0 +1,62 @@
+-- Secrecy: of two inventories that differ in their credentials alone a run writes the same.
+use Rattle.std.specs.Prelude.{◌≡◌, ℕ, List, Ok}
+use Rattle.std.specs.Io.KnownBytes.{Appends}
+use Rattle.vault_http.specs.Front.{AppendsFront}
+use Rattle.keep_inventory.specs.Bare.{AreAlike}
+use Rattle.keep_inventory.specs.Stock.{Stock}
+use Rattle.keep_inventory.specs.Inventory.{inventory}
+use Rattle.keep_engine.specs.declared.exit.Exit.{Exit}
+use Rattle.keep_engine.specs.declared.exit.Exit.TheVariants as exits
+use Rattle.keep_engine.specs.CheckRun.{CheckRun}
+use Rattle.keep_engine.specs.EndsRun.{EndsRun}
+use Rattle.keep_engine.specs.FaultLine.{EndsTold, Reports, Told}
+use Rattle.keep_engine.specs.Output.{Output}
+use Rattle.keep_engine.specs.PlanRun.{PlanRun}
+
+-- two good inventories whose documents differ in the keys `secret` and `lease_id` and their values alone
+pub record DifferInSecrets (bytes other : List ℕ) : Type 0 where
+  pub alike : AreAlike bytes other
+  pub stock : Stock
+  pub reads : inventory bytes ≡ Ok stock
+  pub other_stock : Stock
+  pub other_reads : inventory other ≡ Ok other_stock
+
+-- the run came to its end: no device failed, and no memory was wanting
+abbrev pub IsWhole : Exit → Type 0
+IsWhole exits.Device = ⊥
+IsWhole exits.Memory = ⊥
+IsWhole exit = Unit {0}
+
+-- two runs wrote the same
+abbrev pub WriteSame : Output → Output → Type 0
+WriteSame out other = (text : List ℕ) × Appends out.old out.new text × Appends other.old other.new text
+
+-- of one text each of two runs wrote a front, and nothing else
+abbrev pub WriteFronts : Output → Output → Type 0
+WriteFronts out other = (text : List ℕ) × AppendsFront out.old out.new text × AppendsFront other.old other.new text
+
+-- two runs reported by one fault line, or both by none
+abbrev pub TellSame : Output → Output → Type 0
+TellSame faults other = (line : List ℕ) × Reports line faults × Reports line other
+
+-- two runs: on `out` they write fronts of one text; and where both come to their end they have one exit, write one text,
+-- and report by one line
+abbrev pub RunAlike : Exit → Exit → Output → Output → Output → Output → Type 0
+RunAlike exit exit' out out' faults faults' =
+    WriteFronts out out' × (IsWhole exit → IsWhole exit' → (exit ≡ exit') × WriteSame out out' × TellSame faults faults')
+
+abbrev pub EndsSecrecy : Type 0
+EndsSecrecy =
+    (bytes other : List ℕ) (s : ℕ) (moments : List ℕ) (exit exit' : Exit) (out out' faults faults' : Output) → DifferInSecrets bytes other →
+    EndsRun bytes s moments exit out → EndsTold bytes s moments exit faults → EndsRun other s moments exit' out' → EndsTold other s moments exit' faults' →
+    RunAlike exit exit' out out' faults faults'
+
+abbrev pub PlanSecrecy : Type 0
+PlanSecrecy =
+    (bytes other : List ℕ) (s : ℕ) (exit exit' : Exit) (out out' faults faults' : Output) → DifferInSecrets bytes other →
+    PlanRun bytes s exit out → Told bytes exit faults → PlanRun other s exit' out' → Told other exit' faults' → RunAlike exit exit' out out' faults faults'
+
+abbrev pub CheckSecrecy : Type 0
+CheckSecrecy =
+    (bytes other text : List ℕ) (exit exit' : Exit) (out out' faults faults' : Output) → DifferInSecrets bytes other →
+    CheckRun bytes text exit out → Told bytes exit faults → CheckRun other text exit' out' → Told other exit' faults' → RunAlike exit exit' out out' faults faults'

@@ -1,0 +1,170 @@
+-- Sendable: each credential of an inventory can stand in the head of a message. One that is written was judged; else it is
+-- the name, which the forest has judged.
+use Rattle.std.proofs.Common.{◌≡◌, ℕ, ◌≤◌, Bool, true, false, cond, ◌||◌, ◌==◌, List, ◌∷◌, [], length, nat_le, nat_lt, Some, None, Option, Result, Ok, Err, IfSome, refl, sym, subst, arith, unwrap_or}
+use Rattle.std.specs.List.{All, list_all}
+use Rattle.std.specs.Int.{is_in_range}
+use Rattle.std.specs.Char.{is_ascii_alphanumeric}
+use Rattle.std.proofs.lemmas.Bool.{and_parts}
+use Rattle.std.proofs.lemmas.Bool.Decides.{nat_tests}
+use Rattle.std.proofs.lemmas.List.Elements.{All-append, All-nil, All-push}
+use Rattle.toml.specs.Data.{string, integer, float, boolean, datetime, array, table, Data, no_items, Members, get_member}
+use Rattle.keep_tree.specs.declared.forest.TheConstants.{NAME_MAX}
+use Rattle.keep_tree.specs.Forest.{Grove}
+use Rattle.keep_tree.specs.Push.{is_name, is_name_byte, refusal}
+use Rattle.keep_tree.proofs.Placed.{taken_from_refusal}
+use Rattle.keep_inventory.specs.declared.fault.InvFault.{InvFault}
+use Rattle.keep_inventory.specs.declared.fault.InvFault.TheVariants.{BadValue}
+use Rattle.keep_inventory.specs.declared.key.Key.{Key}
+use Rattle.keep_inventory.specs.declared.key.Key.TheVariants.{SystemMax, Margin, Token, Lease, Secret, LeaseId}
+use Rattle.keep_inventory.specs.declared.row.Row.{Row}
+use Rattle.keep_inventory.specs.Keys.{is_top_key, key_text}
+use Rattle.keep_inventory.specs.Values.{only, read_if, whole, tables, credential, is_credential, value_at}
+use Rattle.keep_inventory.specs.Stock.{Stock}
+use Rattle.keep_inventory.specs.Intake.{Intake, nothing, stock_of}
+use Rattle.keep_inventory.specs.Inventory.{token_entered, lease_entered, entered_by, intake_of, inventory, inventory_of, tree_of}
+use Rattle.keep_inventory.specs.Laws.{IsSendable, SendableLaw}
+use Rattle.keep_inventory.proofs.Matched.{bind_ok}
+use Rattle.keep_inventory.proofs.Parts.{TokenParts, LeaseParts, token_parts, lease_parts}
+use Rattle.keep_inventory.proofs.Taken.{KeepsIt, all_keep, lease_entered_ok, token_entered_ok}
+
+-- ---- bytes
+
+abbrev Fine : ℕ → Type 0
+Fine b = (0x21 ≤ b) × (b ≤ 0x7E)
+
+all_fine : (test : ℕ → Bool) → ((b : ℕ) → test b ≡ true → Fine b) → (bs : List ℕ) → list_all test bs ≡ true → All Fine bs
+all_fine test fine [] e = All-nil Fine
+all_fine test fine (b ∷ bs) e =
+    let parts = and_parts (test b) (list_all test bs) e in
+    All-append Fine (b ∷ []) bs (All-push Fine [] b (All-nil Fine) (fine b parts.0)) (all_fine test fine bs parts.1)
+
+either : {P : Type 0} (a b : Bool) → a || b ≡ true → (a ≡ true → P) → (b ≡ true → P) → P
+either true b e h k = h refl
+either false b e h k = k e
+
+within : (low high b : ℕ) → 0x21 ≤ low → high ≤ 0x7E → is_in_range low high b ≡ true → Fine b
+within low high b l h e =
+    let parts = and_parts (nat_le low b) (nat_le b high) e in
+    let above : nat_le low b ≡ true = parts.0 in
+    let below : nat_le b high ≡ true = parts.1 in
+    let m : low ≤ b = grind (arith, nat_tests) in
+    let n : b ≤ high = grind (arith, nat_tests) in
+    (omega (arith, m, l), omega (arith, n, h))
+
+visible : (b : ℕ) → is_in_range 0x21 0x7E b ≡ true → Fine b
+visible b e = within 0x21 0x7E b (omega arith) (omega arith) e
+
+credential_sendable : (bs : List ℕ) → is_credential bs ≡ true → IsSendable bs
+credential_sendable bs e =
+    let one = and_parts (nat_lt 0 (length bs)) _ e in
+    let two = and_parts (nat_le (length bs) 256) (list_all (is_in_range 0x21 0x7E) bs) one.1 in
+    let low : nat_lt 0 (length bs) ≡ true = one.0 in
+    let high : nat_le (length bs) 256 ≡ true = two.0 in
+    (grind (arith, nat_tests), grind (arith, nat_tests), all_fine (is_in_range 0x21 0x7E) visible bs two.1)
+
+is : (n b : ℕ) → 0x21 ≤ n → n ≤ 0x7E → (b == n) ≡ true → Fine b
+is n b l h e = let same : b ≡ n = grind (arith, nat_tests) in (omega (arith, same, l), omega (arith, same, h))
+
+name_byte : (b : ℕ) → is_name_byte b ≡ true → Fine b
+name_byte b e =
+    either (is_ascii_alphanumeric b) _ e
+    (λ h. either (is_in_range 48 57 b || is_in_range 65 90 b) (is_in_range 97 122 b) h
+    (λ k. either (is_in_range 48 57 b) (is_in_range 65 90 b) k
+    (within 48 57 b (omega arith) (omega arith)) (within 65 90 b (omega arith) (omega arith)))
+    (within 97 122 b (omega arith) (omega arith)))
+    (λ h. either (b == 45) _ h (is 45 b (omega arith) (omega arith))
+    (λ k. either (b == 95) _ k (is 95 b (omega arith) (omega arith))
+    (λ l. either (b == 46) (b == 47) l (is 46 b (omega arith) (omega arith)) (is 47 b (omega arith) (omega arith)))))
+
+name_sendable : (bs : List ℕ) → is_name bs ≡ true → IsSendable bs
+unfolding is_name
+name_sendable bs e =
+    let one = and_parts (nat_lt 0 (length bs)) _ e in
+    let two = and_parts (nat_le (length bs) NAME_MAX) (list_all is_name_byte bs) one.1 in
+    let low : nat_lt 0 (length bs) ≡ true = one.0 in
+    let high : nat_le (length bs) 64 ≡ true = two.0 in
+    (grind (arith, nat_tests), (let h : length bs ≤ 64 = grind (arith, nat_tests) in omega (arith, h)), all_fine is_name_byte name_byte bs two.1)
+
+-- ---- the credential of a row
+
+judged : (d : Data) → IfSome (credential d) IsSendable
+judged (string s) = judged_text s (is_credential s) (credential_sendable s)
+  where
+    judged_text : (s : List ℕ) (b : Bool) → (b ≡ true → IsSendable s) → IfSome (cond b (Some s) None) IsSendable
+    judged_text s true h = h refl
+    judged_text s false h = tt
+judged (integer z) = tt
+judged (float x) = tt
+judged (boolean b) = tt
+judged (datetime dt) = tt
+judged (array ds) = tt
+judged (table ms) = tt
+
+abbrev taken : Option (List ℕ) → Option ℕ → Key → Result (Option (List ℕ)) InvFault
+taken o place key = elim o [ Some x ↦ Ok (Some x) | None ↦ Err (BadValue place key) ]
+
+found_sendable : (o : Option (List ℕ)) (place : Option ℕ) (key : Key) (written : Option (List ℕ)) → IfSome o IsSendable → taken o place key ≡ Ok written → IfSome written IsSendable
+found_sendable None place key written h e = absurd cc
+found_sendable (Some x) place key written h e = let same : Some x ≡ written = cc in subst (λ o. IfSome o IsSendable) same h
+
+read_sendable : (o : Option Data) (place : Option ℕ) (key : Key) (written : Option (List ℕ)) → read_if credential place key o ≡ Ok written → IfSome written IsSendable
+read_sendable None place key written e = let same : None ≡ written = cc in subst (λ o. IfSome o IsSendable) same tt
+read_sendable (Some d) place key written e = found_sendable (credential d) place key written (judged d) e
+
+either_sendable : (written : Option (List ℕ)) (name : List ℕ) → IfSome written IsSendable → IsSendable name → IsSendable (unwrap_or written name)
+either_sendable None name h k = k
+either_sendable (Some x) name h k = h
+
+token_sendable : (system_max : ℕ) (g : Grove) (ms : Members) (row : Row) → TokenParts system_max g ms row → refusal g row.entry ≡ None → IsSendable row.credential
+token_sendable system_max g ms row parts fits =
+    let name : is_name row.entry.name ≡ true = (taken_from_refusal g row.entry fits).named in
+    subst (λ (r : Row). IsSendable r.credential) parts.made
+    (either_sendable parts.secret parts.name (read_sendable (get_member (key_text Secret) ms) (Some (length g.entries)) Secret parts.secret parts.secret_read)
+    (name_sendable parts.name (subst (λ (r : Row). is_name r.entry.name ≡ true) (sym parts.made) name)))
+
+lease_sendable : (system_max : ℕ) (g : Grove) (ms : Members) (row : Row) → LeaseParts system_max g ms row → refusal g row.entry ≡ None → IsSendable row.credential
+lease_sendable system_max g ms row parts fits =
+    let name : is_name row.entry.name ≡ true = (taken_from_refusal g row.entry fits).named in
+    subst (λ (r : Row). IsSendable r.credential) parts.made
+    (either_sendable parts.lease_id parts.name (read_sendable (get_member (key_text LeaseId) ms) (Some (length g.entries)) LeaseId parts.lease_id parts.lease_id_read)
+    (name_sendable parts.name (subst (λ (r : Row). is_name r.entry.name ≡ true) (sym parts.made) name)))
+
+-- ---- of a whole inventory
+
+abbrev AllSendable : Intake → Type 0
+AllSendable s = All IsSendable s.secrets × All IsSendable s.lease_ids
+
+token_step : (system_max : ℕ) → KeepsIt AllSendable (token_entered system_max)
+token_step system_max s t ms m e =
+    let taken = token_entered_ok system_max s t ms e in
+    subst AllSendable taken.3 (All-push IsSendable s.secrets taken.0.credential m.0 (token_sendable system_max s.grove ms taken.0 (token_parts system_max s.grove ms taken.0 taken.1) taken.2.entry), m.1)
+
+lease_step : (system_max : ℕ) → KeepsIt AllSendable (lease_entered system_max)
+lease_step system_max s t ms m e =
+    let taken = lease_entered_ok system_max s t ms e in
+    subst AllSendable taken.3 (m.0, All-push IsSendable s.lease_ids taken.0.credential m.1 (lease_sendable system_max s.grove ms taken.0 (lease_parts system_max s.grove ms taken.0 taken.1) taken.2.entry))
+
+intake_sendable : (ms : Members) (t : Intake) → intake_of ms ≡ Ok t → AllSendable t
+unfolding intake_of
+intake_sendable ms t e =
+    bind_ok (only is_top_key None ms) _ t e (λ known k e1.
+    bind_ok (value_at (whole 1 4294967295) None SystemMax ms) _ t e1 (λ system_max a e2.
+    bind_ok (value_at (whole 1 3600) None Margin ms) _ t e2 (λ margin b e3.
+    bind_ok (value_at tables None Token ms) _ t e3 (λ tokens c e4.
+    bind_ok (value_at tables None Lease ms) _ t e4 (λ leases d e5.
+    bind_ok (entered_by (token_entered (unwrap_or system_max 2764800)) Token (nothing (unwrap_or margin 1)) (unwrap_or tokens no_items)) _ t e5 (λ u f e6.
+    let first : AllSendable (nothing (unwrap_or margin 1)) = (All-nil IsSendable, All-nil IsSendable) in
+    let second = all_keep AllSendable (token_entered (unwrap_or system_max 2764800)) (token_step (unwrap_or system_max 2764800)) Token (nothing (unwrap_or margin 1)) u (unwrap_or tokens no_items) first f in
+    all_keep AllSendable (lease_entered (unwrap_or system_max 2764800)) (lease_step (unwrap_or system_max 2764800)) Lease u t (unwrap_or leases no_items) second e6))))))
+
+inventory_of_sendable : (ms : Members) (stock : Stock) → inventory_of ms ≡ Ok stock → All IsSendable stock.credentials
+unfolding inventory_of
+inventory_of_sendable ms stock e =
+    bind_ok (intake_of ms) _ stock e (λ t is e1.
+    let same : stock_of t ≡ stock = cc in
+    let fine = intake_sendable ms t is in
+    subst (λ (s : Stock). All IsSendable s.credentials) same (All-append IsSendable t.secrets t.lease_ids fine.0 fine.1))
+
+pub sendable_law : SendableLaw
+unfolding inventory
+sendable_law bytes stock e = bind_ok (tree_of bytes) _ stock e (λ ms read e1. inventory_of_sendable ms stock e1)
