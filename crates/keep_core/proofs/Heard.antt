@@ -17,16 +17,16 @@ use Rattle.keep_core.specs.declared.fault.StepFault.{StepFault}
 use Rattle.keep_core.specs.declared.fault.StepFault.TheVariants.{ClockBack, RoundOpen, NotAsked, BadIndex, OutOfRange, TooLong, OutOfMemory}
 use Rattle.keep_core.specs.declared.round.OpenRound.{OpenRound}
 use Rattle.keep_core.specs.declared.shortened.ShortNeed.{ShortNeed}
-use Rattle.keep_core.specs.Hearing.{TellsSpan, is_rules, others}
+use Rattle.keep_core.specs.Hearing.{is_rules, others}
 use Rattle.keep_core.specs.Keeping.{IsByRule, IsKeeper, IsOpen, flag, seen, waited_for}
 use Rattle.keep_core.specs.LawsOfRuns.{IsAnswer}
 use Rattle.keep_core.specs.Passes.{PlanFails}
-use Rattle.keep_core.specs.Refusal.{refusal, waits_for}
+use Rattle.keep_core.specs.Refusal.{TellsSpan, refusal, waits_for}
 use Rattle.keep_core.specs.Replan.{IsPlanOf, Replan}
 use Rattle.keep_core.specs.Runs.{Turn}
 use Rattle.keep_core.specs.Shorten.{pairs, shorten}
 use Rattle.keep_core.specs.State.{Round, State}
-use Rattle.keep_core.specs.Step.{Step, StepAnswer, StepTooLong, AnswerTooLong, answered, change, left, of_entry, without}
+use Rattle.keep_core.specs.Step.{IsLastAnswer, MayWant, Step, StepAnswer, StepTooLong, AnswerTooLong, answered, change, left, of_entry, without}
 use Rattle.keep_core.proofs.ByRule.{closes_by_rule, more_by_rule}
 use Rattle.keep_core.proofs.Hearing.{answer_taken, carried_heard, waited_less, waited_set}
 use Rattle.keep_core.proofs.Made.{count_moments}
@@ -167,11 +167,18 @@ as_long old (Refused i) answer long = long
 as_long old (Lost i) answer long = long
 as_long old (Need i until) answer long = absurd answer
 
+as_last : (old : State) (event : Event) → IsAnswer event → IsLastAnswer old event → MayWant old event
+as_last old (Tick t) answer last = absurd answer
+as_last old (Told i seconds renewable) answer last = last
+as_last old (Refused i) answer last = last
+as_last old (Lost i) answer last = last
+as_last old (Need i until) answer last = absurd answer
+
 pub fails_turn :
     (old new : State) (event : Event) (round : Round) (fault : StepFault) → IsAnswer event → refusal old event ≡ None → old.round ≡ Some round → (left round (of_entry event)).unanswered ≡ [] →
     PlanFails (change old.forest (of_entry event) (answered round.at event)) round.at fault → new ≡ old → Turn old event (Err fault) new
 fails_turn old new event round TooLong answer none is last fails same = (none, (as_long old event answer (round, (is, (last, fails))), same))
-fails_turn old new event round OutOfMemory answer none is last fails same = (none, same)
+fails_turn old new event round OutOfMemory answer none is last fails same = (none, (as_last old event answer (round, (is, last)), same))
 fails_turn old new event round ClockBack answer none is last fails same = absurd fails
 fails_turn old new event round RoundOpen answer none is last fails same = absurd fails
 fails_turn old new event round NotAsked answer none is last fails same = absurd fails

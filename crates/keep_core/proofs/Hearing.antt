@@ -14,10 +14,9 @@ use Rattle.keep_core.specs.declared.event.Event.{Event}
 use Rattle.keep_core.specs.declared.event.Event.TheVariants.{Tick, Told, Refused, Lost, Need}
 use Rattle.keep_core.specs.declared.fault.StepFault.{StepFault}
 use Rattle.keep_core.specs.declared.fault.StepFault.TheVariants.{BadIndex, NotAsked, OutOfRange}
-use Rattle.keep_core.specs.Hearing.{TellsSpan}
 use Rattle.keep_core.specs.Keeping.{flag, waited_for}
 use Rattle.keep_core.specs.LawsOfRuns.{IsAnswer}
-use Rattle.keep_core.specs.Refusal.{LONGEST, refusal, unless_asked, waits_for}
+use Rattle.keep_core.specs.Refusal.{LONGEST, TellsSpan, refusal, unless_asked, waits_for}
 use Rattle.keep_core.specs.State.{Round, State}
 use Rattle.keep_core.specs.Step.{answered, change, of_entry, without}
 use Rattle.keep_core.proofs.Taken.{set_back}
@@ -93,7 +92,7 @@ chain_of_same es fs same (suc n) i = ap (λ (o : Option ℕ). i ∷ elim o [ Non
       by_parent None rest = refl
       by_parent (Some p) rest = ap (λ ps. i ∷ ps) (rest p)
 
-over_same : (es fs : List Entry) → ((k : ℕ) → (entry_at fs k).parent ≡ (entry_at es k).parent) → (a f : ℕ) → is_over fs a f ≡ is_over es a f
+pub over_same : (es fs : List Entry) → ((k : ℕ) → (entry_at fs k).parent ≡ (entry_at es k).parent) → (a f : ℕ) → is_over fs a f ≡ is_over es a f
 unfolding is_over chain
 over_same es fs same a f = ap (list_any (λ b. b == a)) (chain_of_same es fs same (suc f) f)
 

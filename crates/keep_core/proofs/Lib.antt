@@ -15,5 +15,8 @@ pub mod Hearing
 pub mod Heard
 pub mod Waking
 pub mod Stepping
+pub mod NoLonger
+pub mod Opened
 pub mod States
+pub mod Closing
 pub mod Once

@@ -15,15 +15,19 @@ use Rattle.keep_core.specs.declared.event.Event.TheVariants.{Tick, Told, Refused
 use Rattle.keep_core.specs.declared.event.Output.{Output}
 use Rattle.keep_core.specs.declared.event.Output.TheVariants as out
 use Rattle.keep_core.specs.declared.fault.StepFault.{StepFault}
-use Rattle.keep_core.specs.declared.fault.StepFault.TheVariants.{ClockBack, RoundOpen, NotAsked, BadIndex, OutOfRange, TooLong, OutOfMemory}
-use Rattle.keep_core.specs.LawsOfRuns.{AreAnswers, EndsTooLong, EndsWell, IsAnswer, OrderLaw, answer_for}
+use Rattle.keep_core.specs.declared.fault.StepFault.TheVariants.{NotAsked, BadIndex, OutOfRange}
+use Rattle.keep_core.specs.LawsOfRuns.{AllTaken, IsAnswer, answer_for}
 use Rattle.keep_core.specs.Refusal.{LONGEST, refusal, unless_asked, waits_for}
 use Rattle.keep_core.specs.Replan.{IsTooLong, Replan, planned}
 use Rattle.keep_core.specs.Runs.{Run}
 use Rattle.keep_core.specs.Shorten.{shorten}
 use Rattle.keep_core.specs.State.{Round, State}
-use Rattle.keep_core.specs.Step.{AnswerTooLong, Step, StepAnswer, StepTooLong, answered, change, heard, left, of_entry, without}
+use Rattle.keep_core.specs.Step.{Step, StepAnswer, answered, change, heard, left, of_entry, without}
 use Rattle.keep_core.proofs.Kept.{same_entries}
+
+abbrev pub AreAnswers : List Event → Type 0
+AreAnswers [] = Unit {0}
+AreAnswers (event ∷ events) = IsAnswer event × AreAnswers events
 
 -- what an answer, if there is one, makes of an entry
 unfoldable pub applied : ℕ → Option Event → Entry → Entry
@@ -51,13 +55,10 @@ Waits old round ans new = (left_over ans round.unanswered ≢ []) × (new ≡ wa
 abbrev Closes : State → Round → (ℕ → Option Event) → State → Type 0
 Closes old round ans new = (left_over ans round.unanswered ≡ []) × Replan (closing old round ans) round.at new
 
-abbrev Fails : State → Round → (ℕ → Option Event) → List (Result Output StepFault) → Type 0
-Fails old round ans results = (left_over ans round.unanswered ≡ []) × EndsTooLong results × IsTooLong (closing old round ans).forest round.at
-
 -- where a run of answers leads; who is not unanswered has no answer
-record Outcome (old : State) (round : Round) (ans : ℕ → Option Event) (results : List (Result Output StepFault)) (new : State) : Type 0 where
+record Outcome (old : State) (round : Round) (ans : ℕ → Option Event) (new : State) : Type 0 where
   asked : (i : ℕ) → list_any (λ j. j == i) round.unanswered ≡ false → ans i ≡ None
-  ends : Waits old round ans new ⊎ (Closes old round ans new ⊎ Fails old round ans results)
+  ends : Waits old round ans new ⊎ Closes old round ans new
 
 -- lists without an element
 not_there : (i : ℕ) (us : List ℕ) → list_any (λ j. j == i) (without i us) ≡ false
@@ -77,7 +78,7 @@ or_false_right : (a b : Bool) → a || b ≡ false → b ≡ false
 or_false_right true b e = absurd cc
 or_false_right false b e = e
 
-none_within : (p : ℕ → Bool) (i : ℕ) (us : List ℕ) → list_any (λ j. j == i) us ≡ false → list_any (λ j. j == i) (filter p us) ≡ false
+pub none_within : (p : ℕ → Bool) (i : ℕ) (us : List ℕ) → list_any (λ j. j == i) us ≡ false → list_any (λ j. j == i) (filter p us) ≡ false
 none_within p i [] none = refl
 none_within p i (u ∷ us) none =
     let head = or_false_left (u == i) (list_any (λ j. j == i) us) none in
@@ -218,33 +219,20 @@ taken s (Refused i) answer none = none
 taken s (Lost i) answer none = none
 taken s (Need i until) answer none = absurd answer
 
-step_taken : (old : State) (event : Event) (output : Output) (new : State) → IsAnswer event → Step old event output new → StepAnswer old event output new
+pub step_taken : (old : State) (event : Event) (output : Output) (new : State) → IsAnswer event → Step old event output new → StepAnswer old event output new
 step_taken old (Tick t) output new answer step = absurd answer
 step_taken old (Told i seconds renewable) output new answer step = step
 step_taken old (Refused i) output new answer step = step
 step_taken old (Lost i) output new answer step = step
 step_taken old (Need i until) output new answer step = absurd answer
 
-long_taken : (old : State) (event : Event) → IsAnswer event → StepTooLong old event → AnswerTooLong old event
-long_taken old (Tick t) answer step = absurd answer
-long_taken old (Told i seconds renewable) answer step = step
-long_taken old (Refused i) answer step = step
-long_taken old (Lost i) answer step = step
-long_taken old (Need i until) answer step = absurd answer
-
 -- no answer is taken once the round is closed
-closed_end : (s new : State) (rest : List Event) (results : List (Result Output StepFault)) → s.round ≡ None → AreAnswers rest → EndsWell results → Run s rest results new → (rest ≡ []) × (new ≡ s)
+closed_end : (s new : State) (rest : List Event) (results : List (Result Output StepFault)) → s.round ≡ None → AreAnswers rest → AllTaken results → Run s rest results new → (rest ≡ []) × (new ≡ s)
 closed_end s new [] [] closed answers well run = (refl, run)
 closed_end s new [] (result ∷ results) closed answers well run = absurd run
 closed_end s new (event ∷ rest) [] closed answers well run = absurd run
 closed_end s new (event ∷ rest) (Ok output ∷ results) closed answers well run = absurd (never_asked s (of_entry event) closed (taken s event answers.0 run.1.0.0))
-closed_end s new (event ∷ rest) (Err TooLong ∷ results) closed answers well run = absurd (never_asked s (of_entry event) closed (taken s event answers.0 run.1.0.0))
-closed_end s new (event ∷ rest) (Err ClockBack ∷ results) closed answers well run = absurd well
-closed_end s new (event ∷ rest) (Err RoundOpen ∷ results) closed answers well run = absurd well
-closed_end s new (event ∷ rest) (Err NotAsked ∷ results) closed answers well run = absurd well
-closed_end s new (event ∷ rest) (Err BadIndex ∷ results) closed answers well run = absurd well
-closed_end s new (event ∷ rest) (Err OutOfRange ∷ results) closed answers well run = absurd well
-closed_end s new (event ∷ rest) (Err OutOfMemory ∷ results) closed answers well run = absurd well
+closed_end s new (event ∷ rest) (Err fault ∷ results) closed answers well run = absurd well
 
 asked_more :
     (event : Event) (rest : List Event) (us : List ℕ) → list_any (λ j. j == of_entry event) us ≡ true → ((j : ℕ) → list_any (λ k. k == j) (without (of_entry event) us) ≡ false → answer_for rest j ≡ None) →
@@ -280,59 +268,46 @@ more_closes :
 more_closes old round event rest within once = ap (λ g. record old { forest = g; round = None }) (told_more round.at event rest old.forest within once)
 
 one_more :
-    (old new : State) (round : Round) (event : Event) (rest : List Event) (output : Output) (results : List (Result Output StepFault)) → of_entry event < length old.forest.entries →
-    list_any (λ j. j == of_entry event) round.unanswered ≡ true →
-    Outcome (heard old event round.at (Some (left round (of_entry event)))) (left round (of_entry event)) (answer_for rest) results new → Outcome old round (answer_for (event ∷ rest)) (Ok output ∷ results) new
-one_more old new round event rest output results within there o =
+    (old new : State) (round : Round) (event : Event) (rest : List Event) → of_entry event < length old.forest.entries → list_any (λ j. j == of_entry event) round.unanswered ≡ true →
+    Outcome (heard old event round.at (Some (left round (of_entry event)))) (left round (of_entry event)) (answer_for rest) new → Outcome old round (answer_for (event ∷ rest)) new
+one_more old new round event rest within there o =
     let once : answer_for rest (of_entry event) ≡ None = o.asked (of_entry event) (not_there (of_entry event) round.unanswered) in
     let same = left_more event rest round.unanswered in
     record {
       asked = asked_more event rest round.unanswered there o.asked;
       ends = elim o.ends [
         | inl waits ↦ inl (λ none. waits.0 (sym same ∙ none), waits.1 ∙ more_waits old round event rest within once)
-        | inr other ↦ inr (elim other [
-          | inl closes ↦ inl (same ∙ closes.0, subst (λ (s : State). Replan s round.at new) (more_closes old round event rest within once) closes.1)
-          | inr fails ↦ inr (same ∙ fails.0, fails.1, subst (λ (s : State). IsTooLong s.forest round.at) (more_closes old round event rest within once) fails.2)
-        ])
+        | inr closes ↦ inr (same ∙ closes.0, subst (λ (s : State). Replan s round.at new) (more_closes old round event rest within once) closes.1)
       ];
     }
 
 -- the last answer, which closes the round
 last_closes :
-    (old mid : State) (round : Round) (event : Event) (results : List (Result Output StepFault)) → of_entry event < length old.forest.entries → list_any (λ j. j == of_entry event) round.unanswered ≡ true →
-    without (of_entry event) round.unanswered ≡ [] → Replan (heard old event round.at None) round.at mid → Outcome old round (answer_for (event ∷ [])) results mid
-last_closes old mid round event results within there none replan = record {
+    (old mid : State) (round : Round) (event : Event) → of_entry event < length old.forest.entries → list_any (λ j. j == of_entry event) round.unanswered ≡ true →
+    without (of_entry event) round.unanswered ≡ [] → Replan (heard old event round.at None) round.at mid → Outcome old round (answer_for (event ∷ [])) mid
+last_closes old mid round event within there none replan = record {
   asked = asked_more event [] round.unanswered there (λ j _. answer_none j);
-  ends = inr (inl (one_left event round.unanswered ∙ none, subst (λ (s : State). Replan s round.at mid) (sym (one_closes old round event within)) replan));
+  ends = inr (one_left event round.unanswered ∙ none, subst (λ (s : State). Replan s round.at mid) (sym (one_closes old round event within)) replan);
 }
 
--- or would, if the plan were not too long
-last_fails :
-    (old new : State) (round : Round) (event : Event) → of_entry event < length old.forest.entries → list_any (λ j. j == of_entry event) round.unanswered ≡ true →
-    without (of_entry event) round.unanswered ≡ [] → IsTooLong (heard old event round.at None).forest round.at → Outcome old round (answer_for (event ∷ [])) (Err TooLong ∷ []) new
-last_fails old new round event within there none long = record {
-  asked = asked_more event [] round.unanswered there (λ j _. answer_none j);
-  ends = inr (inr (one_left event round.unanswered ∙ none, tt, subst (λ (s : State). IsTooLong s.forest round.at) (sym (one_closes old round event within)) long));
-}
-
-same_round : (old : State) (r round : Round) → old.round ≡ Some r → old.round ≡ Some round → r ≡ round
+pub same_round : (old : State) (r round : Round) → old.round ≡ Some r → old.round ≡ Some round → r ≡ round
 same_round old r round a b = let both : Some r ≡ Some round = sym a ∙ b in cc
 
 abbrev FromHere : List Event → List (Result Output StepFault) → State → Type 0
 FromHere rest results new =
-    (s : State) (r : Round) → s.round ≡ Some r → r.unanswered ≢ [] → Run s rest results new → Outcome s r (answer_for rest) results new
+    (s : State) (r : Round) → s.round ≡ Some r → r.unanswered ≢ [] → Run s rest results new → Outcome s r (answer_for rest) new
 
 step_outcome :
     (old mid new : State) (round : Round) (event : Event) (rest : List Event) (output : Output) (results : List (Result Output StepFault)) → old.round ≡ Some round →
-    unless_asked old (of_entry event) ≡ None → AreAnswers rest → EndsWell results → StepAnswer old event output mid → Run mid rest results new → FromHere rest results new →
-    Outcome old round (answer_for (event ∷ rest)) (Ok output ∷ results) new
+    unless_asked old (of_entry event) ≡ None → AreAnswers rest → AllTaken results → StepAnswer old event output mid → Run mid rest results new → FromHere rest results new →
+    Outcome old round (answer_for (event ∷ rest)) new
 step_outcome old mid new round event rest out.Waiting results is asked answers well step run onward =
     let parts = asked_parts old (of_entry event) asked in
     let there : list_any (λ j. j == of_entry event) round.unanswered ≡ true = sym (ap (λ r. waits_for r (of_entry event)) is) ∙ parts.1 in
     let r = same_round old step.0 round step.1.0 is in
     let some : without (of_entry event) round.unanswered ≢ [] = subst (λ (x : Round). without (of_entry event) x.unanswered ≢ []) r step.1.1.0 in
     let heard_is : mid ≡ heard old event round.at (Some (left round (of_entry event))) = subst (λ (x : Round). mid ≡ heard old event x.at (Some (left x (of_entry event)))) r step.1.1.1 in
-    one_more old new round event rest out.Waiting results parts.0 there
+    one_more old new round event rest parts.0 there
     (onward (heard old event round.at (Some (left round (of_entry event)))) (left round (of_entry event)) refl some (subst (λ s. Run s rest results new) heard_is run))
 step_outcome old mid new round event rest (out.Round next) results is asked answers well step run onward =
     let parts = asked_parts old (of_entry event) asked in
@@ -342,26 +317,14 @@ step_outcome old mid new round event rest (out.Round next) results is asked answ
     let replan : Replan (heard old event round.at None) round.at mid = subst (λ (x : Round). Replan (heard old event x.at None) x.at mid) r step.1.1.1.0 in
     let closed : mid.round ≡ None = ap (λ (s : State). s.round) replan.is in
     let end = closed_end mid new rest results closed answers well run in
-    let here = last_closes old mid round event (Ok (out.Round next) ∷ results) parts.0 there none replan in
-    subst (λ s. Outcome old round (answer_for (event ∷ rest)) (Ok (out.Round next) ∷ results) s) (sym end.1)
-    (subst (λ es. Outcome old round (answer_for (event ∷ es)) (Ok (out.Round next) ∷ results) mid) (sym end.0) here)
+    let here = last_closes old mid round event parts.0 there none replan in
+    subst (λ s. Outcome old round (answer_for (event ∷ rest)) s) (sym end.1) (subst (λ es. Outcome old round (answer_for (event ∷ es)) mid) (sym end.0) here)
 step_outcome old mid new round event rest out.Idle results is asked answers well step run onward = absurd step
 step_outcome old mid new round event rest (out.Sleep w) results is asked answers well step run onward = absurd step
 step_outcome old mid new round event rest (out.Ask list) results is asked answers well step run onward = absurd step
 step_outcome old mid new round event rest out.Planned results is asked answers well step run onward = absurd step
 
-fail_outcome :
-    (old mid new : State) (round : Round) (event : Event) (rest : List Event) → old.round ≡ Some round → unless_asked old (of_entry event) ≡ None → AnswerTooLong old event → Run mid rest [] new →
-    Outcome old round (answer_for (event ∷ rest)) (Err TooLong ∷ []) new
-fail_outcome old mid new round event [] is asked long run =
-    let parts = asked_parts old (of_entry event) asked in
-    let there : list_any (λ j. j == of_entry event) round.unanswered ≡ true = sym (ap (λ r. waits_for r (of_entry event)) is) ∙ parts.1 in
-    let r = same_round old long.0 round long.1.0 is in
-    last_fails old new round event parts.0 there
-    (subst (λ (x : Round). without (of_entry event) x.unanswered ≡ []) r long.1.1.0) (subst (λ (x : Round). IsTooLong (heard old event x.at None).forest x.at) r long.1.1.1)
-fail_outcome old mid new round event (next ∷ rest) is asked long run = absurd run
-
-no_answers : (old new : State) (round : Round) → old.round ≡ Some round → round.unanswered ≢ [] → new ≡ old → Outcome old round (answer_for []) [] new
+no_answers : (old new : State) (round : Round) → old.round ≡ Some round → round.unanswered ≢ [] → new ≡ old → Outcome old round (answer_for []) new
 no_answers old new round is some same = record {
   asked = λ i _. answer_none i;
   ends = inl (
@@ -372,8 +335,8 @@ no_answers old new round is some same = record {
 }
 
 outcome :
-    (events : List Event) (results : List (Result Output StepFault)) (old new : State) (round : Round) → old.round ≡ Some round → round.unanswered ≢ [] → AreAnswers events → EndsWell results →
-    Run old events results new → Outcome old round (answer_for events) results new
+    (events : List Event) (results : List (Result Output StepFault)) (old new : State) (round : Round) → old.round ≡ Some round → round.unanswered ≢ [] → AreAnswers events → AllTaken results →
+    Run old events results new → Outcome old round (answer_for events) new
 outcome [] [] old new round is some answers well run = no_answers old new round is some run
 outcome [] (result ∷ results) old new round is some answers well run = absurd run
 outcome (event ∷ rest) [] old new round is some answers well run = absurd run
@@ -381,16 +344,7 @@ outcome (event ∷ rest) (Ok output ∷ results) old new round is some answers w
     let turn = run.1.0 in
     step_outcome old run.0 new round event rest output results is (taken old event answers.0 turn.0) answers.1 well (step_taken old event output run.0 answers.0 turn.1) run.1.1
     (λ s r open_here unanswered onward. outcome rest results s new r open_here unanswered answers.1 well onward)
-outcome (event ∷ rest) (Err TooLong ∷ []) old new round is some answers well run =
-    let turn = run.1.0 in
-    fail_outcome old run.0 new round event rest is (taken old event answers.0 turn.0) (long_taken old event answers.0 turn.1.0) run.1.1
-outcome (event ∷ rest) (Err TooLong ∷ result ∷ results) old new round is some answers well run = absurd well
-outcome (event ∷ rest) (Err ClockBack ∷ results) old new round is some answers well run = absurd well
-outcome (event ∷ rest) (Err RoundOpen ∷ results) old new round is some answers well run = absurd well
-outcome (event ∷ rest) (Err NotAsked ∷ results) old new round is some answers well run = absurd well
-outcome (event ∷ rest) (Err BadIndex ∷ results) old new round is some answers well run = absurd well
-outcome (event ∷ rest) (Err OutOfRange ∷ results) old new round is some answers well run = absurd well
-outcome (event ∷ rest) (Err OutOfMemory ∷ results) old new round is some answers well run = absurd well
+outcome (event ∷ rest) (Err fault ∷ results) old new round is some answers well run = absurd well
 
 -- planning anew gives one state
 pub replan_once : (s : State) (t : ℕ) (x y : State) → Replan s t x → Replan s t y → x ≡ y
@@ -407,29 +361,19 @@ not_both s t x a b =
     let many = b.many in
     absurd (omega arith)
 
-agree :
-    (old x y : State) (round : Round) (ans : ℕ → Option Event) (results more : List (Result Output StepFault)) → Outcome old round ans results x → Outcome old round ans more y →
-    (x ≡ y) ⊎ (EndsTooLong results × EndsTooLong more)
-agree old x y round ans results more a b =
+agree : (old x y : State) (round : Round) (ans : ℕ → Option Event) → Outcome old round ans x → Outcome old round ans y → x ≡ y
+agree old x y round ans a b =
     elim a.ends [
-      | inl waits ↦ elim b.ends [
-        | inl too ↦ inl (waits.1 ∙ sym too.1)
-        | inr other ↦ elim other [ inl closes ↦ absurd (waits.0 closes.0) | inr fails ↦ absurd (waits.0 fails.0) ]
-      ]
-      | inr ended ↦ elim ended [
-        | inl closes ↦ elim b.ends [
-          | inl waits ↦ absurd (waits.0 closes.0)
-          | inr other ↦ elim other [ inl too ↦ inl (replan_once (closing old round ans) round.at x y closes.1 too.1) | inr fails ↦ absurd (not_both (closing old round ans) round.at x closes.1 fails.2) ]
-        ]
-        | inr fails ↦ elim b.ends [
-          | inl waits ↦ absurd (waits.0 fails.0)
-          | inr other ↦ elim other [ inl closes ↦ absurd (not_both (closing old round ans) round.at y closes.1 fails.2) | inr too ↦ inr (fails.1, too.1) ]
-        ]
-      ]
+      | inl waits ↦ elim b.ends [ inl too ↦ waits.1 ∙ sym too.1 | inr closes ↦ absurd (waits.0 closes.0) ]
+      | inr closes ↦ elim b.ends [ inl waits ↦ absurd (waits.0 closes.0) | inr too ↦ replan_once (closing old round ans) round.at x y closes.1 too.1 ]
     ]
 
-pub order : OrderLaw
-order old x y round is some these others answers too same results more well also run onward =
+-- two orders of the same answers to one round, none refused, end in equal states
+pub taken_alike :
+    (old x y : State) (round : Round) → old.round ≡ Some round → round.unanswered ≢ [] → (these others : List Event) → AreAnswers these → AreAnswers others →
+    ((i : ℕ) → answer_for these i ≡ answer_for others i) → (results more : List (Result Output StepFault)) → AllTaken results → AllTaken more →
+    Run old these results x → Run old others more y → x ≡ y
+taken_alike old x y round is some these others answers too same results more well also run onward =
     let a = outcome these results old x round is some answers well run in
     let b = outcome others more old y round is some too also onward in
-    agree old x y round (answer_for others) results more (subst (λ ans. Outcome old round ans results x) (fun_ext same) a) b
+    agree old x y round (answer_for others) (subst (λ ans. Outcome old round ans x) (fun_ext same) a) b

@@ -56,7 +56,7 @@ turn_sound old event (Err NotAsked) new sound turn = subst IsSound (sym turn.1) 
 turn_sound old event (Err BadIndex) new sound turn = subst IsSound (sym turn.1) sound
 turn_sound old event (Err OutOfRange) new sound turn = subst IsSound (sym turn.1) sound
 turn_sound old event (Err TooLong) new sound turn = subst IsSound (sym turn.1.1) sound
-turn_sound old event (Err OutOfMemory) new sound turn = subst IsSound (sym turn.1) sound
+turn_sound old event (Err OutOfMemory) new sound turn = subst IsSound (sym turn.1.1) sound
 
 pub in_force : InForceLaw
 in_force old new [] [] sound run = subst IsSound (sym run) sound

@@ -1,18 +1,12 @@
 -- Hearing: words for the code of an answer. No public clause cites them.
 -- Source: this project's own.
-use Rattle.std.specs.Prelude.{◌==◌, ℕ, ◌+◌, ◌≤◌, Bool, false, ◌&&◌, List, [], Option, Some, None}
+use Rattle.std.specs.Prelude.{◌==◌, ℕ, ◌+◌, Bool, false, ◌&&◌, List, [], Option, Some, None}
 use Rattle.keep_tree.specs.declared.entry.Entry.{Entry}
 use Rattle.keep_tree.specs.Renewal.{renewal}
 use Rattle.keep_core.specs.declared.event.Event.{Event}
 use Rattle.keep_core.specs.declared.event.Event.TheVariants.{Told}
-use Rattle.keep_core.specs.Refusal.{LONGEST}
 use Rattle.keep_core.specs.State.{Round, State}
 use Rattle.keep_core.specs.Step.{heard, left, of_entry, without}
-
--- the seconds that are told, if any are, are a duration
-abbrev pub TellsSpan : Event → Type 0
-TellsSpan (Told i seconds renewable) = seconds ≤ LONGEST
-TellsSpan event = Unit {0}
 
 -- whether an answer to a round at this moment gives its entry the rule's end and leaves it renewable
 unfoldable pub is_rules : ℕ → Event → Entry → Bool

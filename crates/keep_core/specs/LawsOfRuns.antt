@@ -1,14 +1,20 @@
 -- Laws of runs: what holds over every list of events. Each is the contract of a public function without a body.
-use Rattle.std.specs.Prelude.{◌≡◌, ◌==◌, ◌≢◌, ℕ, ◌⊎◌, if◌then◌else◌, List, [], ◌∷◌, Option, Some, None, Result, Ok, Err}
+use Rattle.std.specs.Prelude.{◌≡◌, ◌==◌, ◌≢◌, ℕ, ◌≤◌, true, if◌then◌else◌, List, [], ◌∷◌, Option, Some, None, Result, Ok, Err}
+use Rattle.keep_moment.specs.declared.moment.TheConstants.{LAST}
+use Rattle.keep_tree.specs.Forest.{Grove}
+use Rattle.keep_tree.specs.Push.{IsForest}
 use Rattle.keep_core.specs.declared.event.Event.{Event}
 use Rattle.keep_core.specs.declared.event.Event.TheVariants.{Tick, Told, Refused, Lost, Need}
 use Rattle.keep_core.specs.declared.event.Output.{Output}
 use Rattle.keep_core.specs.declared.fault.StepFault.{StepFault}
-use Rattle.keep_core.specs.declared.fault.StepFault.TheVariants.{TooLong}
+use Rattle.keep_core.specs.declared.fault.StepFault.TheVariants.{TooLong, OutOfMemory}
 use Rattle.keep_core.specs.InForce.{IsSound}
+use Rattle.keep_core.specs.LawsOfSteps.{IsState}
+use Rattle.keep_core.specs.Refusal.{TellsSpan, refusal, waits_for}
+use Rattle.keep_core.specs.Replan.{Replan}
 use Rattle.keep_core.specs.Runs.{Run}
-use Rattle.keep_core.specs.State.{Round, State}
-use Rattle.keep_core.specs.Step.{of_entry}
+use Rattle.keep_core.specs.State.{Round, State, unplanned}
+use Rattle.keep_core.specs.Step.{StepTooLong, left, of_entry}
 
 abbrev pub IsAnswer : Event → Type 0
 IsAnswer (Tick t) = ⊥
@@ -17,37 +23,65 @@ IsAnswer (Refused i) = Unit {0}
 IsAnswer (Lost i) = Unit {0}
 IsAnswer (Need i until) = ⊥
 
-abbrev pub AreAnswers : List Event → Type 0
-AreAnswers [] = Unit {0}
-AreAnswers (event ∷ events) = IsAnswer event × AreAnswers events
+abbrev pub IsNeed : Event → Type 0
+IsNeed (Tick t) = ⊥
+IsNeed (Told i seconds renewable) = ⊥
+IsNeed (Refused i) = ⊥
+IsNeed (Lost i) = ⊥
+IsNeed (Need i until) = Unit {0}
 
--- none is refused but the last, and that with TooLong at most
-abbrev pub EndsWell : List (Result Output StepFault) → Type 0
-EndsWell [] = Unit {0}
-EndsWell (Ok output ∷ results) = EndsWell results
-EndsWell (Err TooLong ∷ []) = Unit {0}
-EndsWell (Err fault ∷ results) = ⊥
+-- TooLong is the result of new needs alone
+abbrev pub TooLongAtNeeds : List Event → List (Result Output StepFault) → Type 0
+TooLongAtNeeds (event ∷ events) (Err TooLong ∷ results) = IsNeed event × TooLongAtNeeds events results
+TooLongAtNeeds (event ∷ events) (result ∷ results) = TooLongAtNeeds events results
+TooLongAtNeeds events results = Unit {0}
 
--- none is refused but the last, and that with TooLong
-abbrev pub EndsTooLong : List (Result Output StepFault) → Type 0
-EndsTooLong [] = ⊥
-EndsTooLong (Ok output ∷ results) = EndsTooLong results
-EndsTooLong (Err TooLong ∷ []) = Unit {0}
-EndsTooLong (Err fault ∷ results) = ⊥
+-- no tick and no answer is ever TooLong: in no such state, and so whatever events come after the opening
+abbrev pub TooLongLaw : Type 0
+TooLongLaw =
+    ((old : State) (event : Event) → IsState old → refusal old event ≡ None → StepTooLong old event → IsNeed event)
+    × ((g : Grove) (start : ℕ) (old new : State) (events : List Event) (results : List (Result Output StepFault)) → IsForest g → start ≤ LAST → Replan (unplanned g) start old →
+    Run old events results new → TooLongAtNeeds events results)
+
+-- these answer a round: each is of an entry that is then waited for, and tells no more seconds than can be told
+abbrev pub AnswerEach : Round → List Event → Type 0
+AnswerEach round [] = Unit {0}
+AnswerEach round (event ∷ events) = IsAnswer event × (TellsSpan event × ((waits_for (Some round) (of_entry event) ≡ true) × AnswerEach (left round (of_entry event)) events))
+
+-- who is then left
+abbrev pub left_by : Round → List Event → List ℕ
+left_by round [] = round.unanswered
+left_by round (event ∷ events) = left_by (left round (of_entry event)) events
+
+-- none is refused for want of memory
+abbrev pub NoneWants : List (Result Output StepFault) → Type 0
+NoneWants [] = Unit {0}
+NoneWants (result ∷ results) = (result ≢ Err OutOfMemory) × NoneWants results
+
+-- none is refused
+abbrev pub AllTaken : List (Result Output StepFault) → Type 0
+AllTaken [] = Unit {0}
+AllTaken (Ok output ∷ results) = AllTaken results
+AllTaken (Err fault ∷ results) = ⊥
+
+-- such answers are taken, want of memory aside; and where nobody is left, they close the round
+abbrev pub ClosesLaw : Type 0
+ClosesLaw =
+    (old new : State) (round : Round) (events : List Event) (results : List (Result Output StepFault)) → IsState old → old.round ≡ Some round → AnswerEach round events →
+    NoneWants results → Run old events results new → AllTaken results × (left_by round events ≡ [] → new.round ≡ None)
 
 -- the first answer for i, None where there is none
 unfoldable pub answer_for : List Event → ℕ → Option Event
 answer_for [] i = None
 answer_for (event ∷ events) i = if of_entry event == i then Some event else answer_for events i
 
--- two orders of the same answers to one round, none refused before the last, end in equal states, or both last answers are
--- TooLong. Where none is refused before the last, no entry has two answers; so "the same answers" is "the same for each entry"
+-- two orders of the same such answers end in equal states, want of memory aside. No entry has two answers; so "the same
+-- answers" is "the same for each entry"
 abbrev pub OrderLaw : Type 0
 OrderLaw =
-    (old x y : State) (round : Round) → old.round ≡ Some round → round.unanswered ≢ [] →
-    (these others : List Event) → AreAnswers these → AreAnswers others → ((i : ℕ) → answer_for these i ≡ answer_for others i) →
-    (results more : List (Result Output StepFault)) → EndsWell results → EndsWell more →
-    Run old these results x → Run old others more y → (x ≡ y) ⊎ (EndsTooLong results × EndsTooLong more)
+    (old x y : State) (round : Round) → IsState old → old.round ≡ Some round → (these others : List Event) → AnswerEach round these → AnswerEach round others →
+    ((i : ℕ) → answer_for these i ≡ answer_for others i) → (results more : List (Result Output StepFault)) → NoneWants results → NoneWants more →
+    Run old these results x → Run old others more y → x ≡ y
 
 -- whatever events come, the plan in force is the least and latest one whenever no round is open
 abbrev pub InForceLaw : Type 0

@@ -11,5 +11,5 @@ pub mod Waking
 pub mod Hearing
 pub mod LawsOfNeeds
 pub mod LawsOfPlans
-pub mod LawsOfRuns
 pub mod LawsOfSteps
+pub mod LawsOfRuns

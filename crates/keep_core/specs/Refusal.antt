@@ -1,6 +1,6 @@
 -- Refusal: which events are refused, whatever the plan made anew would be.
 -- Source: this project's own.
-use Rattle.std.specs.Prelude.{ℕ, ◌==◌, Bool, false, if◌then◌else◌, Option, Some, None, length, nat_lt, nat_le, is_some}
+use Rattle.std.specs.Prelude.{ℕ, ◌==◌, ◌≤◌, Bool, false, if◌then◌else◌, Option, Some, None, length, nat_lt, nat_le, is_some}
 use Rattle.std.specs.List.{list_any}
 use Rattle.keep_moment.specs.declared.moment.TheConstants.{LAST}
 use Rattle.keep_core.specs.declared.event.Event.{Event}
@@ -12,6 +12,11 @@ use Rattle.keep_core.specs.State.{Round, State}
 -- the greatest duration, in seconds
 abbrev pub LONGEST : ℕ
 LONGEST = 4294967295
+
+-- the seconds that are told, if any are, are a duration
+abbrev pub TellsSpan : Event → Type 0
+TellsSpan (Told i seconds renewable) = seconds ≤ LONGEST
+TellsSpan event = Unit {0}
 
 -- whether i is among the unanswered of the round, where one is open
 abbrev pub waits_for : Option Round → ℕ → Bool

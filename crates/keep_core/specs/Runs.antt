@@ -7,13 +7,13 @@ use Rattle.keep_core.specs.declared.fault.StepFault.{StepFault}
 use Rattle.keep_core.specs.declared.fault.StepFault.TheVariants.{TooLong, OutOfMemory}
 use Rattle.keep_core.specs.Refusal.{refusal}
 use Rattle.keep_core.specs.State.{State}
-use Rattle.keep_core.specs.Step.{Step, StepTooLong}
+use Rattle.keep_core.specs.Step.{MayWant, Step, StepTooLong}
 
 -- what an event gives: a step; or a refusal, which leaves the state. Want of memory may take the place of a step
 abbrev pub Turn : State → Event → Result Output StepFault → State → Type 0
 Turn old event (Ok output) new = (refusal old event ≡ None) × Step old event output new
 Turn old event (Err TooLong) new = (refusal old event ≡ None) × (StepTooLong old event × (new ≡ old))
-Turn old event (Err OutOfMemory) new = (refusal old event ≡ None) × (new ≡ old)
+Turn old event (Err OutOfMemory) new = (refusal old event ≡ None) × (MayWant old event × (new ≡ old))
 Turn old event (Err fault) new = (refusal old event ≡ Some fault) × (new ≡ old)
 
 -- what events give one after another

@@ -1,6 +1,6 @@
 -- Step: what one event does that is not refused, by cases on the event and the output.
 -- Source: this project's own, over Vault, "Lease, renew, and revoke" (a renewal's TTL counts from the renewal).
-use Rattle.std.specs.Prelude.{◌≡◌, ◌≢◌, ◌==◌, ℕ, ◌+◌, ◌<◌, false, not, List, [], ◌∷◌, Option, Some, None, filter, slice_set}
+use Rattle.std.specs.Prelude.{◌≡◌, ◌≢◌, ◌==◌, ℕ, ◌+◌, ◌<◌, ◌≤◌, false, not, List, [], ◌∷◌, Option, Some, None, filter, slice_set}
 use Rattle.keep_tree.specs.declared.entry.Entry.{Entry}
 use Rattle.keep_tree.specs.Forest.{Grove, end_of, entry_at}
 use Rattle.keep_rule.specs.Asks.{asks, first_of}
@@ -92,3 +92,20 @@ StepTooLong old (Told i seconds renewable) = AnswerTooLong old (Told i seconds r
 StepTooLong old (Refused i) = AnswerTooLong old (Refused i)
 StepTooLong old (Lost i) = AnswerTooLong old (Lost i)
 StepTooLong old (Need i until) = IsTooLong (needed old i until).forest old.last
+
+-- the first moment to come is there, and is no later than t
+abbrev pub IsDueBy : ℕ → Option ℕ → Type 0
+IsDueBy t None = ⊥
+IsDueBy t (Some w) = w ≤ t
+
+-- the answer is the last of its round
+abbrev pub IsLastAnswer : State → Event → Type 0
+IsLastAnswer old event = (round : Round) × ((old.round ≡ Some round) × ((left round (of_entry event)).unanswered ≡ []))
+
+-- what may want memory: a tick at the first moment to come or after it, the last answer of a round, and a need
+abbrev pub MayWant : State → Event → Type 0
+MayWant old (Tick t) = IsDueBy t (first_of old.to_come)
+MayWant old (Told i seconds renewable) = IsLastAnswer old (Told i seconds renewable)
+MayWant old (Refused i) = IsLastAnswer old (Refused i)
+MayWant old (Lost i) = IsLastAnswer old (Lost i)
+MayWant old (Need i until) = Unit {0}

@@ -23,7 +23,7 @@ pub enum StepFault {
     /// A moment is after 9999-12-31T23:59:59Z, or the seconds are more than 4294967295.
     #[error("out-of-range")]
     OutOfRange,
-    /// The plan made anew would have more than 10,000,000 wake-ups.
+    /// The plan made anew, at the opening or with a new need, would have more than 10,000,000 wake-ups.
     #[error("too-long")]
     TooLong,
     /// Memory was refused.

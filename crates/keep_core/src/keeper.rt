@@ -1,6 +1,7 @@
 ghost use Rattle.std.specs.Prelude.{◌≡◌, [], None, IfErr, IfOk};
 ghost use Rattle.keep_tree.specs.Forest.{end_of};
 ghost use Rattle.keep_rule.specs.Asks.{first_of};
+ghost use Rattle.keep_needs.specs.Carried.{IsCarried};
 ghost use Rattle.keep_schedule.specs.Forces.{moments_of};
 ghost use Rattle.keep_plan.specs.Planned.{to_come};
 ghost use Rattle.keep_core.specs.InForce.{AllForcedAs, InForce};
@@ -89,6 +90,7 @@ impl Keeper {
     /// and the needs in force, from the last moment, and each of its forces is forced.
     pub fn plan(&self) -> &Plan
         ensures moments { moments_of (to_come result.now) ≡ self.now.to_come }
+        ensures carried { IsCarried self.now.forest result.now.start result.now.carried }
         ensures in_force { self.now.round ≡ None → InForce self.now }
         ensures forced { self.now.round ≡ None → AllForcedAs self.now.forest.entries self.now.forest.margin self.now.last (end_of self.now.forest.entries) None (to_come result.now) }
     {

@@ -1,4 +1,4 @@
-ghost use Rattle.keep_core.specs.LawsOfPlans.{KeptPlanLaw, SomeoneLaw, StillForcedLaw, TailKeptLaw, TickLaw};
+ghost use Rattle.keep_core.specs.LawsOfPlans.{KeptPlanLaw, NoLongerLaw, SomeoneLaw, StillForcedLaw, TailKeptLaw, TickLaw};
 
 /// The law of ticks: until the first moment of the plan in force, planning anew gives the same plan and shortens nothing.
 pub fn tick_law()
@@ -25,4 +25,10 @@ pub fn someone_law()
 /// answered by the rule. They need not stay the lowest.
 pub fn still_forced_law()
     ensures { StillForcedLaw }
+{}
+
+/// The law that planning anew gives no more wake-ups than the plan in force has: at a tick, however late, and after a round,
+/// whatever its answers. The moment of planning, and the moments of the plan that come after it, keep all needs that are left.
+pub fn no_longer_law()
+    ensures { NoLongerLaw }
 {}

@@ -1,7 +1,19 @@
-ghost use Rattle.keep_core.specs.LawsOfRuns.{InForceLaw, OrderLaw};
+ghost use Rattle.keep_core.specs.LawsOfRuns.{ClosesLaw, InForceLaw, OrderLaw, TooLongLaw};
 
-/// The law of the order of answers: two orders of the same answers to one round, none of them refused before the last, end
-/// in equal states, or both last answers are refused because the plan made anew would be too long.
+/// The law that no tick and no answer is ever too long, whatever events come after the opening: only
+/// [`Event::Need`](crate::Event::Need) can be.
+pub fn too_long_law()
+    ensures { TooLongLaw }
+{}
+
+/// The law that every round closes: answers of entries that are waited for, one of each and in whatever order, are taken, want
+/// of memory aside; and where nobody is left, they close the round.
+pub fn closes_law()
+    ensures { ClosesLaw }
+{}
+
+/// The law of the order of answers: two orders of the same answers to one round, of entries that are waited for and one of
+/// each, end in equal states, want of memory aside.
 pub fn order_law()
     ensures { OrderLaw }
 {}

@@ -1,7 +1,8 @@
 ghost use Rattle.keep_core.specs.LawsOfSteps.{AddsLaw, AskLaw, OnceLaw, StateLaw};
 
-/// The law of states: whatever events come after the opening, and whatever of them is refused, the forest stays one, a round
-/// is open since the last moment, and the plan is in force whenever no round is open.
+/// The law of states: whatever events come after the opening, and whatever of them is refused, the forest stays one; a round
+/// is open since the last moment, waits for someone, and has its moment and the moments to come from the plan that was in
+/// force when it opened; and the plan is in force whenever no round is open.
 pub fn state_law()
     ensures { StateLaw }
 {}

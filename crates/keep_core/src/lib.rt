@@ -32,7 +32,9 @@ pub use event::{Event, Output};
 pub use fault::StepFault;
 pub use keeper::Keeper;
 pub use laws_of_needs::{keepable_law, plannable_law, shortened_law, unchanged_law};
-pub use laws_of_plans::{kept_plan_law, someone_law, still_forced_law, tail_kept_law, tick_law};
-pub use laws_of_runs::{in_force_law, order_law};
+pub use laws_of_plans::{
+    kept_plan_law, no_longer_law, someone_law, still_forced_law, tail_kept_law, tick_law,
+};
+pub use laws_of_runs::{closes_law, in_force_law, order_law, too_long_law};
 pub use laws_of_steps::{adds_law, ask_law, once_law, state_law};
 pub use shortened::{ShortNeed, Shortened};

@@ -1,11 +1,13 @@
 ghost use Rattle.std.specs.Prelude.{◌≡◌, ◌≤◌, false, IfErr, IfOk};
 ghost use Rattle.keep_tree.specs.Push.{IsForest};
+ghost use Rattle.keep_rule.specs.Asks.{first_of};
 ghost use Rattle.keep_rule.specs.Plans.{asks_past};
 ghost use Rattle.keep_needs.specs.Carried.{IsCarried};
 ghost use Rattle.keep_plan.specs.Planned.{to_come};
 ghost use Rattle.keep_schedule.specs.Forces.{moments_of};
 ghost use Rattle.keep_core.specs.declared.fault.StepFault.TheVariants.{OutOfMemory};
 ghost use Rattle.keep_core.specs.Replan.{IsPlanOf};
+ghost use Rattle.keep_core.specs.Step.{IsDueBy};
 ghost use Rattle.keep_core.specs.Waking.{AreFlags, Opens};
 
 use crate::fault::StepFault;
@@ -35,7 +37,7 @@ pub(crate) fn opening_at(
     requires best { IsPlanOf forest.now at (moments_of (to_come plan.now)) }
     ensures opens { IfOk result (λ opening. Opens forest.now at (moments_of (to_come plan.now)) opening) }
     ensures sound { IsForest forest.now }
-    ensures memory { IfErr result (λ fault. fault ≡ OutOfMemory) }
+    ensures memory { IfErr result (λ fault. (fault ≡ OutOfMemory) × IsDueBy at (first_of (moments_of (to_come plan.now)))) }
 {
     let entries = forest.len();
     let Some(first) = plan.wakes().next() else {

@@ -24,9 +24,9 @@ impl Keeper {
     /// A refused event leaves the keeper as it was. The refusals, in the order in which they are looked for:
     /// `OutOfRange`, a tick or a need after 9999-12-31T23:59:59Z, or more than 4294967295 seconds told; `BadIndex`, there is
     /// no such entry; `ClockBack`, a tick before the last moment; `RoundOpen`, a tick or a need while a round is open;
-    /// `NotAsked`, an answer while no round is open, or of an entry that it does not wait for. Then, of an event that plans
-    /// anew, `TooLong`, the plan would have more than 10,000,000 wake-ups; at the last answer of a round it leaves the round
-    /// open and the answer untaken. `OutOfMemory` may come in the place of an output or of `TooLong`.
+    /// `NotAsked`, an answer while no round is open, or of an entry that it does not wait for. Then, of a need alone,
+    /// `TooLong`, the plan made anew would have more than 10,000,000 wake-ups: [`too_long_law`](crate::too_long_law) says
+    /// that no tick and no answer has that refusal. `OutOfMemory` may come in the place of an output or of `TooLong`.
     ///
     /// Source: Vault, "Lease, renew, and revoke" (a renewal's TTL counts from the renewal).
     pub fn step(&mut self, event: Event) -> Result<Output, StepFault>

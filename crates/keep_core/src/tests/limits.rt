@@ -47,6 +47,19 @@ fn a_need_that_is_too_far_leaves_the_keeper(rt: HostRuntime) -> Result<(), Fail>
     Ok(())
 }
 
+// A lost answer leaves as many wake-ups as there were, one of them at the moment of the round again.
+#[test]
+fn a_round_of_the_longest_plan_closes(rt: HostRuntime) -> Result<(), Fail> {
+    let mut keeper = keeper_of(rt.alloc(), &[LONG])?;
+    let steps = [
+        (Event::Tick(1001), Said::Ask(&[0])),
+        (Event::Lost(0), Said::Round(Some(1001))),
+    ];
+    goes(&rt, &mut keeper, &steps);
+    assert_eq!(rt; keeper.plan().len(), 10000000);
+    Ok(())
+}
+
 // While a round is open, an event is refused by the first refusal that applies.
 #[test]
 fn refuses_in_order(rt: HostRuntime) -> Result<(), Fail> {

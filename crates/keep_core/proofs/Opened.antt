@@ -1,0 +1,101 @@
+-- An open round: what was there when it opened, at its opening and with one answer more.
+use Rattle.std.proofs.Common.{◌≡◌, ◌∙◌, ◌==◌, ℕ, ◌<◌, ◌≤◌, true, false, List, ◌∷◌, Some, length, set, refl, sym, ap, subst, inl, inr}
+use Rattle.std.proofs.lemmas.Bool.{cases_Bool, cases_eq}
+use Rattle.std.proofs.lemmas.List.{length-set}
+use Rattle.std.specs.List.{list_any}
+use Rattle.keep_schedule.specs.declared.limit.TheConstants.{LIMIT}
+use Rattle.keep_tree.specs.declared.entry.Entry.{Entry}
+use Rattle.keep_tree.specs.Forest.{Grove, end_of, entry_at}
+use Rattle.keep_tree.specs.Push.{IsForest}
+use Rattle.keep_tree.proofs.Entries.{entry_at_set_other, entry_at_set_same}
+use Rattle.keep_rule.specs.Asks.{asking, first_of}
+use Rattle.keep_rule.specs.Ends.{is_asked}
+use Rattle.keep_core.specs.declared.event.Event.{Event}
+use Rattle.keep_core.specs.declared.event.Event.TheVariants.{Tick, Told, Refused, Lost, Need}
+use Rattle.keep_core.specs.LawsOfPlans.{IsAnswered}
+use Rattle.keep_core.specs.LawsOfSteps.{IsOpened}
+use Rattle.keep_core.specs.Refusal.{waits_for}
+use Rattle.keep_core.specs.Replan.{IsPlanOf}
+use Rattle.keep_core.specs.State.{Round, State}
+use Rattle.keep_core.specs.Step.{answered, change, heard, left, of_entry, opened, without}
+use Rattle.keep_core.proofs.Orders.{none_within}
+
+unanswered_is : (g : Grove) (t : ℕ) (rest : List ℕ) → IsAnswered g g t (first_of rest)
+unanswered_is g t rest = record { margin = refl; count = refl; each = λ i. refl; others = λ i _. refl }
+
+-- a round that opens
+pub opens :
+    (mid : State) (t : ℕ) (rest : List ℕ) → IsForest mid.forest → IsPlanOf mid.forest t (t ∷ rest) → length (t ∷ rest) ≤ LIMIT →
+    IsOpened (record mid { to_come = rest; round = Some (opened mid t (first_of rest)) }) (opened mid t (first_of rest))
+unfolding is_asked
+opens mid t rest forest best few = record {
+  before = mid.forest;
+  forest = forest;
+  best = best;
+  few = few;
+  answered = unanswered_is mid.forest t rest;
+  asked = λ i waits. waits;
+}
+
+-- what an answer changes of an entry
+pub answered_only : (at : ℕ) (event : Event) (e : Entry) → answered at event e ≡ record e { end = (answered at event e).end; renewable = (answered at event e).renewable }
+unfolding answered
+answered_only at (Tick t) e = refl
+answered_only at (Told i seconds renewable) e = refl
+answered_only at (Refused i) e = refl
+answered_only at (Lost i) e = refl
+answered_only at (Need i until) e = refl
+
+-- who is waited for behind an answer, was before it
+still_waits : (round : Round) (i j : ℕ) → waits_for (Some (left round i)) j ≡ true → waits_for (Some round) j ≡ true
+unfolding without
+still_waits round i j waits =
+    elim (cases_Bool (list_any (λ k. k == j) round.unanswered)) [
+      | inl there ↦ there
+      | inr none ↦ absurd (let bad : true ≡ false = sym waits ∙ none_within _ j round.unanswered none in cc)
+    ]
+
+-- one answer more, of an entry that is waited for
+answered_more :
+    (g h : Grove) (t : ℕ) (rest : List ℕ) → IsAnswered g h t (first_of rest) → (event : Event) (at : ℕ) → of_entry event < length h.entries →
+    is_asked (asking g.entries g.margin t (end_of g.entries) t (first_of rest)) (of_entry event) ≡ true → IsAnswered g (change h (of_entry event) (answered at event)) t (first_of rest)
+answered_more g h t rest a event at within asked =
+    let i = of_entry event in
+    let e = entry_at h.entries i in
+    let new = answered at event e in
+    let fs = set h.entries i new in
+    let Same : Entry → Entry → Type 0 = λ x y. y ≡ record x { end = y.end; renewable = y.renewable } in
+    record {
+      margin = a.margin;
+      count = length-set h.entries i new ∙ a.count;
+      each = λ k. elim (cases_eq k i) [
+        | inl same ↦
+            let here : entry_at fs k ≡ new = ap (entry_at fs) same ∙ entry_at_set_same h.entries i new within in
+            let from : Same (entry_at g.entries i) new = answered_only at event e ∙ ap (λ (x : Entry). record x { end = new.end; renewable = new.renewable }) (a.each i) in
+            subst (Same (entry_at g.entries k)) (sym here) (subst (λ j. Same (entry_at g.entries j) new) (sym same) from)
+        | inr apart ↦ subst (Same (entry_at g.entries k)) (sym (entry_at_set_other h.entries i k new apart)) (a.each k)
+      ];
+      others = λ k unasked. elim (cases_eq k i) [
+        | inl same ↦ absurd (
+            let bad : true ≡ false = sym asked ∙ ap (is_asked (asking g.entries g.margin t (end_of g.entries) t (first_of rest))) (sym same) ∙ unasked in cc)
+        | inr apart ↦ entry_at_set_other h.entries i k new apart ∙ a.others k unasked
+      ];
+    }
+
+pub hears_more :
+    (old : State) (round : Round) (event : Event) → IsOpened old round → of_entry event < length old.forest.entries → waits_for (Some round) (of_entry event) ≡ true →
+    IsOpened (heard old event round.at (Some (left round (of_entry event)))) (left round (of_entry event))
+hears_more old round event o within waits = record {
+  before = o.before;
+  forest = o.forest;
+  best = o.best;
+  few = o.few;
+  answered = answered_more o.before old.forest round.at old.to_come o.answered event round.at within (o.asked (of_entry event) waits);
+  asked = λ i still. o.asked i (still_waits round (of_entry event) i still);
+}
+
+-- and the last: what an open round leads to that closes
+pub hears_last :
+    (old : State) (round : Round) (event : Event) → (o : IsOpened old round) → of_entry event < length old.forest.entries → waits_for (Some round) (of_entry event) ≡ true →
+    IsAnswered o.before (change old.forest (of_entry event) (answered round.at event)) round.at (first_of old.to_come)
+hears_last old round event o within waits = answered_more o.before old.forest round.at old.to_come o.answered event round.at within (o.asked (of_entry event) waits)

@@ -1,0 +1,5 @@
+use Rattle.keep_core.proofs.NoLonger.{no_longer}
+use Rattle.keep_core.proofs.laws_of_plans.no_longer_law.Goals as goal
+
+pub returns : goal.returns
+returns c = no_longer
