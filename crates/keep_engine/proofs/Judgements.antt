@@ -1,7 +1,7 @@
 -- Judgements: from the line about a certificate to the run, for `run_check`.
 use Rattle.std.proofs.Common.{◌≡◌, ℕ, List, Some, Result, Ok, Err, length, inl, inr}
 use Rattle.std.proofs.lemmas.Bool.{cases_lt}
-use Rattle.std.specs.Io.KnownBytes.{Appends, Keeps}
+use Rattle.std.specs.Io.KnownBytes.{Keeps}
 use Rattle.keep_tree.specs.Forest.{Grove}
 use Rattle.keep_schedule.specs.Runs.{all_wakes}
 use Rattle.keep_cert.specs.declared.cert.Body.{Body}
@@ -27,7 +27,7 @@ use Rattle.keep_engine.specs.CheckAnswers.{Checks, ChecksForest, IsNamed, IsVerd
 use Rattle.keep_engine.specs.CheckRun.{CheckRun, IsJudged, IsUnreadable}
 use Rattle.keep_engine.specs.CheckText.{unreadable_line}
 use Rattle.keep_engine.specs.Exits.{exit_of}
-use Rattle.keep_engine.specs.Output.{Output}
+use Rattle.keep_engine.specs.Output.{Output, Sent}
 
 -- ---- an entry that is not kept is one of the forest
 
@@ -77,7 +77,7 @@ text_unreadable g text line certs.OutOfMemory fails is = absurd cc
 
 -- ---- the run
 
-pub check_done : (bytes text : List ℕ) (outcome : Outcome) (out : Output) → Checks bytes text (Ok outcome) → Appends out.old out.new outcome.text → CheckRun bytes text outcome.exit out
+pub check_done : (bytes text : List ℕ) (outcome : Outcome) (out : Output) → Checks bytes text (Ok outcome) → Sent outcome.text out → CheckRun bytes text outcome.exit out
 check_done bytes text outcome out checks sent = by_exit outcome.exit checks.2 where
   by_exit : (exit : Exit) → IsJudged checks.0.grove text exit outcome.text → CheckRun bytes text exit out
   by_exit exits.Done is = (checks.0, checks.1, outcome.text, is, sent)

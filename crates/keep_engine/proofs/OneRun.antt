@@ -17,4 +17,4 @@ one_plan_run bytes bytes' stock stock' s exit exit' out out' read read' same a b
     let there = ap (λ (x : Stock). x.grove) (one_stock bytes' b.0 stock' b.1 read') in
     let grove : b.0.grove ≡ a.0.grove = there ∙ (sym same ∙ sym here) in
     let one = one_plan_text a.0.grove s exit exit' a.2 b.2 a.3 (subst (λ (g : Grove). IsCertified g s exit' b.2) grove b.3) in
-    (one.0, (a.2, (a.4, subst (λ t. Appends out'.old out'.new t) (sym one.1) b.4)))
+    (one.0, (a.2, (a.4.0, subst (λ t. Appends out'.old out'.new t) (sym one.1) b.4.0)))

@@ -25,7 +25,7 @@ use Rattle.vault_http.specs.declared.fault.SinkFault.TheVariants as sink
 use Rattle.keep_engine.specs.Answers.{Answers, Sends}
 use Rattle.keep_engine.specs.EndsRun.{EndsRun}
 use Rattle.keep_engine.specs.Exits.{exit_of, stop_of_print, stop_of_sink}
-use Rattle.keep_engine.specs.Output.{Output}
+use Rattle.keep_engine.specs.Output.{Output, Sent}
 use Rattle.keep_engine.specs.PlanAnswers.{Plans, PlansForest}
 use Rattle.keep_engine.specs.PlanRun.{IsCertified, PlanRun, decided_exit}
 use Rattle.keep_engine.proofs.Counting.{failed_once}
@@ -45,7 +45,7 @@ decided_stop g s decision.TooLong prints.NoCertificate decides printed = decides
 
 -- ---- the run
 
-pub plan_done : (bytes : List ℕ) (s : ℕ) (outcome : Outcome) (out : Output) → Plans bytes s (Ok outcome) → Appends out.old out.new outcome.text → PlanRun bytes s outcome.exit out
+pub plan_done : (bytes : List ℕ) (s : ℕ) (outcome : Outcome) (out : Output) → Plans bytes s (Ok outcome) → Sent outcome.text out → PlanRun bytes s outcome.exit out
 plan_done bytes s outcome out plans sent = by_exit outcome.exit plans.2 where
   by_exit : (exit : Exit) → IsCertified plans.0.grove s exit outcome.text → PlanRun bytes s exit out
   by_exit exits.Done is = (plans.0, plans.1, outcome.text, is, sent)

@@ -103,7 +103,7 @@ EndsOf g s at exits.CommandLine out = (fault : WakeFault) × (wake_fault g.entri
 EndsOf g s at exit out = ⊥
 
 ends_of : (bytes : List ℕ) (stock : Stock) (s : ℕ) (at : List ℕ) (exit : Exit) (out : Output) → inventory bytes ≡ Ok stock → IsWhole exit → EndsRun bytes s at exit out → EndsOf stock.grove s at exit out
-ends_of bytes stock s at exits.Done out reads whole run = subst (λ g. EndsOf g s at exits.Done out) (one_stock bytes run.0 stock run.1 reads) (run.2, run.3, run.4)
+ends_of bytes stock s at exits.Done out reads whole run = subst (λ g. EndsOf g s at exits.Done out) (one_stock bytes run.0 stock run.1 reads) (run.2, run.3, run.4.0)
 ends_of bytes stock s at exits.CommandLine out reads whole run = subst (λ g. EndsOf g s at exits.CommandLine out) (one_stock bytes run.0 stock run.1 reads) (run.2, run.3, run.4)
 ends_of bytes stock s at exits.Inventory out reads whole run = absurd (let fails = run.1 in cc)
 ends_of bytes stock s at exits.Unkeepable out reads whole run = absurd run
@@ -137,7 +137,7 @@ one_ends g s at exits.Device exit' out out' a b = absurd a
 one_ends g s at exits.Memory exit' out out' a b = absurd a
 
 ends_fronts : (bytes : List ℕ) (stock : Stock) (s : ℕ) (at : List ℕ) (exit : Exit) (out : Output) → inventory bytes ≡ Ok stock → EndsRun bytes s at exit out → Fronts (IsEndsText stock.grove s at) out
-ends_fronts bytes stock s at exits.Done out reads run = subst (λ g. Fronts (IsEndsText g s at) out) (one_stock bytes run.0 stock run.1 reads) (inl (run.2, run.3, whole_is_front out run.2 run.4))
+ends_fronts bytes stock s at exits.Done out reads run = subst (λ g. Fronts (IsEndsText g s at) out) (one_stock bytes run.0 stock run.1 reads) (inl (run.2, run.3, whole_is_front out run.2 run.4.0))
 ends_fronts bytes stock s at exits.CommandLine out reads run = inr run.4
 ends_fronts bytes stock s at exits.Device out reads run = let front = run.1 in subst (λ g. Fronts (IsEndsText g s at) out) (one_stock bytes front.0 stock front.1 reads) (inl (front.2, front.3, front.4))
 ends_fronts bytes stock s at exits.Memory out reads (inl kept) = inr kept
@@ -190,8 +190,8 @@ PlanOf g s exits.TooLong out = IsTooLong g s × Keeps out.old out.new
 PlanOf g s exit out = ⊥
 
 plan_of : (bytes : List ℕ) (stock : Stock) (s : ℕ) (exit : Exit) (out : Output) → inventory bytes ≡ Ok stock → IsWhole exit → PlanRun bytes s exit out → PlanOf stock.grove s exit out
-plan_of bytes stock s exits.Done out reads whole run = subst (λ g. PlanOf g s exits.Done out) (one_stock bytes run.0 stock run.1 reads) (run.2, run.3, run.4)
-plan_of bytes stock s exits.Unkeepable out reads whole run = subst (λ g. PlanOf g s exits.Unkeepable out) (one_stock bytes run.0 stock run.1 reads) (run.2, run.3, run.4)
+plan_of bytes stock s exits.Done out reads whole run = subst (λ g. PlanOf g s exits.Done out) (one_stock bytes run.0 stock run.1 reads) (run.2, run.3, run.4.0)
+plan_of bytes stock s exits.Unkeepable out reads whole run = subst (λ g. PlanOf g s exits.Unkeepable out) (one_stock bytes run.0 stock run.1 reads) (run.2, run.3, run.4.0)
 plan_of bytes stock s exits.TooLong out reads whole run = subst (λ g. PlanOf g s exits.TooLong out) (one_stock bytes run.0 stock run.1 reads) (run.2, run.3)
 plan_of bytes stock s exits.Inventory out reads whole run = absurd (let fails = run.1 in cc)
 plan_of bytes stock s exits.CommandLine out reads whole run = absurd run
@@ -251,8 +251,8 @@ abbrev IsOfPlan : Grove → ℕ → List ℕ → Type 0
 IsOfPlan g s text = (exit : Exit) × IsCertified g s exit text
 
 plan_fronts : (bytes : List ℕ) (stock : Stock) (s : ℕ) (exit : Exit) (out : Output) → inventory bytes ≡ Ok stock → PlanRun bytes s exit out → Fronts (IsOfPlan stock.grove s) out
-plan_fronts bytes stock s exits.Done out reads run = subst (λ g. Fronts (IsOfPlan g s) out) (one_stock bytes run.0 stock run.1 reads) (inl (run.2, (exits.Done, run.3), whole_is_front out run.2 run.4))
-plan_fronts bytes stock s exits.Unkeepable out reads run = subst (λ g. Fronts (IsOfPlan g s) out) (one_stock bytes run.0 stock run.1 reads) (inl (run.2, (exits.Unkeepable, run.3), whole_is_front out run.2 run.4))
+plan_fronts bytes stock s exits.Done out reads run = subst (λ g. Fronts (IsOfPlan g s) out) (one_stock bytes run.0 stock run.1 reads) (inl (run.2, (exits.Done, run.3), whole_is_front out run.2 run.4.0))
+plan_fronts bytes stock s exits.Unkeepable out reads run = subst (λ g. Fronts (IsOfPlan g s) out) (one_stock bytes run.0 stock run.1 reads) (inl (run.2, (exits.Unkeepable, run.3), whole_is_front out run.2 run.4.0))
 plan_fronts bytes stock s exits.TooLong out reads run = inr run.3
 plan_fronts bytes stock s exits.Inventory out reads run = inr run.2
 plan_fronts bytes stock s exits.Device out reads run = let front = run.1 in subst (λ g. Fronts (IsOfPlan g s) out) (one_stock bytes front.0 stock front.1 reads) (inl (front.3, (front.2, front.4), front.5))
@@ -279,8 +279,8 @@ abbrev CheckOf : Grove → List ℕ → Exit → Output → Type 0
 CheckOf g text exit out = (line : List ℕ) × IsJudged g text exit line × Appends out.old out.new line
 
 check_of : (bytes : List ℕ) (stock : Stock) (text : List ℕ) (exit : Exit) (out : Output) → inventory bytes ≡ Ok stock → IsWhole exit → CheckRun bytes text exit out → CheckOf stock.grove text exit out
-check_of bytes stock text exits.Done out reads whole run = subst (λ g. CheckOf g text exits.Done out) (one_stock bytes run.0 stock run.1 reads) (run.2, run.3, run.4)
-check_of bytes stock text exits.No out reads whole run = subst (λ g. CheckOf g text exits.No out) (one_stock bytes run.0 stock run.1 reads) (run.2, run.3, run.4)
+check_of bytes stock text exits.Done out reads whole run = subst (λ g. CheckOf g text exits.Done out) (one_stock bytes run.0 stock run.1 reads) (run.2, run.3, run.4.0)
+check_of bytes stock text exits.No out reads whole run = subst (λ g. CheckOf g text exits.No out) (one_stock bytes run.0 stock run.1 reads) (run.2, run.3, run.4.0)
 check_of bytes stock text exits.Inventory out reads whole run = absurd (let fails = run.1 in cc)
 check_of bytes stock text exits.CommandLine out reads whole run = absurd run
 check_of bytes stock text exits.Unkeepable out reads whole run = absurd run
@@ -292,8 +292,8 @@ abbrev IsOfCheck : Grove → List ℕ → List ℕ → Type 0
 IsOfCheck g text line = (exit : Exit) × IsJudged g text exit line
 
 check_fronts : (bytes : List ℕ) (stock : Stock) (text : List ℕ) (exit : Exit) (out : Output) → inventory bytes ≡ Ok stock → CheckRun bytes text exit out → Fronts (IsOfCheck stock.grove text) out
-check_fronts bytes stock text exits.Done out reads run = subst (λ g. Fronts (IsOfCheck g text) out) (one_stock bytes run.0 stock run.1 reads) (inl (run.2, (exits.Done, run.3), whole_is_front out run.2 run.4))
-check_fronts bytes stock text exits.No out reads run = subst (λ g. Fronts (IsOfCheck g text) out) (one_stock bytes run.0 stock run.1 reads) (inl (run.2, (exits.No, run.3), whole_is_front out run.2 run.4))
+check_fronts bytes stock text exits.Done out reads run = subst (λ g. Fronts (IsOfCheck g text) out) (one_stock bytes run.0 stock run.1 reads) (inl (run.2, (exits.Done, run.3), whole_is_front out run.2 run.4.0))
+check_fronts bytes stock text exits.No out reads run = subst (λ g. Fronts (IsOfCheck g text) out) (one_stock bytes run.0 stock run.1 reads) (inl (run.2, (exits.No, run.3), whole_is_front out run.2 run.4.0))
 check_fronts bytes stock text exits.Inventory out reads run = inr run.2
 check_fronts bytes stock text exits.Device out reads run = let front = run.1 in subst (λ g. Fronts (IsOfCheck g text) out) (one_stock bytes front.0 stock front.1 reads) (inl (front.3, (front.2, front.4), front.5))
 check_fronts bytes stock text exits.Memory out reads (inl kept) = inr kept

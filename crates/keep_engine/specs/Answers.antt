@@ -1,6 +1,5 @@
 -- Words for the parts of a run: the text that is made before the first write, and its sending. No public clause cites them.
 use Rattle.std.specs.Prelude.{◌≡◌, ℕ, IsTrue, List, Some, Result, Ok, Err, length, slice_index}
-use Rattle.std.specs.Io.KnownBytes.{Appends}
 use Rattle.keep_tree.specs.Forest.{Grove}
 use Rattle.keep_rule.specs.Plans.{wake_fault}
 use Rattle.keep_inventory.specs.Stock.{Stock}
@@ -11,7 +10,7 @@ use Rattle.keep_moment.specs.declared.text.Text.{Text}
 use Rattle.keep_engine.specs.declared.stop.Stop.{Stop}
 use Rattle.keep_engine.specs.declared.stop.Stop.TheVariants as stops
 use Rattle.keep_engine.specs.EndsText.{IsEndsText, all_asked}
-use Rattle.keep_engine.specs.Output.{Output}
+use Rattle.keep_engine.specs.Output.{Output, Sent}
 
 -- a list of ends as the function from an index to its end
 unfoldable pub at_index : List ℕ → ℕ → ℕ
@@ -32,7 +31,7 @@ Answers bytes s moments answer = (stock : Stock) × (inventory bytes ≡ Ok stoc
 
 -- a text that was sent whole, or why only a front of it was
 abbrev pub Sends : Result (Unit {0}) Stop → List ℕ → Output → Type 0
-Sends (Ok u) text out = Appends out.old out.new text
+Sends (Ok u) text out = Sent text out
 Sends (Err stops.Write) text out = HasFailed out.failed_before out.failed_after × AppendsFront out.old out.new text
 Sends (Err stops.Memory) text out = IsTrue out.is_in_memory × AppendsFront out.old out.new text
 Sends (Err stop) text out = ⊥

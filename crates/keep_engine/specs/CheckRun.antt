@@ -1,7 +1,7 @@
 -- The run `check`: what it has written, and when it gives which exit.
 -- Source: this project's own.
 use Rattle.std.specs.Prelude.{◌≡◌, ℕ, IsTrue, ◌⊎◌, List, Some, Ok, Err, codes}
-use Rattle.std.specs.Io.KnownBytes.{Appends, Keeps}
+use Rattle.std.specs.Io.KnownBytes.{Keeps}
 use Rattle.keep_tree.specs.Forest.{Grove}
 use Rattle.keep_cert.specs.declared.cert.Cert.{Cert}
 use Rattle.keep_cert.specs.declared.fault.CertFault.{CertFault}
@@ -19,7 +19,7 @@ use Rattle.vault_http.specs.Front.{AppendsFront}
 use Rattle.keep_engine.specs.declared.exit.Exit.{Exit}
 use Rattle.keep_engine.specs.declared.exit.Exit.TheVariants as exits
 use Rattle.keep_engine.specs.CheckText.{no_line, unreadable_line}
-use Rattle.keep_engine.specs.Output.{Output}
+use Rattle.keep_engine.specs.Output.{Output, Sent}
 
 -- the text writes a certificate that gets Yes: its moments are least and latest, or no plan keeps
 pub record IsAccepted (g : Grove) (text line : List ℕ) : Type 0 where
@@ -51,7 +51,7 @@ IsJudged g text exit line = ⊥
 
 -- the line of this exit was written
 abbrev pub WritesJudged : List ℕ → List ℕ → Exit → Output → Type 0
-WritesJudged bytes text exit out = (stock : Stock) × (inventory bytes ≡ Ok stock) × (line : List ℕ) × IsJudged stock.grove text exit line × Appends out.old out.new line
+WritesJudged bytes text exit out = (stock : Stock) × (inventory bytes ≡ Ok stock) × (line : List ℕ) × IsJudged stock.grove text exit line × Sent line out
 
 -- no more than a front of the line about the text was written
 abbrev pub WritesFront : List ℕ → List ℕ → Output → Type 0

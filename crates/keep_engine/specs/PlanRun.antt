@@ -1,7 +1,7 @@
 -- The run `plan`: what it has written, and when it gives which exit.
 -- Source: this project's own, over Vault, "Lease, renew, and revoke", and Vault, "Tokens".
 use Rattle.std.specs.Prelude.{◌≡◌, ℕ, IsTrue, ◌⊎◌, List, Ok, Err}
-use Rattle.std.specs.Io.KnownBytes.{Appends, Keeps}
+use Rattle.std.specs.Io.KnownBytes.{Keeps}
 use Rattle.keep_tree.specs.Forest.{Grove}
 use Rattle.keep_schedule.specs.declared.run.Run.{Run}
 use Rattle.keep_plan.specs.declared.decision.Decision.{Decision}
@@ -18,7 +18,7 @@ use Rattle.vault_http.specs.Failures.{HasFailed}
 use Rattle.vault_http.specs.Front.{AppendsFront}
 use Rattle.keep_engine.specs.declared.exit.Exit.{Exit}
 use Rattle.keep_engine.specs.declared.exit.Exit.TheVariants as exits
-use Rattle.keep_engine.specs.Output.{Output}
+use Rattle.keep_engine.specs.Output.{Output, Sent}
 
 -- the certificate of runs whose wake-ups are the forces from s on: their moments are least and latest, and with their Asks
 -- they keep
@@ -48,7 +48,7 @@ decided_exit decision.TooLong = exits.TooLong
 
 -- the text of this exit for the inventory's forest was written
 abbrev pub WritesCertified : List ℕ → ℕ → Exit → Output → Type 0
-WritesCertified bytes s exit out = (stock : Stock) × (inventory bytes ≡ Ok stock) × (text : List ℕ) × IsCertified stock.grove s exit text × Appends out.old out.new text
+WritesCertified bytes s exit out = (stock : Stock) × (inventory bytes ≡ Ok stock) × (text : List ℕ) × IsCertified stock.grove s exit text × Sent text out
 
 -- no more than a front of the text for the inventory's forest was written
 abbrev pub WritesFront : List ℕ → ℕ → Output → Type 0

@@ -11,6 +11,7 @@ pub(crate) fn send<W: Sink>(out: &mut W, text: &Text) -> Result<(), Stop>
       new = W.written out.new;
       failed_before = W.failed_calls out.old;
       failed_after = W.failed_calls out.new;
+      flushed = W.is_flushed out.new;
       is_in_memory = W.is_in_memory;
     }) }
 {

@@ -31,6 +31,7 @@ pub fn run_plan<W: Sink, F: Sink>(
       new = W.written out.new;
       failed_before = W.failed_calls out.old;
       failed_after = W.failed_calls out.new;
+      flushed = W.is_flushed out.new;
       is_in_memory = W.is_in_memory;
     }) }
     ensures told { Told inventory.now result (record {
@@ -38,6 +39,7 @@ pub fn run_plan<W: Sink, F: Sink>(
       new = F.written faults.new;
       failed_before = F.failed_calls faults.old;
       failed_after = F.failed_calls faults.new;
+      flushed = F.is_flushed faults.new;
       is_in_memory = F.is_in_memory;
     }) }
 {

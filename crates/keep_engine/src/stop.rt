@@ -119,6 +119,7 @@ pub fn report_input<F: Sink>(alloc: Global, fault: InputFault, faults: &mut F) -
       new = F.written faults.new;
       failed_before = F.failed_calls faults.old;
       failed_after = F.failed_calls faults.new;
+      flushed = F.is_flushed faults.new;
       is_in_memory = F.is_in_memory;
     }) }
 {
@@ -158,6 +159,7 @@ impl Stop {
           new = F.written faults.new;
           failed_before = F.failed_calls faults.old;
           failed_after = F.failed_calls faults.new;
+          flushed = F.is_flushed faults.new;
           is_in_memory = F.is_in_memory;
         }) }
     {

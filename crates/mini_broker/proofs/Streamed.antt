@@ -1,10 +1,20 @@
 -- What was sent behind what was read: for `serve_stream`.
-use Rattle.std.proofs.Common.{ℕ, List, ◌++◌, Option, Some, None, Result, Ok, Err, IfErr, OnOk, inl, inr, ap, ◌∙◌}
+use Rattle.std.proofs.Common.{◌≡◌, ℕ, List, ◌++◌, IsTrue, refl, sym, subst, Option, Some, None, Result, Ok, Err, IfErr, OnOk, inl, inr, ap, ◌∙◌}
 use Rattle.std.specs.Io.KnownBytes.{Appends, Keeps}
 use Rattle.mini_broker.specs.declared.stream.StreamFault.{StreamFault}
 use Rattle.mini_broker.specs.declared.stream.StreamFault.TheVariants as streams
 use Rattle.mini_broker.specs.Ledger.{Ledger}
-use Rattle.mini_broker.specs.Stream.{CountsSending, Ends, IsHandled, Leaves}
+use Rattle.vault_http.specs.declared.http_fault.HttpFault.{HttpFault}
+use Rattle.vault_http.specs.declared.http_fault.HttpFault.TheVariants as https
+use Rattle.vault_http.specs.declared.request.Request.{Request}
+use Rattle.vault_http.specs.RoundTrip.{is_sent}
+use Rattle.mini_broker.specs.declared.refusal.Refusal.{Refusal}
+use Rattle.mini_broker.specs.declared.refusal.Refusal.TheVariants as refusals
+use Rattle.mini_broker.specs.declared.served.Served.{Served}
+use Rattle.mini_broker.specs.declared.served.Served.TheVariants as served
+use Rattle.mini_broker.specs.Request.{status_of}
+use Rattle.mini_broker.specs.Step.{Answer, refuses, tells, drops, Refuses, Says, step}
+use Rattle.mini_broker.specs.Stream.{CountsSending, Ends, Handles, IsHandled, Leaves, MaySend}
 
 pub kept_appends : (a b c : Option (List ℕ)) (bs : List ℕ) → Keeps a b → Appends b c bs → Appends a c bs
 kept_appends None b c bs kept more = tt
@@ -12,15 +22,50 @@ kept_appends (Some xs) None c bs kept more = elim kept [ ]
 kept_appends (Some xs) (Some ys) None bs kept more = more
 kept_appends (Some xs) (Some ys) (Some zs) bs kept more = more ∙ ap (λ us. us ++ bs) kept
 
-pub of_ok : {X E : Type 0} (P Q : Type 0) (r : Result X E) → (P → Q) → OnOk r P → OnOk r Q
-of_ok P Q (Ok x) f h = f h
-of_ok P Q (Err e) f h = tt
+pub of_both : {X E : Type 0} (P Q R : Type 0) (r : Result X E) → (P → Q → R) → OnOk r P → OnOk r Q → OnOk r R
+of_both P Q R (Ok x) f p q = f p q
+of_both P Q R (Err e) f p q = tt
 
 -- a failed sending leaves what handling the message has left
 pub left_by_sending :
     {X : Type 0} (ends : Ends) (l after : Ledger) (t : ℕ) (r : Result X StreamFault) (before now : ℕ) → CountsSending r before now →
-    IsHandled ends.remaining ends.reads_left l t after → IfErr r (λ fault. Leaves ends l t fault after)
+    IsHandled ends l t after → IfErr r (λ fault. Leaves ends l t fault after)
 left_by_sending ends l after t (Ok x) before now count done = tt
 left_by_sending ends l after t (Err streams.ReadFailed) before now count done = elim count [ ]
 left_by_sending ends l after t (Err streams.WriteFailed) before now count done = done
 left_by_sending ends l after t (Err streams.OutOfMemory) before now count done = inr (inl done)
+
+-- ---- what is sent may be sent
+
+sent_status : (a b : ℕ) → a ≡ b → IsTrue (is_sent b) → IsTrue (is_sent a)
+sent_status a b e is = subst (λ s. IsTrue (is_sent s)) (sym e) is
+
+status_is_sent : (refusal : Refusal) → IsTrue (is_sent (status_of refusal))
+status_is_sent refusals.UnsupportedPath = refl
+status_is_sent refusals.UnsupportedMethod = refl
+status_is_sent refusals.PermissionDenied = refl
+status_is_sent refusals.BadRequest = refl
+status_is_sent refusals.UnknownLease = refl
+status_is_sent refusals.NotRenewable = refl
+
+refusal_sent : (refusal : Refusal) (done : Served) → Refuses refusal done → MaySend done
+refusal_sent refusal (served.Reply reply) h = sent_status reply.status (status_of refusal) h.0 (status_is_sent refusal)
+refusal_sent refusal served.Dropped h = tt
+
+answer_sent : (t : ℕ) (answer : Answer) (done : Served) → Says t answer done → MaySend done
+answer_sent t (refuses refusal) done h = refusal_sent refusal done h
+answer_sent t (tells call row) (served.Reply reply) h = sent_status reply.status 200 h.0 refl
+answer_sent t (tells call row) served.Dropped h = tt
+answer_sent t drops (served.Reply reply) h = absurd h
+answer_sent t drops served.Dropped h = tt
+
+pub handled_sent : (l : Ledger) (t : ℕ) (message : Result Request HttpFault) (after : Ledger) (done : Served) → Handles l t message after done → MaySend done
+handled_sent l t (Ok r) after done h = answer_sent t (step l t r).answer done h.0
+handled_sent l t (Err https.Truncated) after done h = subst MaySend (sym h.0) tt
+handled_sent l t (Err https.ReadFailed) after done h = absurd h
+handled_sent l t (Err https.OutOfMemory) after done h = absurd h
+handled_sent l t (Err https.BadHead) after done h = refusal_sent refusals.BadRequest done h.0
+handled_sent l t (Err https.BadLength) after done h = refusal_sent refusals.BadRequest done h.0
+handled_sent l t (Err https.BadChunk) after done h = refusal_sent refusals.BadRequest done h.0
+handled_sent l t (Err https.TooLong) after done h = refusal_sent refusals.BadRequest done h.0
+handled_sent l t (Err https.TwoLengths) after done h = refusal_sent refusals.BadRequest done h.0

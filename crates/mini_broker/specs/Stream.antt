@@ -1,8 +1,8 @@
 -- A request served over a stream: what is read, what the table then is, and what is written.
 -- Source: RFC 9112 (the message that is read and the reply that is written); which unreadable request gets a reply is this
 -- project's own.
-use Rattle.std.specs.Prelude.{◌≡◌, ℕ, ◌⊎◌, List, [], Option, IfSome, Result, Ok, Err}
-use Rattle.std.specs.Io.KnownBytes.{Appends}
+use Rattle.std.specs.Prelude.{◌≡◌, ℕ, ◌⊎◌, List, [], Option, IfSome, Bool, IsTrue, Result, Ok, Err}
+use Rattle.std.specs.Io.KnownBytes.{Appends, Keeps}
 use Rattle.vault_http.specs.declared.http_fault.HttpFault.{HttpFault}
 use Rattle.vault_http.specs.declared.http_fault.HttpFault.TheVariants as https
 use Rattle.vault_http.specs.declared.request.Request.{Request}
@@ -11,6 +11,7 @@ use Rattle.vault_http.specs.declared.writing.SendFault.TheVariants as sends
 use Rattle.vault_http.specs.Failures.{one_more}
 use Rattle.vault_http.specs.Messages.{IsRequest}
 use Rattle.vault_http.specs.Reading.{Settles}
+use Rattle.vault_http.specs.RoundTrip.{is_sent}
 use Rattle.vault_http.specs.Written.{reply_text}
 use Rattle.mini_broker.specs.declared.refusal.Refusal.TheVariants.{BadRequest}
 use Rattle.mini_broker.specs.declared.served.Served.{Served}
@@ -39,32 +40,48 @@ Handles l t (Err https.BadChunk) after done = (Refuses BadRequest done) × (afte
 Handles l t (Err https.TooLong) after done = (Refuses BadRequest done) × (after ≡ l)
 Handles l t (Err https.TwoLengths) after done = (Refuses BadRequest done) × (after ≡ l)
 
--- one message is read by its bytes, where the stream tells them, and it is handled
-pub record IsHandled (remaining : Option (List ℕ)) (reads_left : ℕ) (l : Ledger) (t : ℕ) (after : Ledger) : Type 0 where
-  pub message : Result Request HttpFault
-  pub left : ℕ
-  pub read : IfSome remaining (λ bytes. Settles (IsRequest MOST_REQUEST bytes) reads_left left message)
-  pub done : Served
-  pub handled : Handles l t message after done
-
--- a stream before and after: its bytes to come, the reads that it needs at most, and what was written
+-- a stream before and after: its bytes to come, the reads that it needs at most, what was written, and whether all of it
+-- was flushed
 pub record Ends : Type 0 where
   pub remaining : Option (List ℕ)
+  pub rest : Option (List ℕ)
   pub reads_left : ℕ
   pub old : Option (List ℕ)
   pub new : Option (List ℕ)
+  pub flushed : Bool
+
+-- one message is read by its bytes, where the stream tells them, and it is handled; what was not read stays
+pub record IsHandled (ends : Ends) (l : Ledger) (t : ℕ) (after : Ledger) : Type 0 where
+  pub message : Result Request HttpFault
+  pub left : ℕ
+  pub unread : Option (List ℕ)
+  pub read : IfSome ends.remaining (λ bytes. Settles (IsRequest MOST_REQUEST) bytes unread ends.reads_left left message)
+  pub kept : Keeps unread ends.rest
+  pub done : Served
+  pub handled : Handles l t message after done
+
+-- a reply may be sent: its status is one of those that are written
+abbrev pub MaySend : Served → Type 0
+MaySend (served.Reply reply) = IsTrue (is_sent reply.status)
+MaySend served.Dropped = Unit {0}
+
+-- a reply that is sent is flushed
+abbrev pub IsFlushed : Served → Bool → Type 0
+IsFlushed (served.Reply reply) flushed = IsTrue flushed
+IsFlushed served.Dropped flushed = Unit {0}
 
 -- one message is handled, and what is sent for it is appended
 pub record IsStreamed (ends : Ends) (l : Ledger) (t : ℕ) (after : Ledger) : Type 0 where
-  pub done : IsHandled ends.remaining ends.reads_left l t after
+  pub done : IsHandled ends l t after
   pub sent : Appends ends.old ends.new (sent_of done.done)
+  pub flushed : IsFlushed done.done ends.flushed
 
 -- what a fault leaves of the table: what it was where a read failed, and what handling the message has left where a write
 -- failed. Memory may be wanting before, while and after a request is served
 abbrev pub Leaves : Ends → Ledger → ℕ → StreamFault → Ledger → Type 0
 Leaves ends l t streams.ReadFailed after = after ≡ l
-Leaves ends l t streams.WriteFailed after = IsHandled ends.remaining ends.reads_left l t after
-Leaves ends l t streams.OutOfMemory after = (after ≡ l) ⊎ IsHandled ends.remaining ends.reads_left l t after ⊎ (after ≡ after_sweep l t)
+Leaves ends l t streams.WriteFailed after = IsHandled ends l t after
+Leaves ends l t streams.OutOfMemory after = (after ≡ l) ⊎ IsHandled ends l t after ⊎ (after ≡ after_sweep l t)
 
 -- one failure more where a read or a write failed, and else none
 abbrev pub CountsStream : {X : Type 0} → Result X StreamFault → ℕ → ℕ → Type 0

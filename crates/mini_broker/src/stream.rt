@@ -1,6 +1,6 @@
 ghost use Rattle.std.specs.Prelude.{◌≡◌, OnOk};
-ghost use Rattle.std.specs.Io.KnownBytes.{Appends};
-ghost use Rattle.mini_broker.specs.Stream.{CountsSending, sent_of, stream_fault};
+ghost use Rattle.std.specs.Io.KnownBytes.{Appends, Keeps};
+ghost use Rattle.mini_broker.specs.Stream.{CountsSending, IsFlushed, MaySend, sent_of, stream_fault};
 ghost use Rattle.mini_broker.specs.declared.stream.StreamFault.TheVariants as streams;
 
 use crate::served::{ServeFault, Served};
@@ -58,7 +58,11 @@ pub(crate) fn send<S: Sink>(
     stream: &mut S,
     served: &Served,
 ) -> Result<(), StreamFault>
+    requires status { MaySend served.now }
     ensures written { OnOk result (Appends (S.written stream.old) (S.written stream.new) (sent_of served.now)) }
+    ensures flushed { OnOk result (IsFlushed served.now (S.is_flushed stream.new)) }
+    ensures remaining { Keeps (S.remaining stream.old) (S.remaining stream.new) }
+    ensures made { S.reads_made stream.new ≡ S.reads_made stream.old }
     ensures count { CountsSending result (S.failed_calls stream.old) (S.failed_calls stream.new) }
 {
     match served {

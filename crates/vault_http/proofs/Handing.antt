@@ -1,8 +1,9 @@
 -- What a read of a source in memory hands out, over plain lists: for `MemorySource::read_some`.
-use Rattle.std.proofs.Common.{◌≡◌, ℕ, ◌+◌, ◌-◌, ◌<◌, ◌≤◌, length, take, drop, List, [], ◌∷◌, ◌++◌, arith, sym, ap, ◌∙◌, min, length-drop, take-append-drop, inl, inr}
+use Rattle.std.proofs.Common.{◌≡◌, ℕ, ◌+◌, ◌-◌, ◌<◌, ◌≤◌, ◌⊎◌, zero, suc, max, refl, replicate, length, take, drop, List, [], ◌∷◌, ◌++◌, arith, sym, ap, ◌∙◌, min, length-drop, take-append-drop, inl, inr}
 use Rattle.std.proofs.lemmas.List.{take_at, drop-drop, drop_all}
 use Rattle.std.proofs.lemmas.Bool.{cases_lt}
-use Rattle.vault_http.specs.Memory.{next_piece}
+use Rattle.vault_http.specs.Memory.{next_piece, reads_of}
+use Rattle.vault_http.specs.Room.{most_room}
 
 -- the copied bytes at the front of the room, and the rest, are what was left
 pub handed_front : (xs copied out : List ℕ) (place n : ℕ) → copied ≡ take (place + n - place) (drop place xs) → length copied ≡ n
@@ -29,3 +30,50 @@ next_pieces ps next len e =
     let within : next + 1 ≤ length ps → drop (min (next + 1) len) ps ≡ drop (next + 1) ps =
     λ h. let m : min (next + 1) len ≡ next + 1 = omega arith in ap (λ k. drop k ps) m in
     (elim (cases_lt (length ps) (next + 1)) [ inl h ↦ beyond (omega arith) | inr h ↦ within h ]) ∙ sym (drop-drop 1 next ps)
+
+-- ---- how many reads are needed
+
+-- fewer bytes need no more reads
+reads_grow : (pieces : List ℕ) (few many : ℕ) → few ≤ many → reads_of pieces few ≤ reads_of pieces many
+unfolding reads_of
+reads_grow [] few many h = omega (arith, h)
+reads_grow (piece ∷ pieces) zero many h = omega arith
+reads_grow (piece ∷ pieces) (suc few) zero h = omega (arith, h)
+reads_grow (piece ∷ pieces) (suc few) (suc many) h =
+    let rest = reads_grow pieces (suc few - min (max piece 1) most_room) (suc many - min (max piece 1) most_room) (omega (arith, h)) in
+    omega (arith, rest)
+
+-- a read that hands out something, and was not cut short by the room, needs one less
+pub fewer_reads : (pieces : List ℕ) (left room n : ℕ) → n ≡ min (min left room) (next_piece pieces left) → 0 < n → (n < room) ⊎ (most_room ≤ room)
+    → reads_of (drop 1 pieces) (left - n) < reads_of pieces left
+unfolding reads_of
+fewer_reads [] left room n e some (inl short) = omega (arith, e, some, short)
+fewer_reads [] left room n e some (inr full) = omega (arith, e, some, full)
+fewer_reads (piece ∷ pieces) zero room n e some fits = absurd (omega (arith, e, some))
+fewer_reads (piece ∷ pieces) (suc left) room n e some (inl short) =
+    let rest = reads_grow pieces (suc left - n) (suc left - min (max piece 1) most_room) (omega (arith, e, some, short)) in
+    omega (arith, rest)
+fewer_reads (piece ∷ pieces) (suc left) room n e some (inr full) =
+    let rest = reads_grow pieces (suc left - n) (suc left - min (max piece 1) most_room) (omega (arith, e, some, full)) in
+    omega (arith, rest)
+
+none_of : (pieces : List ℕ) (left : ℕ) → reads_of pieces left ≤ 0 → left ≡ 0
+unfolding reads_of
+none_of [] left h = omega (arith, h)
+none_of (piece ∷ pieces) zero h = refl
+none_of (piece ∷ pieces) (suc left) h = absurd (omega (arith, h))
+
+-- where one read is needed, it is for the end
+pub end_alone : (pieces bytes : List ℕ) → reads_of pieces (length bytes) + 1 ≤ 1 → bytes ≡ []
+unfolding reads_of
+end_alone pieces [] h = refl
+end_alone pieces (b ∷ bytes) h = absurd (let none = none_of pieces (length (b ∷ bytes)) (omega (arith, h)) in omega (arith, none))
+
+-- so many bytes, one a piece, need as many reads
+pub reads_of_ones : (n : ℕ) → reads_of (replicate n 1) n ≡ n
+unfolding reads_of
+reads_of_ones zero = refl
+reads_of_ones (suc n) =
+    let rest = reads_of_ones n in
+    let one : suc n - min (max 1 1) most_room ≡ n = omega arith in
+    omega (arith, rest, ap (reads_of (replicate n 1)) one)

@@ -136,26 +136,26 @@ not_read_failed max bytes (inr h) = not_behind (is_informational (status_code h.
 -- ---- reading
 
 module _ {A : Type 0} (IsAnswer : List ℕ → Result A HttpFault → Type 0) where
-  settle : (whole : List ℕ) (a : Result A HttpFault) (before now : ℕ) → UnlessMemory a (IsAnswer whole a) → Settles (IsAnswer whole) before now a
-  settle whole (Ok x) before now h = h
-  settle whole (Err OutOfMemory) before now h = tt
-  settle whole (Err ReadFailed) before now h = tt
-  settle whole (Err TooLong) before now h = inl h
-  settle whole (Err BadHead) before now h = h
-  settle whole (Err BadLength) before now h = h
-  settle whole (Err BadChunk) before now h = h
-  settle whole (Err Truncated) before now h = h
-  settle whole (Err TwoLengths) before now h = h
+  settle : (whole : List ℕ) (left : Option (List ℕ)) (a : Result A HttpFault) (before now : ℕ) → UnlessMemory a (IsAnswer whole a) → Settles IsAnswer whole left before now a
+  settle whole left (Ok x) before now h = h
+  settle whole left (Err OutOfMemory) before now h = tt
+  settle whole left (Err ReadFailed) before now h = tt
+  settle whole left (Err TooLong) before now h = inl h
+  settle whole left (Err BadHead) before now h = h
+  settle whole left (Err BadLength) before now h = h
+  settle whole left (Err BadChunk) before now h = h
+  settle whole left (Err Truncated) before now h = h
+  settle whole left (Err TwoLengths) before now h = h
 
   -- an answer that stands for every input that goes on is that of the whole input
   pub settled : (whole left : Option (List ℕ)) (bytes : List ℕ) (ended : Bool) (a : Result A HttpFault) (before now : ℕ)
       → Consumes whole left bytes → (ended ≡ true → IsAtEnd left)
       → ((more : List ℕ) → (IsTrue ended → more ≡ []) → UnlessMemory a (IsAnswer (bytes ++ more) a))
-      → IfSome whole (λ w. Settles (IsAnswer w) before now a)
+      → IfSome whole (λ w. Settles IsAnswer w left before now a)
   settled None left bytes ended a before now given end judged = tt
   settled (Some w) None bytes ended a before now given end judged = absurd given
   settled (Some w) (Some l) bytes ended a before now given end judged =
-      settle w a before now (subst (λ t. UnlessMemory a (IsAnswer t a)) (sym given) (judged l end))
+      settle w (Some l) a before now (subst (λ t. UnlessMemory a (IsAnswer t a)) (sym given) (judged l end))
 
   -- no read failed where it is told otherwise
   pub counted : (a : Result A HttpFault) (bytes : List ℕ) (before now : ℕ) → (IsAnswer bytes (Err ReadFailed) → ⊥) → UnlessMemory a (IsAnswer bytes a) → now ≡ before → CountsMessage a before now

@@ -193,16 +193,16 @@ body_fields_are false n few = All-cons IsField type_field (length_field n ∷ []
 head_is : (get : Bool) (r : Request) → IsSendable r → IsRequestHead (head_of get r)
 head_is get r s =
     let n = length r.body in
-    let visible = All-weaker (λ b. IsTrue (is_path_byte b)) IsVisible path_range r.path s.path.2 in
-    let small : n < 2 ^ 64 = omega (arith, s.body.0) in
+    let visible = All-weaker (λ b. IsTrue (is_path_byte b)) IsVisible path_range r.path s.writable.path.2 in
+    let small : n < 2 ^ 64 = omega (arith, s.short) in
     let low : r.port < 2 ^ 64 = omega (arith, s.port) in
     record {
-      method = method_is r.method s.method;
-      target = (s.path.0, All-weaker IsVisible (λ b. IsTrue (is_uri_byte b)) uri_byte r.path visible);
+      method = method_is r.method s.writable.method;
+      target = (s.writable.path.0, All-weaker IsVisible (λ b. IsTrue (is_uri_byte b)) uri_byte r.path visible);
       target_text = text_of_ascii r.path visible;
       minor = omega arith;
       fields = All-cons IsField (host_field r.port) (token_fields r.token ++ (body_fields get n ++ close_field ∷ [])) (host_is r.port low)
-          (All-append IsField (token_fields r.token) (body_fields get n ++ close_field ∷ []) (token_fields_are r.token s.token)
+          (All-append IsField (token_fields r.token) (body_fields get n ++ close_field ∷ []) (token_fields_are r.token s.writable.token)
           (All-append IsField (body_fields get n) (close_field ∷ []) (body_fields_are get n small) (All-cons IsField close_field [] close_is (All-nil IsField))));
     }
 
@@ -274,9 +274,9 @@ one_answer get r more max answer e s fits is =
           let same = request_unique (request_text r ++ more) h.head head h.rest (r.body ++ more) h.reads reads in
           let by_head = subst (λ k. IsFramed (request_of k.method k.target (token_of (map name_and_value k.fields))) (framing_of_request k) (max - length (print_request k)) h.rest answer) same.0 h.behind in
           let by_rest = subst (λ t. IsFramed (request_of r.method r.path (token_of (map name_and_value head.fields))) (framing_of_request head) (max - length (print_request head)) t answer) same.1 by_head in
-          let by_token = subst (λ t. IsFramed (request_of r.method r.path t) (framing_of_request head) (max - length (print_request head)) (r.body ++ more) answer) (token_is get r.port r.token n s.token) by_rest in
-          let by_framing = subst (λ f. IsFramed (request_of r.method r.path r.token) f (max - length (print_request head)) (r.body ++ more) answer) (framing_is get r.port r.token n s.body.0) by_token in
-          behind_is get r more (max - length (print_request head)) answer (λ g. s.body.1 (e ∙ g)) room by_framing
+          let by_token = subst (λ t. IsFramed (request_of r.method r.path t) (framing_of_request head) (max - length (print_request head)) (r.body ++ more) answer) (token_is get r.port r.token n s.writable.token) by_rest in
+          let by_framing = subst (λ f. IsFramed (request_of r.method r.path r.token) f (max - length (print_request head)) (r.body ++ more) answer) (framing_is get r.port r.token n s.short) by_token in
+          behind_is get r more (max - length (print_request head)) answer (λ g. s.writable.body (e ∙ g)) room by_framing
     ]
 
 pub reads_back : (r : Request) → ReadsBackRequest r

@@ -2,16 +2,20 @@
 use Rattle.std.proofs.Common.{◌≡◌, ℕ, ◌+◌, ◌<◌, ◌≤◌, ◌⊎◌, inl, inr, cond, nat_lt, Bool, true, false, not, IsTrue, List, [], ◌++◌, length, take, drop, replicate, refl, sym, ap, ◌∙◌, arith, append_assoc, append-nil, subst, length-append, take-append-drop, Option, None, Some, IfSome, Result, Ok, Err}
 use Rattle.std.proofs.lemmas.Bool.{cases_lt, lt-ltb}
 use Rattle.std.proofs.lemmas.List.{length-replicate}
-use Rattle.std.specs.Io.KnownBytes.{Consumes, Keeps}
+use Rattle.std.specs.Io.KnownBytes.{Consumes, Keeps, IsAtEnd}
 use Rattle.std.proofs.KnownBytes.{Consumes-kept}
 use Rattle.vault_http.specs.declared.body.BodyFault.TheVariants.{TooLong, Truncated}
 use Rattle.vault_http.specs.declared.framing.Framing.{Framing}
 use Rattle.vault_http.specs.declared.framing.Framing.TheVariants.{Empty, Counted, Chunked, ToEnd}
 use Rattle.vault_http.specs.declared.framing.LengthFault.{LengthFault}
 use Rattle.vault_http.specs.declared.http_fault.HttpFault.{HttpFault}
+use Rattle.vault_http.specs.declared.http_fault.HttpFault.TheVariants as faults
 use Rattle.vault_http.specs.Body.{IsBody, counted_body, open_body}
 use Rattle.vault_http.specs.Holding.{Holds, HandedNone, HasLineBehind, Lacks}
 use Rattle.vault_http.specs.Judging.{IsWaiting}
+use Rattle.vault_http.specs.Reading.{HeldIsRead, IsLate, Settles}
+use Rattle.vault_http.specs.Room.{most_reads}
+use Rattle.vault_http.specs.Whole.{MakesAtMost}
 use Rattle.vault_http.proofs.EmptyLines.{line_in_rest, line_where, line_within}
 use Rattle.vault_http.proofs.WholeChunks.{never_both, whole_where}
 
@@ -132,6 +136,29 @@ module _ {A : Type 0} (IsAnswer : List ℕ → Result A HttpFault → Type 0) wh
     later = λ more message holds. elim (l.later more message holds) [ inl many ↦ inl (omega (arith, many, less)) | inr line ↦ inr line ];
   }
 
+  -- as many reads as are allowed did not do
+  pub late : (before now : Option (List ℕ)) (bytes : List ℕ) (due counter first left : ℕ) → most_reads ≤ counter → Consumes before now bytes → Lacks IsAnswer bytes due
+      → IfSome before (λ _. (counter + left ≤ first) × ((counter ≡ 0) ⊎ (0 < left))) → (counter ≡ 0) ⊎ (left ≤ 1 → IsAtEnd now)
+      → IfSome before (λ w. Settles IsAnswer w now first left (Err faults.TooLong))
+  late None now bytes due counter first left many given l pace last = tt
+  late (Some w) now bytes due counter first left many given l pace last = inr (record {
+    passes = (omega (arith, pace.0, many), elim pace.1 [ inl none ↦ omega (arith, none, many) | inr some ↦ some ]);
+    none = (bytes, given, l.none);
+    last = elim last [ inl none ↦ absurd (omega (arith, none, many)) | inr end ↦ end ];
+  })
+
+  never_late : (bytes : List ℕ) (left : Option (List ℕ)) (before now : ℕ) (message : A) → Holds IsAnswer bytes message → before ≤ most_reads + 1 → IsLate IsAnswer bytes left before now → ⊥
+  never_late bytes None before now message holds few l = l.none.1
+  never_late bytes (Some rest) before now message holds few l =
+      let end : rest ≡ [] = l.last (omega (arith, few, l.passes.0)) in
+      let all : bytes ≡ l.none.0 = l.none.1 ∙ ap (λ t. l.none.0 ++ t) end ∙ append-nil l.none.0 in
+      l.none.2 message (subst (λ t. Holds IsAnswer t message) all holds)
+
+  -- a message that was handed out is not passed over
+  pub held_is_read : HeldIsRead IsAnswer
+  held_is_read bytes left before now message holds few (inl answer) = answer
+  held_is_read bytes left before now message holds few (inr l) = absurd (never_late bytes left before now message holds few l)
+
   -- a read that failed took nothing
   pub handed_none : (before now after : Option (List ℕ)) (bytes : List ℕ) (due : ℕ) → Consumes before now bytes → Keeps now after → Lacks IsAnswer bytes due → HandedNone IsAnswer before after
   handed_none None now after bytes due given kept l = tt
@@ -153,3 +180,21 @@ pub pace_on : (a b : Option (List ℕ)) (bytes : List ℕ) (counter before now n
 pace_on None b bytes counter before now next S F given p q s f = tt
 pace_on (Some w) None bytes counter before now next S F given p q s f = absurd given
 pace_on (Some w) (Some v) bytes counter before now next S F given p q s f = let r = q s f in (omega (arith, p.0, r.0), inr r.1)
+
+-- one read more than before
+pub made_first : (a : Option (List ℕ)) (now : ℕ) → MakesAtMost 0 a now now
+made_first None now = tt
+made_first (Some w) now = omega arith
+
+pub made_on : (a b : Option (List ℕ)) (bytes : List ℕ) (counter before now next : ℕ) → Consumes a b bytes → MakesAtMost counter a before now → MakesAtMost 1 b now next
+    → MakesAtMost (counter + 1) a before next
+made_on None b bytes counter before now next given p q = tt
+made_on (Some w) None bytes counter before now next given p q = absurd given
+made_on (Some w) (Some v) bytes counter before now next given p q = omega (arith, p, q)
+
+-- a read more within those that are allowed
+pub made_within : (a b : Option (List ℕ)) (bytes : List ℕ) (counter most before now next : ℕ) → counter < most → Consumes a b bytes → MakesAtMost counter a before now → MakesAtMost 1 b now next
+    → MakesAtMost most a before next
+made_within None b bytes counter most before now next more given p q = tt
+made_within (Some w) None bytes counter most before now next more given p q = absurd given
+made_within (Some w) (Some v) bytes counter most before now next more given p q = omega (arith, p, q, more)

@@ -1,9 +1,10 @@
 -- What the devices in memory hold, and what a call of a source in memory does.
-use Rattle.std.specs.Prelude.{◌≡◌, ℕ, ◌+◌, ◌-◌, ◌/◌, ◌^◌, List, [], ◌∷◌, length, drop, min, max, Bool, true, false, Option, None, Some, Result, Ok, Err}
+use Rattle.std.specs.Prelude.{◌≡◌, ℕ, zero, suc, ◌+◌, ◌-◌, ◌/◌, ◌^◌, List, [], ◌∷◌, length, drop, min, max, Bool, true, false, Option, None, Some, Result, Ok, Err}
 use Rattle.vault_http.specs.declared.fault.Failed.{Failed}
 use Rattle.vault_http.specs.declared.fault.SinkFault.{SinkFault}
 use Rattle.vault_http.specs.declared.fault.SinkFault.TheVariants as faults
 use Rattle.vault_http.specs.Failures.{one_more}
+use Rattle.vault_http.specs.Room.{most_room}
 
 -- the calls that go well before the one that fails (none: no call fails), and the calls that failed so far
 pub record Calls : Type 0 where
@@ -26,11 +27,13 @@ is_failed (Ok x) = false
 is_failed (Err faults.Failed) = true
 is_failed (Err faults.OutOfMemory) = false
 
--- the bytes that a source in memory has still to hand out, the lengths of the pieces to come, and its calls
+-- the bytes that a source in memory has still to hand out, the lengths of the pieces to come, its calls, and how many reads
+-- were made, up to the greatest number that is counted
 pub record Supply : Type 0 where
   pub bytes : List ℕ
   pub pieces : List ℕ
   pub calls : Calls
+  pub reads : ℕ
 
 -- the most bytes that the next read hands out: the next piece's length, at least 1, and all that is left behind the last
 abbrev pub next_piece : List ℕ → ℕ → ℕ
@@ -41,19 +44,26 @@ next_piece (piece ∷ pieces) left = max piece 1
 abbrev pub handed : Supply → ℕ → ℕ
 handed s room = min (min (length s.bytes) room) (next_piece s.pieces (length s.bytes))
 
--- how many reads are needed at most: the pieces, then full rooms, then the end
+-- how many reads hand out so many bytes, where each offers the most room: a piece each, and full rooms behind the last
+unfoldable pub reads_of : List ℕ → ℕ → ℕ
+reads_of [] left = (left + 65535) / 65536
+reads_of (piece ∷ pieces) zero = 0
+reads_of (piece ∷ pieces) (suc n) = reads_of pieces (suc n - min (max piece 1) most_room) + 1
+
+-- how many reads are needed: those that hand out bytes, and one for the end
 abbrev pub reads_needed : Supply → ℕ
-reads_needed s = length s.pieces + (length s.bytes + 65535) / 65536 + 1
+reads_needed s = reads_of s.pieces (length s.bytes) + 1
 
 -- one read with so much room: the next bytes are handed out, or the call's turn to fail has come and no byte is lost
 abbrev pub IsRead : Result ℕ Failed → Supply → Supply → ℕ → Type 0
 IsRead (Ok n) old new room = (n ≡ handed old room) × (new.bytes ≡ drop n old.bytes) × (new.pieces ≡ drop 1 old.pieces)
 IsRead (Err fault) old new room = (new.bytes ≡ old.bytes) × (new.pieces ≡ old.pieces)
 
--- the bytes that a sink in memory collected, and its calls
+-- the bytes that a sink in memory collected, its calls, and whether it took nothing since the last flush that went well
 pub record Collected : Type 0 where
   pub bytes : List ℕ
   pub calls : Calls
+  pub flushed : Bool
 
 -- a source and a sink in memory, side by side
 pub record Pair : Type 0 where

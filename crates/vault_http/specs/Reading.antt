@@ -1,10 +1,13 @@
 -- What reading a message from a source answers, and the count of failures over the reading.
-use Rattle.std.specs.Prelude.{◌≡◌, ℕ, ◌⊎◌, Result, Ok, Err}
+use Rattle.std.specs.Prelude.{◌≡◌, ℕ, ◌+◌, ◌≤◌, ◌⊎◌, List, Option, Some, Result, Ok, Err}
+use Rattle.std.specs.Io.KnownBytes.{IsAtEnd}
 use Rattle.vault_http.specs.declared.one_read.MoreFault.{MoreFault}
 use Rattle.vault_http.specs.declared.one_read.MoreFault.TheVariants as more
 use Rattle.vault_http.specs.declared.http_fault.HttpFault.{HttpFault}
 use Rattle.vault_http.specs.declared.http_fault.HttpFault.TheVariants.{ReadFailed, TooLong, OutOfMemory}
 use Rattle.vault_http.specs.Failures.{one_more}
+use Rattle.vault_http.specs.Holding.{Holds, HandedNone}
+use Rattle.vault_http.specs.Room.{most_reads}
 use Rattle.vault_http.specs.Whole.{PassesReads}
 
 -- a read that gave nothing, as the fault of the message
@@ -12,13 +15,27 @@ abbrev pub more_fault : MoreFault → HttpFault
 more_fault more.ReadFailed = ReadFailed
 more_fault more.OutOfMemory = OutOfMemory
 
+-- as many reads were made as are allowed, and more are needed: what they handed out holds no message, and where one read
+-- more is needed at most, that is for the end alone
+pub record IsLate {A : Type 0} (IsAnswer : List ℕ → Result A HttpFault → Type 0) (bytes : List ℕ) (left : Option (List ℕ)) (before now : ℕ) : Type 0 where
+  pub passes : PassesReads before now
+  pub none : HandedNone IsAnswer (Some bytes) left
+  pub last : now ≤ 1 → IsAtEnd left
+
 -- reading an input answers what the message's relation says of its bytes, unless a read failed, memory was wanting, or
--- more reads were needed than are allowed
-abbrev pub Settles : {A : Type 0} → (Result A HttpFault → Type 0) → ℕ → ℕ → Result A HttpFault → Type 0
-Settles IsAnswer before now (Err OutOfMemory) = Unit {0}
-Settles IsAnswer before now (Err ReadFailed) = Unit {0}
-Settles IsAnswer before now (Err TooLong) = IsAnswer (Err TooLong) ⊎ PassesReads before now
-Settles IsAnswer before now answer = IsAnswer answer
+-- more reads were needed than are allowed; `left` is what was not read
+abbrev pub Settles : {A : Type 0} → (List ℕ → Result A HttpFault → Type 0) → List ℕ → Option (List ℕ) → ℕ → ℕ → Result A HttpFault → Type 0
+Settles IsAnswer bytes left before now (Err OutOfMemory) = Unit {0}
+Settles IsAnswer bytes left before now (Err ReadFailed) = Unit {0}
+Settles IsAnswer bytes left before now (Err TooLong) = IsAnswer bytes (Err TooLong) ⊎ IsLate IsAnswer bytes left before now
+Settles IsAnswer bytes left before now answer = IsAnswer bytes answer
+
+-- where the input is handed out in as many reads as are allowed, and one more for its end, and holds a message, `TooLong`
+-- is told of its bytes alone
+abbrev pub HeldIsRead : {A : Type 0} → (List ℕ → Result A HttpFault → Type 0) → Type 0
+HeldIsRead {A} IsAnswer =
+    (bytes : List ℕ) (left : Option (List ℕ)) (before now : ℕ) (message : A) → Holds IsAnswer bytes message → before ≤ most_reads + 1
+    → Settles IsAnswer bytes left before now (Err TooLong) → IsAnswer bytes (Err TooLong)
 
 -- one failure more where a read failed, and else none
 abbrev pub CountsMessage : {A : Type 0} → Result A HttpFault → ℕ → ℕ → Type 0

@@ -25,11 +25,17 @@ IsSentToken None = Unit {0}
 IsSentToken (Some token) = (0 < length token) × (length token ≤ 256) × All (λ b. IsTrue (is_token_value_byte b)) token
 
 -- a request that may be written
-pub record IsSendable (r : Request) : Type 0 where
+pub record IsWritable (r : Request) : Type 0 where
   pub method : IsTrue (is_sent_method r.method)
+  pub slash : (rest : List ℕ) × (r.path ≡ 47 ∷ rest)
   pub path : (0 < length r.path) × (length r.path ≤ 256) × All (λ b. IsTrue (is_path_byte b)) r.path
   pub token : IsSentToken r.token
-  pub body : (length r.body < 10 ^ 15) × (is_get r.method ≡ true → r.body ≡ [])
+  pub body : is_get r.method ≡ true → r.body ≡ []
+
+-- a request that may be written, with a body that may be read
+pub record IsSendable (r : Request) : Type 0 where
+  pub writable : IsWritable r
+  pub short : length r.body < 10 ^ 15
   pub port : r.port < 2 ^ 16
 
 -- the request as it is read: the port is no part of the message

@@ -1,10 +1,14 @@
 -- A whole input of at most so many bytes, read in pieces. The limits of bytes and of reads are the project's own.
-use Rattle.std.specs.Prelude.{◌≡◌, ℕ, ◌+◌, ◌<◌, ◌≤◌, ◌⊎◌, List, length, Result, Ok, Err}
+use Rattle.std.specs.Prelude.{◌≡◌, ℕ, ◌+◌, ◌<◌, ◌≤◌, ◌⊎◌, List, length, Option, IfSome, Result, Ok, Err}
 use Rattle.vault_http.specs.declared.fault.InputFault.{InputFault}
 use Rattle.vault_http.specs.declared.fault.InputFault.TheVariants as faults
 use Rattle.vault_http.specs.declared.one_read.MoreFault.{MoreFault}
 use Rattle.vault_http.specs.declared.one_read.MoreFault.TheVariants as more
 use Rattle.vault_http.specs.Room.{most_reads}
+
+-- where the input is known, at most that many reads were made between the two counts
+abbrev pub MakesAtMost : ℕ → Option (List ℕ) → ℕ → ℕ → Type 0
+MakesAtMost most known before now = IfSome known (λ _. now ≤ before + most)
 
 -- between the two numbers of reads still needed, as many reads were made as are allowed, and more are needed
 abbrev pub PassesReads : ℕ → ℕ → Type 0

@@ -1,5 +1,5 @@
-ghost use Rattle.std.specs.Prelude.{◌≡◌, ◌<◌, ◌≤◌, length, IfOk, IsOkUnless};
-ghost use Rattle.std.specs.Io.KnownBytes.{ReadConsumes, WriteAppends};
+ghost use Rattle.std.specs.Prelude.{◌≡◌, ◌<◌, ◌≤◌, length, false, IsTrue, IfOk, OnOk, IsOkUnless};
+ghost use Rattle.std.specs.Io.KnownBytes.{Keeps, ReadConsumes, WriteAppends};
 ghost use Rattle.vault_http.specs.declared.fault.SinkFault.TheVariants as faults;
 ghost use Rattle.vault_http.specs.Failures.{one_more, Counts, CountsRead};
 
@@ -13,6 +13,7 @@ use std::marker::Model;
 pub struct Counted<S> {
     inner: S,
     failures: u64,
+    flushed: bool,
 }
 
 impl<S> Model for Counted<S> {
@@ -20,7 +21,7 @@ impl<S> Model for Counted<S> {
 
     ghost Value = { Tally S };
 
-    ghost view = { λ c. record { inner = c.inner; failures = c.failures } };
+    ghost view = { λ c. record { inner = c.inner; failures = c.failures; flushed = c.flushed } };
 }
 
 impl<S> Counted<S> {
@@ -28,15 +29,24 @@ impl<S> Counted<S> {
     pub fn new(inner: S) -> Counted<S>
         ensures inner { result.inner ≡ inner }
         ensures failures { result.failures ≡ 0 }
+        ensures flushed { result.flushed ≡ false }
     {
-        Counted { inner, failures: 0 }
+        Counted {
+            inner,
+            failures: 0,
+            flushed: false,
+        }
     }
 
     /// The reader or writer itself.
     pub fn into_inner(self) -> S
         ensures { result ≡ self.inner }
     {
-        let Counted { inner, failures: _ } = self;
+        let Counted {
+            inner,
+            failures: _,
+            flushed: _,
+        } = self;
         inner
     }
 
@@ -44,6 +54,7 @@ impl<S> Counted<S> {
     fn fail(&mut self) -> Failed
         ensures inner { self.new.inner ≡ self.old.inner }
         ensures failures { self.new.failures ≡ one_more self.old.failures }
+        ensures flushed { self.new.flushed ≡ self.old.flushed }
     {
         self.failures = self.failures.saturating_add(1);
         Failed
@@ -52,6 +63,8 @@ impl<S> Counted<S> {
 
 impl<S> Device for Counted<S> {
     ghost failed_calls = { λ c. c.failures };
+
+    ghost is_flushed = { λ c. c.flushed };
 
     fn failures(&self) -> u64 {
         self.failures
@@ -65,6 +78,7 @@ impl<S: Read> Source for Counted<S> {
 
         // What the reader itself hands out, where its bytes are known.
         ensures inner { ReadConsumes (S.remaining self.old.inner) (S.remaining self.new.inner) result buf.new }
+        ensures flushed { self.new.flushed ≡ self.old.flushed }
     {
         match self.inner.read(buf) {
             Ok(n) => Ok(n),
@@ -81,16 +95,28 @@ impl<S: Write> Sink for Counted<S> {
 
         // What the writer itself takes, where its bytes are known.
         ensures inner { WriteAppends (S.contents self.old.inner) (S.contents self.new.inner) result piece.now }
+        ensures flushed { IfOk result (λ n. 0 < n → self.new.flushed ≡ false) }
     {
+        self.flushed = false;
         match self.inner.write(piece) {
             Ok(n) if n > 0 || piece.is_empty() => Ok(n),
             _ => Err(self.fail().into()),
         }
     }
 
-    fn flush(&mut self) -> Result<(), SinkFault> {
+    fn flush(&mut self) -> Result<(), SinkFault>
+        ensures memory { IsOkUnless result faults.Failed }
+        ensures count { Counts result self.old.failures self.new.failures }
+
+        // What the writer itself holds, where its bytes are known, stays.
+        ensures inner { Keeps (S.contents self.old.inner) (S.contents self.new.inner) }
+        ensures flushed { OnOk result (IsTrue self.new.flushed) }
+    {
         match self.inner.flush() {
-            Ok(()) => Ok(()),
+            Ok(()) => {
+                self.flushed = true;
+                Ok(())
+            }
             Err(_) => Err(self.fail().into()),
         }
     }

@@ -1,7 +1,7 @@
-ghost use Rattle.std.specs.Prelude.{◌≡◌, ℕ, ◌+◌, ◌-◌, ◌^◌, ◌<◌, ◌≤◌, ◌⊎◌, List, length, take, Option, None, Some, Bool, false, IsTrue, IfOk, IfSome, MatchResult, IsErrOf};
+ghost use Rattle.std.specs.Prelude.{◌≡◌, ℕ, ◌+◌, ◌-◌, ◌^◌, ◌<◌, ◌≤◌, ◌⊎◌, List, length, take, Option, None, Some, Bool, true, false, IsTrue, IfOk, OnOk, IfSome, MatchResult, IsErrOf};
 ghost use Rattle.std.specs.Io.KnownBytes.{Keeps, Appends, Consumes, IsAtEnd};
 ghost use Rattle.vault_http.specs.declared.fault.SinkFault.TheVariants.{OutOfMemory};
-ghost use Rattle.vault_http.specs.Failures.{Counts, CountsRead};
+ghost use Rattle.vault_http.specs.Failures.{one_more, Counts, CountsRead};
 ghost use Rattle.vault_http.specs.Room.{most_room};
 
 use crate::{Failed, SinkFault};
@@ -21,8 +21,14 @@ pub trait Device {
     /// How many reads are needed at most until it has answered its end, where each offers enough room.
     ghost reads_left: { Self → ℕ } = { λ _. 0 };
 
+    /// How many reads were made, up to the greatest `u64`, where its bytes are known.
+    ghost reads_made: { Self → ℕ } = { λ _. 0 };
+
     /// The bytes that it was given, where they are known.
     ghost written: { Self → Option (List ℕ) } = { λ _. None };
+
+    /// Whether nothing was taken since the last flush that went well.
+    ghost is_flushed: { Self → Bool } = { λ _. true };
 
     /// Whether it keeps what it is given in memory, and so may want memory.
     ghost is_in_memory: { Bool } = { false };
@@ -48,7 +54,11 @@ pub trait Source: Device {
         ensures pace { IfSome (Self.remaining self.old) (λ _. IfOk result (λ n. 0 < n
             → (n < length buf.new) ⊎ (most_room ≤ length buf.new)
             → (Self.reads_left self.new < Self.reads_left self.old) × (0 < Self.reads_left self.new))) }
+        // Where one read more is needed at most, it is for the end alone.
+        ensures last { Self.reads_left self.new ≤ 1 → IsAtEnd (Self.remaining self.new) }
+        ensures made { IfSome (Self.remaining self.old) (λ _. Self.reads_made self.new ≡ one_more (Self.reads_made self.old)) }
         ensures written { Keeps (Self.written self.old) (Self.written self.new) }
+        ensures flushed { Self.is_flushed self.new ≡ Self.is_flushed self.old }
         ensures count { CountsRead result (Self.failed_calls self.old) (Self.failed_calls self.new) };
 }
 
@@ -62,14 +72,18 @@ pub trait Sink: Device {
         ensures bytes { MatchResult result
             (λ n. Appends (Self.written self.old) (Self.written self.new) (take n piece.now))
             (λ _. Keeps (Self.written self.old) (Self.written self.new)) }
+        ensures flushed { IfOk result (λ n. 0 < n → Self.is_flushed self.new ≡ false) }
         ensures memory { IsErrOf result OutOfMemory → IsTrue Self.is_in_memory }
         ensures remaining { Keeps (Self.remaining self.old) (Self.remaining self.new) }
+        ensures made { Self.reads_made self.new ≡ Self.reads_made self.old }
         ensures count { Counts result (Self.failed_calls self.old) (Self.failed_calls self.new) };
 
     /// Hands on what it may have kept back. Only a sink in memory answers `OutOfMemory`.
     fn flush(&mut self) -> Result<(), SinkFault>
         ensures bytes { Keeps (Self.written self.old) (Self.written self.new) }
+        ensures flushed { OnOk result (IsTrue (Self.is_flushed self.new)) }
         ensures memory { IsErrOf result OutOfMemory → IsTrue Self.is_in_memory }
         ensures remaining { Keeps (Self.remaining self.old) (Self.remaining self.new) }
+        ensures made { Self.reads_made self.new ≡ Self.reads_made self.old }
         ensures count { Counts result (Self.failed_calls self.old) (Self.failed_calls self.new) };
 }

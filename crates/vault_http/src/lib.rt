@@ -44,7 +44,7 @@ pub use reading::read_reply;
 pub use reading_request::read_request;
 pub use reply::Reply;
 pub use request::Request;
-pub use round_trip::{reply_reads_back, request_reads_back};
+pub use round_trip::{held_is_read, reply_reads_back, request_reads_back};
 pub use write_whole::write_all;
 pub use writing::{SendFault, write_reply, write_request};
 

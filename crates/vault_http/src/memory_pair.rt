@@ -1,7 +1,7 @@
-ghost use Rattle.std.specs.Prelude.{◌≡◌, ◌<◌, ◌≤◌, ◌⊎◌, ◌++◌, length, true, Some, is_err, IfOk, IsOkUnless, MatchResult};
+ghost use Rattle.std.specs.Prelude.{◌≡◌, ◌<◌, ◌≤◌, ◌⊎◌, [], ◌++◌, length, true, false, IsTrue, Some, is_err, IfOk, OnOk, IsOkUnless, MatchResult};
 ghost use Rattle.std.specs.Io.KnownBytes.{ReadConsumes};
 ghost use Rattle.vault_http.specs.declared.fault.SinkFault.TheVariants as faults;
-ghost use Rattle.vault_http.specs.Failures.{Counts, CountsRead};
+ghost use Rattle.vault_http.specs.Failures.{one_more, Counts, CountsRead};
 ghost use Rattle.vault_http.specs.Memory.{IsCall, IsRead, is_failed, reads_needed, failures_of};
 ghost use Rattle.vault_http.specs.Room.{most_room};
 
@@ -46,7 +46,11 @@ impl Device for MemoryPair {
 
     ghost reads_left = { λ p. reads_needed p.source };
 
+    ghost reads_made = { λ p. p.source.reads };
+
     ghost written = { λ p. Some p.sink.bytes };
+
+    ghost is_flushed = { λ p. p.sink.flushed };
 
     ghost is_in_memory = { true };
 
@@ -61,12 +65,14 @@ impl Source for MemoryPair {
         ensures bytes { ReadConsumes (Some self.old.source.bytes) (Some self.new.source.bytes) result buf.new }
         ensures pace { IfOk result (λ n. 0 < n → (n < length buf.new) ⊎ (most_room ≤ length buf.new)
             → (reads_needed self.new.source < reads_needed self.old.source) × (0 < reads_needed self.new.source)) }
+        ensures last { reads_needed self.new.source ≤ 1 → self.new.source.bytes ≡ [] }
         ensures sink { self.new.sink ≡ self.old.sink }
         ensures count { CountsRead result (failures_of self.old) (failures_of self.new) }
 
         // As the source does alone.
         ensures calls { IsCall (is_err result) self.old.source.calls self.new.source.calls }
         ensures pieces { IsRead result self.old.source self.new.source (length buf.new) }
+        ensures reads { self.new.source.reads ≡ one_more self.old.source.reads }
     {
         self.source.read_some(buf)
     }
@@ -83,6 +89,7 @@ impl Sink for MemoryPair {
             (λ n. (n ≡ length piece.now) × (self.new.sink.bytes ≡ self.old.sink.bytes ++ piece.now))
             (λ _. self.new.sink.bytes ≡ self.old.sink.bytes) }
         ensures calls { IsCall (is_failed result) self.old.sink.calls self.new.sink.calls }
+        ensures flushed { IfOk result (λ n. 0 < n → self.new.sink.flushed ≡ false) }
     {
         self.sink.write_some(piece)
     }
@@ -95,6 +102,7 @@ impl Sink for MemoryPair {
         ensures bytes { self.new.sink.bytes ≡ self.old.sink.bytes }
         ensures memory { IsOkUnless result faults.Failed }
         ensures calls { IsCall (is_failed result) self.old.sink.calls self.new.sink.calls }
+        ensures flushed { OnOk result (IsTrue self.new.sink.flushed) }
     {
         self.sink.flush()
     }

@@ -1,4 +1,4 @@
-ghost use Rattle.std.specs.Prelude.{◌≡◌, ℕ, ◌+◌, ◌-◌, ◌^◌, ◌<◌, ◌≤◌, [], ◌++◌, length, true, Some, IfOk, IsOkUnless, MatchResult};
+ghost use Rattle.std.specs.Prelude.{◌≡◌, ℕ, ◌+◌, ◌-◌, ◌^◌, ◌<◌, ◌≤◌, [], ◌++◌, length, true, false, IsTrue, Some, IfOk, OnOk, IsOkUnless, MatchResult};
 ghost use Rattle.vault_http.specs.declared.fault.SinkFault.TheVariants.{Failed};
 ghost use Rattle.vault_http.specs.Failures.{Counts};
 ghost use Rattle.vault_http.specs.Memory.{IsCall, is_failed};
@@ -9,11 +9,12 @@ use std::alloc::Global;
 use std::marker::Model;
 
 /// A sink that collects what it is given; at most one call fails, a given one. A growth that is refused is
-/// `OutOfMemory`. Contracts see the bytes that it collected and its calls.
+/// `OutOfMemory`. Contracts see the bytes that it collected, its calls, and whether they are flushed.
 #[derive(Debug, Drop)]
 pub struct MemorySink {
     bytes: Vec<u8>,
     calls: CallCount,
+    flushed: bool,
 }
 
 impl Model for MemorySink {
@@ -21,7 +22,7 @@ impl Model for MemorySink {
 
     ghost Value = { Collected };
 
-    ghost view = { λ s. record { bytes = s.bytes.items; calls = s.calls } };
+    ghost view = { λ s. record { bytes = s.bytes.items; calls = s.calls; flushed = s.flushed } };
 }
 
 impl MemorySink {
@@ -30,11 +31,20 @@ impl MemorySink {
     pub fn new(alloc: Global, before_failure: Option<u64>) -> MemorySink
         ensures bytes { result.bytes ≡ [] }
         ensures calls { result.calls ≡ record { before_failure = before_failure; failures = 0 } }
+        ensures flushed { IsTrue result.flushed }
     {
         MemorySink {
             bytes: Vec::new(alloc),
             calls: CallCount::new(before_failure),
+            flushed: true,
         }
+    }
+
+    /// Whether it took nothing since the last flush that went well.
+    pub fn is_flushed(&self) -> bool
+        ensures { result ≡ self.now.flushed }
+    {
+        self.flushed
     }
 
     /// What it collected.
@@ -49,6 +59,8 @@ impl Device for MemorySink {
     ghost failed_calls = { λ s. s.calls.failures };
 
     ghost written = { λ s. Some s.bytes };
+
+    ghost is_flushed = { λ s. s.flushed };
 
     ghost is_in_memory = { true };
 
@@ -66,9 +78,11 @@ impl Sink for MemorySink {
         ensures bytes { MatchResult result (λ n. (n ≡ length piece.now) × (self.new.bytes ≡ self.old.bytes ++ piece.now))
             (λ _. self.new.bytes ≡ self.old.bytes) }
         ensures calls { IsCall (is_failed result) self.old.calls self.new.calls }
+        ensures flushed { IfOk result (λ n. 0 < n → self.new.flushed ≡ false) }
     {
         self.calls.begin()?;
         self.bytes.extend_from_slice(piece)?;
+        self.flushed = self.flushed && piece.is_empty();
         Ok(piece.len())
     }
 
@@ -77,7 +91,14 @@ impl Sink for MemorySink {
         ensures memory { IsOkUnless result Failed }
         ensures count { Counts result self.old.calls.failures self.new.calls.failures }
         ensures calls { IsCall (is_failed result) self.old.calls self.new.calls }
+        ensures flushed { OnOk result (IsTrue self.new.flushed) }
     {
-        Ok(self.calls.begin()?)
+        match self.calls.begin() {
+            Ok(()) => {
+                self.flushed = true;
+                Ok(())
+            }
+            Err(fault) => Err(fault.into()),
+        }
     }
 }

@@ -1,6 +1,6 @@
-ghost use Rattle.std.specs.Prelude.{◌≡◌, ℕ, ◌+◌, ◌-◌, ◌^◌, ◌<◌, ◌≤◌, ◌⊎◌, length, take, drop, Some, is_err, IfOk, MatchResult};
+ghost use Rattle.std.specs.Prelude.{◌≡◌, ℕ, ◌+◌, ◌-◌, ◌^◌, ◌<◌, ◌≤◌, ◌⊎◌, [], length, take, drop, Some, is_err, IfOk, MatchResult};
 ghost use Rattle.std.specs.Io.KnownBytes.{Keeps, Consumes, IsAtEnd};
-ghost use Rattle.vault_http.specs.Failures.{CountsRead};
+ghost use Rattle.vault_http.specs.Failures.{one_more, CountsRead};
 ghost use Rattle.vault_http.specs.Memory.{IsCall, IsRead, handed, reads_needed};
 ghost use Rattle.vault_http.specs.Room.{most_room};
 
@@ -9,7 +9,7 @@ use crate::{Device, Failed, Source};
 use std::marker::Model;
 
 /// A source of given bytes. It hands them out in pieces of given lengths, and then as much as there is room for; at most
-/// one read fails, a given one. Contracts see the bytes to come, the pieces to come and its calls.
+/// one read fails, a given one. Contracts see the bytes to come, the pieces to come, its calls and its reads.
 #[derive(Debug, Drop)]
 pub struct MemorySource {
     bytes: Vec<u8>,
@@ -17,6 +17,7 @@ pub struct MemorySource {
     pieces: Vec<usize>,
     next: usize,
     calls: CallCount,
+    reads: u64,
 }
 
 impl Model for MemorySource {
@@ -25,7 +26,7 @@ impl Model for MemorySource {
 
     ghost Value = { Supply };
 
-    ghost view = { λ s. record { bytes = drop s.place s.bytes.items; pieces = drop s.next s.pieces.items; calls = s.calls } };
+    ghost view = { λ s. record { bytes = drop s.place s.bytes.items; pieces = drop s.next s.pieces.items; calls = s.calls; reads = s.reads } };
 
     ghost invariant = { λ s. (s.place ≤ vec_len s.bytes) × (s.next ≤ vec_len s.pieces) };
 }
@@ -38,6 +39,7 @@ impl MemorySource {
         ensures bytes { result.bytes ≡ bytes.items }
         ensures pieces { result.pieces ≡ pieces.items }
         ensures calls { result.calls ≡ record { before_failure = before_failure; failures = 0 } }
+        ensures reads { result.reads ≡ 0 }
     {
         MemorySource {
             bytes,
@@ -45,7 +47,15 @@ impl MemorySource {
             pieces,
             next: 0,
             calls: CallCount::new(before_failure),
+            reads: 0,
         }
+    }
+
+    /// How many reads were made, those that failed among them. At 18446744073709551615 the count stays.
+    pub fn reads(&self) -> u64
+        ensures { result ≡ self.now.reads }
+    {
+        self.reads
     }
 
     /// How many bytes a read with so much room hands out.
@@ -68,12 +78,15 @@ impl Device for MemorySource {
 
     ghost reads_left = { reads_needed };
 
+    ghost reads_made = { λ s. s.reads };
+
     fn failures(&self) -> u64 {
         self.calls.failures()
     }
 }
 
 impl Source for MemorySource {
+    #[tactic(auto, using(crate::proofs::Handing::end_alone))]
     fn read_some(&mut self, buf: &mut [u8]) -> Result<usize, Failed>
         ensures bound { IfOk result (λ n. n ≤ length buf.new) }
         ensures bytes { MatchResult result
@@ -82,13 +95,16 @@ impl Source for MemorySource {
             (λ _. Keeps (Some self.old.bytes) (Some self.new.bytes)) }
         ensures pace { IfOk result (λ n. 0 < n → (n < length buf.new) ⊎ (most_room ≤ length buf.new)
             → (reads_needed self.new < reads_needed self.old) × (0 < reads_needed self.new)) }
+        ensures last { reads_needed self.new ≤ 1 → self.new.bytes ≡ [] }
         ensures count { CountsRead result self.old.calls.failures self.new.calls.failures }
 
         // Which read fails, and how much a read hands out.
         ensures calls { IsCall (is_err result) self.old.calls self.new.calls }
         ensures pieces { IsRead result self.old self.new (length buf.new) }
+        ensures reads { self.new.reads ≡ one_more self.old.reads }
     {
         let n = self.next_length(buf.len());
+        self.reads = self.reads.saturating_add(1);
         self.calls.begin()?;
         buf[..n].copy_from_slice(&self.bytes[self.place..self.place + n]);
         self.place += n;

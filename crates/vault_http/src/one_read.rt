@@ -2,6 +2,7 @@ ghost use Rattle.std.specs.Prelude.{◌≡◌, ℕ, ◌+◌, ◌-◌, ◌<◌, �
 ghost use Rattle.std.specs.Io.KnownBytes.{Keeps, Consumes, IsAtEnd};
 ghost use Rattle.vault_http.specs.declared.one_read.MoreFault.TheVariants as more;
 ghost use Rattle.vault_http.specs.Failures.{CountsMore};
+ghost use Rattle.vault_http.specs.Whole.{MakesAtMost};
 
 use crate::{Failed, Source};
 use std::alloc::{AllocError, Global};
@@ -66,6 +67,8 @@ pub(crate) fn read_more<R: Source>(
         → IsAtEnd (R.remaining source.new) × (bytes.new.items ≡ bytes.old.items) × (vec_len bytes.new ≡ vec_len bytes.old)) }
     ensures pace { IfSome (R.remaining source.old) (λ _. IfOk result (λ some. IsTrue some → vec_len bytes.new ≤ max
         → (R.reads_left source.new < R.reads_left source.old) × (0 < R.reads_left source.new))) }
+    ensures last { R.reads_left source.new ≤ 1 → IsAtEnd (R.remaining source.new) }
+    ensures made { MakesAtMost 1 (R.remaining source.old) (R.reads_made source.old) (R.reads_made source.new) }
     ensures written { Keeps (R.written source.old) (R.written source.new) }
     ensures count { CountsMore result (R.failed_calls source.old) (R.failed_calls source.new) }
 {

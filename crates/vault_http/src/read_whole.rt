@@ -2,7 +2,8 @@ ghost use Rattle.std.specs.Prelude.{◌≡◌, ℕ, ◌+◌, ◌-◌, ◌<◌, �
 ghost use Rattle.std.specs.Result.{result_map_both};
 ghost use Rattle.std.specs.Io.KnownBytes.{Keeps, Consumes, IsAtEnd};
 ghost use Rattle.vault_http.specs.Failures.{CountsInput};
-ghost use Rattle.vault_http.specs.Whole.{IsWhole};
+ghost use Rattle.vault_http.specs.Room.{most_reads};
+ghost use Rattle.vault_http.specs.Whole.{IsWhole, MakesAtMost};
 
 use crate::one_read::{MOST_READS, MOST_ROOM, MoreFault, read_more, zeros};
 use crate::{InputFault, Source};
@@ -19,6 +20,7 @@ pub fn read_all<R: Source>(alloc: Global, source: &mut R, max: usize) -> Result<
         IsWhole max bytes (R.reads_left source.old) (R.reads_left source.new) result) }
     ensures short { IfOk result (λ text. length text ≤ max) }
     ensures end { OnOk result (IsAtEnd (R.remaining source.new)) }
+    ensures reads { MakesAtMost most_reads (R.remaining source.old) (R.reads_made source.old) (R.reads_made source.new) }
     ensures written { Keeps (R.written source.old) (R.written source.new) }
     ensures count { CountsInput result (R.failed_calls source.old) (R.failed_calls source.new) }
 {
@@ -41,6 +43,7 @@ fn read_to_end<R: Source>(
         IsWhole max whole (R.reads_left source.old) (R.reads_left source.new) (result_map_both (λ _. bytes.new.items) (λ fault. fault) result)) }
     ensures short { OnOk result (vec_len bytes.new ≤ max) }
     ensures end { OnOk result (IsAtEnd (R.remaining source.new)) }
+    ensures reads { MakesAtMost most_reads (R.remaining source.old) (R.reads_made source.old) (R.reads_made source.new) }
     ensures written { Keeps (R.written source.old) (R.written source.new) }
     ensures count { CountsInput result (R.failed_calls source.old) (R.failed_calls source.new) }
 {

@@ -4,7 +4,9 @@ ghost use Rattle.vault_http.specs.Holding.{HandedNone, HasLineBehind, Lacks};
 ghost use Rattle.vault_http.specs.declared.http_fault.HttpFault.TheVariants as faults;
 ghost use Rattle.vault_http.specs.Messages.{IsReply, UnlessMemory};
 ghost use Rattle.vault_http.specs.Reading.{Settles, CountsMessage};
+ghost use Rattle.vault_http.specs.Room.{most_reads};
 ghost use Rattle.vault_http.specs.Verdicts.{IsDone, IfDone, IfWants};
+ghost use Rattle.vault_http.specs.Whole.{MakesAtMost};
 
 use crate::judging::judge_reply;
 use crate::one_read::{MOST_READS, MOST_ROOM, read_more, zeros};
@@ -18,10 +20,11 @@ use std::alloc::Global;
 ///
 /// Where the source tells its bytes, does not fail, and hands them and its end out in at most 4,096 reads, the answer is
 /// that of the bytes, however they are cut. `ReadFailed`: a read failed. The other faults are those of the bytes;
-/// `TooLong` is also that 4,096 reads did not do.
+/// `TooLong` is also that 4,096 reads did not do: what they handed out holds no message.
 pub fn read_reply<R: Source>(alloc: Global, reader: &mut R, max: usize) -> Result<Reply, HttpFault>
     ensures answer { IfSome (R.remaining reader.old) (λ bytes.
-        Settles (IsReply max bytes) (R.reads_left reader.old) (R.reads_left reader.new) result) }
+        Settles (IsReply max) bytes (R.remaining reader.new) (R.reads_left reader.old) (R.reads_left reader.new) result) }
+    ensures reads { MakesAtMost most_reads (R.remaining reader.old) (R.reads_made reader.old) (R.reads_made reader.new) }
     ensures written { Keeps (R.written reader.old) (R.written reader.new) }
     ensures count { CountsMessage result (R.failed_calls reader.old) (R.failed_calls reader.new) }
 
@@ -44,7 +47,8 @@ fn reply_from<R: Source>(
     requires room { length room.old ≡ 65536 }
     requires none { bytes.old.items ≡ [] }
     ensures answer { IfSome (R.remaining reader.old) (λ whole.
-        Settles (IsReply max whole) (R.reads_left reader.old) (R.reads_left reader.new) result) }
+        Settles (IsReply max) whole (R.remaining reader.new) (R.reads_left reader.old) (R.reads_left reader.new) result) }
+    ensures reads { MakesAtMost most_reads (R.remaining reader.old) (R.reads_made reader.old) (R.reads_made reader.new) }
     ensures written { Keeps (R.written reader.old) (R.written reader.new) }
     ensures count { CountsMessage result (R.failed_calls reader.old) (R.failed_calls reader.new) }
     ensures prompt { IsErrOf result faults.ReadFailed → HandedNone (IsReply max) (R.remaining reader.old) (R.remaining reader.new) }

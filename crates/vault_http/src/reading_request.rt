@@ -4,7 +4,9 @@ ghost use Rattle.vault_http.specs.Holding.{HandedNone, Lacks};
 ghost use Rattle.vault_http.specs.declared.http_fault.HttpFault.TheVariants as faults;
 ghost use Rattle.vault_http.specs.Messages.{IsRequest, UnlessMemory};
 ghost use Rattle.vault_http.specs.Reading.{Settles, CountsMessage};
+ghost use Rattle.vault_http.specs.Room.{most_reads};
 ghost use Rattle.vault_http.specs.Verdicts.{IsDone, IfDone, IfWants};
+ghost use Rattle.vault_http.specs.Whole.{MakesAtMost};
 
 use crate::judging_request::judge_request;
 use crate::one_read::{MOST_READS, MOST_ROOM, read_more, zeros};
@@ -19,14 +21,15 @@ use std::alloc::Global;
 ///
 /// Where the source tells its bytes, does not fail, and hands them and its end out in at most 4,096 reads, the answer is
 /// that of the bytes, however they are cut; it has port 0. `ReadFailed`: a read failed. The other faults are those of the bytes;
-/// `TooLong` is also that 4,096 reads did not do.
+/// `TooLong` is also that 4,096 reads did not do: what they handed out holds no message.
 pub fn read_request<R: Source>(
     alloc: Global,
     reader: &mut R,
     max: usize,
 ) -> Result<Request, HttpFault>
     ensures answer { IfSome (R.remaining reader.old) (λ bytes.
-        Settles (IsRequest max bytes) (R.reads_left reader.old) (R.reads_left reader.new) result) }
+        Settles (IsRequest max) bytes (R.remaining reader.new) (R.reads_left reader.old) (R.reads_left reader.new) result) }
+    ensures reads { MakesAtMost most_reads (R.remaining reader.old) (R.reads_made reader.old) (R.reads_made reader.new) }
     ensures written { Keeps (R.written reader.old) (R.written reader.new) }
     ensures count { CountsMessage result (R.failed_calls reader.old) (R.failed_calls reader.new) }
 
@@ -49,7 +52,8 @@ fn request_from<R: Source>(
     requires room { length room.old ≡ 65536 }
     requires none { bytes.old.items ≡ [] }
     ensures answer { IfSome (R.remaining reader.old) (λ whole.
-        Settles (IsRequest max whole) (R.reads_left reader.old) (R.reads_left reader.new) result) }
+        Settles (IsRequest max) whole (R.remaining reader.new) (R.reads_left reader.old) (R.reads_left reader.new) result) }
+    ensures reads { MakesAtMost most_reads (R.remaining reader.old) (R.reads_made reader.old) (R.reads_made reader.new) }
     ensures written { Keeps (R.written reader.old) (R.written reader.new) }
     ensures count { CountsMessage result (R.failed_calls reader.old) (R.failed_calls reader.new) }
     ensures prompt { IsErrOf result faults.ReadFailed → HandedNone (IsRequest max) (R.remaining reader.old) (R.remaining reader.new) }

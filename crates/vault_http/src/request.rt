@@ -1,3 +1,7 @@
+ghost use Rattle.std.specs.Prelude.{◌≡◌, ℕ, ◌<◌, ◌≤◌, List, ◌∷◌, IsTrue, length};
+ghost use Rattle.std.specs.List.{list_all};
+ghost use Rattle.vault_http.specs.RoundTripRequest.{IsSentToken, IsWritable, is_path_byte, is_sent_method, is_token_value_byte};
+
 use http::Method;
 use keep_moment::Text;
 
@@ -14,4 +18,65 @@ pub struct Request {
     pub body: Text,
     /// The broker's port, which is written into the field `Host` alone: a request that was read has port 0.
     pub port: u16,
+}
+
+impl Request {
+    /// Whether [`crate::write_request`] may be asked to write it.
+    pub fn is_writable(&self) -> bool
+        ensures { IsTrue result → IsWritable self.now }
+    {
+        is_method(self.method.as_str())
+            && is_path(self.path.list())
+            && is_token(&self.token)
+            && (self.method.as_str() != "GET" || self.body.list().is_empty())
+    }
+}
+
+/// Whether requests are written with this method.
+fn is_method(method: &str) -> bool
+    ensures { IsTrue result → IsTrue (is_sent_method method.now) }
+{
+    method == "GET" || method == "POST" || method == "PUT"
+}
+
+/// Whether requests are written with this path.
+fn is_path(path: &[u8]) -> bool
+    ensures slash { IsTrue result → (rest : List ℕ) × (path.now ≡ 47 ∷ rest) }
+    ensures short { IsTrue result → length path.now ≤ 256 }
+    ensures bytes { IsTrue result → IsTrue (list_all is_path_byte path.now) }
+{
+    match path {
+        [b'/', ..] => path.len() <= 256 && are_path_bytes(path),
+        _ => false,
+    }
+}
+
+/// Whether each byte may stand in a path.
+fn are_path_bytes(path: &[u8]) -> bool
+    ensures { result ≡ list_all is_path_byte path.now }
+{
+    path.iter().all(|b| b.is_ascii_alphanumeric()
+        || *b == b'/'
+        || *b == b'-'
+        || *b == b'_'
+        || *b == b'.')
+}
+
+/// Whether requests are written with this token, if there is one.
+fn is_token(token: &Option<Text>) -> bool
+    ensures { IsTrue result → IsSentToken token.now }
+{
+    match token {
+        None => true,
+        Some(token) => {
+            !token.list().is_empty() && token.list().len() <= 256 && are_token_bytes(token.list())
+        }
+    }
+}
+
+/// Whether each byte may stand in a token.
+fn are_token_bytes(token: &[u8]) -> bool
+    ensures { result ≡ list_all is_token_value_byte token.now }
+{
+    token.iter().all(|b| *b >= 0x21 && *b <= 0x7e)
 }

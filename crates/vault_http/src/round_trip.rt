@@ -1,3 +1,5 @@
+ghost use Rattle.vault_http.specs.Messages.{IsReply, IsRequest};
+ghost use Rattle.vault_http.specs.Reading.{HeldIsRead};
 ghost use Rattle.vault_http.specs.RoundTrip.{ReadsBackReply};
 ghost use Rattle.vault_http.specs.RoundTripRequest.{ReadsBackRequest};
 
@@ -20,4 +22,14 @@ pub fn request_reads_back(request: &Request)
     ensures { ReadsBackRequest request.now }
 {
     let _ = request;
+}
+
+/// The law that [`crate::read_reply`] and [`crate::read_request`] pass over no message: where the source hands its bytes out
+/// in at most 4,096 reads (and answers its end to one more), and they hold a message, `TooLong` is told of the bytes alone.
+/// It does nothing.
+pub fn held_is_read(max: usize)
+    ensures reply { HeldIsRead (IsReply max) }
+    ensures request { HeldIsRead (IsRequest max) }
+{
+    let _ = max;
 }

@@ -12,6 +12,7 @@ pub fn write_all<W: Sink>(sink: &mut W, bytes: &[u8]) -> Result<(), SinkFault>
     ensures written { OnOk result (Appends (W.written sink.old) (W.written sink.new) bytes.now) }
     ensures front { OnErr result (AppendsFront (W.written sink.old) (W.written sink.new) bytes.now) }
     ensures remaining { Keeps (W.remaining sink.old) (W.remaining sink.new) }
+    ensures made { W.reads_made sink.new ≡ W.reads_made sink.old }
     ensures memory { IsErrOf result OutOfMemory → IsTrue W.is_in_memory }
     ensures count { Counts result (W.failed_calls sink.old) (W.failed_calls sink.new) }
 {

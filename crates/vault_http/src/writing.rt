@@ -1,6 +1,8 @@
 ghost use Rattle.std.specs.Prelude.{◌≡◌, ◌++◌, OnOk, IfOk, IsErrOf, IsTrue, length, string_bytes};
 ghost use Rattle.std.specs.Io.KnownBytes.{Keeps, Appends};
 ghost use Rattle.vault_http.specs.declared.writing.SendFault.TheVariants.{OutOfMemory};
+ghost use Rattle.vault_http.specs.RoundTrip.{is_sent};
+ghost use Rattle.vault_http.specs.RoundTripRequest.{IsWritable};
 ghost use Rattle.vault_http.specs.Sending.{send_fault, CountsSend};
 ghost use Rattle.vault_http.specs.Written.{host_lines, token_line, length_lines, last_lines, body_lines, request_text, phrase, status_line, reply_text};
 
@@ -40,8 +42,9 @@ impl From<AllocError> for SendFault {
     }
 }
 
-/// Writes a request and flushes the sink. A request with the method `GET` has no field that says what its body is, and
-/// so should have none.
+/// Writes a request and flushes the sink: one of method `GET`, `POST` or `PUT`, whose path has 1 to 256 letters, digits, `/`,
+/// `-`, `_` and `.` and begins with `/`, whose token has 1 to 256 visible characters of ASCII, and that has no body with
+/// `GET`. So no byte of it is taken for the end of a line.
 ///
 /// `WriteFailed`: a write or the flush failed; how much went out before is not said.
 pub fn write_request<W: Sink>(
@@ -49,20 +52,26 @@ pub fn write_request<W: Sink>(
     sink: &mut W,
     request: &Request,
 ) -> Result<(), SendFault>
+    requires writable { IsWritable request.now }
     ensures written { OnOk result (Appends (W.written sink.old) (W.written sink.new) (request_text request.now)) }
+    ensures flushed { OnOk result (IsTrue (W.is_flushed sink.new)) }
     ensures remaining { Keeps (W.remaining sink.old) (W.remaining sink.new) }
+    ensures made { W.reads_made sink.new ≡ W.reads_made sink.old }
     ensures count { CountsSend result (W.failed_calls sink.old) (W.failed_calls sink.new) }
 {
     let text = text_of_request(alloc, request)?;
     send(sink, &text)
 }
 
-/// Writes a reply and flushes the sink.
+/// Writes a reply and flushes the sink. Its status is 200, 400, 403, 404, 405, 429, 500 or 503.
 ///
 /// `WriteFailed`: a write or the flush failed; how much went out before is not said.
 pub fn write_reply<W: Sink>(alloc: Global, sink: &mut W, reply: &Reply) -> Result<(), SendFault>
+    requires status { IsTrue (is_sent reply.now.status) }
     ensures written { OnOk result (Appends (W.written sink.old) (W.written sink.new) (reply_text reply.now)) }
+    ensures flushed { OnOk result (IsTrue (W.is_flushed sink.new)) }
     ensures remaining { Keeps (W.remaining sink.old) (W.remaining sink.new) }
+    ensures made { W.reads_made sink.new ≡ W.reads_made sink.old }
     ensures count { CountsSend result (W.failed_calls sink.old) (W.failed_calls sink.new) }
 {
     let text = text_of_reply(alloc, reply)?;
@@ -72,7 +81,9 @@ pub fn write_reply<W: Sink>(alloc: Global, sink: &mut W, reply: &Reply) -> Resul
 /// Writes all of a text and flushes the sink.
 fn send<W: Sink>(sink: &mut W, text: &[u8]) -> Result<(), SendFault>
     ensures written { OnOk result (Appends (W.written sink.old) (W.written sink.new) text.now) }
+    ensures flushed { OnOk result (IsTrue (W.is_flushed sink.new)) }
     ensures remaining { Keeps (W.remaining sink.old) (W.remaining sink.new) }
+    ensures made { W.reads_made sink.new ≡ W.reads_made sink.old }
     ensures count { CountsSend result (W.failed_calls sink.old) (W.failed_calls sink.new) }
 {
     write_all(sink, text)?;

@@ -90,6 +90,9 @@ fn serves_over_a_socket(rt: HostRuntime) -> Result<(), Fail> {
         .ok_or("connect")?;
     let mut client = Counted::new(client);
     let renewal = request(alloc, "POST", RENEW_SELF, "web", "{\"increment\":60}")?;
+    if !renewal.is_writable() {
+        return Err("a request".into());
+    }
     assert!(rt; write_request(alloc, &mut client, &renewal).is_ok());
     let (stream, _) = listener.accept().ok().ok_or("accept")?;
     let mut stream = Counted::new(stream);

@@ -14,6 +14,9 @@ fn reads_back_a_request_that_was_written(rt: HostRuntime) -> Result<(), Fail> {
         b"s.web1",
         b"{\"increment\":60}",
     )?;
+    if !sent.is_writable() {
+        return Err("a request".into());
+    }
     let mut sink = MemorySink::new(alloc, None);
     assert_eq!(rt; write_request(alloc, &mut sink, &sent), Ok(()));
     let got = request_of(alloc, sink.bytes(), &[], sink.bytes().len())?
@@ -37,6 +40,9 @@ fn reads_back_replies_that_were_written(rt: HostRuntime) -> Result<(), Fail> {
             status,
             body: Text::of(alloc, GRANT)?,
         };
+        if !sent.is_writable() {
+            return Err("a reply".into());
+        }
         let mut sink = MemorySink::new(alloc, None);
         assert_eq!(rt; write_reply(alloc, &mut sink, &sent), Ok(()));
         let got = reply_of(alloc, sink.bytes(), &[], sink.bytes().len())?

@@ -7,8 +7,9 @@ use Rattle.vault_http.proofs.RequestLemmas.{not_read_failed}
 use Rattle.std.specs.Io.KnownBytes.{Keeps, Consumes}
 use Rattle.std.proofs.KnownBytes.{Consumes-nil, Keeps-refl, Keeps-trans}
 use Rattle.std.proofs.lemmas.Bool.{cases_lt}
+use Rattle.vault_http.specs.Room.{most_reads}
 use Rattle.vault_http.specs.Holding.{HandedNone, Lacks}
-use Rattle.vault_http.proofs.Waiting.{lacks_less, handed_none, not_ended, pace_first, pace_on}
+use Rattle.vault_http.proofs.Waiting.{lacks_less, handed_none, not_ended, pace_first, pace_on, made_first, made_on, made_within, late}
 use Rattle.vault_http.proofs.WaitingMessages.{first_request}
 use Rattle.vault_http.proofs.reading_request.request_from.Goals as goal
 
@@ -33,6 +34,8 @@ loop-init g c =
       given = subst (Consumes source source) (sym c.requires.none) (Consumes-nil source);
       few = omega (arith, c.args.bytes.now.ok.0, ap length c.requires.none);
       pace = pace_first source (g.R.Device.reads_left c.args.reader.now);
+      made = made_first source (g.R.Device.reads_made c.args.reader.now);
+      last = inl refl;
       written = Keeps-refl (g.R.Device.written c.args.reader.now);
       lacks = first_request c.args.max c.args.bytes.now.items c.requires.none;
       count = refl;
@@ -56,6 +59,9 @@ loop-preserved g c =
       pace = pace_on first (g.R.Device.remaining c.loop.reader) c.loop.bytes.items c.loop.counter (g.R.Device.reads_left c.args.reader.now) (g.R.Device.reads_left c.loop.reader)
           (g.R.Device.reads_left c.read_more.new.source) (IsTrue c.in_ok-some.some) (vec_len c.read_more.new.bytes ≤ c.args.max) c.loop.invariant.given c.loop.invariant.pace c.in_ok-some.ensures.pace
           (not_ended c.in_ok-some.some (λ e. c.in-More.ensures.decides (inl e))) few;
+      made = made_on first (g.R.Device.remaining c.loop.reader) c.loop.bytes.items c.loop.counter (g.R.Device.reads_made c.args.reader.now) (g.R.Device.reads_made c.loop.reader)
+          (g.R.Device.reads_made c.read_more.new.source) c.loop.invariant.given c.loop.invariant.made c.in_ok-some.ensures.made;
+      last = inr c.in_ok-some.ensures.last;
       written = Keeps-trans (g.R.Device.written c.args.reader.now) (g.R.Device.written c.loop.reader) (g.R.Device.written c.read_more.new.source) c.loop.invariant.written c.in_ok-some.ensures.written;
       lacks = lacks_less (λ t a. IsRequest c.args.max t a) items (length items + c.in-More.wanted) c.saturating_add-due.result next
           (subst (λ t. Lacks (IsRequest c.args.max) t (length t + c.in-More.wanted)) c.deref.ensures.value judged);
@@ -69,3 +75,13 @@ returns-in_err-some-clause-prompt g c =
     λ kept. handed_none (λ t a. IsRequest c.args.max t a) (g.R.Device.remaining c.args.reader.now) (g.R.Device.remaining c.loop.reader) (g.R.Device.remaining c.read_more.new.source)
     c.loop.bytes.items c.loop.due c.loop.invariant.given kept c.loop.invariant.lacks in
     search rules
+
+pub returns-clause-answer : goal.returns-clause-answer
+returns-clause-answer g c =
+    late (λ t a. IsRequest c.args.max t a) (g.R.Device.remaining c.args.reader.now) (g.R.Device.remaining c.loop.reader) c.loop.bytes.items c.loop.due
+    c.loop.counter (g.R.Device.reads_left c.args.reader.now) (g.R.Device.reads_left c.loop.reader) (omega (arith, c.loop-test.false)) c.loop.invariant.given c.loop.invariant.lacks c.loop.invariant.pace c.loop.invariant.last
+
+pub returns-in-Done-clause-reads : goal.returns-in-Done-clause-reads
+returns-in-Done-clause-reads g c =
+    made_within (g.R.Device.remaining c.args.reader.now) (g.R.Device.remaining c.loop.reader) c.loop.bytes.items c.loop.counter most_reads (g.R.Device.reads_made c.args.reader.now) (g.R.Device.reads_made c.loop.reader)
+    (g.R.Device.reads_made c.read_more.new.source) (omega (arith, c.loop-test.true)) c.loop.invariant.given c.loop.invariant.made c.in_ok-some.ensures.made

@@ -1,6 +1,7 @@
 -- What was read so far is the front of the input, and the reads that were made are off those that were needed.
 use Rattle.std.proofs.Common.{◌≡◌, ◌+◌, ◌<◌, ◌≤◌, ◌⊎◌, IfSome, vec_len}
-use Rattle.std.specs.Io.KnownBytes.{Keeps, Consumes}
+use Rattle.std.specs.Io.KnownBytes.{Keeps, Consumes, IsAtEnd}
+use Rattle.vault_http.specs.Whole.{MakesAtMost}
 use Rattle.vault_http.specs.Holding.{Lacks}
 use Rattle.vault_http.specs.Messages.{IsRequest}
 use Rattle.vault_http.proofs.reading_request.request_from.Given as goal
@@ -11,6 +12,8 @@ invariant-loop g l = record {
   few : vec_len l.bytes ≤ l.max;
   pace : IfSome (g.R.Device.remaining l.fn.reader) (λ _. (l.counter + g.R.Device.reads_left l.reader ≤ g.R.Device.reads_left l.fn.reader)
       × ((l.counter ≡ 0) ⊎ (0 < g.R.Device.reads_left l.reader)));
+  made : MakesAtMost l.counter (g.R.Device.remaining l.fn.reader) (g.R.Device.reads_made l.fn.reader) (g.R.Device.reads_made l.reader);
+  last : (l.counter ≡ 0) ⊎ (g.R.Device.reads_left l.reader ≤ 1 → IsAtEnd (g.R.Device.remaining l.reader));
   written : Keeps (g.R.Device.written l.fn.reader) (g.R.Device.written l.reader);
   lacks : Lacks (IsRequest l.max) l.bytes.items l.due;
   count : g.R.Device.failed_calls l.reader ≡ g.R.Device.failed_calls l.fn.reader;

@@ -21,5 +21,6 @@ loop-at-preserved g c =
       within = grind (arith, common_steps);
       written = next_piece _ _ _ _ _ _ i.written e.bytes;
       remaining = Keeps-trans _ _ _ i.remaining e.remaining;
+      made = e.made ∙ i.made;
       count = e.count ∙ i.count;
     }

@@ -8,6 +8,7 @@ invariant-loop-at g l = record {
   within : l.at ≤ length l.bytes;
   written : Appends (g.W.Device.written l.fn.sink) (g.W.Device.written l.sink) (take l.at l.bytes);
   remaining : Keeps (g.W.Device.remaining l.fn.sink) (g.W.Device.remaining l.sink);
+  made : g.W.Device.reads_made l.sink ≡ g.W.Device.reads_made l.fn.sink;
   count : g.W.Device.failed_calls l.sink ≡ g.W.Device.failed_calls l.fn.sink;
 }
 

@@ -14,6 +14,7 @@ returns-clause-told g c =
       new = g.F.Device.written f;
       failed_before = g.F.Device.failed_calls before;
       failed_after = g.F.Device.failed_calls f;
+      flushed = g.F.Device.is_flushed f;
       is_in_memory = g.F.Device.is_in_memory;
     } in
     elim c.match-fault_line.branch [

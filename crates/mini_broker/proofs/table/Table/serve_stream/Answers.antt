@@ -1,31 +1,49 @@
+use Rattle.std.proofs.Common.{subst, sym}
 use Rattle.std.specs.Io.KnownBytes.{Appends}
-use Rattle.mini_broker.specs.Stream.{Ends, IsHandled, sent_of}
-use Rattle.mini_broker.proofs.Streamed.{kept_appends, left_by_sending, of_ok}
+use Rattle.vault_http.specs.Room.{most_reads}
+use Rattle.vault_http.specs.Whole.{MakesAtMost}
+use Rattle.mini_broker.specs.Stream.{Ends, IsFlushed, IsHandled, sent_of}
+use Rattle.mini_broker.proofs.Streamed.{kept_appends, handled_sent, left_by_sending, of_both}
 use Rattle.mini_broker.proofs.table.Table.serve_stream.Goals as goal
 
 pub returns-clause-streamed : goal.returns-clause-streamed
 returns-clause-streamed g c =
     let before = c.args.stream.now in
-    let done : IsHandled (g.S.Device.remaining before) (g.S.Device.reads_left before) c.args.self.now c.args.t c.handle.new.self = record {
+    let ends : Ends = record { remaining = g.S.Device.remaining before; rest = g.S.Device.remaining c.send.new.stream; reads_left = g.S.Device.reads_left before; old = g.S.Device.written before; new = g.S.Device.written c.send.new.stream; flushed = g.S.Device.is_flushed c.send.new.stream } in
+    let done : IsHandled ends c.args.self.now c.args.t c.handle.new.self = record {
       message = c.read_request-message.result;
       left = g.S.Device.reads_left c.read_request-message.new.reader;
+      unread = g.S.Device.remaining c.read_request-message.new.reader;
       read = c.read_request-message.ensures.answer;
+      kept = c.send.ensures.remaining;
       done = c.in_ok-served.served;
       handled = c.in_ok-served.ensures.handled;
     } in
-    of_ok (Appends (g.S.Device.written c.read_request-message.new.reader) (g.S.Device.written c.send.new.stream) (sent_of c.in_ok-served.served)) _ c.send.result
-    (λ sent. record { done = done; sent = kept_appends _ _ _ _ c.read_request-message.ensures.written sent })
-    c.send.ensures.written
+    of_both (Appends (g.S.Device.written c.read_request-message.new.reader) (g.S.Device.written c.send.new.stream) (sent_of c.in_ok-served.served))
+    (IsFlushed c.in_ok-served.served (g.S.Device.is_flushed c.send.new.stream)) _ c.send.result
+    (λ sent flushed. record { done = done; sent = kept_appends _ _ _ _ c.read_request-message.ensures.written sent; flushed = flushed })
+    c.send.ensures.written c.send.ensures.flushed
 
 pub returns-clause-left : goal.returns-clause-left
 returns-clause-left g c =
     let before = c.args.stream.now in
-    let ends : Ends = record { remaining = g.S.Device.remaining before; reads_left = g.S.Device.reads_left before; old = g.S.Device.written before; new = g.S.Device.written c.send.new.stream } in
-    let done : IsHandled ends.remaining ends.reads_left c.args.self.now c.args.t c.handle.new.self = record {
+    let ends : Ends = record { remaining = g.S.Device.remaining before; rest = g.S.Device.remaining c.send.new.stream; reads_left = g.S.Device.reads_left before; old = g.S.Device.written before; new = g.S.Device.written c.send.new.stream; flushed = g.S.Device.is_flushed c.send.new.stream } in
+    let done : IsHandled ends c.args.self.now c.args.t c.handle.new.self = record {
       message = c.read_request-message.result;
       left = g.S.Device.reads_left c.read_request-message.new.reader;
+      unread = g.S.Device.remaining c.read_request-message.new.reader;
       read = c.read_request-message.ensures.answer;
+      kept = c.send.ensures.remaining;
       done = c.in_ok-served.served;
       handled = c.in_ok-served.ensures.handled;
     } in
     left_by_sending ends c.args.self.now c.handle.new.self c.args.t c.send.result _ _ c.send.ensures.count done
+
+pub returns-clause-reads : goal.returns-clause-reads
+returns-clause-reads g c =
+    let before = c.args.stream.now in
+    subst (λ n. MakesAtMost most_reads (g.S.Device.remaining before) (g.S.Device.reads_made before) n) (sym c.send.ensures.made) c.read_request-message.ensures.reads
+
+pub send-requires : goal.send-requires
+send-requires g c =
+    record { status = handled_sent c.args.self.now c.args.t c.read_request-message.result c.handle.new.self c.in_ok-served.served c.in_ok-served.ensures.handled }
