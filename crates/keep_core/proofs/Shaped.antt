@@ -15,7 +15,7 @@ use Rattle.keep_core.specs.Shorten.{shorten}
 use Rattle.keep_core.specs.State.{State}
 use Rattle.keep_core.specs.Step.{StepAnswer, StepNeed, StepTick, answered, change, heard, needed, of_entry}
 use Rattle.keep_core.proofs.Shortening.{shorten_at, shorten_count, shorten_margin}
-use Rattle.rehearsal_theory.specs.Stops.{IsShaped, ShapeLaw}
+use Rattle.keep_core.specs.LawsOfSteps.{IsShaped, ShapeLaw}
 
 abbrev Like : Entry → Entry → Type 0
 Like e f = f ≡ record e { end = f.end; renewable = f.renewable; need = f.need }
