@@ -20,13 +20,13 @@ use Rattle.keep_core.specs.LawsOfSteps.{IsShaped, ShapeLaw}
 abbrev Like : Entry → Entry → Type 0
 Like e f = f ≡ record e { end = f.end; renewable = f.renewable; need = f.need }
 
-same : (g : Grove) → IsShaped g g
+pub same : (g : Grove) → IsShaped g g
 same g = record { margin = refl; count = refl; each = λ i. refl }
 
 like_too : (d e f : Entry) → Like d e → Like e f → Like d f
 like_too d e f a b = b ∙ ap (λ (x : Entry). record x { end = f.end; renewable = f.renewable; need = f.need }) a
 
-both_shaped : (g h k : Grove) → IsShaped g h → IsShaped h k → IsShaped g k
+pub both_shaped : (g h k : Grove) → IsShaped g h → IsShaped h k → IsShaped g k
 both_shaped g h k a b = record {
   margin = b.margin ∙ a.margin;
   count = b.count ∙ a.count;

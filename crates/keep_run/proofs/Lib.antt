@@ -12,3 +12,7 @@ pub mod Loops
 pub mod Supplying
 pub mod Refusing
 pub mod OneAnswer
+pub mod Wording
+pub mod Within
+pub mod Texts
+pub mod Opens

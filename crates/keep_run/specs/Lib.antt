@@ -5,3 +5,4 @@ pub mod Supplied
 pub mod Listed
 pub mod Laws
 pub mod Stops
+pub mod Playing

@@ -4,8 +4,10 @@
 #![tactic(auto)]
 
 pub mod laws;
+mod lines;
+mod opening;
 mod renewing;
 mod served_entry;
+mod stop;
 
 pub use renewing::{event_from, request_for};
-pub use served_entry::{Stop, answer};
