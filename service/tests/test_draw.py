@@ -116,7 +116,7 @@ class Pictures(unittest.TestCase):
         self.assertEqual([group.get("class") for group in lanes], ["token", "lease", "token"])
         lease = lanes[1]
         self.assertEqual(len(lease.findall(f"{spaced}circle")), 1)
-        self.assertEqual(len([path for path in lease if path.get("class") == "bad"]), 3)
+        self.assertEqual(len([path for path in lease.findall(f"{spaced}path") if path.get("class") == "bad"]), 3)
         self.assertIn("lives until  need", root.findtext(f"{spaced}desc") or "")
 
     def test_names_are_escaped(self) -> None:
