@@ -5,10 +5,10 @@ use Rattle.std.specs.Result.{IsErr, IsErrAnd}
 use Rattle.std.proofs.KnownBytes.{Appends-kept}
 use Rattle.std.proofs.lemmas.List.{take_all}
 use Rattle.std.specs.Io.KnownBytes.{Appends, Keeps}
-use Rattle.vault_http.specs.Failures.{Counts, one_more}
-use Rattle.vault_http.specs.Front.{AppendsFront}
-use Rattle.vault_http.specs.declared.fault.SinkFault.{SinkFault}
-use Rattle.vault_http.specs.declared.fault.SinkFault.TheVariants as sink
+use Rattle.keep_device.specs.Failures.{Counts, one_more}
+use Rattle.keep_device.specs.Front.{AppendsFront}
+use Rattle.keep_device.specs.declared.fault.SinkFault.{SinkFault}
+use Rattle.keep_device.specs.declared.fault.SinkFault.TheVariants as sink
 use Rattle.keep_report.specs.declared.stop.Stop.{Stop}
 use Rattle.keep_report.specs.Exits.{stop_of_sink}
 use Rattle.keep_report.specs.Sent.{Sends, Sent}

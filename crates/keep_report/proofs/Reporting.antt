@@ -3,10 +3,10 @@ use Rattle.std.proofs.Common.{◌≡◌, ℕ, IsTrue, List, Option, Result, Ok, 
 use Rattle.std.specs.Prelude.{OnErr, IsErrOf}
 use Rattle.std.specs.Io.KnownBytes.{Appends, Keeps}
 use Rattle.std.proofs.KnownBytes.{Appends-kept}
-use Rattle.vault_http.specs.Failures.{Counts, HasFailed, one_more}
-use Rattle.vault_http.specs.Front.{AppendsFront}
-use Rattle.vault_http.specs.declared.fault.SinkFault.{SinkFault}
-use Rattle.vault_http.specs.declared.fault.SinkFault.TheVariants as sink
+use Rattle.keep_device.specs.Failures.{Counts, HasFailed, one_more}
+use Rattle.keep_device.specs.Front.{AppendsFront}
+use Rattle.keep_device.specs.declared.fault.SinkFault.{SinkFault}
+use Rattle.keep_device.specs.declared.fault.SinkFault.TheVariants as sink
 use Rattle.keep_report.specs.Sent.{GaveUp, Sent}
 use Rattle.keep_report.specs.Told.{Reports}
 use Rattle.keep_report.proofs.Counting.{failed_once, still, later_once}

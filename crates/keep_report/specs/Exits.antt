@@ -5,10 +5,10 @@ use Rattle.keep_inventory.specs.declared.fault.InvFault.{InvFault}
 use Rattle.keep_inventory.specs.declared.fault.InvFault.TheVariants as inventory
 use Rattle.keep_rule.specs.declared.wake.WakeFault.{WakeFault}
 use Rattle.keep_rule.specs.declared.wake.WakeFault.TheVariants as wakes
-use Rattle.vault_http.specs.declared.fault.InputFault.{InputFault}
-use Rattle.vault_http.specs.declared.fault.InputFault.TheVariants as inputs
-use Rattle.vault_http.specs.declared.fault.SinkFault.{SinkFault}
-use Rattle.vault_http.specs.declared.fault.SinkFault.TheVariants as sink
+use Rattle.keep_device.specs.declared.fault.InputFault.{InputFault}
+use Rattle.keep_device.specs.declared.fault.InputFault.TheVariants as inputs
+use Rattle.keep_device.specs.declared.fault.SinkFault.{SinkFault}
+use Rattle.keep_device.specs.declared.fault.SinkFault.TheVariants as sink
 use Rattle.keep_report.specs.declared.exit.Exit.{Exit}
 use Rattle.keep_report.specs.declared.exit.Exit.TheVariants as exits
 use Rattle.keep_report.specs.declared.stop.Stop.{Stop}

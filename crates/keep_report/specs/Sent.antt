@@ -1,8 +1,8 @@
 -- Sent: what a device was sent between two of its states.
 use Rattle.std.specs.Prelude.{◌≡◌, ℕ, Bool, IsTrue, ◌⊎◌, List, Option, Result, Ok, Err}
 use Rattle.std.specs.Io.KnownBytes.{Appends, Keeps}
-use Rattle.vault_http.specs.Failures.{HasFailed}
-use Rattle.vault_http.specs.Front.{AppendsFront}
+use Rattle.keep_device.specs.Failures.{HasFailed}
+use Rattle.keep_device.specs.Front.{AppendsFront}
 use Rattle.keep_report.specs.declared.stop.Stop.{Stop}
 use Rattle.keep_report.specs.declared.stop.Stop.TheVariants as stops
 

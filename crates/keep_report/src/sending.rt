@@ -2,7 +2,7 @@ ghost use Rattle.keep_report.specs.Sent.{Sends};
 
 use crate::sent::Watched;
 use crate::stop::Stop;
-use vault_http::{Sink, write_all};
+use keep_device::{Sink, write_all};
 
 /// Writes a whole text and flushes. `Write`, where the writer failed, and `Memory`, which one in memory alone answers, say
 /// that a front of the text went out, or all of it without the flush.

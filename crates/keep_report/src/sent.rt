@@ -1,6 +1,6 @@
 ghost use Rattle.keep_report.specs.Sent.{Sent};
 
-use vault_http::Device;
+use keep_device::Device;
 
 /// What contracts say of a device between two of its states, in one word: every device has it.
 pub trait Watched: Device {
