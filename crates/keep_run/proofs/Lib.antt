@@ -11,4 +11,3 @@ pub mod Whole
 pub mod Loops
 pub mod Refusing
 pub mod OneAnswer
-pub mod Shaped
