@@ -1,0 +1,14 @@
+pub mod Ranges
+pub mod Sweeping
+pub mod Serving
+pub mod Mirroring
+pub mod Replying
+pub mod Midway
+pub mod Round
+pub mod Asking
+pub mod Running
+pub mod Whole
+pub mod Loops
+pub mod Supplying
+pub mod Refusing
+pub mod OneAnswer

@@ -1,0 +1,62 @@
+-- The reply to a renewal that was granted: the keeper is told the renewal rule's end.
+use Rattle.std.proofs.Common.{◌≡◌, ◌==◌, ℕ, ◌-◌, ◌<◌, ◌≤◌, true, List, Some, IsUtf8, bytes_eq, length, min, refl, ap, ◌∙◌, arith}
+use Rattle.std.proofs.lemmas.Bool.{cond-true}
+use Rattle.std.specs.Cmp.Lexicographic.{bytes_decides}
+use Rattle.keep_moment.specs.declared.moment.TheConstants.{LAST}
+use Rattle.keep_tree.specs.declared.entry.Kind.{Kind}
+use Rattle.keep_tree.specs.declared.entry.Kind.TheVariants.{Token, Lease}
+use Rattle.keep_tree.specs.Forest.{entry_at}
+use Rattle.keep_tree.specs.Renewal.{renewal}
+use Rattle.keep_inventory.specs.Stock.{Stock, credential_at}
+use Rattle.vault_http.specs.declared.reply.Reply.{Reply}
+use Rattle.vault_json.specs.Renewed.{renew_lease_answer, renew_self_answer}
+use Rattle.vault_json.specs.Written.{renewed_lease_text}
+use Rattle.vault_json.proofs.ReadBack.{renewed_lease_is_read, renewed_self_is_read}
+use Rattle.mini_broker.specs.declared.row.Row.{Row}
+use Rattle.mini_broker.specs.declared.served.Served.{Served}
+use Rattle.mini_broker.specs.declared.served.Served.TheVariants as served
+use Rattle.mini_broker.specs.Rows.{row_of}
+use Rattle.mini_broker.specs.Step.{IsBody, Says, Tells, seconds_to, tells}
+use Rattle.keep_core.specs.declared.event.Event.TheVariants.{Told, Refused, Lost}
+use Rattle.keep_run.specs.Renewing.{event_of, of_lease, of_token, refuses, told_by}
+use Rattle.keep_run.specs.Closed.{reply_in}
+use Rattle.keep_run.specs.Supplied.{IsSupplied}
+use Rattle.keep_run.proofs.Mirroring.{renewal_within}
+use Rattle.keep_run.proofs.Serving.{call_for, credential_in, renewable_in, renewed_row}
+
+ok_is_told : (kind : Kind) (id : List ℕ) (i : ℕ) (r : Reply) → r.status ≡ 200 → event_of kind id i (Some r) ≡ told_by kind id i r.body
+unfolding event_of
+ok_is_told kind id i r ok = cond-true (r.status == 200) (told_by kind id i r.body) (refuses r.status (Refused i) (Lost i)) (ap (λ n. n == 200) ok)
+
+body_told :
+    (kind : Kind) (id : List ℕ) (i t : ℕ) (row : Row) (body : List ℕ) → row.credential ≡ id → (kind ≡ Lease → IsUtf8 id) → IsBody (call_for kind) row t body →
+    told_by kind id i body ≡ Told i (seconds_to row.end t) row.renewable
+unfolding IsBody
+body_told Token id i t row body same text is =
+    let n = seconds_to row.end t in
+    ap (λ b. of_token i (renew_self_answer b)) is ∙ ap (of_token i) (renewed_self_is_read n row.renewable (omega arith))
+body_told Lease id i t row body same text is =
+    let n = seconds_to row.end t in
+    ap (λ b. of_lease id i (renew_lease_answer b)) is
+    ∙ ap (λ c. of_lease id i (renew_lease_answer (renewed_lease_text c n row.renewable))) same
+    ∙ ap (of_lease id i) (renewed_lease_is_read id n row.renewable (text refl) (omega arith))
+    ∙ cond-true (bytes_eq id id) (Told i n row.renewable) (Lost i) ((bytes_decides id id).1 refl)
+
+sent_told :
+    (kind : Kind) (id : List ℕ) (i t : ℕ) (row : Row) → row.credential ≡ id → (kind ≡ Lease → IsUtf8 id) → (sent : Served) → Tells t (call_for kind) row sent →
+    event_of kind id i (reply_in sent) ≡ Told i (seconds_to row.end t) row.renewable
+sent_told kind id i t row same text (served.Reply reply) says = ok_is_told kind id i reply says.0 ∙ body_told kind id i t row reply.body same text says.1
+sent_told kind id i t row same text served.Dropped says = absurd says
+
+-- the reply tells the seconds to the rule's end
+pub tells_rule :
+    (s : Stock) → IsSupplied s → (t i : ℕ) → t ≤ LAST → i < length s.grove.entries → (entry_at s.grove.entries i).renewable ≡ true → (sent : Served) →
+    Says t (tells (call_for (entry_at s.grove.entries i).kind) (renewed_row s t i)) sent →
+    event_of (entry_at s.grove.entries i).kind (credential_at s.credentials i) i (reply_in sent) ≡ Told i (renewal (entry_at s.grove.entries i) t - t) true
+tells_rule s supplied t i late within able sent says =
+    let e = entry_at s.grove.entries i in
+    let end = renewal e t in
+    let far = renewal_within e t late (supplied.steps i within) in
+    sent_told e.kind (credential_at s.credentials i) i t (renewed_row s t i) (credential_in s i) (supplied.texts i within) sent says
+    ∙ ap (λ n. Told i n (row_of s i).renewable) (let k : min (end - t) 4294967295 ≡ end - t = omega arith in k)
+    ∙ ap (λ b. Told i (end - t) b) (renewable_in s i ∙ able)

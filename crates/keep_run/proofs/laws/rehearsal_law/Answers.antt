@@ -1,0 +1,5 @@
+use Rattle.keep_run.proofs.Whole as whole
+use Rattle.keep_run.proofs.laws.rehearsal_law.Goals as goal
+
+pub returns : goal.returns
+returns c = whole.rehearsal

@@ -1,0 +1,143 @@
+-- Closed run: the Keeper step and the Broker step in turn.
+-- Source: this project's own.
+use Rattle.std.specs.Prelude.{◌≡◌, ℕ, ◌≤◌, Bool, true, false, List, [], ◌∷◌, Option, Some, None, Ok, length, map}
+use Rattle.std.specs.List.{filter, sum_by}
+use Rattle.keep_tree.specs.Forest.{Grove}
+use Rattle.keep_inventory.specs.Stock.{Stock}
+use Rattle.vault_http.specs.declared.reply.Reply.{Reply}
+use Rattle.mini_broker.specs.declared.fault.NumberedFault.{NumberedFault}
+use Rattle.mini_broker.specs.declared.served.Served.{Served}
+use Rattle.mini_broker.specs.declared.served.Served.TheVariants as served
+use Rattle.mini_broker.specs.Ledger.{Ledger}
+use Rattle.mini_broker.specs.Rows.{rows_of}
+use Rattle.mini_broker.specs.Step.{Says, step}
+use Rattle.keep_core.specs.declared.event.Event.{Event}
+use Rattle.keep_core.specs.declared.event.Event.TheVariants.{Tick}
+use Rattle.keep_core.specs.declared.event.Output.{Output}
+use Rattle.keep_core.specs.declared.event.Output.TheVariants as out
+use Rattle.keep_core.specs.declared.shortened.ShortNeed.{ShortNeed}
+use Rattle.keep_core.specs.Replan.{Replan}
+use Rattle.keep_core.specs.Runs.{Turn}
+use Rattle.keep_core.specs.State.{State, unplanned}
+use Rattle.keep_run.specs.Renewing.{event_for, request_of}
+
+-- both sides: the keeper, whose shortened needs were taken, and the broker's table
+pub record World : Type 0 where
+  pub keeper : State
+  pub table : Ledger
+
+-- one asked entry: what the broker sent for it, what the keeper put out, and the needs that it then shortened
+pub record Exchanged : Type 0 where
+  pub entry : ℕ
+  pub sent : Served
+  pub output : Output
+  pub short : List ShortNeed
+
+-- one tick: its moment, what the keeper put out, the needs that it then shortened, and the answers of those who are asked
+pub record Beat : Type 0 where
+  pub at : ℕ
+  pub output : Output
+  pub short : List ShortNeed
+  pub answers : List Exchanged
+
+-- ---- one answer
+
+-- what of that is a reply
+abbrev pub reply_in : Served → Option Reply
+reply_in (served.Reply reply) = Some reply
+reply_in served.Dropped = None
+
+-- a keeper whose shortened needs are taken
+abbrev pub taken : State → State
+taken s = record s { shortened = [] }
+
+-- what the reply of an exchange means
+unfoldable pub event_in : List (List ℕ) → Grove → Exchanged → Event
+event_in cs g x = event_for cs g x.entry (reply_in x.sent)
+
+-- the entry sends its request, is served at t, and its reply gives the keeper's event
+pub record IsAnswered (port : ℕ) (cs : List (List ℕ)) (t : ℕ) (old : World) (x : Exchanged) (new : World) : Type 0 where
+  pub says : Says t (step old.table t (request_of port cs old.keeper.forest x.entry)).answer x.sent
+  pub keeper : State
+  pub turn : Turn old.keeper (event_in cs old.keeper.forest x) (Ok x.output) keeper
+  pub short : x.short ≡ keeper.shortened
+  pub is : new ≡ record { keeper = taken keeper; table = (step old.table t (request_of port cs old.keeper.forest x.entry)).ledger }
+
+-- one after another
+abbrev pub AreAnswered : ℕ → List (List ℕ) → ℕ → World → List Exchanged → World → Type 0
+AreAnswered port cs t old [] new = new ≡ old
+AreAnswered port cs t old (x ∷ xs) new = (mid : World) × (IsAnswered port cs t old x mid × AreAnswered port cs t mid xs new)
+
+-- ---- one tick
+
+-- who is asked
+abbrev pub asked_in : Output → List ℕ
+asked_in (out.Ask asked) = asked
+asked_in output = []
+
+-- the keeper is told the moment; whom it then asks, by index, is answered
+pub record IsBeat (port : ℕ) (cs : List (List ℕ)) (old : World) (b : Beat) (new : World) : Type 0 where
+  pub keeper : State
+  pub turn : Turn old.keeper (Tick b.at) (Ok b.output) keeper
+  pub short : b.short ≡ keeper.shortened
+  pub asked : map (λ x. x.entry) b.answers ≡ asked_in b.output
+  pub answered : AreAnswered port cs b.at (record { keeper = taken keeper; table = old.table }) b.answers new
+
+-- the moment that closing a round told
+abbrev pub told_next : Option ℕ → Output → Option ℕ
+told_next before (out.Round next) = next
+told_next before output = before
+
+abbrev pub closing : Option ℕ → List Exchanged → Option ℕ
+closing next [] = next
+closing next (x ∷ xs) = closing (told_next next x.output) xs
+
+-- the moment of the next tick: that of a Sleep or of the Round
+abbrev pub next_by : Output → List Exchanged → Option ℕ
+next_by (out.Sleep w) answers = Some w
+next_by (out.Ask asked) answers = closing None answers
+next_by output answers = None
+
+abbrev pub next_tick : Beat → Option ℕ
+next_tick b = next_by b.output b.answers
+
+-- ---- the run
+
+-- these ticks one after another, the first of them, if any, at `due`; then the next is at `next`, if any
+abbrev pub Played : ℕ → List (List ℕ) → World → Option ℕ → List Beat → World → Option ℕ → Type 0
+Played port cs old due [] new next = (new ≡ old) × (next ≡ due)
+Played port cs old None (b ∷ bs) new next = ⊥
+Played port cs old (Some t) (b ∷ bs) new next = (b.at ≡ t) × ((mid : World) × (IsBeat port cs old b mid × Played port cs mid (next_tick b) bs new next))
+
+-- the keeper planned from the start, and the broker's table, of the same inventory
+pub record IsOpening (stock : Stock) (faults : List NumberedFault) (start : ℕ) (short : List ShortNeed) (world : World) : Type 0 where
+  pub keeper : State
+  pub planned : Replan (unplanned stock.grove) start keeper
+  pub short_is : short ≡ keeper.shortened
+  pub is : world ≡ record { keeper = taken keeper; table = record { rows = rows_of stock; faults = faults; count = 0 } }
+
+-- whether entries were asked: a wake-up
+abbrev pub asks_some : Output → Bool
+asks_some (out.Ask asked) = true
+asks_some output = false
+
+-- the rounds: the ticks at which entries were asked
+unfoldable pub rounds : List Beat → List Beat
+rounds bs = filter (λ b. asks_some b.output) bs
+
+-- how many requests
+unfoldable pub requests_of : List Beat → ℕ
+requests_of bs = sum_by (λ b. length b.answers) bs
+
+-- what a run was: the needs that were shortened at the opening, and its ticks
+pub record Course : Type 0 where
+  pub short : List ShortNeed
+  pub beats : List Beat
+
+-- the Closed run of an inventory from a start with these faults, over memory: it ends where no tick is next, and has at most
+-- 100,000 wake-ups
+pub record IsClosedRun (stock : Stock) (faults : List NumberedFault) (start : ℕ) (course : Course) (final : World) : Type 0 where
+  pub opening : World
+  pub opened : IsOpening stock faults start course.short opening
+  pub played : Played 8200 stock.credentials opening (Some start) course.beats final None
+  pub few : length (rounds course.beats) ≤ 100000

@@ -1,0 +1,142 @@
+-- Stops: a run as the loop of the program knows it, and the runs that come to no end: what is written of them.
+-- Source: this project's own.
+use Rattle.std.specs.Prelude.{◌≡◌, ℕ, ◌≤◌, List, [], ◌∷◌, ◌++◌, Option, Some, None, Result, Ok, Err, length, map}
+use Rattle.std.specs.List.{flat_map}
+use Rattle.keep_inventory.specs.Stock.{Stock}
+use Rattle.mini_broker.specs.declared.fault.NumberedFault.{NumberedFault}
+use Rattle.mini_broker.specs.declared.served.Served.{Served}
+use Rattle.mini_broker.specs.Ledger.{Ledger}
+use Rattle.mini_broker.specs.Step.{Says, step}
+use Rattle.keep_moment.specs.declared.moment.TheConstants.{LAST}
+use Rattle.keep_core.specs.declared.event.Event.{Event}
+use Rattle.keep_core.specs.declared.event.Event.TheVariants.{Tick, Told, Refused, Lost}
+use Rattle.keep_core.specs.declared.event.Output.{Output}
+use Rattle.keep_core.specs.declared.fault.StepFault.{StepFault}
+use Rattle.keep_core.specs.declared.event.Output.TheVariants as out
+use Rattle.keep_core.specs.declared.fault.StepFault.TheVariants.{OutOfMemory, TooLong}
+use Rattle.keep_core.specs.declared.shortened.ShortNeed.{ShortNeed}
+use Rattle.keep_core.specs.Replan.{IsTooLong}
+use Rattle.keep_core.specs.Runs.{Turn}
+use Rattle.keep_core.specs.State.{State}
+use Rattle.keep_run.specs.Renewing.{event_for, request_of}
+use Rattle.keep_run.specs.Closed.{AreAnswered, Beat, Course, Exchanged, IsAnswered, IsBeat, IsClosedRun, IsOpening, Played, World, closing, next_tick, reply_in, requests_of, rounds, taken, told_next}
+use Rattle.keep_run.specs.Text.{answer_line, answer_text, beat_text, course_text, done_text, short_lines, wake_line}
+
+-- ---- what the loops keep
+
+-- the outer loop: the ticks so far, where they led and when the next is; how many wake-ups and requests they were, and their text
+pub record SoFar (stock : Stock) (faults : List NumberedFault) (start : ℕ) (final : World) (next : Option ℕ) (wakes asked : ℕ) (text : List ℕ) : Type 0 where
+  pub short : List ShortNeed
+  pub opening : World
+  pub opened : IsOpening stock faults start short opening
+  pub beats : List Beat
+  pub played : Played 8200 stock.credentials opening (Some start) beats final next
+  pub wakes_are : wakes ≡ length (rounds beats)
+  pub asked_are : asked ≡ requests_of beats
+  pub text_is : text ≡ short_lines stock.grove short ++ flat_map (beat_text stock) beats
+
+-- the inner loop: a tick that asked these at t, and the answers of the first of them
+pub record InBeat (stock : Stock) (t : ℕ) (asked : List ℕ) (before now : World) (xs : List Exchanged) (next : Option ℕ) (text : List ℕ) : Type 0 where
+  pub short : List ShortNeed
+  pub keeper : State
+  pub turn : Turn before.keeper (Tick t) (Ok (out.Ask asked)) keeper
+  pub short_is : short ≡ keeper.shortened
+  pub left : List ℕ
+  pub who : map (λ (x : Exchanged). x.entry) xs ++ left ≡ asked
+  pub answered : AreAnswered 8200 stock.credentials t (record { keeper = taken keeper; table = before.table }) xs now
+  pub next_is : next ≡ closing None xs
+  pub text_is : text ≡ short_lines stock.grove short ++ (wake_line stock.grove t (out.Ask asked) ++ flat_map (answer_text stock) xs)
+
+-- ---- runs without an end: exit 5
+
+-- an answer whose step would make the plan too long: it was served, and its line is written
+pub record IsCut (stock : Stock) (t : ℕ) (old : World) (i : ℕ) (line : List ℕ) : Type 0 where
+  pub sent : Served
+  pub says : Says t (step old.table t (request_of 8200 stock.credentials old.keeper.forest i)).answer sent
+  pub turn : Turn old.keeper (event_for stock.credentials old.keeper.forest i (reply_in sent)) (Err TooLong) old.keeper
+  pub line_is : line ≡ answer_line stock.grove (event_for stock.credentials stock.grove i (reply_in sent)) (reply_in sent)
+
+-- the run stops after some ticks: 100,000 wake-ups were made and another is due; or the next tick is too long; or an answer
+-- of its round is
+pub data Stop (stock : Stock) (t : ℕ) (final : World) (wakes : ℕ) (text : List ℕ) : Type 0 where
+  many : (asked : List ℕ) (keeper : State) → wakes ≡ 100000 → Turn final.keeper (Tick t) (Ok (out.Ask asked)) keeper → text ≡ [] → Stop stock t final wakes text
+  long_tick : Turn final.keeper (Tick t) (Err TooLong) final.keeper → text ≡ [] → Stop stock t final wakes text
+  long_answer : (asked : List ℕ) (now : World) (xs : List Exchanged) (next : Option ℕ) (before line : List ℕ) → (round : InBeat stock t asked final now xs next before) →
+      (i : ℕ) (others : List ℕ) → round.left ≡ i ∷ others → IsCut stock t now i line → text ≡ before ++ line → Stop stock t final wakes text
+
+-- what is written where the run comes to no end
+pub record IsStopped (stock : Stock) (faults : List NumberedFault) (start : ℕ) (text : List ℕ) : Type 0 where
+  pub final : World
+  pub t : ℕ
+  pub wakes : ℕ
+  pub asked : ℕ
+  pub before : List ℕ
+  pub last : List ℕ
+  pub so_far : SoFar stock faults start final (Some t) wakes asked before
+  pub stop : Stop stock t final wakes last
+  pub text_is : text ≡ before ++ last
+
+abbrev pub StoppedAtOnce : Stock → ℕ → List ℕ → Type 0
+StoppedAtOnce stock start text = IsTooLong stock.grove start × (text ≡ [])
+
+-- ---- laws of the loops
+
+-- a tick more
+abbrev pub TickMoreLaw : Type 0
+TickMoreLaw =
+    (port : ℕ) (cs : List (List ℕ)) (old mid new : World) (due : Option ℕ) (bs : List Beat) (b : Beat) → Played port cs old due bs mid (Some b.at) → IsBeat port cs mid b new →
+    Played port cs old due (bs ++ b ∷ []) new (next_tick b)
+
+-- an answer more
+abbrev pub AnswerMoreLaw : Type 0
+AnswerMoreLaw =
+    (port : ℕ) (cs : List (List ℕ)) (t : ℕ) (old mid new : World) (xs : List Exchanged) (x : Exchanged) → AreAnswered port cs t old xs mid → IsAnswered port cs t mid x new →
+    AreAnswered port cs t old (xs ++ x ∷ []) new × ((next : Option ℕ) → closing next (xs ++ x ∷ []) ≡ told_next (closing next xs) x.output)
+
+-- the outer loop at its end: the closed run, and its whole text
+abbrev pub EndLaw : Type 0
+EndLaw =
+    (stock : Stock) (faults : List NumberedFault) (start : ℕ) (final : World) (wakes asked : ℕ) (text : List ℕ) → SoFar stock faults start final None wakes asked text → wakes ≤ 100000 →
+    (course : Course) × (IsClosedRun stock faults start course final × (text ++ done_text wakes asked ≡ course_text stock course))
+
+-- ---- no refusals
+
+-- a step that is refused at most because the plan would be too long, or for want of memory
+abbrev pub IsTakenOrLong : Result Output StepFault → Type 0
+IsTakenOrLong (Ok output) = Unit {0}
+IsTakenOrLong (Err TooLong) = Unit {0}
+IsTakenOrLong (Err OutOfMemory) = Unit {0}
+IsTakenOrLong (Err fault) = ⊥
+
+-- an answer for i, which tells a duration if it tells any
+abbrev pub IsAnswerFor : ℕ → Event → Type 0
+IsAnswerFor i (Told j seconds renewable) = (j ≡ i) × (seconds ≤ 4294967295)
+IsAnswerFor i (Refused j) = j ≡ i
+IsAnswerFor i (Lost j) = j ≡ i
+IsAnswerFor i event = ⊥
+
+-- whatever the broker does, the keeper refuses neither the next tick nor the next answer of a round but for these two
+abbrev pub NeverRefusedLaw : Type 0
+NeverRefusedLaw =
+    (stock : Stock) (faults : List NumberedFault) (start port : ℕ) (short : List ShortNeed) (opening final : World) (beats : List Beat) (t : ℕ) → start ≤ LAST → IsOpening stock faults start short opening →
+    Played port stock.credentials opening (Some start) beats final (Some t) →
+    ((result : Result Output StepFault) (new : State) → Turn final.keeper (Tick t) result new → IsTakenOrLong result)
+    × ((asked : List ℕ) (keeper : State) → Turn final.keeper (Tick t) (Ok (out.Ask asked)) keeper →
+    (xs : List Exchanged) (now : World) (i : ℕ) (others : List ℕ) → map (λ (x : Exchanged). x.entry) xs ++ (i ∷ others) ≡ asked →
+    AreAnswered port stock.credentials t (record { keeper = taken keeper; table = final.table }) xs now →
+    (event : Event) (result : Result Output StepFault) (new : State) → IsAnswerFor i event → Turn now.keeper event result new → IsTakenOrLong result)
+
+-- ---- the code of one answer
+
+abbrev pub both : State → Ledger → World
+both keeper table = record { keeper = keeper; table = table }
+
+-- the entry was answered, with this output
+abbrev pub Answers : List (List ℕ) → ℕ → World → ℕ → Output → World → Type 0
+Answers cs t old i output new = (x : Exchanged) × ((x.entry ≡ i) × ((x.output ≡ output) × IsAnswered 8200 cs t old x new))
+
+-- a run is cut anywhere
+abbrev pub SplitLaw : Type 0
+SplitLaw =
+    (port : ℕ) (cs : List (List ℕ)) (old new : World) (due next : Option ℕ) (before after : List Beat) → Played port cs old due (before ++ after) new next →
+    (mid : World) × ((then' : Option ℕ) × (Played port cs old due before mid then' × Played port cs mid then' after new next))

@@ -1,0 +1,66 @@
+//! Laws of the Closed run without faults.
+ghost use Rattle.keep_run.specs.Laws.{AnswersTakenLaw, LeastLaw, PlannedRunLaw, RehearsalLaw, SoFarLaw, StandsLaw};
+ghost use Rattle.keep_run.specs.Stops.{AnswerMoreLaw, EndLaw, NeverRefusedLaw, SplitLaw, TickMoreLaw};
+ghost use Rattle.keep_run.specs.Supplied.{SuppliedLaw};
+
+/// The law of a run so far: without faults, the run of an inventory that a plan keeps has its rounds at the plan's moments,
+/// tells each asked entry the renewal rule's end, and keeps the row of each entry listed until its need.
+pub fn so_far_law()
+    ensures { SoFarLaw }
+{}
+
+/// The law of the whole run: it has exactly the rounds of the plan, and as many requests as its Asks.
+pub fn rehearsal_law()
+    ensures { RehearsalLaw }
+{}
+
+/// The law of the least run: no plan that keeps has fewer wake-ups than the rehearsal made.
+pub fn least_law()
+    ensures { LeastLaw }
+{}
+
+/// The law of a tick more: what the outer loop keeps goes on by a tick.
+pub fn tick_more_law()
+    ensures { TickMoreLaw }
+{}
+
+/// The law of an answer more: what the inner loop keeps goes on by an answer.
+pub fn answer_more_law()
+    ensures { AnswerMoreLaw }
+{}
+
+/// The law of the end: what the outer loop keeps is then the closed run, and its text is whole with the last line.
+pub fn end_law()
+    ensures { EndLaw }
+{}
+
+/// The law of supplied inventories: of every text that is one.
+pub fn supplied_law()
+    ensures { SuppliedLaw }
+{}
+
+/// The law of answers: without faults no answer of a round is refused but for want of memory.
+pub fn answers_taken_law()
+    ensures { AnswersTakenLaw }
+{}
+
+/// The law over the bytes of an inventory and the plan that `plan` gives: how the run's text ends.
+pub fn planned_run_law()
+    ensures { PlannedRunLaw }
+{}
+
+/// The law of refusals: in a run with any faults, the keeper refuses neither the next tick nor the next answer, but where a
+/// plan would be too long or memory is wanting.
+pub fn never_refused_law()
+    ensures { NeverRefusedLaw }
+{}
+
+/// The law that a run is cut anywhere.
+pub fn split_law()
+    ensures { SplitLaw }
+{}
+
+/// The law of standing rows: each entry that is needed is listed at each moment before its need.
+pub fn stands_law()
+    ensures { StandsLaw }
+{}

@@ -1,5 +1,0 @@
-use Rattle.rehearsal_theory.proofs.Loops as loops
-use Rattle.rehearsal_theory.proofs.laws.end_law.Goals as goal
-
-pub returns : goal.returns
-returns c = loops.at_end
