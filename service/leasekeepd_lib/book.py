@@ -47,6 +47,7 @@ class Standing:
     last_success: float | None = None
     trouble: str = ""
     short_told: int | None = None
+    cut_to: int | None = None
     run_refusals: int = 0
     held_until: float = 0.0
     renewals: int = 0

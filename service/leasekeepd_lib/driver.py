@@ -3,7 +3,7 @@
 from __future__ import annotations
 
 import random
-from dataclasses import dataclass
+from dataclasses import dataclass, replace
 from enum import Enum
 
 from .book import CLOSE, Book
@@ -137,6 +137,10 @@ class Driver:
         """Changed needs, then the last moment again, which tells the next wake-up and gives up nothing (rule 3)."""
         while self._inbox.needs:
             name, until = self._inbox.needs.popleft()
+            self._book[name].cut_to = None
+            self._kept, self._wanted = (
+                inventory.mapped(lambda entry: replace(entry, need=until) if entry.name == name else entry)
+                for inventory in (self._kept, self._wanted))
             answer = await self._link.hand_in(f"need {name} {until}")
             self._take_shorts(answer)
         return await self._hand_in(self._last_moment)
@@ -218,6 +222,7 @@ class Driver:
 
     def _take_shorts(self, answer: Answer) -> None:
         for name, until in answer.shorts:
+            self._book[name].cut_to = until
             limiter = self._limiter(name, until)
             if limiter is None:
                 self._tell_short(name, until)

@@ -62,6 +62,17 @@ class Engine:
         """The present moment, by the broker's clock where that differs."""
         return self._parts.clock.wall() + self.offset
 
+    def change_need(self, inventory: Inventory, name: str, until: int) -> bool:
+        """Takes an inventory in which only that need is another, and hands the need to the run; False where the
+        change calls for a beginning."""
+        self.inventory = inventory
+        aside_under = inventory.with_all_under({name}) & (self.assignment.aside | self.assignment.looked_again)
+        if self.driver is None or aside_under or self.assignment.kept.find(name) is None:
+            return False
+        self._own.inventory = inventory
+        self.inbox.need(name, until)
+        return True
+
     @property
     def next_wake(self) -> int | None:
         return None if self.driver is None else self.driver.next_wake
@@ -103,6 +114,8 @@ class Engine:
         self._take_offset(survey)
         self.assignment = assign(inventory, survey, self.book, self._parts.clock.elapsed(), self._parts.log)
         self._own.inventory = inventory
+        for standing in self.book.standings.values():
+            standing.cut_to = None
         for name in self.assignment.aside:
             self._own.keep_aside(name)
         for name in self.assignment.looked_again:

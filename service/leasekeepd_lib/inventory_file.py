@@ -155,18 +155,40 @@ def read_inventory(data: bytes) -> Reading:
     table.unknown(_TOP)
     system_max = table.take("system_max", f"1 to {DURATION_MAX}", whole(1, DURATION_MAX), SYSTEM_MAX)
     margin = table.take("margin", f"1 to {MARGIN_MAX} seconds", whole(1, MARGIN_MAX), 1)
+    inventory = Inventory(tuple(_entries(table)), margin, system_max)
+    _judge_tree(reading, inventory)
+    reading.inventory = None if reading.faults else inventory
+    return reading
+
+
+def read_tables(data: bytes) -> tuple[Reading, list[Entry]]:
+    """The entries that the bytes write, whatever they stand under, with the faults of each alone."""
+    reading = Reading()
+    top = _document(data, reading)
+    if top is None:
+        return reading, []
+    table = _Table(reading, None, 0, top)
+    table.unknown(("token", "lease"))
+    return reading, _entries(table)
+
+
+def judge(inventory: Inventory) -> list[Finding]:
+    """The faults of an inventory's tree."""
+    reading = Reading()
+    _judge_tree(reading, inventory)
+    return reading.findings
+
+
+def _entries(table: _Table) -> list[Entry]:
     entries: list[Entry] = []
     for kind in Kind:
         tables = table.take(kind.value, f"an array of tables [[{kind.value}]]", _tables, [])
         for place, values in enumerate(tables):
-            entry = _entry(_Table(reading, kind, place, values), kind)
+            entry = _entry(_Table(table.reading, kind, place, values), kind)
             if entry is not None:
-                reading.places.setdefault(entry.name, (kind, place))
+                table.reading.places.setdefault(entry.name, (kind, place))
                 entries.append(entry)
-    inventory = Inventory(tuple(entries), margin, system_max)
-    _judge_tree(reading, inventory)
-    reading.inventory = None if reading.faults else inventory
-    return reading
+    return entries
 
 
 def _document(data: bytes, reading: Reading) -> dict[str, Any] | None:
