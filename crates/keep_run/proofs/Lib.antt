@@ -12,4 +12,3 @@ pub mod Loops
 pub mod Supplying
 pub mod Refusing
 pub mod OneAnswer
-pub mod Shaped

@@ -9,7 +9,7 @@ use Rattle.keep_tree.specs.Forest.{Grove, entry_at}
 use Rattle.keep_tree.specs.Push.{IsForest}
 use Rattle.keep_tree.specs.Renewal.{renewal}
 use Rattle.keep_rule.specs.Asks.{first_of}
-use Rattle.keep_schedule.specs.declared.limit.TheConstants.{LIMIT}
+use Rattle.keep_rule.specs.declared.limit.TheConstants.{LIMIT}
 use Rattle.keep_inventory.specs.Stock.{Stock, credential_at}
 use Rattle.mini_broker.specs.declared.served.Served.{Served}
 use Rattle.mini_broker.specs.Ledger.{Ledger}

@@ -9,8 +9,8 @@ use Rattle.keep_rule.specs.Asks.{with_asks}
 use Rattle.keep_rule.specs.Keeps.{Keeps}
 use Rattle.keep_rule.specs.Plans.{IsPlan}
 use Rattle.keep_rule.specs.Requests.{requests}
-use Rattle.keep_schedule.specs.declared.limit.TheConstants.{LIMIT}
-use Rattle.keep_schedule.specs.Forces.{moments_of}
+use Rattle.keep_rule.specs.declared.limit.TheConstants.{LIMIT}
+use Rattle.keep_rule.specs.Runs.{moments_of}
 use Rattle.keep_plan.specs.declared.decision.Decision.TheVariants.{Keep}
 use Rattle.keep_plan.specs.Decides.{Decides}
 use Rattle.keep_plan.specs.Planned.{Planned, to_come}
