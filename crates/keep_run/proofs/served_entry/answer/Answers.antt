@@ -32,7 +32,7 @@ returns-clause-answers c =
     let means : event ≡ event_for cs old.forest i (reply_in c.in-Ok.served) =
         c.in_ok-event.ensures
         ∙ ap (λ (e : Entry). event_of e.kind c.get-2.result.now i c.reply_of-reply.result) (c.get.ensures.value ∙ ap (λ (g : Grove). entry_at g.entries i) c.forest-2.ensures)
-        ∙ ap (λ id. event_of (entry_at old.forest.entries i).kind id i c.reply_of-reply.result) c.get-2.ensures
+        ∙ ap (λ id. event_of (entry_at old.forest.entries i).kind id i c.reply_of-reply.result) c.get-2.ensures.value
         ∙ ap (event_of (entry_at old.forest.entries i).kind _ i) c.reply_of-reply.ensures in
     one_answer cs c.args.t i (both old c.args.table.now) c.in-Ok.served c.in-Ok-step.output c.in_ok-request.request event c.step.new.self c.take_shortened-short.new.self c.serve.new.self
     c.args.text.now.items c.push_answer_line.new.text.items c.push_short_lines.new.text.items
