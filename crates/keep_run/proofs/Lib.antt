@@ -15,3 +15,6 @@ pub mod Wording
 pub mod Within
 pub mod Texts
 pub mod Opens
+pub mod Goes
+pub mod Rounds
+pub mod Written

@@ -1,7 +1,13 @@
 -- Within: who is asked, and whose need is shortened, is an entry of the forest.
-use Rattle.std.proofs.Common.{◌≡◌, ℕ, zero, suc, ◌+◌, ◌<◌, ◌≤◌, List, [], ◌∷◌, ◌++◌, Option, Some, None, Result, Ok, length, refl, sym, ap, ◌∙◌, subst, arith}
+use Rattle.std.proofs.Common.{◌≡◌, ℕ, zero, suc, ◌+◌, ◌<◌, ◌≤◌, Bool, List, [], ◌∷◌, ◌++◌, Option, Some, None, Result, Ok, filter, length, nat_lt, inl, inr, refl, sym, ap, ◌∙◌, subst, arith}
 use Rattle.std.proofs.lemmas.List.Elements.{All-cons, All-nil, All-filter, All-map}
+use Rattle.std.proofs.lemmas.Bool.{cases_Bool, cond-true, cond-false}
+use Rattle.std.proofs.lemmas.Bool.Decides.{nat_tests}
+use Rattle.std.proofs.lemmas.List.FromFn.{length-range_with_len}
 use Rattle.std.specs.List.{All, range_with_len}
+use Rattle.keep_moment.specs.declared.moment.TheConstants.{LAST}
+use Rattle.keep_core.specs.declared.fault.StepFault.TheVariants.{OutOfRange}
+use Rattle.keep_core.specs.Refusal.{refusal}
 use Rattle.keep_tree.specs.Forest.{Grove, end_of}
 use Rattle.keep_rule.specs.Asks.{asks, first_of, is_wanted}
 use Rattle.keep_core.specs.LawsOfSteps.{IsShaped}
@@ -93,3 +99,42 @@ asked_within old new t (out.Sleep w) turn = All-nil (λ i. i < length new.forest
 asked_within old new t out.Waiting turn = All-nil (λ i. i < length new.forest.entries)
 asked_within old new t (out.Round next) turn = All-nil (λ i. i < length new.forest.entries)
 asked_within old new t out.Planned turn = All-nil (λ i. i < length new.forest.entries)
+
+filter_few : (p : ℕ → Bool) (is : List ℕ) → length (filter p is) ≤ length is
+filter_few p [] = omega arith
+filter_few p (i ∷ is) =
+    let rest = filter_few p is in
+    elim (cases_Bool (p i)) [
+      | inl yes' ↦ (let e = ap length (cond-true (p i) (i ∷ filter p is) (filter p is) yes') in omega arith)
+      | inr no' ↦ (let e = ap length (cond-false (p i) (i ∷ filter p is) (filter p is) no') in omega arith)
+    ]
+
+asks_few : (g : Grove) (t : ℕ) (next : Option ℕ) → length (asks g.entries g.margin t (end_of g.entries) t next) ≤ length g.entries
+unfolding asks
+asks_few g t next =
+    let few = filter_few (is_wanted g.entries g.margin t (end_of g.entries) t next) (range_with_len 0 (length g.entries)) in
+    let count = length-range_with_len 0 (length g.entries) in
+    omega arith
+
+-- no more are asked than there are entries
+pub asked_few : (old new : State) (t : ℕ) (output : Output) → Turn old (Tick t) (Ok output) new → length (asked_in output) ≤ length new.forest.entries
+asked_few old new t (out.Ask asked) turn =
+    let step = turn.1 in
+    let mid = step.0 in
+    let count : length new.forest.entries ≡ length mid.forest.entries = ap (λ (s : State). length s.forest.entries) step.1.1.1.1.1 in
+    let who = ap length step.1.1.1.1.0 in
+    let few = asks_few mid.forest t (first_of step.1.1.0) in
+    omega arith
+asked_few old new t out.Idle turn = omega arith
+asked_few old new t (out.Sleep w) turn = omega arith
+asked_few old new t out.Waiting turn = omega arith
+asked_few old new t (out.Round next) turn = omega arith
+asked_few old new t out.Planned turn = omega arith
+
+-- a moment that is told is in range
+pub told_in_range : (old new : State) (t : ℕ) (output : Output) → Turn old (Tick t) (Ok output) new → t ≤ LAST
+unfolding refusal
+told_in_range old new t output turn = elim (cases_Bool (nat_lt LAST t)) [
+  | inl late ↦ absurd (let bad : None ≡ Some OutOfRange = sym turn.0 ∙ cond-true (nat_lt LAST t) (Some OutOfRange) _ late in cc)
+  | inr not_late ↦ grind (arith, nat_tests, not_late)
+]

@@ -5,3 +5,5 @@ pub mod Listed
 pub mod Laws
 pub mod Stops
 pub mod Playing
+pub mod FaultWords
+pub mod Rehearse

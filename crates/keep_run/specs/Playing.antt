@@ -1,6 +1,7 @@
 -- Playing: words for the parts of a rehearsal. No public clause cites them.
 -- Source: this project's own.
-use Rattle.std.specs.Prelude.{◌≡◌, ℕ, ◌<◌, ◌++◌, IsUtf8, List, [], Option, Some, None, Ok, length, map}
+use Rattle.std.specs.Prelude.{◌≡◌, ℕ, ◌<◌, ◌≤◌, ◌++◌, ◌⊎◌, IsUtf8, List, [], Option, Some, None, Result, Ok, Err, length, map}
+use Rattle.std.specs.Io.KnownBytes.{Keeps}
 use Rattle.std.specs.List.{flat_map}
 use Rattle.keep_tree.specs.declared.entry.Kind.TheVariants.{Lease}
 use Rattle.keep_tree.specs.Forest.{Grove, entry_at}
@@ -13,9 +14,15 @@ use Rattle.keep_core.specs.declared.event.Output.TheVariants as out
 use Rattle.keep_core.specs.Runs.{Turn}
 use Rattle.keep_core.specs.State.{State}
 use Rattle.keep_run.specs.declared.opening.Opened.{Opened}
+use Rattle.keep_run.specs.declared.waking.Woken.{Woken}
 use Rattle.keep_run.specs.Closed.{AreAnswered, Beat, Exchanged, IsAnswered, Played, World, closing, requests_of, rounds, taken}
-use Rattle.keep_run.specs.Stops.{both}
-use Rattle.keep_run.specs.Text.{answer_text, beat_text, short_lines, wake_line}
+use Rattle.keep_device.specs.Failures.{HasFailed}
+use Rattle.keep_device.specs.Front.{AppendsFront}
+use Rattle.keep_report.specs.declared.stop.Stop.{Stop}
+use Rattle.keep_report.specs.declared.stop.Stop.TheVariants as stops
+use Rattle.keep_report.specs.Sent.{IsAll, Sent}
+use Rattle.keep_run.specs.Stops.{IsDue, both}
+use Rattle.keep_run.specs.Text.{answer_text, beat_text, done_text, short_lines, wake_line}
 
 -- an answer for i
 abbrev pub IsAnswerOf : ℕ → Event → Type 0
@@ -84,3 +91,81 @@ OpensOrEnds cs table old due (Some o) new before after = Opens cs table old due 
 abbrev pub asked_of : Option Opened → List ℕ
 asked_of None = []
 asked_of (Some o) = o.asked
+
+-- a run that goes on from a world with a tick at due, if there is one: where it led and when the next tick is; how many
+-- wake-ups and requests it made, and its text
+pub record Goes (s : Stock) (old : World) (due : Option ℕ) (new : World) (next : Option ℕ) (wakes asked : ℕ) (text : List ℕ) : Type 0 where
+  pub beats : List Beat
+  pub played : Played 8200 s.credentials old due beats new next
+  pub wakes_are : wakes ≡ length (rounds beats)
+  pub asked_are : asked ≡ requests_of beats
+  pub text_is : text ≡ flat_map (beat_text s) beats
+
+abbrev pub requests_in : Option Woken → ℕ
+requests_in None = 0
+requests_in (Some w) = w.requests
+
+-- to the end of the first round, or to the end of the run where there is none
+abbrev pub Wakes : List (List ℕ) → World → ℕ → Option Woken → World → List ℕ → List ℕ → Type 0
+Wakes cs old due None new before after = (text : List ℕ) × (Goes (stock_of cs old.keeper.forest) old (Some due) new None 0 0 text × (after ≡ before ++ text))
+Wakes cs old due (Some w) new before after = (text : List ℕ) × (Goes (stock_of cs old.keeper.forest) old (Some due) new w.next 1 w.requests text × (after ≡ before ++ text))
+
+-- ---- what is written
+
+-- what sending these last lines came to
+abbrev pub Finishes : List ℕ → Result (Unit {0}) Stop → Sent → Type 0
+Finishes text (Ok u) out = IsAll text out
+Finishes text (Err stops.Write) out = HasFailed out.failed_before out.failed_after × AppendsFront out.old out.new text
+Finishes text (Err stops.Memory) out = AppendsFront out.old out.new text
+Finishes text (Err stop) out = ⊥
+
+-- behind 100,000 wake-ups: no more than a front of the last lines was written
+abbrev pub LastFront : List (List ℕ) → Ledger → State → ℕ → ℕ → Sent → Type 0
+LastFront cs table old due asked out =
+    Keeps out.old out.new ⊎ ((new : World) × (text : List ℕ) × Goes (stock_of cs old.forest) (both old table) (Some due) new None 0 0 text × AppendsFront out.old out.new (text ++ done_text 100000 asked))
+
+abbrev pub LastPlays : List (List ℕ) → Ledger → State → ℕ → ℕ → Result (Unit {0}) Stop → State → Sent → Type 0
+LastPlays cs table old due asked (Ok u) new out = (text : List ℕ) × Goes (stock_of cs old.forest) (both old table) (Some due) (both new table) None 0 0 text × IsAll (text ++ done_text 100000 asked) out
+LastPlays cs table old due asked (Err stops.TooLong) new out = IsDue cs (both old table) due × IsAll [] out
+LastPlays cs table old due asked (Err stops.Write) new out = HasFailed out.failed_before out.failed_after × LastFront cs table old due asked out
+LastPlays cs table old due asked (Err stops.Memory) new out = LastFront cs table old due asked out
+LastPlays cs table old due asked (Err stop) new out = ⊥
+
+-- the lines of a run so far, or all of them with the last one
+pub record IsText (s : Stock) (old : World) (start : ℕ) (text : List ℕ) : Type 0 where
+  pub new : World
+  pub next : Option ℕ
+  pub wakes : ℕ
+  pub asked : ℕ
+  pub lines : List ℕ
+  pub goes : Goes s old (Some start) new next wakes asked lines
+  pub text_is : (text ≡ lines) ⊎ ((next ≡ None) × (text ≡ lines ++ done_text wakes asked))
+
+pub record PlaysWhole (s : Stock) (old : World) (start : ℕ) (before : List ℕ) (new : World) (out : Sent) : Type 0 where
+  pub wakes : ℕ
+  pub asked : ℕ
+  pub lines : List ℕ
+  pub goes : Goes s old (Some start) new None wakes asked lines
+  pub few : wakes ≤ 100000
+  pub sent : IsAll (before ++ (lines ++ done_text wakes asked)) out
+
+pub record PlaysLong (s : Stock) (old : World) (start : ℕ) (before : List ℕ) (table : Ledger) (out : Sent) : Type 0 where
+  pub keeper : State
+  pub due : ℕ
+  pub asked : ℕ
+  pub lines : List ℕ
+  pub goes : Goes s old (Some start) (both keeper table) (Some due) 100000 asked lines
+  pub more : IsDue s.credentials (both keeper table) due
+  pub sent : IsAll (before ++ lines) out
+
+-- no more than a front of the lines was written
+abbrev pub PlaysFront : Stock → World → ℕ → List ℕ → Sent → Type 0
+PlaysFront s old start before out = (text : List ℕ) × IsText s old start text × AppendsFront out.old out.new (before ++ text)
+
+-- what playing a run came to
+abbrev pub Plays : List (List ℕ) → World → ℕ → List ℕ → Result (Unit {0}) Stop → World → Sent → Type 0
+Plays cs old start before (Ok u) new out = PlaysWhole (stock_of cs old.keeper.forest) old start before new out
+Plays cs old start before (Err stops.TooLong) new out = PlaysLong (stock_of cs old.keeper.forest) old start before new.table out
+Plays cs old start before (Err stops.Write) new out = HasFailed out.failed_before out.failed_after × PlaysFront (stock_of cs old.keeper.forest) old start before out
+Plays cs old start before (Err stops.Memory) new out = PlaysFront (stock_of cs old.keeper.forest) old start before out
+Plays cs old start before (Err stop) new out = ⊥

@@ -6,8 +6,11 @@
 pub mod laws;
 mod lines;
 mod opening;
+mod playing;
 mod renewing;
 mod served_entry;
-mod stop;
+mod waking;
 
+
+pub use playing::MOST_WAKES;
 pub use renewing::{event_from, request_for};

@@ -1,13 +1,15 @@
 //! Ticks, until one asks.
-ghost use Rattle.std.specs.Prelude.{◌≡◌, ◌<◌, [], IfOk, List, ℕ, length};
+ghost use Rattle.std.specs.Prelude.{◌≡◌, ◌<◌, ◌≤◌, [], IfOk, List, ℕ, length};
 ghost use Rattle.std.specs.List.{All};
+ghost use Rattle.std.specs.Result.{IfErr};
+ghost use Rattle.keep_report.specs.declared.stop.Stop.TheVariants as stops;
 ghost use Rattle.keep_core.specs.LawsOfSteps.{IsShaped};
 ghost use Rattle.mini_broker.specs.Ledger.{Ledger};
 ghost use Rattle.keep_run.specs.Closed.{asked_in};
 ghost use Rattle.keep_run.specs.Playing.{OpensOrEnds, Ticks, asked_of};
 
 use crate::lines::{push_short_lines, push_wake_line};
-use crate::stop::Stop;
+use keep_report::Stop;
 use keep_core::{Event, Keeper, Output};
 use keep_tree::Indices;
 use std::alloc::Global;
@@ -27,9 +29,12 @@ pub(crate) fn tick(
     text: &mut Vec<u8>,
 ) -> Result<Output, Stop>
     requires quiet { keeper.old.shortened ≡ [] }
+    ensures memory { IfErr result (λ stop. stop ≡ stops.Memory) }
     ensures ticks { IfOk result (λ output. Ticks t keeper.old output keeper.new text.old.items text.new.items) }
     ensures within { IfOk result (λ output. All (λ i. i < length keeper.new.forest.entries) (asked_in output)) }
+    ensures few { IfOk result (λ output. length (asked_in output) ≤ 4096) }
 {
+    let _entries = keeper.forest().len();
     let Ok(output) = keeper.step(Event::Tick(t)) else {
         return Err(Stop::Memory);
     };
@@ -49,8 +54,11 @@ pub(crate) fn open(
     text: &mut Vec<u8>,
 ) -> Result<Option<Opened>, Stop>
     requires quiet { keeper.old.shortened ≡ [] }
+    ensures memory { IfErr result (λ stop. stop ≡ stops.Memory) }
     ensures opens { IfOk result (λ opened. (cs : List (List ℕ)) (table : Ledger) → OpensOrEnds cs table keeper.old t opened keeper.new text.old.items text.new.items) }
     ensures within { IfOk result (λ opened. All (λ i. i < length keeper.new.forest.entries) (asked_of opened)) }
+    ensures few { IfOk result (λ opened. length (asked_of opened) ≤ 4096) }
+    ensures taken { IfOk result (λ _. keeper.new.shortened ≡ []) }
     ensures shaped { IfOk result (λ _. IsShaped keeper.old.forest keeper.new.forest) }
 {
     match tick(alloc, keeper, t, text)? {

@@ -1,5 +1,7 @@
 //! One asked entry: its request is served, and its reply handed in.
 ghost use Rattle.std.specs.Prelude.{◌≡◌, ◌<◌, [], IfOk, length};
+ghost use Rattle.std.specs.Result.{IfErr};
+ghost use Rattle.keep_report.specs.declared.stop.Stop.TheVariants as stops;
 ghost use Rattle.keep_core.specs.LawsOfSteps.{IsShaped};
 ghost use Rattle.keep_run.specs.Closed.{reply_in};
 ghost use Rattle.keep_run.specs.Playing.{Answers, Fits};
@@ -7,7 +9,7 @@ ghost use Rattle.keep_run.specs.Stops.{both};
 
 use crate::lines::{push_answer_line, push_short_lines};
 use crate::renewing::{event_from, request_for};
-use crate::stop::Stop;
+use keep_report::Stop;
 use keep_core::{Event, Keeper, Output, StepFault};
 use keep_inventory::Credentials;
 use keep_moment::Moment;
@@ -37,6 +39,7 @@ pub(crate) fn answer(
     requires within { i < length keeper.old.forest.entries }
     requires fits { Fits credentials.now keeper.old.forest }
     requires quiet { keeper.old.shortened ≡ [] }
+    ensures memory { IfErr result (λ stop. stop ≡ stops.Memory) }
     ensures answers { IfOk result (λ output. Answers credentials.now t (both keeper.old table.old) i output (both keeper.new table.new) text.old.items text.new.items) }
     ensures shaped { IfOk result (λ _. IsShaped keeper.old.forest keeper.new.forest) }
     ensures taken { IfOk result (λ _. keeper.new.shortened ≡ []) }

@@ -1,7 +1,7 @@
-use Rattle.std.proofs.Common.{ap, ◌∙◌, sym, subst}
+use Rattle.std.proofs.Common.{ap, ◌∙◌, arith, sym, subst}
 use Rattle.std.proofs.lemmas.List.Elements.{All-nil}
 use Rattle.keep_core.specs.declared.event.Output.TheVariants as out
-use Rattle.keep_core.specs.LawsOfSteps.{IsShaped}
+use Rattle.keep_core.specs.State.{State}
 use Rattle.keep_core.proofs.Shaped.{both_shaped}
 use Rattle.keep_run.specs.Playing.{Ticks}
 use Rattle.keep_run.proofs.Opens.{after_sleep, at_once, ends, then_asks, ticks_shaped}
@@ -36,6 +36,9 @@ returns-in-Ask-2-clause-shaped c =
 pub returns-in_default : goal.returns-in_default
 returns-in_default c = record {
   opens = λ cs table. ends cs table c.args.t c.args.keeper.now c.tick.new.keeper c.in_ok-asked.field-0 c.args.text.now.items c.tick.new.text.items c.in_ok-asked.ensures.ticks c.in_default.not-Sleep c.in_default.not-Ask;
+  memory = tt;
   within = All-nil _;
+  few = omega arith;
+  taken = ap (λ (s : State). s.shortened) c.in_ok-asked.ensures.ticks.is;
   shaped = ticks_shaped c.args.t c.args.keeper.now c.tick.new.keeper c.in_ok-asked.field-0 c.args.text.now.items c.tick.new.text.items c.in_ok-asked.ensures.ticks;
 }
