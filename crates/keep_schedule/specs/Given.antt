@@ -1,23 +1,10 @@
--- Runs and schedules: what it means to take the head, or a run, from a list of wake-ups to come.
+-- Given: what it means to give the head, or a run, of a list of wake-ups to come.
 -- Source: this project's own.
-use Rattle.std.specs.Prelude.{◌≡◌, ℕ, zero, suc, ◌+◌, ◌-◌, ◌*◌, ◌≤◌, ◌<◌, ◌↔◌, List, [], ◌∷◌, ◌++◌, Option, Some, None}
+use Rattle.std.specs.Prelude.{◌≡◌, ℕ, ◌+◌, ◌-◌, ◌*◌, ◌≤◌, ◌<◌, ◌↔◌, List, [], ◌∷◌, ◌++◌, Option, Some, None}
 use Rattle.keep_moment.specs.declared.moment.TheConstants.{LAST}
-use Rattle.keep_schedule.specs.declared.force.Force.{Force}
-use Rattle.keep_schedule.specs.declared.run.Run.{Run}
-
--- count wake-ups at `first`, first + step and so on, each forced by entry for needed
-unfoldable pub wakes_of : ℕ → ℕ → ℕ → ℕ → ℕ → List Force
-wakes_of first step zero entry needed = []
-wakes_of first step (suc n) entry needed = record { at = first; entry = entry; needed = needed } ∷ wakes_of (first + step) step n entry needed
-
--- the wake-ups that a run stands for
-abbrev pub wakes : Run → List Force
-wakes r = wakes_of r.first r.step r.count r.entry r.needed
-
--- the wake-ups that a list of runs stands for
-abbrev pub all_wakes : List Run → List Force
-all_wakes [] = []
-all_wakes (r ∷ rs) = wakes r ++ all_wakes rs
+use Rattle.keep_rule.specs.declared.force.Force.{Force}
+use Rattle.keep_rule.specs.declared.run.Run.{Run}
+use Rattle.keep_rule.specs.Runs.{wakes}
 
 -- what stood for the list that begins with the answer stands for its tail now; with no answer it stood for the empty list
 -- alone, and still stands for that
