@@ -1,4 +1,4 @@
-ghost use Rattle.keep_core.specs.Runs.{Turn};
+ghost use Rattle.keep_core.specs.History.{Turn};
 
 use crate::event::{Event, Output};
 use crate::fault::StepFault;
