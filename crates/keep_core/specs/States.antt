@@ -6,7 +6,7 @@ use Rattle.keep_tree.specs.Forest.{Grove, end_of, entry_at}
 use Rattle.keep_tree.specs.Push.{IsForest}
 use Rattle.keep_rule.specs.Asks.{asking, first_of}
 use Rattle.keep_rule.specs.Ends.{is_asked}
-use Rattle.keep_schedule.specs.declared.limit.TheConstants.{LIMIT}
+use Rattle.keep_rule.specs.declared.limit.TheConstants.{LIMIT}
 use Rattle.keep_core.specs.InForce.{IsSound}
 use Rattle.keep_core.specs.Refusal.{waits_for}
 use Rattle.keep_core.specs.Replan.{IsPlanOf}

@@ -4,7 +4,7 @@ ghost use Rattle.keep_rule.specs.Asks.{first_of};
 ghost use Rattle.keep_rule.specs.Unkeepable.{AllKeepable};
 ghost use Rattle.keep_plan.specs.Decides.{IsKept};
 ghost use Rattle.keep_plan.specs.Planned.{to_come};
-ghost use Rattle.keep_schedule.specs.Forces.{moments_of};
+ghost use Rattle.keep_rule.specs.Runs.{moments_of};
 ghost use Rattle.keep_core.specs.declared.event.Event.TheVariants as events;
 ghost use Rattle.keep_core.specs.Passes.{PlanFails, PlanRefused};
 ghost use Rattle.keep_core.specs.Refusal.{refusal};
