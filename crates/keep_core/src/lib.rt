@@ -1,7 +1,7 @@
 //! The executor's core: it is handed ticks, answers and new needs, and says when to wake and whom to ask.
 //!
 //! Its one contract is that of [`Keeper::step`]: an event gives its step by the definition, or a refusal that leaves the
-//! keeper as it was. [`Keeper::run`] takes a list of events, and the laws speak of every such list.
+//! keeper as it was. [`Keeper::steps`] takes a list of events, and the laws speak of every such list.
 //!
 //! Begin with `event`, then `step`.
 #![tactic(auto)]
