@@ -41,11 +41,11 @@ pub renewal_alike : (es fs : List Entry) → Alike es fs → (i t : ℕ) → ren
 unfolding renewal
 renewal_alike es fs a i t = ap (λ c. capped c (t + (entry_at fs i).step)) (a.ceiling i) ∙ ap (λ n. capped (entry_at es i).ceiling (t + n)) (a.step i)
 
-all_last_alike : (es fs : List Entry) → Alike es fs → (ends : ℕ → ℕ) (m i : ℕ) → all_last fs ends m i ≡ all_last es ends m i
+pub all_last_alike : (es fs : List Entry) → Alike es fs → (ends : ℕ → ℕ) (m i : ℕ) → all_last fs ends m i ≡ all_last es ends m i
 unfolding all_last
 all_last_alike es fs a ends m i = ap (list_all (λ k. nat_le m (ends k))) (chain_alike es fs a i)
 
-renewed_alike : (es fs : List Entry) → Alike es fs → (margin : ℕ) (ends : ℕ → ℕ) (t i : ℕ) → renewed fs margin ends t i ≡ renewed es margin ends t i
+pub renewed_alike : (es fs : List Entry) → Alike es fs → (margin : ℕ) (ends : ℕ → ℕ) (t i : ℕ) → renewed fs margin ends t i ≡ renewed es margin ends t i
 unfolding renewed is_granted
 renewed_alike es fs a margin ends t i =
     ap (λ b. cond (b && all_last fs ends (t + margin) i) (renewal (entry_at fs i) t) (ends i)) (a.renewable i)

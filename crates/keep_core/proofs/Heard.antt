@@ -8,7 +8,7 @@ use Rattle.keep_tree.specs.Forest.{Grove, entry_at}
 use Rattle.keep_tree.specs.Renewal.{renewal}
 use Rattle.keep_tree.proofs.Carrying.{and_left, and_right}
 use Rattle.keep_needs.specs.Carried.{IsCarried}
-use Rattle.keep_schedule.specs.Forces.{moments_of}
+use Rattle.keep_rule.specs.Runs.{moments_of}
 use Rattle.keep_plan.specs.Planned.{Planned, to_come}
 use Rattle.keep_core.specs.declared.event.Event.{Event}
 use Rattle.keep_core.specs.declared.event.Event.TheVariants.{Tick, Told, Refused, Lost, Need}

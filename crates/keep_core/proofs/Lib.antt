@@ -20,3 +20,4 @@ pub mod Opened
 pub mod States
 pub mod Closing
 pub mod Once
+pub mod Shaped

@@ -1,6 +1,7 @@
 -- An event gives one result and one state: what it gives is decided by the one state that planning anew makes.
-use Rattle.std.proofs.Common.{◌≡◌, ◌≢◌, ◌∙◌, ℕ, ◌<◌, ◌⊎◌, true, false, cond, List, [], ◌∷◌, Some, None, Result, Ok, Err, nat_lt, refl, sym, ap, subst, arith, inl, inr}
+use Rattle.std.proofs.Common.{◌≡◌, ◌≢◌, ◌∙◌, ℕ, ◌<◌, ◌≤◌, ◌⊎◌, true, false, cond, List, [], ◌∷◌, Some, None, Result, Ok, Err, nat_lt, refl, sym, ap, subst, arith, inl, inr}
 use Rattle.std.proofs.lemmas.Bool.Decides.{nat_tests}
+use Rattle.std.specs.List.{All}
 use Rattle.keep_rule.specs.Asks.{first_of}
 use Rattle.keep_core.specs.declared.event.Event.{Event}
 use Rattle.keep_core.specs.declared.event.Event.TheVariants.{Tick, Told, Refused, Lost, Need}
@@ -8,13 +9,14 @@ use Rattle.keep_core.specs.declared.event.Output.{Output}
 use Rattle.keep_core.specs.declared.event.Output.TheVariants as out
 use Rattle.keep_core.specs.declared.fault.StepFault.{StepFault}
 use Rattle.keep_core.specs.declared.fault.StepFault.TheVariants.{ClockBack, RoundOpen, NotAsked, BadIndex, OutOfRange, TooLong, OutOfMemory}
-use Rattle.keep_core.specs.LawsOfSteps.{OnceLaw}
+use Rattle.keep_core.specs.LawsOfSteps.{NextAsksLaw, OnceLaw}
 use Rattle.keep_core.specs.Refusal.{refusal}
-use Rattle.keep_core.specs.Replan.{IsTooLong, Replan}
+use Rattle.keep_core.specs.Replan.{IsPlanOf, IsTooLong, Replan}
 use Rattle.keep_core.specs.Runs.{Turn}
 use Rattle.keep_core.specs.State.{Round, State}
 use Rattle.keep_core.specs.Step.{AnswerTooLong, StepAnswer, StepNeed, StepTick, heard, left, needed, of_entry, opened}
 use Rattle.keep_core.proofs.Orders.{not_both, replan_once}
+use Rattle.keep_core.proofs.Standing.{best_first, kept_plan}
 
 abbrev Same : Result Output StepFault → State → Result Output StepFault → State → Type 0
 Same a x b y = (a ≡ b) × (x ≡ y)
@@ -180,3 +182,17 @@ once old x y event a b memory other_memory one two = elim (turn_comes old event 
     | inr q ↦ one_event old event a b x y p.1 q.1
   ]
 ]
+
+-- a tick at the first moment to come asks: it keeps the plan, whose first moment that is
+pub next_asks : NextAsksLaw
+next_asks s new w output in_force first turn =
+    let front = first_is s.to_come w first in
+    let rest = front.0 in
+    let plan : IsPlanOf s.forest s.last (w ∷ rest) = subst (IsPlanOf s.forest s.last) front.1 in_force.0 in
+    let low = best_first s.forest s.last w rest plan in
+    let replan = kept_plan s w in_force low.0 (subst (All (λ u. w ≤ u)) (sym front.1) low.1) in
+    let mid : State = record s { last = w } in
+    let round = opened mid w (first_of rest) in
+    let known : Turn s (Tick w) (Ok (out.Ask round.unanswered)) (record mid { to_come = rest; round = Some round }) = (turn.0, (mid, (replan, (rest, (front.1, (refl, refl)))))) in
+    let one = once s new (record mid { to_come = rest; round = Some round }) (Tick w) (Ok output) (Ok (out.Ask round.unanswered)) (λ bad. cc) (λ bad. cc) turn known in
+    (round.unanswered, (let same : ◌≡◌ {A = Result Output StepFault} (Ok output) (Ok (out.Ask round.unanswered)) = one.0 in cc))

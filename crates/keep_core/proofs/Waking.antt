@@ -15,8 +15,8 @@ use Rattle.keep_rule.specs.Plans.{asks_past}
 use Rattle.keep_rule.proofs.Asking.{asks_within}
 use Rattle.keep_rule.proofs.LaterStart.{same_asks}
 use Rattle.keep_needs.specs.Carried.{IsCarried}
-use Rattle.keep_schedule.specs.declared.force.Force.{Force}
-use Rattle.keep_schedule.specs.Forces.{moments_of}
+use Rattle.keep_rule.specs.declared.force.Force.{Force}
+use Rattle.keep_rule.specs.Runs.{moments_of}
 use Rattle.keep_plan.specs.Planned.{IsTail, Planned, next_after, to_come}
 use Rattle.keep_core.specs.declared.event.Output.{Output}
 use Rattle.keep_core.specs.declared.event.Output.TheVariants as out

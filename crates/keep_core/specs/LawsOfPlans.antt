@@ -7,8 +7,8 @@ use Rattle.keep_tree.specs.Push.{IsForest}
 use Rattle.keep_tree.specs.Renewal.{renewal}
 use Rattle.keep_rule.specs.Asks.{asking, asks, first_of}
 use Rattle.keep_rule.specs.Ends.{is_asked}
-use Rattle.keep_schedule.specs.Forces.{moments_of}
-use Rattle.keep_schedule.specs.declared.force.Force.{Force}
+use Rattle.keep_rule.specs.Runs.{moments_of}
+use Rattle.keep_rule.specs.declared.force.Force.{Force}
 use Rattle.keep_core.specs.InForce.{AllForcedAs, InForce}
 use Rattle.keep_core.specs.Replan.{IsPlanOf, Replan}
 use Rattle.keep_core.specs.Shorten.{pairs, shorten}

@@ -7,7 +7,7 @@ use Rattle.keep_tree.specs.Forest.{Grove, end_of, entry_at}
 use Rattle.keep_tree.specs.Push.{IsForest}
 use Rattle.keep_rule.specs.Asks.{asking, asks, first_of}
 use Rattle.keep_rule.specs.Ends.{is_asked}
-use Rattle.keep_schedule.specs.declared.limit.TheConstants.{LIMIT}
+use Rattle.keep_rule.specs.declared.limit.TheConstants.{LIMIT}
 use Rattle.keep_core.specs.declared.event.Event.{Event}
 use Rattle.keep_core.specs.declared.event.Event.TheVariants.{Tick, Need}
 use Rattle.keep_core.specs.declared.event.Output.{Output}
@@ -91,3 +91,19 @@ abbrev pub OnceLaw : Type 0
 OnceLaw =
     (old x y : State) (event : Event) (result other : Result Output StepFault) → result ≢ Err OutOfMemory → other ≢ Err OutOfMemory → Turn old event result x →
     Turn old event other y → (result ≡ other) × (x ≡ y)
+
+-- h has the entries of g, but for their ends, their needs and whether they are renewable
+pub record IsShaped (g h : Grove) : Type 0 where
+  pub margin : h.margin ≡ g.margin
+  pub count : length h.entries ≡ length g.entries
+  pub each : (i : ℕ) → entry_at h.entries i
+      ≡ record (entry_at g.entries i) { end = (entry_at h.entries i).end; renewable = (entry_at h.entries i).renewable; need = (entry_at h.entries i).need }
+
+-- no event changes more of a forest
+abbrev pub ShapeLaw : Type 0
+ShapeLaw = (old new : State) (event : Event) (result : Result Output StepFault) → Turn old event result new → IsShaped old.forest new.forest
+
+-- a tick at the first moment to come asks, and so does the one that comes at the moment of a Sleep, or at the next one of a
+-- Round
+abbrev pub NextAsksLaw : Type 0
+NextAsksLaw = (s new : State) (w : ℕ) (output : Output) → InForce s → first_of s.to_come ≡ Some w → Turn s (Tick w) (Ok output) new → (asked : List ℕ) × (output ≡ out.Ask asked)

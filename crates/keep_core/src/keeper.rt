@@ -2,7 +2,7 @@ ghost use Rattle.std.specs.Prelude.{◌≡◌, [], None, IfErr, IfOk};
 ghost use Rattle.keep_tree.specs.Forest.{end_of};
 ghost use Rattle.keep_rule.specs.Asks.{first_of};
 ghost use Rattle.keep_needs.specs.Carried.{IsCarried};
-ghost use Rattle.keep_schedule.specs.Forces.{moments_of};
+ghost use Rattle.keep_rule.specs.Runs.{moments_of};
 ghost use Rattle.keep_plan.specs.Planned.{to_come};
 ghost use Rattle.keep_core.specs.InForce.{AllForcedAs, InForce};
 ghost use Rattle.keep_core.specs.Passes.{PlanFails};
@@ -33,7 +33,7 @@ pub struct Keeper {
 
 impl Model for Keeper {
     ghost use Rattle.std.specs.Prelude.{◌≡◌};
-    ghost use Rattle.keep_schedule.specs.Forces.{moments_of};
+    ghost use Rattle.keep_rule.specs.Runs.{moments_of};
     ghost use Rattle.keep_plan.specs.Planned.{to_come};
     ghost use Rattle.keep_core.specs.Keeping.{IsKeeper, seen};
     ghost use Rattle.keep_core.specs.State.{State};

@@ -1,4 +1,4 @@
-ghost use Rattle.keep_core.specs.LawsOfSteps.{AddsLaw, AskLaw, OnceLaw, StateLaw};
+ghost use Rattle.keep_core.specs.LawsOfSteps.{AddsLaw, AskLaw, NextAsksLaw, OnceLaw, ShapeLaw, StateLaw};
 
 /// The law of states: whatever events come after the opening, and whatever of them is refused, the forest stays one; a round
 /// is open since the last moment, waits for someone, and has its moment and the moments to come from the plan that was in
@@ -22,4 +22,16 @@ pub fn ask_law()
 /// The law of one answer: want of memory aside, an event gives one result, and leaves one state.
 pub fn once_law()
     ensures { OnceLaw }
+{}
+
+/// The law of shape: no event changes an entry but in its end, its need and whether it is renewable; names, kinds, parents,
+/// steps, ceilings, the margin and the number of entries stay.
+pub fn shape_law()
+    ensures { ShapeLaw }
+{}
+
+/// The law of the next wake-up: a tick at the first moment of the plan in force asks. So it does at the moment of
+/// [`Output::Sleep`](crate::Output::Sleep), and at the next one of [`Output::Round`](crate::Output::Round).
+pub fn next_asks_law()
+    ensures { NextAsksLaw }
 {}

@@ -36,5 +36,5 @@ pub use laws_of_plans::{
     kept_plan_law, no_longer_law, someone_law, still_forced_law, tail_kept_law, tick_law,
 };
 pub use laws_of_runs::{closes_law, in_force_law, order_law, too_long_law};
-pub use laws_of_steps::{adds_law, ask_law, once_law, state_law};
+pub use laws_of_steps::{adds_law, ask_law, next_asks_law, once_law, shape_law, state_law};
 pub use shortened::{ShortNeed, Shortened};

@@ -2,7 +2,7 @@ ghost use Rattle.std.specs.Prelude.{◌≡◌, ◌++◌, None, IfErr, IfOk, OnEr
 ghost use Rattle.keep_rule.specs.Asks.{first_of};
 ghost use Rattle.keep_plan.specs.Decides.{IsKept};
 ghost use Rattle.keep_plan.specs.Planned.{to_come};
-ghost use Rattle.keep_schedule.specs.Forces.{moments_of};
+ghost use Rattle.keep_rule.specs.Runs.{moments_of};
 ghost use Rattle.keep_core.specs.declared.event.Event.TheVariants as events;
 ghost use Rattle.keep_core.specs.Passes.{PlanFails};
 ghost use Rattle.keep_core.specs.Refusal.{refusal};

@@ -18,10 +18,10 @@ use Rattle.keep_engine.specs.declared.outcome.Outcome.{Outcome}
 use Rattle.keep_engine.specs.declared.stop.Stop.{Stop}
 use Rattle.keep_engine.specs.declared.stop.Stop.TheVariants as stops
 use Rattle.keep_moment.specs.declared.text.Text.{Text}
-use Rattle.vault_http.specs.Failures.{Counts, one_more}
-use Rattle.vault_http.specs.Front.{AppendsFront}
-use Rattle.vault_http.specs.declared.fault.SinkFault.{SinkFault}
-use Rattle.vault_http.specs.declared.fault.SinkFault.TheVariants as sink
+use Rattle.keep_device.specs.Failures.{Counts, one_more}
+use Rattle.keep_device.specs.Front.{AppendsFront}
+use Rattle.keep_device.specs.declared.fault.SinkFault.{SinkFault}
+use Rattle.keep_device.specs.declared.fault.SinkFault.TheVariants as sink
 use Rattle.keep_engine.specs.Answers.{Answers, Sends}
 use Rattle.keep_engine.specs.EndsRun.{EndsRun}
 use Rattle.keep_engine.specs.Exits.{exit_of, stop_of_print, stop_of_sink}

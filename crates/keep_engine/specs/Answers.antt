@@ -4,8 +4,8 @@ use Rattle.keep_tree.specs.Forest.{Grove}
 use Rattle.keep_rule.specs.Plans.{wake_fault}
 use Rattle.keep_inventory.specs.Stock.{Stock}
 use Rattle.keep_inventory.specs.Inventory.{inventory}
-use Rattle.vault_http.specs.Failures.{HasFailed}
-use Rattle.vault_http.specs.Front.{AppendsFront}
+use Rattle.keep_device.specs.Failures.{HasFailed}
+use Rattle.keep_device.specs.Front.{AppendsFront}
 use Rattle.keep_moment.specs.declared.text.Text.{Text}
 use Rattle.keep_engine.specs.declared.stop.Stop.{Stop}
 use Rattle.keep_engine.specs.declared.stop.Stop.TheVariants as stops

@@ -14,8 +14,8 @@ use Rattle.keep_check.specs.Laws.{Holds}
 use Rattle.keep_inventory.specs.declared.fault.InvFault.{InvFault}
 use Rattle.keep_inventory.specs.Stock.{Stock}
 use Rattle.keep_inventory.specs.Inventory.{inventory}
-use Rattle.vault_http.specs.Failures.{HasFailed}
-use Rattle.vault_http.specs.Front.{AppendsFront}
+use Rattle.keep_device.specs.Failures.{HasFailed}
+use Rattle.keep_device.specs.Front.{AppendsFront}
 use Rattle.keep_engine.specs.declared.exit.Exit.{Exit}
 use Rattle.keep_engine.specs.declared.exit.Exit.TheVariants as exits
 use Rattle.keep_engine.specs.CheckText.{no_line, unreadable_line}

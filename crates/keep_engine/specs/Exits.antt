@@ -11,10 +11,10 @@ use Rattle.keep_cert.specs.declared.printer.PrintFault.{PrintFault}
 use Rattle.keep_cert.specs.declared.printer.PrintFault.TheVariants as prints
 use Rattle.keep_check.specs.declared.answer.CheckFault.{CheckFault}
 use Rattle.keep_check.specs.declared.answer.CheckFault.TheVariants as checks
-use Rattle.vault_http.specs.declared.fault.InputFault.{InputFault}
-use Rattle.vault_http.specs.declared.fault.InputFault.TheVariants as inputs
-use Rattle.vault_http.specs.declared.fault.SinkFault.{SinkFault}
-use Rattle.vault_http.specs.declared.fault.SinkFault.TheVariants as sink
+use Rattle.keep_device.specs.declared.fault.InputFault.{InputFault}
+use Rattle.keep_device.specs.declared.fault.InputFault.TheVariants as inputs
+use Rattle.keep_device.specs.declared.fault.SinkFault.{SinkFault}
+use Rattle.keep_device.specs.declared.fault.SinkFault.TheVariants as sink
 use Rattle.keep_engine.specs.declared.exit.Exit.{Exit}
 use Rattle.keep_engine.specs.declared.exit.Exit.TheVariants as exits
 use Rattle.keep_engine.specs.declared.stop.Stop.{Stop}

@@ -3,7 +3,7 @@
 use Rattle.std.specs.Prelude.{◌≡◌, ℕ, IsTrue, ◌⊎◌, List, Ok, Err}
 use Rattle.std.specs.Io.KnownBytes.{Keeps}
 use Rattle.keep_tree.specs.Forest.{Grove}
-use Rattle.keep_schedule.specs.declared.run.Run.{Run}
+use Rattle.keep_rule.specs.declared.run.Run.{Run}
 use Rattle.keep_plan.specs.declared.decision.Decision.{Decision}
 use Rattle.keep_plan.specs.declared.decision.Decision.TheVariants as decision
 use Rattle.keep_plan.specs.Decides.{AreBest, IsTooLong, NoneKeeps}
@@ -14,8 +14,8 @@ use Rattle.keep_cert.specs.Printing.{certified}
 use Rattle.keep_inventory.specs.declared.fault.InvFault.{InvFault}
 use Rattle.keep_inventory.specs.Stock.{Stock}
 use Rattle.keep_inventory.specs.Inventory.{inventory}
-use Rattle.vault_http.specs.Failures.{HasFailed}
-use Rattle.vault_http.specs.Front.{AppendsFront}
+use Rattle.keep_device.specs.Failures.{HasFailed}
+use Rattle.keep_device.specs.Front.{AppendsFront}
 use Rattle.keep_engine.specs.declared.exit.Exit.{Exit}
 use Rattle.keep_engine.specs.declared.exit.Exit.TheVariants as exits
 use Rattle.keep_engine.specs.Output.{Output, Sent}

@@ -1,7 +1,7 @@
 -- Secrecy: of two inventories that differ in their credentials alone a run writes the same.
 use Rattle.std.specs.Prelude.{◌≡◌, ℕ, List, Ok}
 use Rattle.std.specs.Io.KnownBytes.{Appends}
-use Rattle.vault_http.specs.Front.{AppendsFront}
+use Rattle.keep_device.specs.Front.{AppendsFront}
 use Rattle.keep_inventory.specs.Bare.{AreAlike}
 use Rattle.keep_inventory.specs.Stock.{Stock}
 use Rattle.keep_inventory.specs.Inventory.{inventory}

@@ -5,7 +5,7 @@ use crate::check_text::check_text;
 use crate::exit::Exit;
 use crate::output::send;
 use std::alloc::Global;
-use vault_http::Sink;
+use keep_device::Sink;
 
 /// The command `check`: judges a certificate, whoever wrote it, by the inventory's forest and the certificate's own start.
 /// It writes `yes` and gives exit 0 exactly where the text is a certificate over the forest and what it claims holds: its

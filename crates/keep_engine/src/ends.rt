@@ -7,7 +7,7 @@ use crate::exit::Exit;
 use crate::output::send;
 use keep_moment::Moment;
 use std::alloc::Global;
-use vault_http::Sink;
+use keep_device::Sink;
 
 /// The command `ends`: asks every entry of the inventory at each of the moments, and writes the line `NAME END` for each
 /// entry, then `keeps yes` where each entry was alive from `start` until its need, else `keeps no`.

@@ -2,7 +2,7 @@ ghost use Rattle.keep_engine.specs.Answers.{Sends};
 
 use crate::stop::Stop;
 use keep_moment::Text;
-use vault_http::{Sink, write_all};
+use keep_device::{Sink, write_all};
 
 /// Writes a whole text and flushes.
 pub(crate) fn send<W: Sink>(out: &mut W, text: &Text) -> Result<(), Stop>

@@ -6,7 +6,7 @@ use crate::output::send;
 use crate::plan_text::plan_text;
 use keep_moment::Moment;
 use std::alloc::Global;
-use vault_http::Sink;
+use keep_device::Sink;
 
 /// The command `plan`: writes the certificate of the inventory's decision from `start` on. Exit 0: the wake-ups are least
 /// and latest; where each asks its Asks they keep, and no plan that keeps has fewer. Exit 3: no plan keeps, and the

@@ -11,7 +11,7 @@ use keep_inventory::InvFault;
 use keep_plan::PlanFault;
 use keep_rule::WakeFault;
 use std::alloc::{AllocError, AllocFailed, Global};
-use vault_http::{InputFault, Sink, SinkFault, write_all};
+use keep_device::{InputFault, Sink, SinkFault, write_all};
 
 /// Why a run stopped before its end.
 #[derive(Clone, Copy, Debug, PartialEq, Eq)]

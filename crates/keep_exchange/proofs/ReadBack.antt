@@ -5,9 +5,9 @@ use Rattle.keep_exchange.specs.declared.fault.ExchangeFault.TheVariants.{OutOfMe
 use Rattle.keep_exchange.specs.Exchanges.{exchange_fault}
 use Rattle.vault_http.specs.declared.http_fault.HttpFault.{HttpFault}
 use Rattle.vault_http.specs.declared.http_fault.HttpFault.TheVariants as https
-use Rattle.vault_http.specs.Memory.{Supply, reads_needed, reads_of}
+use Rattle.keep_device.specs.Memory.{Supply, reads_needed, reads_of}
 use Rattle.vault_http.specs.Reading.{CountsMessage, Settles}
-use Rattle.vault_http.specs.Room.{most_reads}
+use Rattle.keep_device.specs.declared.limits.TheConstants.{MOST_READS}
 use Rattle.vault_http.specs.declared.reply.Reply.{Reply}
 use Rattle.vault_http.specs.declared.request.Request.{Request}
 use Rattle.vault_http.specs.Messages.{IsReply, IsRequest}
@@ -25,7 +25,7 @@ no_message message fault e = cc
 
 pub read_back :
     {A : Type 0} (IsAnswer : List ℕ → Result A HttpFault → Type 0) (bytes : List ℕ) (left : Option (List ℕ)) (before now : ℕ) (message : A) →
-    before ≤ most_reads → ((answer : Result A HttpFault) → IsAnswer bytes answer → answer ≡ Ok message) →
+    before ≤ MOST_READS → ((answer : Result A HttpFault) → IsAnswer bytes answer → answer ≡ Ok message) →
     (result : Result A HttpFault) → CountsMessage result 0 0 → Settles IsAnswer bytes left before now result → Reads message result
 read_back IsAnswer bytes left before now message few one (Ok x) count said = let same : Ok x ≡ Ok message = one (Ok x) said in cc
 read_back IsAnswer bytes left before now message few one (Err https.ReadFailed) count said = let wrong : 0 ≡ 1 = count in let no' : ⊥ = omega (arith, wrong) in absurd no'
@@ -38,11 +38,11 @@ read_back IsAnswer bytes left before now message few one (Err https.TwoLengths) 
 read_back IsAnswer bytes left before now message few one (Err https.TooLong) count (inl said) = absurd (no_message message https.TooLong (one (Err https.TooLong) said))
 read_back IsAnswer bytes left before now message few one (Err https.TooLong) count (inr late) = absurd (never_passes few late.passes.0 late.passes.1)
   where
-    never_passes : {before now : ℕ} → before ≤ most_reads → most_reads + now ≤ before → 0 < now → ⊥
+    never_passes : {before now : ℕ} → before ≤ MOST_READS → MOST_READS + now ≤ before → 0 < now → ⊥
     never_passes few over more = omega (arith, few, over, more)
 
 -- a text of at most 1 MiB is handed out in few reads
-pub few_reads : (bytes text : List ℕ) (pieces : List ℕ) → bytes ≡ text → pieces ≡ [] → length text ≤ 1048576 → reads_of pieces (length bytes) + 1 ≤ most_reads
+pub few_reads : (bytes text : List ℕ) (pieces : List ℕ) → bytes ≡ text → pieces ≡ [] → length text ≤ 1048576 → reads_of pieces (length bytes) + 1 ≤ MOST_READS
 unfolding reads_of
 few_reads bytes text pieces all none short =
     let reads : reads_of pieces (length bytes) ≡ (length text + 65535) / 65536 =

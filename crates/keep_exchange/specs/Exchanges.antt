@@ -15,7 +15,7 @@ use Rattle.vault_http.specs.declared.reply.Reply.{Reply}
 use Rattle.vault_http.specs.declared.request.Request.{Request}
 use Rattle.vault_http.specs.declared.writing.SendFault.{SendFault}
 use Rattle.vault_http.specs.declared.writing.SendFault.TheVariants as sends
-use Rattle.vault_http.specs.Failures.{one_more}
+use Rattle.keep_device.specs.Failures.{one_more}
 use Rattle.vault_http.specs.Written.{reply_text, request_text}
 
 -- what stands behind an exchange in memory: the broker's table, and the bytes of the last request and its reply

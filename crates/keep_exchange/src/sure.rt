@@ -1,6 +1,6 @@
 //! Devices in memory no call of which fails.
 ghost use Rattle.std.specs.Prelude.{◌≡◌, [], None, Some, true, IfOk};
-ghost use Rattle.vault_http.specs.Memory.{reads_needed};
+ghost use Rattle.keep_device.specs.Memory.{reads_needed};
 
 use std::alloc::{AllocError, Global};
 use std::marker::Model;
@@ -14,7 +14,7 @@ pub(crate) struct SureSink {
 
 impl Model for SureSink {
     ghost use Rattle.std.specs.Prelude.{◌≡◌, None};
-    ghost use Rattle.vault_http.specs.Memory.{Collected};
+    ghost use Rattle.keep_device.specs.Memory.{Collected};
 
     ghost Value = { Collected };
 
@@ -73,7 +73,7 @@ pub(crate) struct SureSource {
 
 impl Model for SureSource {
     ghost use Rattle.std.specs.Prelude.{◌≡◌, None};
-    ghost use Rattle.vault_http.specs.Memory.{Supply};
+    ghost use Rattle.keep_device.specs.Memory.{Supply};
 
     ghost Value = { Supply };
 

@@ -1,30 +1,19 @@
 -- The requests of a plan stay what they are from round to round.
-use Rattle.std.proofs.Common.{◌≡◌, ℕ, zero, suc, ◌+◌, ◌&&◌, Bool, cond, List, [], ◌∷◌, Option, filter, length, max, nat_le, nat_lt, refl, sym, ap, ◌∙◌}
+use Rattle.std.proofs.Common.{◌≡◌, ℕ, zero, suc, ◌+◌, ◌&&◌, Bool, cond, List, [], ◌∷◌, Option, filter, length, max, nat_lt, refl, sym, ap, ◌∙◌}
 use Rattle.std.proofs.Math.Path.{fun_ext}
-use Rattle.std.specs.List.{list_all, range_with_len}
+use Rattle.std.specs.List.{range_with_len}
 use Rattle.keep_tree.specs.declared.entry.Entry.{Entry}
 use Rattle.keep_tree.specs.Carried.{carried, carried_of}
 use Rattle.keep_tree.specs.Forest.{Grove, end_of, entry_at}
 use Rattle.keep_tree.specs.Over.{is_over}
 use Rattle.keep_tree.specs.Push.{IsForest}
-use Rattle.keep_tree.specs.Renewal.{all_last, is_granted, renewal, renewed}
+use Rattle.keep_tree.specs.Renewal.{all_last, renewed}
 use Rattle.keep_rule.specs.declared.wake.Wake.{Wake}
 use Rattle.keep_rule.specs.Asks.{asking, asks, first_of, is_due, is_wanted, with_asks}
 use Rattle.keep_rule.specs.Ends.{after}
 use Rattle.keep_core.specs.LawsOfPlans.{IsAnsweredByRule}
-use Rattle.keep_core.proofs.Alike.{Alike, after_alike, chain_alike, over_alike, renewal_alike}
+use Rattle.keep_core.proofs.Alike.{Alike, after_alike, all_last_alike, over_alike, renewed_alike}
 use Rattle.keep_core.proofs.Standing.{after_answers, answered_alike}
-
-all_last_alike : (es fs : List Entry) → Alike es fs → (ends : ℕ → ℕ) (m i : ℕ) → all_last fs ends m i ≡ all_last es ends m i
-unfolding all_last
-all_last_alike es fs a ends m i = ap (list_all (λ k. nat_le m (ends k))) (chain_alike es fs a i)
-
-renewed_alike : (es fs : List Entry) → Alike es fs → (margin : ℕ) (ends : ℕ → ℕ) (t i : ℕ) → renewed fs margin ends t i ≡ renewed es margin ends t i
-unfolding renewed is_granted
-renewed_alike es fs a margin ends t i =
-    ap (λ b. cond (b && all_last fs ends (t + margin) i) (renewal (entry_at fs i) t) (ends i)) (a.renewable i)
-    ∙ ap (λ b. cond ((entry_at es i).renewable && b) (renewal (entry_at fs i) t) (ends i)) (all_last_alike es fs a ends (t + margin) i)
-    ∙ ap (λ n. cond ((entry_at es i).renewable && all_last es ends (t + margin) i) n (ends i)) (renewal_alike es fs a i t)
 
 -- alike, with the same needs
 record Twins (es fs : List Entry) : Type 0 where

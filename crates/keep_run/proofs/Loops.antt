@@ -1,20 +1,9 @@
 -- What the loops of the program keep, with a tick more or an answer more, and at the end.
-use Rattle.std.proofs.Common.{◌≡◌, ℕ, ◌≤◌, List, [], ◌∷◌, ◌++◌, Some, None, Result, Ok, length, refl, sym, ap, ◌∙◌, subst}
+use Rattle.std.proofs.Common.{◌≡◌, ℕ, ◌≤◌, List, [], ◌∷◌, ◌++◌, Some, None, length, refl, sym, ap, ◌∙◌, subst}
 use Rattle.std.proofs.lemmas.List.{append_assoc}
-use Rattle.std.specs.List.{All, flat_map}
-use Rattle.keep_rule.specs.Asks.{first_of}
-use Rattle.keep_core.specs.declared.event.Event.TheVariants.{Tick}
-use Rattle.keep_core.specs.declared.event.Output.{Output}
-use Rattle.keep_core.specs.declared.event.Output.TheVariants as out
-use Rattle.keep_core.specs.declared.fault.StepFault.{StepFault}
-use Rattle.keep_core.specs.Replan.{IsPlanOf}
-use Rattle.keep_core.specs.Runs.{Turn}
-use Rattle.keep_core.specs.State.{State}
-use Rattle.keep_core.specs.Step.{opened}
-use Rattle.keep_core.proofs.Once.{once}
-use Rattle.keep_core.proofs.Standing.{best_first, kept_plan}
+use Rattle.std.specs.List.{flat_map}
 use Rattle.keep_run.specs.Closed.{IsAnswered, IsBeat, next_tick, requests_of, rounds, told_next}
-use Rattle.keep_run.specs.Stops.{AnswerMoreLaw, EndLaw, NextAsksLaw, SplitLaw, TickMoreLaw}
+use Rattle.keep_run.specs.Stops.{AnswerMoreLaw, EndLaw, SplitLaw, TickMoreLaw}
 use Rattle.keep_run.specs.Text.{beat_text, course_text, done_text, short_lines}
 
 pub tick_more : TickMoreLaw
@@ -51,20 +40,3 @@ split port cs old new None next (b ∷ bs) after played = absurd played
 split port cs old new (Some t) next (b ∷ bs) after played =
     let more = split port cs played.1.0 new (next_tick b) next bs after played.1.1.1 in
     (more.0, (more.1.0, ((played.0, (played.1.0, (played.1.1.0, more.1.1.0))), more.1.1.1)))
-
-first_is : (ts : List ℕ) (w : ℕ) → first_of ts ≡ Some w → (rest : List ℕ) × (ts ≡ w ∷ rest)
-first_is [] w e = absurd cc
-first_is (t ∷ ts) w e = let same : t ≡ w = cc in (ts, ap (λ n. n ∷ ts) same)
-
-pub next_asks : NextAsksLaw
-next_asks s new w output in_force first turn =
-    let front = first_is s.to_come w first in
-    let rest = front.0 in
-    let plan : IsPlanOf s.forest s.last (w ∷ rest) = subst (IsPlanOf s.forest s.last) front.1 in_force.0 in
-    let low = best_first s.forest s.last w rest plan in
-    let replan = kept_plan s w in_force low.0 (subst (All (λ u. w ≤ u)) (sym front.1) low.1) in
-    let mid : State = record s { last = w } in
-    let round = opened mid w (first_of rest) in
-    let known : Turn s (Tick w) (Ok (out.Ask round.unanswered)) (record mid { to_come = rest; round = Some round }) = (turn.0, (mid, (replan, (rest, (front.1, (refl, refl)))))) in
-    let one = once s new (record mid { to_come = rest; round = Some round }) (Tick w) (Ok output) (Ok (out.Ask round.unanswered)) (λ bad. cc) (λ bad. cc) turn known in
-    (round.unanswered, (let same : ◌≡◌ {A = Result Output StepFault} (Ok output) (Ok (out.Ask round.unanswered)) = one.0 in cc))

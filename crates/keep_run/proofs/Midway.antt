@@ -18,7 +18,7 @@ use Rattle.keep_rule.specs.Ends.{is_asked}
 use Rattle.keep_rule.specs.Schedule.{RisesStrictly}
 use Rattle.keep_rule.proofs.Alive.{alive_from_last, last_from_alive}
 use Rattle.keep_rule.proofs.Asking.{asked_end, asks_wanted}
-use Rattle.keep_schedule.specs.declared.limit.TheConstants.{LIMIT}
+use Rattle.keep_rule.specs.declared.limit.TheConstants.{LIMIT}
 use Rattle.keep_core.specs.declared.event.Event.TheVariants.{Told}
 use Rattle.keep_core.specs.declared.event.Output.{Output}
 use Rattle.keep_core.specs.declared.event.Output.TheVariants as out

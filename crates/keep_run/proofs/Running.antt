@@ -13,7 +13,7 @@ use Rattle.keep_rule.specs.Asks.{asking, asks, first_of, with_asks}
 use Rattle.keep_rule.specs.Plans.{IsPlan, moments}
 use Rattle.keep_rule.specs.Requests.{requests}
 use Rattle.keep_rule.proofs.LaterStart.{same_requests}
-use Rattle.keep_schedule.specs.declared.limit.TheConstants.{LIMIT}
+use Rattle.keep_rule.specs.declared.limit.TheConstants.{LIMIT}
 use Rattle.keep_inventory.specs.Stock.{Stock}
 use Rattle.mini_broker.specs.Sweep.{swept}
 use Rattle.keep_core.specs.declared.event.Event.TheVariants.{Tick}

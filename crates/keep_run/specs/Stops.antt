@@ -2,7 +2,6 @@
 -- Source: this project's own.
 use Rattle.std.specs.Prelude.{◌≡◌, ℕ, ◌≤◌, List, [], ◌∷◌, ◌++◌, Option, Some, None, Result, Ok, Err, length, map}
 use Rattle.std.specs.List.{flat_map}
-use Rattle.keep_tree.specs.Forest.{Grove, entry_at}
 use Rattle.keep_inventory.specs.Stock.{Stock}
 use Rattle.mini_broker.specs.declared.fault.NumberedFault.{NumberedFault}
 use Rattle.mini_broker.specs.declared.served.Served.{Served}
@@ -16,8 +15,6 @@ use Rattle.keep_core.specs.declared.fault.StepFault.{StepFault}
 use Rattle.keep_core.specs.declared.event.Output.TheVariants as out
 use Rattle.keep_core.specs.declared.fault.StepFault.TheVariants.{OutOfMemory, TooLong}
 use Rattle.keep_core.specs.declared.shortened.ShortNeed.{ShortNeed}
-use Rattle.keep_rule.specs.Asks.{first_of}
-use Rattle.keep_core.specs.InForce.{InForce}
 use Rattle.keep_core.specs.Replan.{IsTooLong}
 use Rattle.keep_core.specs.Runs.{Turn}
 use Rattle.keep_core.specs.State.{State}
@@ -137,22 +134,6 @@ both keeper table = record { keeper = keeper; table = table }
 -- the entry was answered, with this output
 abbrev pub Answers : List (List ℕ) → ℕ → World → ℕ → Output → World → Type 0
 Answers cs t old i output new = (x : Exchanged) × ((x.entry ≡ i) × ((x.output ≡ output) × IsAnswered 8200 cs t old x new))
-
--- ---- what no event changes
-
--- h has the entries of g, but for their ends, needs and whether they can be renewed
-pub record IsShaped (g h : Grove) : Type 0 where
-  pub margin : h.margin ≡ g.margin
-  pub count : length h.entries ≡ length g.entries
-  pub each : (i : ℕ) → entry_at h.entries i
-      ≡ record (entry_at g.entries i) { end = (entry_at h.entries i).end; renewable = (entry_at h.entries i).renewable; need = (entry_at h.entries i).need }
-
-abbrev pub ShapeLaw : Type 0
-ShapeLaw = (old new : State) (event : Event) (result : Result Output StepFault) → Turn old event result new → IsShaped old.forest new.forest
-
--- a tick at the first moment to come asks; so does the one behind a Sleep, and the one behind a round
-abbrev pub NextAsksLaw : Type 0
-NextAsksLaw = (s new : State) (w : ℕ) (output : Output) → InForce s → first_of s.to_come ≡ Some w → Turn s (Tick w) (Ok output) new → (asked : List ℕ) × (output ≡ out.Ask asked)
 
 -- a run is cut anywhere
 abbrev pub SplitLaw : Type 0

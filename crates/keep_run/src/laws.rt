@@ -1,7 +1,6 @@
 //! Laws of the Closed run without faults.
 ghost use Rattle.keep_run.specs.Laws.{AnswersTakenLaw, LeastLaw, PlannedRunLaw, RehearsalLaw, SoFarLaw, StandsLaw};
-ghost use Rattle.keep_run.specs.Stops.{AnswerMoreLaw, EndLaw, NeverRefusedLaw, NextAsksLaw, ShapeLaw, SplitLaw, TickMoreLaw};
-ghost use Rattle.keep_run.specs.Supplied.{SuppliedLaw};
+ghost use Rattle.keep_run.specs.Stops.{AnswerMoreLaw, EndLaw, NeverRefusedLaw, SplitLaw, TickMoreLaw};
 
 /// The law of a run so far: without faults, the run of an inventory that a plan keeps has its rounds at the plan's moments,
 /// tells each asked entry the renewal rule's end, and keeps the row of each entry listed until its need.
@@ -34,11 +33,6 @@ pub fn end_law()
     ensures { EndLaw }
 {}
 
-/// The law of supplied inventories: of every text that is one.
-pub fn supplied_law()
-    ensures { SuppliedLaw }
-{}
-
 /// The law of answers: without faults no answer of a round is refused but for want of memory.
 pub fn answers_taken_law()
     ensures { AnswersTakenLaw }
@@ -53,16 +47,6 @@ pub fn planned_run_law()
 /// plan would be too long or memory is wanting.
 pub fn never_refused_law()
     ensures { NeverRefusedLaw }
-{}
-
-/// The law of shape: no event of a keeper changes an entry but for its end, its need and whether it can be renewed.
-pub fn shape_law()
-    ensures { ShapeLaw }
-{}
-
-/// The law of the next wake-up: a tick at the first moment to come asks.
-pub fn next_asks_law()
-    ensures { NextAsksLaw }
 {}
 
 /// The law that a run is cut anywhere.

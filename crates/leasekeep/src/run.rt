@@ -8,8 +8,8 @@ use keep_moment::{Moment, Text};
 use std::alloc::{AllocError, Global};
 use std::io::Write;
 use std::rt::{Env, Files};
-use std::{env, fs, io};
-use vault_http::{Counted, InputFault, Sink, read_all, write_all};
+use std::{env, io};
+use keep_device::{Counted, InputFault, Sink, read_file, write_all};
 
 /// Runs the command that the words of the command line name, and gives the exit.
 pub fn run<R: Env + Files + AllocGlobal + Print + Eprint, E: Write + Drop>(
@@ -174,13 +174,4 @@ fn moments_of(alloc: Global, matches: &ArgMatches<'_>) -> Result<Vec<Moment>, Al
         }
     }
     Ok(moments)
-}
-
-/// The bytes of a file that has at most so many.
-fn read_file<R: Files + AllocGlobal>(rt: &R, path: &str, most: usize) -> Result<Text, InputFault> {
-    match fs::open(rt, path) {
-        Ok(file) => read_all(rt.alloc(), &mut Counted::new(file), most),
-        Err(error) if error.kind() == io::ErrorKind::OutOfMemory => Err(InputFault::OutOfMemory),
-        Err(_) => Err(InputFault::ReadFailed),
-    }
 }

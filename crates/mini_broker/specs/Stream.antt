@@ -8,7 +8,7 @@ use Rattle.vault_http.specs.declared.http_fault.HttpFault.TheVariants as https
 use Rattle.vault_http.specs.declared.request.Request.{Request}
 use Rattle.vault_http.specs.declared.writing.SendFault.{SendFault}
 use Rattle.vault_http.specs.declared.writing.SendFault.TheVariants as sends
-use Rattle.vault_http.specs.Failures.{one_more}
+use Rattle.keep_device.specs.Failures.{one_more}
 use Rattle.vault_http.specs.Messages.{IsRequest}
 use Rattle.vault_http.specs.Reading.{Settles}
 use Rattle.vault_http.specs.RoundTrip.{is_sent}

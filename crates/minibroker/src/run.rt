@@ -8,8 +8,8 @@ use mini_broker::Table;
 use std::io::Write;
 use std::net::{IpAddr, Ipv4Addr, Net, OpenListener, SocketAddr, TcpListener};
 use std::rt::{Env, Files};
-use std::{env, fs, io};
-use vault_http::{Counted, InputFault, Sink, read_all, write_all};
+use std::{env, io};
+use keep_device::{Counted, InputFault, Sink, read_file, write_all};
 
 /// The most bytes of an inventory.
 const MOST_INVENTORY: usize = 1_048_576;
@@ -118,13 +118,4 @@ fn serve<R: Files + AllocGlobal + Print + Net, F: Sink>(
     write_all(&mut out, line.as_bytes())?;
     out.flush()?;
     Ok(())
-}
-
-/// The bytes of a file that has at most so many.
-fn read_file<R: Files + AllocGlobal>(rt: &R, path: &str, most: usize) -> Result<Text, InputFault> {
-    match fs::open(rt, path) {
-        Ok(file) => read_all(rt.alloc(), &mut Counted::new(file), most),
-        Err(error) if error.kind() == io::ErrorKind::OutOfMemory => Err(InputFault::OutOfMemory),
-        Err(_) => Err(InputFault::ReadFailed),
-    }
 }

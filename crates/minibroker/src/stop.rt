@@ -2,7 +2,7 @@ use keep_inventory::InvFault;
 use mini_broker::StreamFault;
 use std::alloc::{AllocError, AllocFailed, Global};
 use std::io;
-use vault_http::{InputFault, Sink, SinkFault, write_all};
+use keep_device::{InputFault, Sink, SinkFault, write_all};
 
 /// Why the program stopped before its end.
 #[derive(Clone, Copy, Debug, PartialEq, Eq)]

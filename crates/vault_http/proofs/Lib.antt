@@ -1,4 +1,3 @@
-pub mod Handing
 pub mod FieldValues
 pub mod Numbers
 pub mod Runs

@@ -14,8 +14,8 @@ use Rattle.vault_http.specs.Body.{IsBody, counted_body, open_body}
 use Rattle.vault_http.specs.Holding.{Holds, HandedNone, HasLineBehind, Lacks}
 use Rattle.vault_http.specs.Judging.{IsWaiting}
 use Rattle.vault_http.specs.Reading.{HeldIsRead, IsLate, Settles}
-use Rattle.vault_http.specs.Room.{most_reads}
-use Rattle.vault_http.specs.Whole.{MakesAtMost}
+use Rattle.keep_device.specs.declared.limits.TheConstants.{MOST_READS}
+use Rattle.keep_device.specs.Whole.{MakesAtMost}
 use Rattle.vault_http.proofs.EmptyLines.{line_in_rest, line_where, line_within}
 use Rattle.vault_http.proofs.WholeChunks.{never_both, whole_where}
 
@@ -137,7 +137,7 @@ module _ {A : Type 0} (IsAnswer : List ℕ → Result A HttpFault → Type 0) wh
   }
 
   -- as many reads as are allowed did not do
-  pub late : (before now : Option (List ℕ)) (bytes : List ℕ) (due counter first left : ℕ) → most_reads ≤ counter → Consumes before now bytes → Lacks IsAnswer bytes due
+  pub late : (before now : Option (List ℕ)) (bytes : List ℕ) (due counter first left : ℕ) → MOST_READS ≤ counter → Consumes before now bytes → Lacks IsAnswer bytes due
       → IfSome before (λ _. (counter + left ≤ first) × ((counter ≡ 0) ⊎ (0 < left))) → (counter ≡ 0) ⊎ (left ≤ 1 → IsAtEnd now)
       → IfSome before (λ w. Settles IsAnswer w now first left (Err faults.TooLong))
   late None now bytes due counter first left many given l pace last = tt
@@ -147,7 +147,7 @@ module _ {A : Type 0} (IsAnswer : List ℕ → Result A HttpFault → Type 0) wh
     last = elim last [ inl none ↦ absurd (omega (arith, none, many)) | inr end ↦ end ];
   })
 
-  never_late : (bytes : List ℕ) (left : Option (List ℕ)) (before now : ℕ) (message : A) → Holds IsAnswer bytes message → before ≤ most_reads + 1 → IsLate IsAnswer bytes left before now → ⊥
+  never_late : (bytes : List ℕ) (left : Option (List ℕ)) (before now : ℕ) (message : A) → Holds IsAnswer bytes message → before ≤ MOST_READS + 1 → IsLate IsAnswer bytes left before now → ⊥
   never_late bytes None before now message holds few l = l.none.1
   never_late bytes (Some rest) before now message holds few l =
       let end : rest ≡ [] = l.last (omega (arith, few, l.passes.0)) in

@@ -1,9 +1,3 @@
-pub mod Failures
-pub mod Front
-pub mod Room
-pub mod Memory
-pub mod Whole
-pub mod Tally
 pub mod Written
 pub mod Sending
 pub mod Fields

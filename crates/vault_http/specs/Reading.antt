@@ -1,14 +1,14 @@
 -- What reading a message from a source answers, and the count of failures over the reading.
 use Rattle.std.specs.Prelude.{◌≡◌, ℕ, ◌+◌, ◌≤◌, ◌⊎◌, List, Option, Some, Result, Ok, Err}
 use Rattle.std.specs.Io.KnownBytes.{IsAtEnd}
-use Rattle.vault_http.specs.declared.one_read.MoreFault.{MoreFault}
-use Rattle.vault_http.specs.declared.one_read.MoreFault.TheVariants as more
+use Rattle.keep_device.specs.declared.one_read.MoreFault.{MoreFault}
+use Rattle.keep_device.specs.declared.one_read.MoreFault.TheVariants as more
 use Rattle.vault_http.specs.declared.http_fault.HttpFault.{HttpFault}
 use Rattle.vault_http.specs.declared.http_fault.HttpFault.TheVariants.{ReadFailed, TooLong, OutOfMemory}
-use Rattle.vault_http.specs.Failures.{one_more}
+use Rattle.keep_device.specs.Failures.{one_more}
 use Rattle.vault_http.specs.Holding.{Holds, HandedNone}
-use Rattle.vault_http.specs.Room.{most_reads}
-use Rattle.vault_http.specs.Whole.{PassesReads}
+use Rattle.keep_device.specs.declared.limits.TheConstants.{MOST_READS}
+use Rattle.keep_device.specs.Whole.{PassesReads}
 
 -- a read that gave nothing, as the fault of the message
 abbrev pub more_fault : MoreFault → HttpFault
@@ -34,7 +34,7 @@ Settles IsAnswer bytes left before now answer = IsAnswer bytes answer
 -- is told of its bytes alone
 abbrev pub HeldIsRead : {A : Type 0} → (List ℕ → Result A HttpFault → Type 0) → Type 0
 HeldIsRead {A} IsAnswer =
-    (bytes : List ℕ) (left : Option (List ℕ)) (before now : ℕ) (message : A) → Holds IsAnswer bytes message → before ≤ most_reads + 1
+    (bytes : List ℕ) (left : Option (List ℕ)) (before now : ℕ) (message : A) → Holds IsAnswer bytes message → before ≤ MOST_READS + 1
     → Settles IsAnswer bytes left before now (Err TooLong) → IsAnswer bytes (Err TooLong)
 
 -- one failure more where a read failed, and else none

@@ -4,15 +4,15 @@ ghost use Rattle.vault_http.specs.Holding.{HandedNone, Lacks};
 ghost use Rattle.vault_http.specs.declared.http_fault.HttpFault.TheVariants as faults;
 ghost use Rattle.vault_http.specs.Messages.{IsRequest, UnlessMemory};
 ghost use Rattle.vault_http.specs.Reading.{Settles, CountsMessage};
-ghost use Rattle.vault_http.specs.Room.{most_reads};
+ghost use Rattle.keep_device.specs.declared.limits.TheConstants.{MOST_READS, MOST_ROOM};
 ghost use Rattle.vault_http.specs.Verdicts.{IsDone, IfDone, IfWants};
-ghost use Rattle.vault_http.specs.Whole.{MakesAtMost};
+ghost use Rattle.keep_device.specs.Whole.{MakesAtMost};
 
 use crate::judging_request::judge_request;
-use crate::one_read::{MOST_READS, MOST_ROOM, read_more, zeros};
 use crate::reading::is_due;
 use crate::verdict::Verdict;
 use crate::{HttpFault, Request, Source};
+use keep_device::{MOST_READS, MOST_ROOM, read_more, zeros};
 use std::alloc::Global;
 
 /// Reads one request of at most `max` bytes, its head included. What stands behind it is not looked at, and the answer is
@@ -29,7 +29,7 @@ pub fn read_request<R: Source>(
 ) -> Result<Request, HttpFault>
     ensures answer { IfSome (R.remaining reader.old) (λ bytes.
         Settles (IsRequest max) bytes (R.remaining reader.new) (R.reads_left reader.old) (R.reads_left reader.new) result) }
-    ensures reads { MakesAtMost most_reads (R.remaining reader.old) (R.reads_made reader.old) (R.reads_made reader.new) }
+    ensures reads { MakesAtMost MOST_READS (R.remaining reader.old) (R.reads_made reader.old) (R.reads_made reader.new) }
     ensures written { Keeps (R.written reader.old) (R.written reader.new) }
     ensures count { CountsMessage result (R.failed_calls reader.old) (R.failed_calls reader.new) }
 
@@ -49,11 +49,11 @@ fn request_from<R: Source>(
     bytes: &mut Vec<u8>,
     max: usize,
 ) -> Result<Request, HttpFault>
-    requires room { length room.old ≡ 65536 }
+    requires room { length room.old ≡ MOST_ROOM }
     requires none { bytes.old.items ≡ [] }
     ensures answer { IfSome (R.remaining reader.old) (λ whole.
         Settles (IsRequest max) whole (R.remaining reader.new) (R.reads_left reader.old) (R.reads_left reader.new) result) }
-    ensures reads { MakesAtMost most_reads (R.remaining reader.old) (R.reads_made reader.old) (R.reads_made reader.new) }
+    ensures reads { MakesAtMost MOST_READS (R.remaining reader.old) (R.reads_made reader.old) (R.reads_made reader.new) }
     ensures written { Keeps (R.written reader.old) (R.written reader.new) }
     ensures count { CountsMessage result (R.failed_calls reader.old) (R.failed_calls reader.new) }
     ensures prompt { IsErrOf result faults.ReadFailed → HandedNone (IsRequest max) (R.remaining reader.old) (R.remaining reader.new) }

@@ -1,6 +1,6 @@
-//! Rows of bytes with what they are read as or written from, and devices that fail at each call in turn.
+//! Rows of bytes with what they are read as or written from.
 
-mod devices;
+mod reads;
 mod replies;
 mod requests;
 mod round_trips;

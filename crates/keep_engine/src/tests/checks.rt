@@ -4,7 +4,7 @@ use super::plans::{OF_ONE_TOKEN, PLANNED};
 use crate::{Exit, run_check, run_plan};
 use std::process::Abort;
 use std::test::Fail;
-use vault_http::MemorySink;
+use keep_device::MemorySink;
 
 /// The certificate of the web example in version 2.
 pub const IN_RUNS: &str = "leasekeep-plan 2\nstart 1000\nrun 1059 59 3 web web\nend 3\n";

@@ -7,7 +7,7 @@ use keep_moment::Moment;
 use std::alloc::Global;
 use std::process::Abort;
 use std::test::Fail;
-use vault_http::MemorySink;
+use keep_device::MemorySink;
 
 const WITH_MARGIN: &str =
     "margin = 10\n[[token]]\nname = \"web\"\nissued = 1000\nend = 1060\nincrement = 60\nmax_ttl = 9000\nneed = 1200\n";

@@ -1,6 +1,6 @@
 use crate::{Exit, report_input};
 use std::test::Fail;
-use vault_http::{InputFault, MemorySink};
+use keep_device::{InputFault, MemorySink};
 
 const IN_ORDER: [Exit; 8] = [
     Exit::Done,

@@ -6,7 +6,7 @@ use super::moment;
 use crate::{Exit, run_plan};
 use std::process::Abort;
 use std::test::Fail;
-use vault_http::MemorySink;
+use keep_device::MemorySink;
 
 /// Inventories, the exits of their plans from 1000 on, and the lines behind the first two.
 pub const PLANNED: [(&str, Exit, &str); 12] = [

@@ -6,7 +6,7 @@ use Rattle.vault_http.proofs.MessageLemmas.{settled, counted, not_read_failed}
 use Rattle.std.specs.Io.KnownBytes.{Keeps, Consumes}
 use Rattle.std.proofs.KnownBytes.{Consumes-nil, Keeps-refl, Keeps-trans}
 use Rattle.std.proofs.lemmas.Bool.{cases_lt}
-use Rattle.vault_http.specs.Room.{most_reads}
+use Rattle.keep_device.specs.declared.limits.TheConstants.{MOST_READS}
 use Rattle.vault_http.specs.Holding.{HandedNone, Lacks}
 use Rattle.vault_http.proofs.Waiting.{lacks_less, handed_none, not_ended, pace_first, pace_on, made_first, made_on, made_within, late}
 use Rattle.vault_http.proofs.WaitingMessages.{first_reply}
@@ -82,5 +82,5 @@ returns-clause-answer g c =
 
 pub returns-in-Done-clause-reads : goal.returns-in-Done-clause-reads
 returns-in-Done-clause-reads g c =
-    made_within (g.R.Device.remaining c.args.reader.now) (g.R.Device.remaining c.loop.reader) c.loop.bytes.items c.loop.counter most_reads (g.R.Device.reads_made c.args.reader.now) (g.R.Device.reads_made c.loop.reader)
+    made_within (g.R.Device.remaining c.args.reader.now) (g.R.Device.remaining c.loop.reader) c.loop.bytes.items c.loop.counter MOST_READS (g.R.Device.reads_made c.args.reader.now) (g.R.Device.reads_made c.loop.reader)
     (g.R.Device.reads_made c.read_more.new.source) (omega (arith, c.loop-test.true)) c.loop.invariant.given c.loop.invariant.made c.in_ok-some.ensures.made

@@ -1,7 +1,7 @@
 -- What was read so far is the front of the input, and the reads that were made are off those that were needed.
 use Rattle.std.proofs.Common.{◌≡◌, ◌+◌, ◌<◌, ◌≤◌, ◌⊎◌, IfSome, vec_len}
 use Rattle.std.specs.Io.KnownBytes.{Keeps, Consumes, IsAtEnd}
-use Rattle.vault_http.specs.Whole.{MakesAtMost}
+use Rattle.keep_device.specs.Whole.{MakesAtMost}
 use Rattle.vault_http.specs.Holding.{Lacks}
 use Rattle.vault_http.specs.Messages.{IsRequest}
 use Rattle.vault_http.proofs.reading_request.request_from.Given as goal

@@ -1,7 +1,7 @@
 use Rattle.std.proofs.Common.{◌∙◌, ◌++◌, ◌<◌, None, Option, ap, arith, length, refl, subst, sym}
 use Rattle.keep_tree.specs.Forest.{entry_at}
 use Rattle.keep_tree.proofs.Carrying.{and_left, and_right}
-use Rattle.keep_schedule.specs.Forces.{moments_of}
+use Rattle.keep_rule.specs.Runs.{moments_of}
 use Rattle.keep_plan.specs.Planned.{to_come}
 use Rattle.keep_core.specs.declared.round.OpenRound.{OpenRound}
 use Rattle.keep_core.specs.Hearing.{is_rules}

@@ -1,7 +1,7 @@
 use Rattle.std.proofs.Common.{◌≡◌, ◌∙◌, ◌≤◌, ◌++◌, Option, None, ap, arith, false, length, subst, sym}
 use Rattle.keep_rule.specs.Asks.{first_of}
-use Rattle.keep_schedule.specs.Forces.{moments_of}
-use Rattle.keep_schedule.specs.declared.limit.TheConstants.{LIMIT}
+use Rattle.keep_rule.specs.Runs.{moments_of}
+use Rattle.keep_rule.specs.declared.limit.TheConstants.{LIMIT}
 use Rattle.keep_plan.specs.Planned.{to_come}
 use Rattle.keep_core.specs.declared.round.OpenRound.{OpenRound}
 use Rattle.keep_core.specs.Keeping.{IsKeeper, seen}

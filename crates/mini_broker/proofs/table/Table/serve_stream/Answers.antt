@@ -1,7 +1,7 @@
 use Rattle.std.proofs.Common.{subst, sym}
 use Rattle.std.specs.Io.KnownBytes.{Appends}
-use Rattle.vault_http.specs.Room.{most_reads}
-use Rattle.vault_http.specs.Whole.{MakesAtMost}
+use Rattle.keep_device.specs.declared.limits.TheConstants.{MOST_READS}
+use Rattle.keep_device.specs.Whole.{MakesAtMost}
 use Rattle.mini_broker.specs.Stream.{Ends, IsFlushed, IsHandled, sent_of}
 use Rattle.mini_broker.proofs.Streamed.{kept_appends, handled_sent, left_by_sending, of_both}
 use Rattle.mini_broker.proofs.table.Table.serve_stream.Goals as goal
@@ -42,7 +42,7 @@ returns-clause-left g c =
 pub returns-clause-reads : goal.returns-clause-reads
 returns-clause-reads g c =
     let before = c.args.stream.now in
-    subst (λ n. MakesAtMost most_reads (g.S.Device.remaining before) (g.S.Device.reads_made before) n) (sym c.send.ensures.made) c.read_request-message.ensures.reads
+    subst (λ n. MakesAtMost MOST_READS (g.S.Device.remaining before) (g.S.Device.reads_made before) n) (sym c.send.ensures.made) c.read_request-message.ensures.reads
 
 pub send-requires : goal.send-requires
 send-requires g c =

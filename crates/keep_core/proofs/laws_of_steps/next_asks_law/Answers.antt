@@ -1,0 +1,5 @@
+use Rattle.keep_core.proofs.Once.{next_asks}
+use Rattle.keep_core.proofs.laws_of_steps.next_asks_law.Goals as goal
+
+pub returns : goal.returns
+returns c = next_asks

@@ -1,0 +1,5 @@
+use Rattle.keep_core.proofs.Shaped.{shape}
+use Rattle.keep_core.proofs.laws_of_steps.shape_law.Goals as goal
+
+pub returns : goal.returns
+returns c = shape

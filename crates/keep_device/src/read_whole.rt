@@ -1,0 +1,60 @@
+ghost use Rattle.std.specs.Prelude.{◌≡◌, ℕ, ◌+◌, ◌-◌, ◌<◌, ◌≤◌, [], length, take, IfOk, IfSome, OnOk, vec_len, ◌++◌};
+ghost use Rattle.std.specs.Result.{result_map_both};
+ghost use Rattle.std.specs.Io.KnownBytes.{Keeps, Consumes, IsAtEnd};
+ghost use Rattle.keep_device.specs.Failures.{CountsInput};
+ghost use Rattle.keep_device.specs.declared.limits.TheConstants.{MOST_READS, MOST_ROOM};
+ghost use Rattle.keep_device.specs.Whole.{IsWhole, MakesAtMost};
+
+use crate::limits::{MOST_READS, MOST_ROOM};
+use crate::one_read::{MoreFault, read_more, zeros};
+use crate::{InputFault, Source};
+use keep_moment::Text;
+use std::alloc::Global;
+
+/// Reads the whole input where it has at most `max` bytes. It makes at most 4,096 reads, each with room for 65,536
+/// bytes, or for what is left up to one byte past `max` where that is less.
+///
+/// `ReadFailed`: a read failed. `TooLong`: the input has more than `max` bytes, or 4,096 reads did not come to its end.
+/// After a fault the source is where it stopped.
+pub fn read_all<R: Source>(alloc: Global, source: &mut R, max: usize) -> Result<Text, InputFault>
+    ensures read { IfSome (R.remaining source.old) (λ bytes.
+        IsWhole max bytes (R.reads_left source.old) (R.reads_left source.new) result) }
+    ensures short { IfOk result (λ text. length text ≤ max) }
+    ensures end { OnOk result (IsAtEnd (R.remaining source.new)) }
+    ensures reads { MakesAtMost MOST_READS (R.remaining source.old) (R.reads_made source.old) (R.reads_made source.new) }
+    ensures written { Keeps (R.written source.old) (R.written source.new) }
+    ensures count { CountsInput result (R.failed_calls source.old) (R.failed_calls source.new) }
+{
+    let mut room = zeros(alloc, MOST_ROOM)?;
+    let mut bytes = Vec::new(alloc);
+    read_to_end(source, &mut room, &mut bytes, max)?;
+    Ok(Text::from_vec(bytes))
+}
+
+/// Reads the rest of the input behind `bytes`, which are empty.
+fn read_to_end<R: Source>(
+    source: &mut R,
+    room: &mut [u8],
+    bytes: &mut Vec<u8>,
+    max: usize,
+) -> Result<(), InputFault>
+    requires room { length room.old ≡ MOST_ROOM }
+    requires none { bytes.old.items ≡ [] }
+    ensures read { IfSome (R.remaining source.old) (λ whole.
+        IsWhole max whole (R.reads_left source.old) (R.reads_left source.new) (result_map_both (λ _. bytes.new.items) (λ fault. fault) result)) }
+    ensures short { OnOk result (vec_len bytes.new ≤ max) }
+    ensures end { OnOk result (IsAtEnd (R.remaining source.new)) }
+    ensures reads { MakesAtMost MOST_READS (R.remaining source.old) (R.reads_made source.old) (R.reads_made source.new) }
+    ensures written { Keeps (R.written source.old) (R.written source.new) }
+    ensures count { CountsInput result (R.failed_calls source.old) (R.failed_calls source.new) }
+{
+    for _ in 0..MOST_READS {
+        if !read_more(source, room, bytes, max)? {
+            return Ok(());
+        }
+        if bytes.len() > max {
+            return Err(InputFault::TooLong);
+        }
+    }
+    Err(InputFault::TooLong)
+}

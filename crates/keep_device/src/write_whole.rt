@@ -1,0 +1,24 @@
+ghost use Rattle.std.specs.Prelude.{◌≡◌, OnErr, OnOk, IsErrOf, IsTrue};
+ghost use Rattle.std.specs.Io.KnownBytes.{Keeps, Appends};
+ghost use Rattle.keep_device.specs.declared.fault.SinkFault.TheVariants.{OutOfMemory};
+ghost use Rattle.keep_device.specs.Failures.{Counts};
+ghost use Rattle.keep_device.specs.Front.{AppendsFront};
+
+use crate::{Sink, SinkFault};
+
+/// Writes all of `bytes`, in as many writes as the sink takes. It stops at the first write that fails, when
+/// a front of them has gone out. Only a sink in memory answers `OutOfMemory`.
+pub fn write_all<W: Sink>(sink: &mut W, bytes: &[u8]) -> Result<(), SinkFault>
+    ensures written { OnOk result (Appends (W.written sink.old) (W.written sink.new) bytes.now) }
+    ensures front { OnErr result (AppendsFront (W.written sink.old) (W.written sink.new) bytes.now) }
+    ensures remaining { Keeps (W.remaining sink.old) (W.remaining sink.new) }
+    ensures made { W.reads_made sink.new ≡ W.reads_made sink.old }
+    ensures memory { IsErrOf result OutOfMemory → IsTrue W.is_in_memory }
+    ensures count { Counts result (W.failed_calls sink.old) (W.failed_calls sink.new) }
+{
+    let mut at = 0;
+    while at < bytes.len() {
+        at += sink.write_some(&bytes[at..])?;
+    }
+    Ok(())
+}

@@ -1,0 +1,39 @@
+use crate::{HttpFault, MemorySource, read_reply, read_request};
+use std::alloc::Global;
+use std::test::Fail;
+
+/// A message of `n` bytes with this first line of 15, one byte a piece.
+fn one_by_one(alloc: Global, line: &str, n: usize) -> Result<MemorySource, Fail> {
+    let rest = n.saturating_sub(41);
+    let head = format!(in alloc; "{line}\r\nContent-Length: {rest}\r\n\r\n")?;
+    let mut bytes = Vec::from_slice(alloc, head.as_bytes())?;
+    let body = vec![in alloc; b'x'; rest]?;
+    bytes.extend_from_slice(&body)?;
+    let pieces = vec![in alloc; 1usize; n]?;
+    Ok(MemorySource::new(bytes, pieces, None))
+}
+
+// What 4,096 reads hand out is judged, and no read more is made.
+#[test]
+fn makes_4096_reads_for_a_reply(rt: HostRuntime) -> Result<(), Fail> {
+    let alloc = rt.alloc();
+    for (n, want) in [(4096, Ok(200)), (4097, Err(HttpFault::TooLong))] {
+        let mut source = one_by_one(alloc, "HTTP/1.1 200 OK", n)?;
+        let got = read_reply(alloc, &mut source, 1048576);
+        assert_eq!(rt; got.map(|reply| reply.status), want);
+        assert_eq!(rt; source.reads(), 4096);
+    }
+    Ok(())
+}
+
+#[test]
+fn makes_4096_reads_for_a_request(rt: HostRuntime) -> Result<(), Fail> {
+    let alloc = rt.alloc();
+    for (n, want) in [(4096, Ok(4055)), (4097, Err(HttpFault::TooLong))] {
+        let mut source = one_by_one(alloc, "POST / HTTP/1.1", n)?;
+        let got = read_request(alloc, &mut source, 1048576);
+        assert_eq!(rt; got.map(|request| request.body.list().len()), want);
+        assert_eq!(rt; source.reads(), 4096);
+    }
+    Ok(())
+}

@@ -1,0 +1,101 @@
+"""What is drawn: a lane for each entry, under its parent, with its life and what happened to it."""
+
+from __future__ import annotations
+
+from dataclasses import dataclass
+
+from leasekeep_draw.entries import Entry, Inventory
+from leasekeep_draw.history import History, Mark, Sign
+
+
+@dataclass(frozen=True)
+class Lane:
+    """One entry: how deep it lies under its root, until when it lived, and what happened to it."""
+
+    entry: Entry
+    depth: int
+    begin: int
+    end: int
+    marks: tuple[Mark, ...]
+
+    @property
+    def falls_short(self) -> bool:
+        """Whether the entry ended before its need, as the inventory has it."""
+        return self.end < self.entry.need
+
+    def count(self, sign: Sign) -> int:
+        """How often that happened."""
+        return sum(1 for mark in self.marks if mark.sign is sign)
+
+
+@dataclass(frozen=True)
+class Chart:
+    """The lanes from top to bottom, the wake-ups, and the moments from which and to which the picture goes."""
+
+    lanes: tuple[Lane, ...]
+    wakes: tuple[int, ...]
+    requests: int
+    start: int
+    stop: int
+    is_dated: bool
+
+    @property
+    def title(self) -> str:
+        """What the picture shows, in one line."""
+        short = sum(1 for lane in self.lanes if lane.falls_short)
+        fate = "every need is kept" if not short else f"{_counted(short, 'need', 'needs')} not kept"
+        return (
+            f"{_counted(len(self.lanes), 'entry', 'entries')}, {_counted(len(self.wakes), 'wake-up', 'wake-ups')}, "
+            f"{_counted(self.requests, 'request', 'requests')}: {fate}"
+        )
+
+
+def _counted(count: int, one: str, more: str) -> str:
+    return f"{count:,} {one if count == 1 else more}"
+
+
+def start_of(inventory: Inventory) -> int:
+    """Where no start is given: the latest issue that comes before every end, which a start mostly is near to."""
+    first_end = min((entry.end for entry in inventory.entries), default=0)
+    return max((entry.issued for entry in inventory.entries if entry.issued <= first_end), default=first_end)
+
+
+def chart_of(inventory: Inventory, history: History, start: int) -> Chart:
+    """The chart of an inventory and what happened from the start on."""
+    ends = _ends(inventory, history)
+    marks: list[list[Mark]] = [[] for _ in inventory.entries]
+    for mark in history.marks:
+        marks[mark.entry].append(mark)
+    lanes = tuple(
+        Lane(entry, depth, max(start, entry.issued), ends[index], tuple(marks[index]))
+        for index, depth in _in_tree_order(inventory.entries)
+        for entry in (inventory.entries[index],)
+    )
+    latest = [start + 1, *history.wakes, *ends, *(entry.need for entry in inventory.entries)]
+    return Chart(lanes, tuple(history.wakes), history.requests, start, max(latest), inventory.is_dated)
+
+
+def _ends(inventory: Inventory, history: History) -> list[int]:
+    """Until when each entry lived: no longer than its last told end, nor than the entry over it."""
+    own = [history.told_ends.get(index, entry.end) for index, entry in enumerate(inventory.entries)]
+    for mark in history.marks:
+        if mark.sign is Sign.RENEWED and mark.number is not None:
+            own[mark.entry] = mark.number
+    for index, entry in enumerate(inventory.entries):
+        if entry.parent is not None:
+            own[index] = min(own[index], own[entry.parent])
+    return own
+
+
+def _in_tree_order(entries: tuple[Entry, ...]) -> list[tuple[int, int]]:
+    """Index and depth of each entry, children right under their parent, in the order of the inventory."""
+    children: dict[int | None, list[int]] = {}
+    for index, entry in enumerate(entries):
+        children.setdefault(entry.parent, []).append(index)
+    ordered: list[tuple[int, int]] = []
+    waiting = [(index, 0) for index in reversed(children.get(None, []))]
+    while waiting:
+        index, depth = waiting.pop()
+        ordered.append((index, depth))
+        waiting.extend((child, depth + 1) for child in reversed(children.get(index, [])))
+    return ordered

@@ -1,0 +1,84 @@
+"""The command line: which files are read, and what is written."""
+
+from __future__ import annotations
+
+import argparse
+import shutil
+import sys
+from pathlib import Path
+
+from leasekeep_draw import entries, history, picture, table, terminal
+from leasekeep_draw.chart import Chart, chart_of, start_of
+
+_EXAMPLE = """
+example:
+  leasekeep rehearse fleet.toml 1000 >fleet.run
+  leasekeep-draw fleet.toml fleet.run --start 1000
+  leasekeep-draw fleet.toml fleet.run --start 1000 --svg >fleet.svg
+
+exits: 0 done; 1 an inventory, or lines, that can't be drawn; 2 the command line; 6 a read or a write failed
+"""
+
+
+def main(words: list[str]) -> int:
+    """Runs the command, and gives its exit."""
+    asked = _parser().parse_args(words)
+    try:
+        chart = _chart(asked)
+        sys.stdout.write(_drawn(chart, asked))
+        sys.stdout.flush()
+    except (entries.InventoryFault, history.LineFault) as fault:
+        print(f"leasekeep-draw: {fault}", file=sys.stderr)
+        return 1
+    except (OSError, UnicodeError) as fault:
+        print(f"leasekeep-draw: {fault}", file=sys.stderr)
+        _close_quietly()
+        return 6
+    return 0
+
+
+def _parser() -> argparse.ArgumentParser:
+    parser = argparse.ArgumentParser(
+        prog="leasekeep-draw",
+        description="Draws the lives and renewals of an inventory's entries, from the lines that `leasekeep rehearse` or "
+        "`leasekeep run` printed.",
+        epilog=_EXAMPLE,
+        formatter_class=argparse.RawDescriptionHelpFormatter,
+    )
+    parser.add_argument("inventory", metavar="FILE", help="the inventory")
+    parser.add_argument("lines", metavar="LINES", nargs="?", default="-", help="the lines; `-`, and no word: standard input")
+    parser.add_argument("--start", type=int, help="the start of the run, as given to it (else a moment near to it is taken)")
+    shape = parser.add_mutually_exclusive_group()
+    shape.add_argument("--svg", action="store_true", help="an SVG picture")
+    shape.add_argument("--table", action="store_true", help="a table, for who reads instead of looking")
+    parser.add_argument("--width", type=int, help="columns of the terminal (else as it is, or 80)")
+    parser.add_argument("--ascii", action="store_true", help="no characters beyond ASCII")
+    return parser
+
+
+def _chart(asked: argparse.Namespace) -> Chart:
+    inventory = entries.read(Path(asked.inventory).read_text(encoding="utf-8"))
+    start = start_of(inventory) if asked.start is None else asked.start
+    indices = {entry.name: index for index, entry in enumerate(inventory.entries)}
+    if asked.lines == "-":
+        return chart_of(inventory, history.read(sys.stdin, indices, start), start)
+    with open(asked.lines, encoding="utf-8") as lines:
+        return chart_of(inventory, history.read(lines, indices, start), start)
+
+
+def _drawn(chart: Chart, asked: argparse.Namespace) -> str:
+    if asked.svg:
+        return picture.svg(chart)
+    if asked.table:
+        return table.text(chart)
+    width = asked.width or shutil.get_terminal_size((80, 24)).columns
+    is_plain = asked.ascii or (sys.stdout.encoding or "").lower() not in ("utf-8", "utf8")
+    return terminal.text(chart, max(width, terminal.NARROWEST), terminal.ASCII if is_plain else terminal.UNICODE)
+
+
+def _close_quietly() -> None:
+    """Standard output may be closed: what is left in its buffer must not fail again at the end."""
+    try:
+        sys.stdout.close()
+    except OSError:
+        pass

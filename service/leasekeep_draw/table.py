@@ -1,0 +1,41 @@
+"""The chart as rows of text: what a picture shows, for who reads instead of looking."""
+
+from __future__ import annotations
+
+from collections.abc import Iterator
+
+from leasekeep_draw.axis import moment_text
+from leasekeep_draw.chart import Chart, Lane
+from leasekeep_draw.history import Sign
+
+HEADS = ("entry", "under", "lives until", "need", "ceiling", "renewed", "refused", "lost", "short", "kept")
+
+
+def rows(chart: Chart) -> Iterator[tuple[str, ...]]:
+    """A row for each lane, in the order of the picture, under HEADS."""
+    path: list[str] = []
+    for lane in chart.lanes:
+        del path[lane.depth :]
+        yield _row(lane, path[-1] if path else "-", chart.is_dated)
+        path.append(lane.entry.name)
+
+
+def _row(lane: Lane, parent: str, is_dated: bool) -> tuple[str, ...]:
+    entry = lane.entry
+    return (
+        entry.name,
+        parent,
+        moment_text(lane.end, is_dated),
+        moment_text(entry.need, is_dated) if entry.need else "-",
+        "-" if entry.ceiling is None else moment_text(entry.ceiling, is_dated),
+        *(str(lane.count(sign)) for sign in (Sign.RENEWED, Sign.REFUSED, Sign.LOST, Sign.SHORT)),
+        "no" if lane.falls_short else "yes",
+    )
+
+
+def text(chart: Chart) -> str:
+    """The table with its columns at equal places, the title before it."""
+    lines = [HEADS, *rows(chart)]
+    widths = [max(len(line[column]) for line in lines) for column in range(len(HEADS))]
+    written = ("  ".join(cell.ljust(width) for cell, width in zip(line, widths)).rstrip() for line in lines)
+    return "\n".join([chart.title, "", *written]) + "\n"

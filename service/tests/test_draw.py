@@ -1,0 +1,188 @@
+"""leasekeep-draw: what is read, what the lanes say, and that each shape of the output shows it."""
+
+from __future__ import annotations
+
+import subprocess
+import sys
+import tempfile
+import unittest
+import xml.etree.ElementTree as tree
+from pathlib import Path
+
+SERVICE = Path(__file__).resolve().parent.parent
+sys.path.insert(0, str(SERVICE))
+
+from leasekeep_draw import entries, history, picture, table, terminal  # noqa: E402
+from leasekeep_draw.axis import Axis  # noqa: E402
+from leasekeep_draw.chart import Chart, chart_of, start_of  # noqa: E402
+from leasekeep_draw.history import Sign  # noqa: E402
+
+FAMILY = """
+[[token]]
+name = "T"
+issued = 1000
+end = 1100
+increment = 100
+max_ttl = 250
+need = 1200
+
+[[token]]
+name = "U"
+issued = 1000
+end = 1060
+period = 60
+explicit_max_ttl = 500
+
+[[lease]]
+name = "L"
+token = "T"
+issued = 1000
+end = 1060
+increment = 60
+need = 1200
+"""
+
+LINES = """entry T 1100
+entry U 1060
+entry L 1060
+wake 1059 T L
+told T 100
+lost L
+next 1059
+wake 1059 L
+refused L 403
+short L 1060
+next none
+"""
+
+
+def family(lines: str = LINES) -> Chart:
+    inventory = entries.read(FAMILY)
+    indices = {entry.name: index for index, entry in enumerate(inventory.entries)}
+    return chart_of(inventory, history.read(lines.splitlines(keepends=True), indices, 1000), 1000)
+
+
+class Reading(unittest.TestCase):
+    def test_ceilings(self) -> None:
+        read = entries.read(FAMILY + "max_ttl = 0\n").entries
+        self.assertEqual([entry.ceiling for entry in read], [1250, 1500, 1000 + 2_764_800])
+
+    def test_a_periodic_token_without_explicit_maximum_has_no_ceiling(self) -> None:
+        text = FAMILY.replace("explicit_max_ttl = 500", "explicit_max_ttl = 0")
+        self.assertIsNone(entries.read(text).entries[1].ceiling)
+
+    def test_dates(self) -> None:
+        inventory = entries.read('[[token]]\nname = "a"\nissued = "1970-01-01T00:16:40Z"\nend = "1970-01-01T02:17:40.9+02:00"\nincrement = 60\n')
+        self.assertTrue(inventory.is_dated)
+        self.assertEqual((inventory.entries[0].issued, inventory.entries[0].end), (1000, 1060))
+
+    def test_faults(self) -> None:
+        for text in ("[[token", "[[token]]\nname = 'a'\n", "token = 5\n", FAMILY.replace('token = "T"', 'token = "X"')):
+            with self.subTest(text=text), self.assertRaises(entries.InventoryFault):
+                entries.read(text)
+
+    def test_lines_that_nobody_prints(self) -> None:
+        for line in ("wake", "told nobody 5", "told T x", "wake 5 nobody", "", "entry T"):
+            with self.subTest(line=line), self.assertRaises(history.LineFault) as caught:
+                family("wake 1059 T\n" + line + "\n")
+            self.assertEqual(caught.exception.number, 2)
+
+
+class Lanes(unittest.TestCase):
+    def test_order_depth_and_ends(self) -> None:
+        lanes = [(lane.entry.name, lane.depth, lane.end, lane.falls_short) for lane in family().lanes]
+        self.assertEqual(lanes, [("T", 0, 1159, True), ("L", 1, 1060, True), ("U", 0, 1060, False)])
+
+    def test_a_child_ends_with_its_parent(self) -> None:
+        self.assertEqual(family("wake 1059 L\ntold L 600\n").lanes[1].end, 1100)
+
+    def test_marks(self) -> None:
+        marks = [(mark.moment, mark.sign) for mark in family().lanes[1].marks]
+        self.assertEqual(marks, [(1059, Sign.LOST), (1059, Sign.REFUSED), (1059, Sign.SHORT)])
+
+    def test_title_counts(self) -> None:
+        self.assertEqual(family().title, "3 entries, 2 wake-ups, 3 requests: 2 needs not kept")
+
+    def test_a_start_near_the_run(self) -> None:
+        self.assertEqual(start_of(entries.read(FAMILY)), 1000)
+        self.assertEqual(start_of(entries.read("")), 0)
+
+
+class Pictures(unittest.TestCase):
+    def test_the_picture_is_well_formed_and_has_each_sign(self) -> None:
+        root = tree.fromstring(picture.svg(family()))
+        spaced = "{http://www.w3.org/2000/svg}"
+        lanes = [group for group in root.iter(f"{spaced}g") if group.find(f"{spaced}title") is not None]
+        self.assertEqual([group.get("class") for group in lanes], ["token", "lease", "token"])
+        lease = lanes[1]
+        self.assertEqual(len(lease.findall(f"{spaced}circle")), 1)
+        self.assertEqual(len([path for path in lease.findall(f"{spaced}path") if path.get("class") == "bad"]), 3)
+        self.assertIn("lives until  need", root.findtext(f"{spaced}desc") or "")
+
+    def test_names_are_escaped(self) -> None:
+        # (no inventory that leasekeep reads has such a name)
+        text = FAMILY.replace('name = "U"', 'name = "<U&>"')
+        inventory = entries.read(text)
+        root = tree.fromstring(picture.svg(chart_of(inventory, history.History(), 1000)))
+        self.assertIn("<U&>", "".join(root.itertext()))
+
+    def test_marks_on_one_place_are_drawn_once(self) -> None:
+        lines = "".join(f"wake {1000 + n // 50} U\ntold U 60\n" for n in range(50_000))
+        self.assertLess(len(picture.svg(family(lines))), 200_000)
+
+    def test_table(self) -> None:
+        self.assertEqual(
+            list(table.rows(family())),
+            [
+                ("T", "-", "1159", "1200", "1250", "1", "0", "0", "0", "no"),
+                ("L", "T", "1060", "1200", "2765800", "0", "1", "1", "1", "no"),
+                ("U", "-", "1060", "-", "1500", "0", "0", "0", "0", "yes"),
+            ],
+        )
+
+    def test_the_terminal_keeps_its_width(self) -> None:
+        for width in (40, 80, 200):
+            for signs in (terminal.UNICODE, terminal.ASCII):
+                with self.subTest(width=width):
+                    lines = terminal.text(family(), width, signs).splitlines()
+                    self.assertLessEqual(max(map(len, lines)), width)
+                    lease = next(line for line in lines if line.startswith("  L"))
+                    self.assertIn(signs.refused + signs.short, lease)
+
+    def test_axis(self) -> None:
+        axis = Axis(1000, 1200, 100.0, False)
+        self.assertEqual([axis.place(moment) for moment in (900, 1000, 1100, 1200, 5000)], [0, 0, 50, 100, 100])
+        self.assertEqual([moment for moment, _ in axis.ticks(5)], [1000, 1050, 1100, 1150, 1200])
+        dated = Axis(0, 7200, 100.0, True)
+        self.assertEqual([words for _, words in dated.ticks(3)], ["01-01 00:00", "01-01 01:00", "01-01 02:00"])
+
+
+class Command(unittest.TestCase):
+    def run_it(self, *words: str, given: str = LINES) -> subprocess.CompletedProcess[str]:
+        with tempfile.NamedTemporaryFile("w", suffix=".toml") as file:
+            file.write(FAMILY)
+            file.flush()
+            return subprocess.run(
+                [sys.executable, str(SERVICE / "leasekeep-draw"), file.name, *words],
+                input=given, capture_output=True, text=True, timeout=30, check=False,
+            )
+
+    def test_exits(self) -> None:
+        self.assertEqual(self.run_it("--svg", "--start", "1000").returncode, 0)
+        self.assertEqual(self.run_it(given="nonsense\n").returncode, 1)
+        self.assertEqual(self.run_it("/no/such/file").returncode, 6)
+        self.assertEqual(self.run_it("--svg", "--table").returncode, 2)
+
+    def test_a_full_output(self) -> None:
+        with open("/dev/full", "w", encoding="utf-8") as full, tempfile.NamedTemporaryFile("w") as file:
+            file.write(FAMILY)
+            file.flush()
+            ran = subprocess.run(
+                [sys.executable, str(SERVICE / "leasekeep-draw"), file.name], input=LINES, stdout=full,
+                stderr=subprocess.PIPE, text=True, timeout=30, check=False,
+            )
+        self.assertEqual((ran.returncode, ran.stderr.count("\n")), (6, 1))
+
+
+if __name__ == "__main__":
+    unittest.main()
