@@ -10,9 +10,8 @@ use Rattle.keep_rule.specs.declared.wake.Wake.{Wake}
 use Rattle.keep_rule.specs.declared.wake.WakeFault.{WakeFault}
 use Rattle.keep_rule.specs.Ends.{ends_after}
 use Rattle.keep_rule.specs.Plans.{moments, wake_fault}
-use Rattle.keep_schedule.specs.declared.force.Force.{Force}
-use Rattle.keep_schedule.specs.Forces.{moments_of}
-use Rattle.keep_schedule.specs.Runs.{all_wakes}
+use Rattle.keep_rule.specs.declared.force.Force.{Force}
+use Rattle.keep_rule.specs.Runs.{all_wakes, moments_of}
 use Rattle.keep_plan.specs.Decides.{IsTooLong}
 use Rattle.keep_inventory.specs.Stock.{Stock}
 use Rattle.keep_inventory.specs.Inventory.{inventory}

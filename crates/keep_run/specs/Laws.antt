@@ -9,8 +9,8 @@ use Rattle.keep_rule.specs.Asks.{with_asks}
 use Rattle.keep_rule.specs.Keeps.{Keeps}
 use Rattle.keep_rule.specs.Plans.{IsPlan}
 use Rattle.keep_rule.specs.Requests.{requests}
-use Rattle.keep_schedule.specs.declared.limit.TheConstants.{LIMIT}
-use Rattle.keep_schedule.specs.Forces.{moments_of}
+use Rattle.keep_rule.specs.declared.limit.TheConstants.{LIMIT}
+use Rattle.keep_rule.specs.Runs.{moments_of}
 use Rattle.keep_plan.specs.declared.decision.Decision.TheVariants.{Keep}
 use Rattle.keep_plan.specs.Decides.{Decides}
 use Rattle.keep_plan.specs.Planned.{Planned, to_come}
@@ -27,7 +27,7 @@ use Rattle.keep_core.specs.declared.fault.StepFault.{StepFault}
 use Rattle.keep_core.specs.declared.fault.StepFault.TheVariants.{OutOfMemory}
 use Rattle.keep_core.specs.declared.shortened.ShortNeed.{ShortNeed}
 use Rattle.keep_core.specs.Replan.{IsPlanOf}
-use Rattle.keep_core.specs.Runs.{Turn}
+use Rattle.keep_core.specs.History.{Turn}
 use Rattle.keep_core.specs.State.{State}
 use Rattle.keep_run.specs.Closed.{AreAnswered, Beat, Course, Exchanged, IsClosedRun, IsOpening, Played, World, event_in, reply_in, requests_of, rounds, taken}
 use Rattle.keep_run.specs.Renewing.{event_for, request_of}
