@@ -7,6 +7,7 @@ import asyncio
 import os
 import random
 import signal
+import stat
 import sys
 from pathlib import Path
 from typing import Sequence
@@ -14,10 +15,12 @@ from typing import Sequence
 from .broker import Broker
 from .clock import SystemClock
 from .control import ControlFault, ControlServer, send_command
+from .discover import DiscoverFault, discover, read_short_list
 from .engine import Parts
 from .events import Alerts, Log
 from .http_client import Address, HttpTransport
 from .journal import Journal
+from .lint import kinds_of, lint
 from .notify import Notifier
 from .run_process import ProcessLauncher
 from .service import Service, Surroundings
@@ -75,6 +78,13 @@ def _parser() -> argparse.ArgumentParser:
     dropped = commands.add_parser("drop", parents=[runtime], help="keep an entry no more")
     dropped.add_argument("name", metavar="NAME")
     commands.add_parser("status", parents=[runtime], help="show how each entry stands")
+    linted = commands.add_parser("lint", help="tell every fault and doubt of an inventory, with its line")
+    linted.add_argument("file", type=Path, metavar="FILE")
+    linted.add_argument("--timeout", type=_timeout, default=5, metavar="SECONDS", help="the time-out of serve")
+    found = commands.add_parser("inventory", help="make an inventory of a short list and lookups at the broker")
+    found.add_argument("file", type=Path, metavar="LIST")
+    found.add_argument("address", type=_address, metavar="PORT|SOCKET")
+    found.add_argument("--timeout", type=_timeout, default=5, metavar="SECONDS")
     commands.add_parser("settle", parents=[runtime], help="write file and journal as one new file")
     return parser
 
@@ -103,7 +113,41 @@ def main(words: Sequence[str] | None = None) -> int:
     arguments = _parser().parse_args(words)
     if arguments.command == "serve":
         return _serve(arguments)
+    if arguments.command == "lint":
+        return _lint(arguments)
+    if arguments.command == "inventory":
+        return _inventory(arguments)
     return _client(arguments)
+
+
+def _lint(arguments: argparse.Namespace) -> int:
+    try:
+        data = arguments.file.read_bytes()
+        mode = stat.S_IMODE(arguments.file.stat().st_mode)
+    except OSError as error:
+        print(f"leasekeepd: lint: {arguments.file}: {error.strerror}", file=sys.stderr)
+        return EXIT_COMMAND_LINE
+    found = lint(data, mode, arguments.timeout, SystemClock().wall())
+    for finding in found:
+        print(finding.text(str(arguments.file)))
+    faults, doubts = kinds_of(found)
+    print(f"{arguments.file}: {faults} faults, {doubts} doubts", file=sys.stderr)
+    return EXIT_FAULT if faults else 0
+
+
+def _inventory(arguments: argparse.Namespace) -> int:
+    clock = SystemClock()
+
+    async def discovered() -> str:
+        broker = Broker(HttpTransport(arguments.address), clock, arguments.timeout)
+        return await discover(broker, clock, read_short_list(arguments.file))
+    try:
+        sys.stdout.write(asyncio.run(discovered()))
+    except DiscoverFault as fault:
+        for line in str(fault).splitlines():
+            print(f"leasekeepd: inventory: {line}", file=sys.stderr)
+        return EXIT_FAULT
+    return 0
 
 
 def _client(arguments: argparse.Namespace) -> int:
