@@ -5,6 +5,7 @@ from __future__ import annotations
 
 import asyncio
 import re
+import ssl
 import time
 from pathlib import Path
 
@@ -58,15 +59,22 @@ class LiveBroker:
 
 
 class Relay:
-    """Listens at a UNIX socket, and has each request served by the broker."""
+    """Listens at a UNIX socket, or with a certificate at a port of 127.0.0.1, and has each request served by the
+    broker."""
 
-    def __init__(self, path: Path) -> None:
-        self._path = path
+    def __init__(self, path: Path, certificate: ssl.SSLContext | None = None) -> None:
+        self._path, self._certificate = path, certificate
+        self.port = 0
+        self.last_head = b""
         self.broker: LiveBroker | None = None
         self._server: asyncio.Server | None = None
         self.served = 0
 
     async def start(self) -> None:
+        if self._certificate is not None:
+            self._server = await asyncio.start_server(self._talk, "127.0.0.1", self.port, ssl=self._certificate)
+            self.port = self._server.sockets[0].getsockname()[1]
+            return
         self._path.unlink(missing_ok=True)
         self._server = await asyncio.start_unix_server(self._talk, str(self._path))
 
@@ -79,6 +87,7 @@ class Relay:
         try:
             async with asyncio.timeout(TALK_SECONDS):
                 request = await read_request(reader)
+                self.last_head = request.partition(b"\r\n\r\n")[0]
                 if self.broker is not None:
                     writer.write(await self.broker.exchange(request))
                     await writer.drain()
