@@ -21,7 +21,7 @@ use Rattle.keep_core.specs.declared.event.Output.{Output}
 use Rattle.keep_core.specs.declared.fault.StepFault.{StepFault}
 use Rattle.keep_core.specs.LawsOfPlans.{IsAnsweredByRule}
 use Rattle.keep_core.specs.Replan.{IsPlanOf}
-use Rattle.keep_core.specs.Runs.{Turn}
+use Rattle.keep_core.specs.History.{Turn}
 use Rattle.keep_core.specs.State.{State}
 use Rattle.keep_core.proofs.Once.{once}
 use Rattle.keep_core.proofs.Standing.{tail_kept}

@@ -1,10 +1,4 @@
-ghost use Rattle.keep_core.specs.LawsOfRuns.{ClosesLaw, InForceLaw, OrderLaw, TooLongLaw};
-
-/// The law that no tick and no answer is ever too long, whatever events come after the opening: only
-/// [`Event::Need`](crate::Event::Need) can be.
-pub fn too_long_law()
-    ensures { TooLongLaw }
-{}
+ghost use Rattle.keep_core.specs.LawsOfHistories.{ClosesLaw, InForceLaw, OrderLaw};
 
 /// The law that every round closes: answers of entries that are waited for, one of each and in whatever order, are taken, want
 /// of memory aside; and where nobody is left, they close the round.

@@ -1,20 +1,16 @@
--- Laws of runs: what holds over every list of events. Each is the contract of a public function without a body.
-use Rattle.std.specs.Prelude.{◌≡◌, ◌==◌, ◌≢◌, ℕ, ◌≤◌, true, if◌then◌else◌, List, [], ◌∷◌, Option, Some, None, Result, Ok, Err}
-use Rattle.keep_moment.specs.declared.moment.TheConstants.{LAST}
-use Rattle.keep_tree.specs.Forest.{Grove}
-use Rattle.keep_tree.specs.Push.{IsForest}
+-- Laws of histories: what holds over every list of events. Each is the contract of a public function without a body.
+use Rattle.std.specs.Prelude.{◌≡◌, ◌==◌, ◌≢◌, ℕ, true, if◌then◌else◌, List, [], ◌∷◌, Option, Some, None, Result, Ok, Err}
 use Rattle.keep_core.specs.declared.event.Event.{Event}
 use Rattle.keep_core.specs.declared.event.Event.TheVariants.{Tick, Told, Refused, Lost, Need}
 use Rattle.keep_core.specs.declared.event.Output.{Output}
 use Rattle.keep_core.specs.declared.fault.StepFault.{StepFault}
-use Rattle.keep_core.specs.declared.fault.StepFault.TheVariants.{TooLong, OutOfMemory}
+use Rattle.keep_core.specs.declared.fault.StepFault.TheVariants.{OutOfMemory}
 use Rattle.keep_core.specs.InForce.{IsSound}
-use Rattle.keep_core.specs.LawsOfSteps.{IsState}
-use Rattle.keep_core.specs.Refusal.{TellsSpan, refusal, waits_for}
-use Rattle.keep_core.specs.Replan.{Replan}
-use Rattle.keep_core.specs.Runs.{Run}
-use Rattle.keep_core.specs.State.{Round, State, unplanned}
-use Rattle.keep_core.specs.Step.{StepTooLong, left, of_entry}
+use Rattle.keep_core.specs.Refusal.{TellsSpan, waits_for}
+use Rattle.keep_core.specs.History.{History}
+use Rattle.keep_core.specs.State.{Round, State}
+use Rattle.keep_core.specs.States.{IsState}
+use Rattle.keep_core.specs.Step.{left, of_entry}
 
 abbrev pub IsAnswer : Event → Type 0
 IsAnswer (Tick t) = ⊥
@@ -22,26 +18,6 @@ IsAnswer (Told i seconds renewable) = Unit {0}
 IsAnswer (Refused i) = Unit {0}
 IsAnswer (Lost i) = Unit {0}
 IsAnswer (Need i until) = ⊥
-
-abbrev pub IsNeed : Event → Type 0
-IsNeed (Tick t) = ⊥
-IsNeed (Told i seconds renewable) = ⊥
-IsNeed (Refused i) = ⊥
-IsNeed (Lost i) = ⊥
-IsNeed (Need i until) = Unit {0}
-
--- TooLong is the result of new needs alone
-abbrev pub TooLongAtNeeds : List Event → List (Result Output StepFault) → Type 0
-TooLongAtNeeds (event ∷ events) (Err TooLong ∷ results) = IsNeed event × TooLongAtNeeds events results
-TooLongAtNeeds (event ∷ events) (result ∷ results) = TooLongAtNeeds events results
-TooLongAtNeeds events results = Unit {0}
-
--- no tick and no answer is ever TooLong: in no such state, and so whatever events come after the opening
-abbrev pub TooLongLaw : Type 0
-TooLongLaw =
-    ((old : State) (event : Event) → IsState old → refusal old event ≡ None → StepTooLong old event → IsNeed event)
-    × ((g : Grove) (start : ℕ) (old new : State) (events : List Event) (results : List (Result Output StepFault)) → IsForest g → start ≤ LAST → Replan (unplanned g) start old →
-    Run old events results new → TooLongAtNeeds events results)
 
 -- these answer a round: each is of an entry that is then waited for, and tells no more seconds than can be told
 abbrev pub AnswerEach : Round → List Event → Type 0
@@ -68,7 +44,7 @@ AllTaken (Err fault ∷ results) = ⊥
 abbrev pub ClosesLaw : Type 0
 ClosesLaw =
     (old new : State) (round : Round) (events : List Event) (results : List (Result Output StepFault)) → IsState old → old.round ≡ Some round → AnswerEach round events →
-    NoneWants results → Run old events results new → AllTaken results × (left_by round events ≡ [] → new.round ≡ None)
+    NoneWants results → History old events results new → AllTaken results × (left_by round events ≡ [] → new.round ≡ None)
 
 -- the first answer for i, None where there is none
 unfoldable pub answer_for : List Event → ℕ → Option Event
@@ -81,9 +57,9 @@ abbrev pub OrderLaw : Type 0
 OrderLaw =
     (old x y : State) (round : Round) → IsState old → old.round ≡ Some round → (these others : List Event) → AnswerEach round these → AnswerEach round others →
     ((i : ℕ) → answer_for these i ≡ answer_for others i) → (results more : List (Result Output StepFault)) → NoneWants results → NoneWants more →
-    Run old these results x → Run old others more y → x ≡ y
+    History old these results x → History old others more y → x ≡ y
 
 -- whatever events come, the plan in force is the least and latest one whenever no round is open
 abbrev pub InForceLaw : Type 0
 InForceLaw =
-    (old new : State) (events : List Event) (results : List (Result Output StepFault)) → IsSound old → Run old events results new → IsSound new
+    (old new : State) (events : List Event) (results : List (Result Output StepFault)) → IsSound old → History old events results new → IsSound new

@@ -1,4 +1,4 @@
--- Runs: what every list of events gives.
+-- History: what every list of events gives.
 -- Source: this project's own.
 use Rattle.std.specs.Prelude.{◌≡◌, List, [], ◌∷◌, Some, None, Result, Ok, Err}
 use Rattle.keep_core.specs.declared.event.Event.{Event}
@@ -17,7 +17,7 @@ Turn old event (Err OutOfMemory) new = (refusal old event ≡ None) × (MayWant 
 Turn old event (Err fault) new = (refusal old event ≡ Some fault) × (new ≡ old)
 
 -- what events give one after another
-abbrev pub Run : State → List Event → List (Result Output StepFault) → State → Type 0
-Run old [] [] new = new ≡ old
-Run old (event ∷ events) (result ∷ results) new = (mid : State) × (Turn old event result mid × Run mid events results new)
-Run old events results new = ⊥
+abbrev pub History : State → List Event → List (Result Output StepFault) → State → Type 0
+History old [] [] new = new ≡ old
+History old (event ∷ events) (result ∷ results) new = (mid : State) × (Turn old event result mid × History mid events results new)
+History old events results new = ⊥
