@@ -30,6 +30,8 @@ from .storage import Storage
 EXIT_FAULT = 1
 EXIT_COMMAND_LINE = 2
 STDIN_MOST = 65536
+SOCKET = "control.sock"
+SYSTEM_RUNTIME = Path("/run/leasekeepd")
 
 
 def _folder(variable: str, otherwise: str) -> Path:
@@ -40,6 +42,13 @@ def _folder(variable: str, otherwise: str) -> Path:
 def _runtime_folder() -> Path:
     own = os.environ.get("XDG_RUNTIME_DIR", "/run")
     return _folder("RUNTIME_DIRECTORY", f"{own}/leasekeepd")
+
+
+def _socket(arguments: argparse.Namespace) -> Path:
+    """The control socket of the service that a command is for."""
+    own = (arguments.runtime or _runtime_folder()) / SOCKET
+    of_the_system = SYSTEM_RUNTIME / SOCKET
+    return of_the_system if arguments.runtime is None and not own.exists() and of_the_system.exists() else own
 
 
 def _state_folder() -> Path:
@@ -65,8 +74,9 @@ def _parser() -> argparse.ArgumentParser:
         prog="leasekeepd", description="Keeps Vault tokens and leases alive: drives `leasekeep run` in real time.")
     commands = parser.add_subparsers(dest="command", required=True, metavar="COMMAND")
     runtime = argparse.ArgumentParser(add_help=False)
-    runtime.add_argument("--runtime", type=Path, metavar="FOLDER", default=_runtime_folder(),
-                         help="folder of the control socket (default: %(default)s)")
+    runtime.add_argument("--runtime", type=Path, metavar="FOLDER",
+                         help=f"folder of the control socket (default: {_runtime_folder()}, and for commands"
+                         f" {SYSTEM_RUNTIME} where that has a socket and the other has none)")
     _add_serve(commands, runtime)
     need = commands.add_parser("need", parents=[runtime], help="change until when an entry is needed")
     need.add_argument("name", metavar="NAME")
@@ -160,7 +170,7 @@ def _client(arguments: argparse.Namespace) -> int:
         text = sys.stdin.read(STDIN_MOST)
         words.append(text.strip() if arguments.command == "replace" else text)
     try:
-        for line in send_command(arguments.runtime / "control.sock", words):
+        for line in send_command(_socket(arguments), words):
             print(line)
     except ControlFault as fault:
         print(f"leasekeepd: {arguments.command}: {fault}", file=sys.stderr)
@@ -169,6 +179,7 @@ def _client(arguments: argparse.Namespace) -> int:
 
 
 def _serve(arguments: argparse.Namespace) -> int:
+    arguments.runtime = arguments.runtime or _runtime_folder()
     try:
         for folder in (arguments.state, arguments.runtime):
             folder.mkdir(mode=0o750, parents=True, exist_ok=True)
@@ -189,7 +200,7 @@ def _serve(arguments: argparse.Namespace) -> int:
 async def _serve_until_told(arguments: argparse.Namespace) -> int:
     service = build(arguments)
     service.load()
-    control = ControlServer(arguments.runtime / "control.sock", arguments.group, service.command)
+    control = ControlServer(arguments.runtime / SOCKET, arguments.group, service.command)
     await control.start()
     loop = asyncio.get_running_loop()
     work = asyncio.create_task(service.serve())
@@ -215,5 +226,5 @@ def build(arguments: argparse.Namespace) -> Service:
                     arguments.names_are_secrets, storage)
     surroundings = Surroundings(
         source, Journal(arguments.state / "journal", storage), Notifier(os.environ), storage, arguments.metrics,
-        Alerts(arguments.alert) if arguments.alert else None)
+        Alerts(arguments.alert, clock) if arguments.alert else None)
     return Service(surroundings, Parts(clock, broker, launcher, log, random.Random()))
