@@ -68,5 +68,5 @@ certified_is_own g s exits.Memory text forest start is = absurd is
 
 pub own_text : OwnTextLaw
 own_text bytes stock s exit text read start is =
-    let forest = (inventory_law bytes stock read).0 in
+    let forest = (inventory_law bytes stock read).forest in
     (forest, certified_is_own stock.grove s exit text forest start is)

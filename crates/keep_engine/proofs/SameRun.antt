@@ -303,7 +303,7 @@ check_fronts bytes stock text exits.TooLong out reads run = absurd run
 
 pub check_secrecy : CheckSecrecy
 check_secrecy bytes other text exit exit' out out' faults faults' d a ta b tb =
-    let forest = (inventory_law bytes d.stock d.reads).0 in
+    let forest = (inventory_law bytes d.stock d.reads).forest in
     let grove = sym (one_grove bytes other d) in
     let g = d.stock.grove in (
       two_fronts (IsOfCheck g text) (λ x y p q. (one_check_text g text p.0 q.0 x y forest p.1 q.1).1) out out' (check_fronts bytes d.stock text exit out d.reads a)

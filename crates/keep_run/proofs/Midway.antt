@@ -25,7 +25,7 @@ use Rattle.keep_core.specs.declared.event.Output.TheVariants as out
 use Rattle.keep_core.specs.LawsOfPlans.{IsAnsweredByRule}
 use Rattle.keep_core.specs.Refusal.{refusal, unless_asked}
 use Rattle.keep_core.specs.Replan.{IsPlanOf, Replan}
-use Rattle.keep_core.specs.Runs.{Turn}
+use Rattle.keep_core.specs.History.{Turn}
 use Rattle.keep_core.specs.Shorten.{shorten}
 use Rattle.keep_core.specs.State.{State}
 use Rattle.keep_core.specs.Step.{answered, change, without}
