@@ -1,6 +1,6 @@
 use Rattle.std.proofs.Common.{ap, sym}
-use Rattle.keep_cert.specs.Pieces.{first, keyword}
-use Rattle.keep_cert.proofs.pieces.keyword.Goals as goal
+use Rattle.keep_words.specs.Pieces.{first, keyword}
+use Rattle.keep_words.proofs.words.keyword.Goals as goal
 
 pub returns-in-Some : goal.returns-in-Some
 unfolding keyword

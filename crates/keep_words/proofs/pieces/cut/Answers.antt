@@ -1,7 +1,7 @@
 use Rattle.std.proofs.Common.{◌∷◌, ◌∙◌, ap, sym, take}
-use Rattle.keep_cert.specs.Pieces.{pieces}
-use Rattle.keep_cert.proofs.Cutting.{cut_at, not_cut}
-use Rattle.keep_cert.proofs.pieces.cut.Goals as goal
+use Rattle.keep_words.specs.Pieces.{pieces}
+use Rattle.keep_words.proofs.Cutting.{cut_at, not_cut}
+use Rattle.keep_words.proofs.pieces.cut.Goals as goal
 
 pub returns-in_err-place : goal.returns-in_err-place
 returns-in_err-place c = rw c.from_residual.ensures (not_cut c.args.byte c.args.text.now (sym c.in_err-place.ensures.value))

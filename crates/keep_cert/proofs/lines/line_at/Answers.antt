@@ -1,8 +1,8 @@
 use Rattle.std.proofs.Common.{ap, ◌∙◌, sym, Err, eqb-true}
 use Rattle.std.proofs.lemmas.Bool.{eqb-false}
-use Rattle.keep_cert.specs.Pieces.{line_at}
+use Rattle.keep_cert.specs.Lines.{line_at}
 use Rattle.keep_cert.proofs.Cutting.{whole_line, no_line, cut_off_empty, cut_off_line}
-use Rattle.keep_cert.proofs.pieces.line_at.Goals as goal
+use Rattle.keep_cert.proofs.lines.line_at.Goals as goal
 
 pub returns-in-Some : goal.returns-in-Some
 returns-in-Some c = ap (line_at c.args.n) c.in-Some.ensures ∙ whole_line c.args.n c.in-Some.line.now c.in-Some.rest.now
