@@ -1,4 +1,4 @@
--- A sweep leaves the rows of the entries that are alive, by the forest as it was told.
+-- A sweep of the rows of an inventory leaves those of the entries that are alive.
 use Rattle.std.proofs.Common.{◌≡◌, ℕ, zero, suc, ◌+◌, ◌<◌, ◌&&◌, Bool, true, false, List, Some, None, bytes_eq, filter, length, map, nat_le, nat_lt, option_map, refl, sym, ap, ◌∙◌, arith, inl, inr}
 use Rattle.std.proofs.lemmas.Bool.{cases_lt}
 use Rattle.std.proofs.lemmas.Bool.Decides.{nat_tests}
@@ -14,8 +14,9 @@ use Rattle.keep_inventory.specs.Stock.{Stock}
 use Rattle.mini_broker.specs.declared.row.Row.{Row}
 use Rattle.mini_broker.specs.Rows.{row_named, row_of, rows_of}
 use Rattle.mini_broker.specs.Sweep.{lives, lives_of, parent_passes, passes, swept}
-use Rattle.keep_run.specs.Listed.{is_alive, listed}
-use Rattle.keep_run.proofs.Ranges.{filter_all, filter_of_map, filter_range, filter_twice, found_lone}
+use Rattle.mini_broker.specs.Laws.{SweptInventory}
+use Rattle.mini_broker.specs.Listed.{is_alive, listed}
+use Rattle.mini_broker.proofs.Ranges.{filter_all, filter_of_map, filter_range, found_lone}
 
 pub lt_is_le : (t e : ℕ) → nat_lt t e ≡ nat_le (t + 1) e
 lt_is_le t e = elim (cases_lt t e) [
@@ -109,9 +110,9 @@ unfolding rows_of
 all_rows s = ap (map (row_of s)) (sym (filter_all (range_with_len 0 (length s.grove.entries))))
 
 -- an inventory's rows mirror its forest
-pub swept_all : (s : Stock) → IsForest s.grove → (t : ℕ) → swept t (rows_of s) ≡ listed s t
+pub swept_inventory : SweptInventory
 unfolding swept listed rows_of
-swept_all s forest t =
+swept_inventory s forest t =
     let g = s.grove in
     let n = length g.entries in
     let rows = map (row_of s) (range_with_len 0 n) in
@@ -126,22 +127,3 @@ swept_all s forest t =
 
 pub alive_up : (g : Grove) → IsForest g → (t i p : ℕ) → (entry_at g.entries i).parent ≡ Some p → is_alive g t i ≡ true → is_alive g t p ≡ true
 alive_up g forest t i p child alive = and_right (nat_le (t + 1) (entry_at g.entries i).end) (is_alive g t p) (sym (alive_child g forest t i p child) ∙ alive)
-
--- a sweep of the rows that another has left, at a later moment
-pub swept_later : (s : Stock) → IsForest s.grove → (t m : ℕ) → ((i : ℕ) → i < length s.grove.entries → is_alive s.grove t i ≡ false → is_alive s.grove m i ≡ false) → swept m (listed s t) ≡ listed s m
-unfolding swept listed
-swept_later s forest t m dies =
-    let g = s.grove in
-    let n = length g.entries in
-    let rows = map (row_of s) (filter (is_alive g t) (range_with_len 0 n)) in
-    let these : ℕ → Type 0 = λ i. (i < n) × (is_alive g t i ≡ true) in
-    let named : Named s rows these = λ i p here child.
-    let first : p < i = parents_first g forest i p child in
-    let below : i < n = here.0 in
-    let inside : p < n = omega arith in
-    let alive = alive_up g forest t i p child here.1 in
-    ((inside, alive), named_among s forest (is_alive g t) p inside alive) in
-    filter_of_map (row_of s) (lives rows m) (filter (is_alive g t) (range_with_len 0 n))
-    ∙ ap (map (row_of s)) (filter_twice (λ i. lives rows m (row_of s i)) (is_alive g t) (is_alive g m) n 0
-    (λ i low high alive. lives_alive s forest rows m these named i (omega arith) (omega arith, alive))
-    (λ i low high gone. dies i (omega arith) gone))

@@ -20,25 +20,6 @@ filter_range p q (suc n) a same =
     ap (λ b. cond b (a ∷ filter p (range_with_len (a + 1) n)) (filter p (range_with_len (a + 1) n))) (same a (omega arith) (omega arith))
     ∙ ap (λ xs. cond (q a) (a ∷ xs) xs) more
 
--- a test of what another has let through
-pub filter_twice :
-    (p q r : ℕ → Bool) (n a : ℕ) → ((i : ℕ) → a ≤ i → i < a + n → q i ≡ true → p i ≡ r i) → ((i : ℕ) → a ≤ i → i < a + n → q i ≡ false → r i ≡ false) →
-    filter p (filter q (range_with_len a n)) ≡ filter r (range_with_len a n)
-filter_twice p q r zero a same none = refl
-filter_twice p q r (suc n) a same none =
-    let rest = range_with_len (a + 1) n in
-    let more = filter_twice p q r n (a + 1) (λ i low high. same i (omega arith) (omega arith)) (λ i low high. none i (omega arith) (omega arith)) in
-    elim (cases_Bool (q a)) [
-      | inl through ↦
-          ap (λ b. filter p (cond b (a ∷ filter q rest) (filter q rest))) through
-          ∙ ap (λ b. cond b (a ∷ filter p (filter q rest)) (filter p (filter q rest))) (same a (omega arith) (omega arith) through)
-          ∙ ap (λ xs. cond (r a) (a ∷ xs) xs) more
-      | inr out' ↦
-          ap (λ b. filter p (cond b (a ∷ filter q rest) (filter q rest))) out'
-          ∙ more
-          ∙ sym (ap (λ b. cond b (a ∷ filter r rest) (filter r rest)) (none a (omega arith) (omega arith) out'))
-    ]
-
 pub filter_all : (xs : List ℕ) → filter (λ i. true) xs ≡ xs
 filter_all [] = refl
 filter_all (x ∷ xs) = ap (λ ys. x ∷ ys) (filter_all xs)
