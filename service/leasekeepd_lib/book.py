@@ -88,6 +88,9 @@ class Standing:
         anchor = self.anchor
         if anchor is not None:
             apart, gain = at - anchor.at, end - anchor.end
+            if gain < -CLOSE:
+                self.anchor = Anchor(end, at)  # It ends sooner than before: no ceiling, but a short grant.
+                return None
             if gain <= apart / 2 + CLOSE and apart < TELLING_APART:
                 return None
             if gain <= apart / 2:

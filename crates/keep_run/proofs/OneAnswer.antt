@@ -16,7 +16,7 @@ use Rattle.keep_core.specs.LawsOfSteps.{IsShaped}
 use Rattle.keep_core.specs.declared.event.Event.{Event}
 use Rattle.keep_core.specs.declared.event.Event.TheVariants.{Told, Refused, Lost}
 use Rattle.keep_core.specs.declared.event.Output.{Output}
-use Rattle.keep_core.specs.Runs.{Turn}
+use Rattle.keep_core.specs.History.{Turn}
 use Rattle.keep_core.specs.State.{State}
 use Rattle.keep_core.proofs.Shaped.{shape}
 use Rattle.keep_run.specs.Closed.{World, event_in, reply_in, taken}

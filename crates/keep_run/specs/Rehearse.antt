@@ -8,7 +8,7 @@ use Rattle.keep_inventory.specs.Inventory.{inventory}
 use Rattle.keep_inventory.specs.Stock.{Stock}
 use Rattle.mini_broker.specs.declared.fault.NumberedFault.{NumberedFault}
 use Rattle.mini_broker.specs.Ledger.{Ledger}
-use Rattle.keep_core.specs.Replan.{IsTooLong}
+use Rattle.keep_core.specs.Replan.{ReplanTooLong}
 use Rattle.keep_report.specs.declared.exit.Exit.{Exit}
 use Rattle.keep_report.specs.declared.exit.Exit.TheVariants as exits
 use Rattle.keep_report.specs.declared.stop.Stop.TheVariants as stops
@@ -43,7 +43,7 @@ WritesFront bytes start words out =
 -- the plan of the opening is too long, and nothing was written; or the lines of 100,000 wake-ups were, and another is due
 abbrev pub RunsLong : Stock → List NumberedFault → ℕ → Sent → Ledger → Type 0
 RunsLong stock faults start out table =
-    (IsTooLong stock.grove start × IsUntouched out)
+    (ReplanTooLong stock.grove start × IsUntouched out)
     ⊎ ((final : World) × (text : List ℕ) × IsStopped stock faults start final text × IsAll text out × (table ≡ final.table))
 
 -- `rehearse` over the bytes of an inventory, a start and FAULT words, by exit
