@@ -73,7 +73,7 @@ answer_like at (Lost i) e = refl
 answer_like at (Tick t) e = refl
 answer_like at (Need i until) e = refl
 
-replanned : (g : Grove) (old : State) (t : ℕ) (new : State) → IsShaped g old.forest → Replan old t new → IsShaped g new.forest
+pub replanned : (g : Grove) (old : State) (t : ℕ) (new : State) → IsShaped g old.forest → Replan old t new → IsShaped g new.forest
 replanned g old t new a r = subst (λ (s : State). IsShaped g s.forest) (sym r.is) (both_shaped g old.forest (shorten old.forest t) a (shortened old.forest t))
 
 tick_shaped : (old : State) (t : ℕ) (output : Output) (new : State) → StepTick old t output new → IsShaped old.forest new.forest

@@ -6,7 +6,7 @@ use Rattle.std.proofs.lemmas.List.Elements.{filter-append}
 use Rattle.std.proofs.lemmas.List.Sums.{sum_by-append}
 use Rattle.keep_tree.specs.Forest.{Grove}
 use Rattle.keep_inventory.specs.Stock.{Stock}
-use Rattle.mini_broker.specs.Ledger.{Ledger}
+use Rattle.keep_exchange.specs.Exchanges.{Behind}
 use Rattle.keep_core.specs.LawsOfSteps.{IsShaped}
 use Rattle.keep_core.specs.declared.event.Event.TheVariants.{Tick}
 use Rattle.keep_core.specs.declared.event.Output.TheVariants as out
@@ -28,7 +28,7 @@ joins port cs old mid new None then' next (b ∷ bs) more first second = absurd 
 joins port cs old mid new (Some t) then' next (b ∷ bs) more first second =
     (first.0, (first.1.0, (first.1.1.0, joins port cs first.1.0 mid new (next_tick b) then' next bs more first.1.1.1 second)))
 
-wakes_join : (bs more : List Beat) → length (rounds (bs ++ more)) ≡ length (rounds bs) + length (rounds more)
+pub wakes_join : (bs more : List Beat) → length (rounds (bs ++ more)) ≡ length (rounds bs) + length (rounds more)
 unfolding rounds
 wakes_join bs more = ap length (filter-append (λ (b : Beat). asks_some b.output) bs more) ∙ length-append (rounds bs) (rounds more)
 
@@ -64,9 +64,9 @@ goes_as s u old new due next w a x like credentials g = record {
 
 -- ---- to the end without a round
 
-pub ends_go : (cs : List (List ℕ)) (table : Ledger) (old new : State) (due : ℕ) (before after : List ℕ) → Ends cs table old due new before after →
-    (text : List ℕ) × (Goes (stock_of cs old.forest) (both old table) (Some due) (both new table) None 0 0 text × (after ≡ before ++ text))
-ends_go cs table old new due before after e = (
+pub ends_go : (cs : List (List ℕ)) (behind : Behind) (old new : State) (due : ℕ) (before after : List ℕ) → Ends cs behind old due new before after →
+    (text : List ℕ) × (Goes (stock_of cs old.forest) (both old behind) (Some due) (both new behind) None 0 0 text × (after ≡ before ++ text))
+ends_go cs behind old new due before after e = (
   flat_map (beat_text (stock_of cs old.forest)) e.beats,
   (
     record { beats = e.beats; played = e.quiet.played; wakes_are = sym (ap length e.quiet.none_asked); asked_are = sym e.quiet.none_sent; text_is = refl },
@@ -76,8 +76,8 @@ ends_go cs table old new due before after e = (
 
 -- ---- to the end of the first round
 
-module _ (cs : List (List ℕ)) (table : Ledger) (old k : State) (new : World) (due t : ℕ) (asked before mid after : List ℕ) (next : Option ℕ) (like : IsShaped old.forest k.forest)
-    (o : Opens cs table old due t asked k before mid) (a : AnswersAll cs t (both k table) asked next new mid after) where
+module _ (cs : List (List ℕ)) (behind : Behind) (old k : State) (new : World) (due t : ℕ) (asked before mid after : List ℕ) (next : Option ℕ) (like : IsShaped old.forest k.forest)
+    (o : Opens cs behind old due t asked k before mid) (a : AnswersAll cs t (both k behind) asked next new mid after) where
   s : Stock
   s = stock_of cs old.forest
 
@@ -87,22 +87,22 @@ module _ (cs : List (List ℕ)) (table : Ledger) (old k : State) (new : World) (
   round_of : Beat
   round_of = record { at = t; output = out.Ask asked; short = o.ticks.keeper.shortened; answers = a.xs }
 
-  is_round : IsBeat 8200 cs (both o.mid table) round_of new
+  is_round : IsBeat 8200 cs (both o.mid behind) round_of new
   unfolding round_of
   is_round = record {
     keeper = o.ticks.keeper;
     turn = o.ticks.turn;
     short = refl;
     asked = a.who;
-    answered = subst (λ q. AreAnswered 8200 cs t (both q table) a.xs new) o.ticks.is a.answered;
+    answered = subst (λ q. AreAnswered 8200 cs t (both q behind) a.xs new) o.ticks.is a.answered;
   }
 
   all_beats : List Beat
   all_beats = o.beats ++ round_of ∷ []
 
-  played : Played 8200 cs (both old table) (Some due) all_beats new next
+  played : Played 8200 cs (both old behind) (Some due) all_beats new next
   unfolding all_beats round_of
-  played = joins 8200 cs (both old table) (both o.mid table) new (Some due) (Some t) next o.beats (round_of ∷ []) o.quiet.played (refl, (new, (is_round, (refl, a.next_is))))
+  played = joins 8200 cs (both old behind) (both o.mid behind) new (Some due) (Some t) next o.beats (round_of ∷ []) o.quiet.played (refl, (new, (is_round, (refl, a.next_is))))
 
   one_wake : 1 ≡ length (rounds all_beats)
   unfolding all_beats rounds round_of
@@ -138,17 +138,17 @@ module _ (cs : List (List ℕ)) (table : Ledger) (old k : State) (new : World) (
       ∙ ap (λ l. quiet ++ l) (sym round_text ∙ sym (append-nil (beat_text s round_of)))
       ∙ sym (flat_map-append (beat_text s) o.beats (round_of ∷ [])))
 
-  pub round_goes_on : (text : List ℕ) × (Goes (stock_of cs old.forest) (both old table) (Some due) new next 1 (length asked) text × (after ≡ before ++ text))
+  pub round_goes_on : (text : List ℕ) × (Goes (stock_of cs old.forest) (both old behind) (Some due) new next 1 (length asked) text × (after ≡ before ++ text))
   unfolding s u
   round_goes_on = (
     flat_map (beat_text s) all_beats,
     (record { beats = all_beats; played = played; wakes_are = one_wake; asked_are = all_requests; text_is = refl }, texts),
   )
 
-pub due_of : (cs : List (List ℕ)) (table : Ledger) (old k : State) (due t : ℕ) (asked before after : List ℕ) → Opens cs table old due t asked k before after → IsDue cs (both old table) due
-due_of cs table old k due t asked before after o = record {
+pub due_of : (cs : List (List ℕ)) (behind : Behind) (old k : State) (due t : ℕ) (asked before after : List ℕ) → Opens cs behind old due t asked k before after → IsDue cs (both old behind) due
+due_of cs behind old k due t asked before after o = record {
   beats = o.beats;
-  mid = both o.mid table;
+  mid = both o.mid behind;
   at = t;
   played = o.quiet.played;
   none_asked = o.quiet.none_asked;

@@ -1,7 +1,7 @@
 -- Opens: from ticks to an opened wake-up.
 use Rattle.std.proofs.Common.{◌≡◌, ℕ, false, cond, List, [], ◌∷◌, ◌++◌, Option, Some, None, Result, Ok, refl, sym, ap, ◌∙◌, subst, map, flat_map}
 use Rattle.std.proofs.lemmas.List.{append-nil}
-use Rattle.mini_broker.specs.Ledger.{Ledger}
+use Rattle.keep_exchange.specs.Exchanges.{Behind}
 use Rattle.keep_rule.specs.Asks.{first_of}
 use Rattle.keep_core.specs.LawsOfSteps.{IsShaped}
 use Rattle.keep_core.specs.declared.event.Event.TheVariants.{Tick}
@@ -27,15 +27,15 @@ silent : (t : ℕ) (old new : State) (output : Output) (before after : List ℕ)
 silent t old new output before after ticks = record { at = t; output = output; short = ticks.keeper.shortened; answers = [] }
 
 is_beat :
-    (cs : List (List ℕ)) (table : Ledger) (t : ℕ) (old new : State) (output : Output) (before after : List ℕ) → (ticks : Ticks t old output new before after) → asked_in output ≡ [] →
-    IsBeat 8200 cs (both old table) (silent t old new output before after ticks) (both new table)
+    (cs : List (List ℕ)) (behind : Behind) (t : ℕ) (old new : State) (output : Output) (before after : List ℕ) → (ticks : Ticks t old output new before after) → asked_in output ≡ [] →
+    IsBeat 8200 cs (both old behind) (silent t old new output before after ticks) (both new behind)
 unfolding silent
-is_beat cs table t old new output before after ticks none = record {
+is_beat cs behind t old new output before after ticks none = record {
   keeper = ticks.keeper;
   turn = ticks.turn;
   short = refl;
   asked = sym none;
-  answered = ap (λ s. both s table) ticks.is;
+  answered = ap (λ s. both s behind) ticks.is;
 }
 
 silent_text :
@@ -52,18 +52,18 @@ silent_text cs t old new output before after ticks =
     ∙ ap (λ l. before ++ l) (sym (append-nil (shorts ++ (wake ++ []))))
 
 quiet_to :
-    (cs : List (List ℕ)) (table : Ledger) (t : ℕ) (old new : State) (output : Output) (before after : List ℕ) (next : Option ℕ) → (ticks : Ticks t old output new before after) → asked_in output ≡ [] →
-    asks_some output ≡ false → next ≡ next_by output [] → IsQuietTo cs (both old table) (Some t) (both new table) next (silent t old new output before after ticks ∷ [])
+    (cs : List (List ℕ)) (behind : Behind) (t : ℕ) (old new : State) (output : Output) (before after : List ℕ) (next : Option ℕ) → (ticks : Ticks t old output new before after) → asked_in output ≡ [] →
+    asks_some output ≡ false → next ≡ next_by output [] → IsQuietTo cs (both old behind) (Some t) (both new behind) next (silent t old new output before after ticks ∷ [])
 unfolding rounds requests_of silent
-quiet_to cs table t old new output before after next ticks none not_some leads = record {
-  played = (refl, (both new table, (is_beat cs table t old new output before after ticks none, (refl, leads))));
+quiet_to cs behind t old new output before after next ticks none not_some leads = record {
+  played = (refl, (both new behind, (is_beat cs behind t old new output before after ticks none, (refl, leads))));
   none_asked = ap (λ b. cond b (silent t old new output before after ticks ∷ []) []) not_some;
   none_sent = refl;
 }
 
-pub at_once : (cs : List (List ℕ)) (table : Ledger) (due : ℕ) (old new : State) (asked before after : List ℕ) → Ticks due old (out.Ask asked) new before after → Opens cs table old due due asked new before after
+pub at_once : (cs : List (List ℕ)) (behind : Behind) (due : ℕ) (old new : State) (asked before after : List ℕ) → Ticks due old (out.Ask asked) new before after → Opens cs behind old due due asked new before after
 unfolding rounds requests_of
-at_once cs table due old new asked before after ticks = record {
+at_once cs behind due old new asked before after ticks = record {
   beats = [];
   mid = old;
   quiet = record { played = (refl, refl); none_asked = refl; none_sent = refl };
@@ -73,35 +73,35 @@ at_once cs table due old new asked before after ticks = record {
 }
 
 pub after_sleep :
-    (cs : List (List ℕ)) (table : Ledger) (due w : ℕ) (old mid new : State) (asked before middle after : List ℕ) → Ticks due old (out.Sleep w) mid before middle → Ticks w mid (out.Ask asked) new middle after →
-    Opens cs table old due w asked new before after
-after_sleep cs table due w old mid new asked before middle after sleeps ticks = record {
+    (cs : List (List ℕ)) (behind : Behind) (due w : ℕ) (old mid new : State) (asked before middle after : List ℕ) → Ticks due old (out.Sleep w) mid before middle → Ticks w mid (out.Ask asked) new middle after →
+    Opens cs behind old due w asked new before after
+after_sleep cs behind due w old mid new asked before middle after sleeps ticks = record {
   beats = silent due old mid (out.Sleep w) before middle sleeps ∷ [];
   mid = mid;
-  quiet = quiet_to cs table due old mid (out.Sleep w) before middle (Some w) sleeps refl refl refl;
+  quiet = quiet_to cs behind due old mid (out.Sleep w) before middle (Some w) sleeps refl refl refl;
   middle = middle;
   quiet_text = silent_text cs due old mid (out.Sleep w) before middle sleeps;
   ticks = ticks;
 }
 
 at_end :
-    (cs : List (List ℕ)) (table : Ledger) (due : ℕ) (old new : State) (output : Output) (before after : List ℕ) → (ticks : Ticks due old output new before after) → asked_in output ≡ [] →
-    asks_some output ≡ false → None ≡ next_by output [] → Ends cs table old due new before after
-at_end cs table due old new output before after ticks none not_some leads = record {
+    (cs : List (List ℕ)) (behind : Behind) (due : ℕ) (old new : State) (output : Output) (before after : List ℕ) → (ticks : Ticks due old output new before after) → asked_in output ≡ [] →
+    asks_some output ≡ false → None ≡ next_by output [] → Ends cs behind old due new before after
+at_end cs behind due old new output before after ticks none not_some leads = record {
   beats = silent due old new output before after ticks ∷ [];
-  quiet = quiet_to cs table due old new output before after None ticks none not_some leads;
+  quiet = quiet_to cs behind due old new output before after None ticks none not_some leads;
   text_is = silent_text cs due old new output before after ticks;
 }
 
 pub ends :
-    (cs : List (List ℕ)) (table : Ledger) (due : ℕ) (old new : State) (output : Output) (before after : List ℕ) → Ticks due old output new before after → ((w : ℕ) → output ≡ out.Sleep w → ⊥) →
-    ((asked : List ℕ) → output ≡ out.Ask asked → ⊥) → Ends cs table old due new before after
-ends cs table due old new out.Idle before after ticks not_sleep not_ask = at_end cs table due old new out.Idle before after ticks refl refl refl
-ends cs table due old new out.Waiting before after ticks not_sleep not_ask = at_end cs table due old new out.Waiting before after ticks refl refl refl
-ends cs table due old new (out.Round next) before after ticks not_sleep not_ask = at_end cs table due old new (out.Round next) before after ticks refl refl refl
-ends cs table due old new out.Planned before after ticks not_sleep not_ask = at_end cs table due old new out.Planned before after ticks refl refl refl
-ends cs table due old new (out.Sleep w) before after ticks not_sleep not_ask = absurd (not_sleep w refl)
-ends cs table due old new (out.Ask asked) before after ticks not_sleep not_ask = absurd (not_ask asked refl)
+    (cs : List (List ℕ)) (behind : Behind) (due : ℕ) (old new : State) (output : Output) (before after : List ℕ) → Ticks due old output new before after → ((w : ℕ) → output ≡ out.Sleep w → ⊥) →
+    ((asked : List ℕ) → output ≡ out.Ask asked → ⊥) → Ends cs behind old due new before after
+ends cs behind due old new out.Idle before after ticks not_sleep not_ask = at_end cs behind due old new out.Idle before after ticks refl refl refl
+ends cs behind due old new out.Waiting before after ticks not_sleep not_ask = at_end cs behind due old new out.Waiting before after ticks refl refl refl
+ends cs behind due old new (out.Round next) before after ticks not_sleep not_ask = at_end cs behind due old new (out.Round next) before after ticks refl refl refl
+ends cs behind due old new out.Planned before after ticks not_sleep not_ask = at_end cs behind due old new out.Planned before after ticks refl refl refl
+ends cs behind due old new (out.Sleep w) before after ticks not_sleep not_ask = absurd (not_sleep w refl)
+ends cs behind due old new (out.Ask asked) before after ticks not_sleep not_ask = absurd (not_ask asked refl)
 
 -- the tick behind a sleep asks
 pub then_asks :

@@ -17,7 +17,7 @@ use Rattle.keep_core.specs.declared.event.Output.{Output}
 use Rattle.keep_core.specs.declared.event.Output.TheVariants as out
 use Rattle.keep_core.specs.declared.shortened.ShortNeed.{ShortNeed}
 use Rattle.keep_core.specs.Replan.{Replan, planned}
-use Rattle.keep_core.specs.Runs.{Turn}
+use Rattle.keep_core.specs.History.{Turn}
 use Rattle.keep_core.specs.Shorten.{is_short, pair_of, pairs, shorten}
 use Rattle.keep_core.specs.State.{State}
 use Rattle.keep_core.specs.Step.{StepAnswer, StepNeed, StepTick, heard, needed, of_entry}
@@ -39,7 +39,7 @@ pairs_within g t =
     let is : List ℕ = range_with_len 0 (length g.entries) in
     All-map (λ (p : ShortNeed). p.entry < length g.entries) (pair_of g t) _ (All-filter (is_short g t) (λ i. i < length g.entries) is (all_to (length g.entries) (length g.entries) 0 (omega arith)))
 
-replan_within : (old : State) (t : ℕ) (new : State) → old.shortened ≡ [] → Replan old t new → AreOf (length new.forest.entries) new.shortened
+pub replan_within : (old : State) (t : ℕ) (new : State) → old.shortened ≡ [] → Replan old t new → AreOf (length new.forest.entries) new.shortened
 replan_within old t new quiet r =
     let count : length new.forest.entries ≡ length old.forest.entries = ap (λ (s : State). length s.forest.entries) r.is ∙ shorten_count old.forest t in
     let is : new.shortened ≡ pairs old.forest t = ap (λ (s : State). s.shortened) r.is ∙ ap (λ ps. ps ++ pairs old.forest t) quiet in

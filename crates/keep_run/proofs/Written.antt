@@ -10,7 +10,7 @@ use Rattle.keep_device.specs.Front.{AppendsFront}
 use Rattle.keep_device.specs.declared.fault.SinkFault.{SinkFault}
 use Rattle.keep_device.specs.declared.fault.SinkFault.TheVariants as sink
 use Rattle.keep_inventory.specs.Stock.{Stock}
-use Rattle.mini_broker.specs.Ledger.{Ledger}
+use Rattle.keep_exchange.specs.Exchanges.{Behind}
 use Rattle.keep_core.specs.LawsOfSteps.{IsShaped}
 use Rattle.keep_core.specs.State.{State}
 use Rattle.keep_core.proofs.Shaped.{both_shaped, same}
@@ -183,7 +183,7 @@ finished cs old start before new w a front rest written failed_now (Err (stops.L
 
 last_cut :
     (cs : List (List ℕ)) (old : World) (start : ℕ) (before : List ℕ) (first : Option (List ℕ)) (failed : ℕ) (now : World) (due asked : ℕ) (written : Option (List ℕ)) (failed_now : ℕ) (last out : Sent) →
-    Going cs old start before first failed now due 100000 asked written failed_now → LastFront cs now.table now.keeper due asked last → out.old ≡ first → last.old ≡ written → last.new ≡ out.new →
+    Going cs old start before first failed now due 100000 asked written failed_now → LastFront cs now.behind now.keeper due asked last → out.old ≡ first → last.old ≡ written → last.new ≡ out.new →
     PlaysFront (stock_of cs old.keeper.forest) old start before out
 last_cut cs old start before first failed now due asked written failed_now last out g (inl kept) old_is last_old_is new_is =
     let stays : Keeps written out.new = subst (λ o. Keeps o out.new) last_old_is (subst (λ o. Keeps last.old o) new_is kept) in (
@@ -202,13 +202,13 @@ last_cut cs old start before first failed now due asked written failed_now last 
 -- behind the last wake-up that a run may have
 pub last_played :
     (cs : List (List ℕ)) (old : World) (start : ℕ) (before : List ℕ) (first : Option (List ℕ)) (failed : ℕ) (now : World) (due asked : ℕ) (written : Option (List ℕ)) (failed_now : ℕ) (result : Result (Unit {0}) Stop)
-    (keeper : State) (last out : Sent) → Going cs old start before first failed now due 100000 asked written failed_now → LastPlays cs now.table now.keeper due asked result keeper last → out.old ≡ first → last.old ≡ written →
-    last.new ≡ out.new → last.failed_before ≡ out.failed_before → last.failed_after ≡ out.failed_after → last.flushed ≡ out.flushed → Plays cs old start before result (both keeper now.table) out
+    (keeper : State) (last out : Sent) → Going cs old start before first failed now due 100000 asked written failed_now → LastPlays cs now.behind now.keeper due asked result keeper last → out.old ≡ first → last.old ≡ written →
+    last.new ≡ out.new → last.failed_before ≡ out.failed_before → last.failed_after ≡ out.failed_after → last.flushed ≡ out.flushed → Plays cs old start before result (both keeper now.behind) out
 last_played cs old start before first failed now due asked written failed_now (Ok u) keeper last out g ends old_is last_old_is new_is failed_is failed_after_is flushed_is =
-    finished cs old start before (both keeper now.table) 100000 asked g.lines ends.0 written failed_now (Ok u) last out
-    (subst (λ n. Goes (stock_of cs old.keeper.forest) old (Some start) (both keeper now.table) None 100000 n (g.lines ++ ends.0)) (let z : asked + 0 ≡ asked = omega arith in z)
-    (goes_on (stock_of cs old.keeper.forest) old now (both keeper now.table) (Some start) (Some due) None 100000 0 asked 0 g.lines ends.0 g.goes
-    (goes_as (stock_of cs old.keeper.forest) (stock_of cs now.keeper.forest) now (both keeper now.table) (Some due) None 0 0 ends.0 g.like refl ends.1)))
+    finished cs old start before (both keeper now.behind) 100000 asked g.lines ends.0 written failed_now (Ok u) last out
+    (subst (λ n. Goes (stock_of cs old.keeper.forest) old (Some start) (both keeper now.behind) None 100000 n (g.lines ++ ends.0)) (let z : asked + 0 ≡ asked = omega arith in z)
+    (goes_on (stock_of cs old.keeper.forest) old now (both keeper now.behind) (Some start) (Some due) None 100000 0 asked 0 g.lines ends.0 g.goes
+    (goes_as (stock_of cs old.keeper.forest) (stock_of cs now.keeper.forest) now (both keeper now.behind) (Some due) None 0 0 ends.0 g.like refl ends.1)))
     (subst (λ o. Appends o written (before ++ g.lines)) (sym old_is) g.all) (omega arith) ends.2 last_old_is new_is failed_is failed_after_is flushed_is
 last_played cs old start before first failed now due asked written failed_now (Err stops.TooLong) keeper last out g ends old_is last_old_is new_is failed_is failed_after_is flushed_is =
     let none : Appends written out.new [] = subst (λ o. Appends o out.new []) last_old_is (subst (λ o. Appends last.old o []) new_is ends.1.0) in
@@ -239,19 +239,19 @@ last_played cs old start before first failed now due asked written failed_now (E
 
 -- what `last` comes to, where the run is at its end
 pub last_ends :
-    (cs : List (List ℕ)) (table : Ledger) (old new : State) (due asked : ℕ) (before text : List ℕ) (result : Result (Unit {0}) Stop) (out : Sent) → before ≡ [] → Ends cs table old due new before text →
-    Finishes (text ++ done_text 100000 asked) result out → LastPlays cs table old due asked result new out
-last_ends cs table old new due asked before text result out none e ends = by_result result ends where
-  goes : (piece : List ℕ) × (Goes (stock_of cs old.forest) (both old table) (Some due) (both new table) None 0 0 piece × (text ≡ before ++ piece))
-  goes = ends_go cs table old new due before text e
+    (cs : List (List ℕ)) (behind : Behind) (old new : State) (due asked : ℕ) (before text : List ℕ) (result : Result (Unit {0}) Stop) (out : Sent) → before ≡ [] → Ends cs behind old due new before text →
+    Finishes (text ++ done_text 100000 asked) result out → LastPlays cs behind old due asked result new out
+last_ends cs behind old new due asked before text result out none e ends = by_result result ends where
+  goes : (piece : List ℕ) × (Goes (stock_of cs old.forest) (both old behind) (Some due) (both new behind) None 0 0 piece × (text ≡ before ++ piece))
+  goes = ends_go cs behind old new due before text e
 
-  here : Goes (stock_of cs old.forest) (both old table) (Some due) (both new table) None 0 0 text
-  here = subst (Goes (stock_of cs old.forest) (both old table) (Some due) (both new table) None 0 0) (sym (goes.1.1 ∙ ap (λ l. l ++ goes.0) none)) goes.1.0
+  here : Goes (stock_of cs old.forest) (both old behind) (Some due) (both new behind) None 0 0 text
+  here = subst (Goes (stock_of cs old.forest) (both old behind) (Some due) (both new behind) None 0 0) (sym (goes.1.1 ∙ ap (λ l. l ++ goes.0) none)) goes.1.0
 
-  by_result : (r : Result (Unit {0}) Stop) → Finishes (text ++ done_text 100000 asked) r out → LastPlays cs table old due asked r new out
+  by_result : (r : Result (Unit {0}) Stop) → Finishes (text ++ done_text 100000 asked) r out → LastPlays cs behind old due asked r new out
   by_result (Ok u) is = (text, here, is)
-  by_result (Err stops.Write) is = (is.0, inr (both new table, text, here, is.1))
-  by_result (Err stops.Memory) is = inr (both new table, text, here, is)
+  by_result (Err stops.Write) is = (is.0, inr (both new behind, text, here, is.1))
+  by_result (Err stops.Memory) is = inr (both new behind, text, here, is)
   by_result (Err stops.TooLong) is = absurd is
   by_result (Err stops.Read) is = absurd is
   by_result (Err (stops.Inventory fault)) is = absurd is

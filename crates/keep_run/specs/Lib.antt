@@ -7,3 +7,4 @@ pub mod Stops
 pub mod Playing
 pub mod FaultWords
 pub mod Rehearse
+pub mod PlannedRehearsal

@@ -5,7 +5,7 @@ use Rattle.std.specs.List.{flat_map}
 use Rattle.keep_inventory.specs.Stock.{Stock}
 use Rattle.mini_broker.specs.declared.fault.NumberedFault.{NumberedFault}
 use Rattle.mini_broker.specs.declared.served.Served.{Served}
-use Rattle.mini_broker.specs.Ledger.{Ledger}
+use Rattle.keep_exchange.specs.Exchanges.{Behind}
 use Rattle.mini_broker.specs.Step.{Says, step}
 use Rattle.keep_moment.specs.declared.moment.TheConstants.{LAST}
 use Rattle.keep_core.specs.declared.event.Event.{Event}
@@ -98,13 +98,13 @@ NeverRefusedLaw =
     ((result : Result Output StepFault) (new : State) → Turn final.keeper (Tick t) result new → IsTakenOrLong result)
     × ((asked : List ℕ) (keeper : State) → Turn final.keeper (Tick t) (Ok (out.Ask asked)) keeper →
     (xs : List Exchanged) (now : World) (i : ℕ) (others : List ℕ) → map (λ (x : Exchanged). x.entry) xs ++ (i ∷ others) ≡ asked →
-    AreAnswered port stock.credentials t (record { keeper = taken keeper; table = final.table }) xs now →
+    AreAnswered port stock.credentials t (record { keeper = taken keeper; behind = final.behind }) xs now →
     (event : Event) (result : Result Output StepFault) (new : State) → IsAnswerFor i event → Turn now.keeper event result new → IsTakenOrLong result)
 
 -- ---- the code of one answer
 
-abbrev pub both : State → Ledger → World
-both keeper table = record { keeper = keeper; table = table }
+abbrev pub both : State → Behind → World
+both keeper behind = record { keeper = keeper; behind = behind }
 
 -- a run is cut anywhere
 abbrev pub SplitLaw : Type 0

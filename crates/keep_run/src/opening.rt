@@ -4,7 +4,7 @@ ghost use Rattle.std.specs.List.{All};
 ghost use Rattle.std.specs.Result.{IfErr};
 ghost use Rattle.keep_report.specs.declared.stop.Stop.TheVariants as stops;
 ghost use Rattle.keep_core.specs.LawsOfSteps.{IsShaped};
-ghost use Rattle.mini_broker.specs.Ledger.{Ledger};
+ghost use Rattle.keep_exchange.specs.Exchanges.{Behind};
 ghost use Rattle.keep_run.specs.Closed.{asked_in};
 ghost use Rattle.keep_run.specs.Playing.{OpensOrEnds, Ticks, asked_of};
 
@@ -55,7 +55,7 @@ pub(crate) fn open(
 ) -> Result<Option<Opened>, Stop>
     requires quiet { keeper.old.shortened ≡ [] }
     ensures memory { IfErr result (λ stop. stop ≡ stops.Memory) }
-    ensures opens { IfOk result (λ opened. (cs : List (List ℕ)) (table : Ledger) → OpensOrEnds cs table keeper.old t opened keeper.new text.old.items text.new.items) }
+    ensures opens { IfOk result (λ opened. (cs : List (List ℕ)) (behind : Behind) → OpensOrEnds cs behind keeper.old t opened keeper.new text.old.items text.new.items) }
     ensures within { IfOk result (λ opened. All (λ i. i < length keeper.new.forest.entries) (asked_of opened)) }
     ensures few { IfOk result (λ opened. length (asked_of opened) ≤ 4096) }
     ensures taken { IfOk result (λ _. keeper.new.shortened ≡ []) }

@@ -1,6 +1,6 @@
 //! The wake-ups of a run, one after another, with their lines.
 ghost use Rattle.std.specs.Prelude.{◌≡◌, ◌++◌, [], List, ℕ};
-ghost use Rattle.mini_broker.specs.Ledger.{Ledger};
+ghost use Rattle.keep_exchange.specs.Exchanges.{Behind};
 ghost use Rattle.keep_run.specs.Text.{done_text};
 ghost use Rattle.keep_run.specs.Playing.{Finishes, Fits, LastPlays, Plays};
 ghost use Rattle.keep_run.specs.Stops.{both};
@@ -12,7 +12,7 @@ use keep_core::Keeper;
 use keep_device::{Sink, write_all};
 use keep_inventory::Credentials;
 use keep_report::{Stop, Watched, send};
-use mini_broker::Table;
+use keep_exchange::MemoryExchange;
 use std::alloc::Global;
 
 /// The most wake-ups of a rehearsal.
@@ -23,7 +23,7 @@ pub const MOST_WAKES: u64 = 100000;
 pub(crate) fn play<W: Sink>(
     alloc: Global,
     keeper: &mut Keeper,
-    table: &mut Table,
+    exchange: &mut MemoryExchange,
     credentials: &Credentials,
     start: u64,
     lines: &[u8],
@@ -31,14 +31,14 @@ pub(crate) fn play<W: Sink>(
 ) -> Result<(), Stop>
     requires fits { Fits credentials.now keeper.old.forest }
     requires quiet { keeper.old.shortened ≡ [] }
-    ensures { Plays credentials.now (both keeper.old table.old) start lines.now result (both keeper.new table.new) (⟦<W as Watched>⟧.sent out.old out.new) }
+    ensures { Plays credentials.now (both keeper.old exchange.old) start lines.now result (both keeper.new exchange.new) (⟦<W as Watched>⟧.sent out.old out.new) }
 {
     write_all(out, lines)?;
     let mut due = start;
     let mut requests = 0;
     for wakes in 0..MOST_WAKES {
         let mut text = Vec::new(alloc);
-        let Some(woken) = wake(alloc, keeper, table, credentials, due, &mut text)? else {
+        let Some(woken) = wake(alloc, keeper, exchange, credentials, due, &mut text)? else {
             return finish(alloc, wakes, requests, text, out);
         };
         write_all(out, &text)?;
@@ -60,7 +60,7 @@ fn last<W: Sink>(
     out: &mut W,
 ) -> Result<(), Stop>
     requires quiet { keeper.old.shortened ≡ [] }
-    ensures { (cs : List (List ℕ)) (table : Ledger) → LastPlays cs table keeper.old due requests result keeper.new (⟦<W as Watched>⟧.sent out.old out.new) }
+    ensures { (cs : List (List ℕ)) (behind : Behind) → LastPlays cs behind keeper.old due requests result keeper.new (⟦<W as Watched>⟧.sent out.old out.new) }
 {
     let mut text = Vec::new(alloc);
     match open(alloc, keeper, due, &mut text)? {

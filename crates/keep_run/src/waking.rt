@@ -14,7 +14,7 @@ use keep_core::{Keeper, Output};
 use keep_inventory::Credentials;
 use keep_moment::Moment;
 use keep_report::Stop;
-use mini_broker::Table;
+use keep_exchange::MemoryExchange;
 use std::alloc::Global;
 
 /// What a wake-up came to: how many requests it made, and the moment of the next tick, if there is one.
@@ -28,7 +28,7 @@ pub(crate) struct Woken {
 pub(crate) fn wake(
     alloc: Global,
     keeper: &mut Keeper,
-    table: &mut Table,
+    exchange: &mut MemoryExchange,
     credentials: &Credentials,
     due: u64,
     text: &mut Vec<u8>,
@@ -36,7 +36,7 @@ pub(crate) fn wake(
     requires fits { Fits credentials.now keeper.old.forest }
     requires quiet { keeper.old.shortened ≡ [] }
     ensures memory { IfErr result (λ stop. stop ≡ stops.Memory) }
-    ensures wakes { IfOk result (λ woken. Wakes credentials.now (both keeper.old table.old) due woken (both keeper.new table.new) text.old.items text.new.items) }
+    ensures wakes { IfOk result (λ woken. Wakes credentials.now (both keeper.old exchange.old) due woken (both keeper.new exchange.new) text.old.items text.new.items) }
     ensures few { IfOk result (λ woken. requests_in woken ≤ 4096) }
     ensures shaped { IfOk result (λ _. IsShaped keeper.old.forest keeper.new.forest) }
     ensures taken { IfOk result (λ _. keeper.new.shortened ≡ []) }
@@ -47,7 +47,7 @@ pub(crate) fn wake(
     let Some(at) = Moment::new(opened.at) else {
         unreachable!()
     };
-    let next = round(alloc, keeper, table, credentials, at, opened.asked.list(), text)?;
+    let next = round(alloc, keeper, exchange, credentials, at, opened.asked.list(), text)?;
     Ok(Some(Woken {
         requests: opened.asked.list().len() as u64,
         next,
@@ -58,7 +58,7 @@ pub(crate) fn wake(
 fn round(
     alloc: Global,
     keeper: &mut Keeper,
-    table: &mut Table,
+    exchange: &mut MemoryExchange,
     credentials: &Credentials,
     t: Moment,
     asked: &[u32],
@@ -68,13 +68,13 @@ fn round(
     requires fits { Fits credentials.now keeper.old.forest }
     requires quiet { keeper.old.shortened ≡ [] }
     ensures memory { IfErr result (λ stop. stop ≡ stops.Memory) }
-    ensures answers { IfOk result (λ next. AnswersAll credentials.now t (both keeper.old table.old) asked.now next (both keeper.new table.new) text.old.items text.new.items) }
+    ensures answers { IfOk result (λ next. AnswersAll credentials.now t (both keeper.old exchange.old) asked.now next (both keeper.new exchange.new) text.old.items text.new.items) }
     ensures shaped { IfOk result (λ _. IsShaped keeper.old.forest keeper.new.forest) }
     ensures taken { IfOk result (λ _. keeper.new.shortened ≡ []) }
 {
     let mut next = None;
     for i in asked {
-        let output = answer(alloc, keeper, table, credentials, t, *i, text)?;
+        let output = answer(alloc, keeper, exchange, credentials, t, *i, text)?;
         next = told_next(next, &output);
     }
     Ok(next)

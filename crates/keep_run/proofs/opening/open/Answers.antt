@@ -14,18 +14,18 @@ unreachable-requires c =
     c.in_default-2.not-Ask asks.0 asks.1
 
 pub returns-in-Ask-clause-opens : goal.returns-in-Ask-clause-opens
-returns-in-Ask-clause-opens c = λ cs table.
-    at_once cs table c.args.t c.args.keeper.now c.tick.new.keeper c.in-Ask.asked c.args.text.now.items c.tick.new.text.items
+returns-in-Ask-clause-opens c = λ cs behind.
+    at_once cs behind c.args.t c.args.keeper.now c.tick.new.keeper c.in-Ask.asked c.args.text.now.items c.tick.new.text.items
     (subst (λ o. Ticks c.args.t c.args.keeper.now o c.tick.new.keeper c.args.text.now.items c.tick.new.text.items) c.in-Ask.is c.in_ok-asked.ensures.ticks)
 
 pub returns-in-Ask-clause-shaped : goal.returns-in-Ask-clause-shaped
 returns-in-Ask-clause-shaped c = ticks_shaped c.args.t c.args.keeper.now c.tick.new.keeper c.in_ok-asked.field-0 c.args.text.now.items c.tick.new.text.items c.in_ok-asked.ensures.ticks
 
 pub returns-in-Ask-2-clause-opens : goal.returns-in-Ask-2-clause-opens
-returns-in-Ask-2-clause-opens c = λ cs table.
+returns-in-Ask-2-clause-opens c = λ cs behind.
     let sleeps = subst (λ o. Ticks c.args.t c.args.keeper.now o c.tick.new.keeper c.args.text.now.items c.tick.new.text.items) c.in-Sleep.is c.in_ok-asked.ensures.ticks in
     let ticks = subst (λ o. Ticks c.in-Sleep.later c.tick.new.keeper o c.tick-in-Sleep.new.keeper c.tick.new.text.items c.tick-in-Sleep.new.text.items) c.in-Ask-2.is c.in_ok-asked-in-Sleep.ensures.ticks in
-    after_sleep cs table c.args.t c.in-Sleep.later c.args.keeper.now c.tick.new.keeper c.tick-in-Sleep.new.keeper c.in-Ask-2.asked c.args.text.now.items c.tick.new.text.items c.tick-in-Sleep.new.text.items sleeps ticks
+    after_sleep cs behind c.args.t c.in-Sleep.later c.args.keeper.now c.tick.new.keeper c.tick-in-Sleep.new.keeper c.in-Ask-2.asked c.args.text.now.items c.tick.new.text.items c.tick-in-Sleep.new.text.items sleeps ticks
 
 pub returns-in-Ask-2-clause-shaped : goal.returns-in-Ask-2-clause-shaped
 returns-in-Ask-2-clause-shaped c =
@@ -35,7 +35,7 @@ returns-in-Ask-2-clause-shaped c =
 
 pub returns-in_default : goal.returns-in_default
 returns-in_default c = record {
-  opens = λ cs table. ends cs table c.args.t c.args.keeper.now c.tick.new.keeper c.in_ok-asked.field-0 c.args.text.now.items c.tick.new.text.items c.in_ok-asked.ensures.ticks c.in_default.not-Sleep c.in_default.not-Ask;
+  opens = λ cs behind. ends cs behind c.args.t c.args.keeper.now c.tick.new.keeper c.in_ok-asked.field-0 c.args.text.now.items c.tick.new.text.items c.in_ok-asked.ensures.ticks c.in_default.not-Sleep c.in_default.not-Ask;
   memory = tt;
   within = All-nil _;
   few = omega arith;

@@ -9,7 +9,7 @@ use Rattle.keep_run.proofs.waking.round.Goals as goal
 
 pub loop-i-init : goal.loop-i-init
 loop-i-init c = record {
-  answers = none_answered c.args.credentials.now c.args.t (both c.args.keeper.now c.args.table.now) c.args.text.now.items;
+  answers = none_answered c.args.credentials.now c.args.t (both c.args.keeper.now c.args.exchange.now) c.args.text.now.items;
   shaped = same c.args.keeper.now.forest;
   taken = c.requires.quiet;
 }
@@ -19,9 +19,9 @@ loop-i-preserved c =
     let cs = c.args.credentials.now in
     let asked = c.args.asked.now in
     let k = c.loop-i.i-index in
-    let old = both c.args.keeper.now c.args.table.now in
-    let mid = both c.loop-i.keeper c.loop-i.table in
-    let new = both c.answer.new.keeper c.answer.new.table in
+    let old = both c.args.keeper.now c.args.exchange.now in
+    let mid = both c.loop-i.keeper c.loop-i.exchange in
+    let new = both c.answer.new.keeper c.answer.new.exchange in
     let before = c.args.text.now.items in
     let after = c.answer.new.text.items in
     let more = answers_more cs c.args.t old mid new (take k asked) (get_or asked k 0) c.loop-i.next c.in_ok-output.output before c.loop-i.text.items after c.loop-i.invariant.shaped c.loop-i.invariant.answers c.in_ok-output.ensures.answers in
