@@ -21,8 +21,9 @@ pub(crate) fn set_faults(table: &mut Table, words: &[Text]) -> Result<(), Stop>
         let Some(fault) = fault_of(word.list()) else {
             return Err(Stop::FaultWord(place));
         };
-        if let Err(why) = table.set_fault(fault.number, fault.fault) {
-            return Err(stop_at(why, place));
+        match table.set_fault(fault.number, fault.fault) {
+            Ok(()) => (),
+            Err(why) => return Err(stop_at(why, place)),
         }
     }
     Ok(())
