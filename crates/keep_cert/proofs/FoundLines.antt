@@ -3,10 +3,10 @@ use Rattle.std.proofs.Common.{◌≡◌, ℕ, ◌+◌, ◌≤◌, ◌↔◌, Boo
 use Rattle.std.proofs.lemmas.Bool.{and_parts, eq-eqb, eqb-true, leb-true}
 use Rattle.std.specs.Bool.{beq}
 use Rattle.keep_tree.specs.declared.entry.Entry.{Entry}
-use Rattle.keep_schedule.specs.declared.run.Run.{Run}
+use Rattle.keep_rule.specs.declared.run.Run.{Run}
 use Rattle.keep_cert.specs.declared.cert.Version.{Version}
 use Rattle.keep_cert.specs.declared.cert.Version.TheVariants.{One, Two}
-use Rattle.keep_schedule.specs.declared.limit.TheConstants.{LIMIT}
+use Rattle.keep_rule.specs.declared.limit.TheConstants.{LIMIT}
 use Rattle.keep_cert.specs.declared.fault.CertFault.{CertFault}
 use Rattle.keep_cert.specs.CertificateText.{IsRun, end_text, name_of, run_text}
 use Rattle.keep_cert.specs.Numbers.{number_at}

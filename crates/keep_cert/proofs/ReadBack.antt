@@ -12,10 +12,10 @@ use Rattle.keep_moment.specs.declared.moment.TheConstants.{LAST}
 use Rattle.keep_tree.specs.declared.entry.Entry.{Entry}
 use Rattle.keep_tree.specs.Forest.{Grove}
 use Rattle.keep_tree.specs.Push.{IsForest}
-use Rattle.keep_schedule.specs.declared.run.Run.{Run}
+use Rattle.keep_rule.specs.declared.run.Run.{Run}
 use Rattle.keep_cert.specs.declared.cert.Version.{Version}
 use Rattle.keep_cert.specs.declared.cert.Version.TheVariants.{One, Two}
-use Rattle.keep_schedule.specs.declared.limit.TheConstants.{LIMIT}
+use Rattle.keep_rule.specs.declared.limit.TheConstants.{LIMIT}
 use Rattle.keep_cert.specs.declared.fault.CertFault.TheVariants.{BadLine, BadNumber, UnknownName}
 use Rattle.keep_cert.specs.CertificateText.{IsRun, line_text, name_of, run_text}
 use Rattle.keep_cert.specs.Numbers.{is_spelled, number_at, number_of}

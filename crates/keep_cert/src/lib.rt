@@ -22,7 +22,7 @@ mod writer;
 
 pub use cert::{Body, Cert, MAX_LINES, Version};
 pub use fault::CertFault;
-pub use keep_schedule::LIMIT;
+pub use keep_rule::LIMIT;
 pub use laws::{certificates_are_read_back, decisions_are_read_back};
 pub use printer::{PrintFault, print};
 pub use reader::read;

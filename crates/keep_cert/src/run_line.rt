@@ -9,7 +9,7 @@ use crate::fault::CertFault;
 use crate::number::number_at;
 use crate::pieces::{begins, four_words, six_words, two_words};
 use keep_moment::LAST;
-use keep_schedule::{LIMIT, Run};
+use keep_rule::{LIMIT, Run};
 use keep_tree::Forest;
 
 /// The entry that a word of the `n`th line names.

@@ -7,7 +7,7 @@ use crate::cert::{MAX_LINES, Version};
 use crate::fault::CertFault;
 use crate::pieces::{begins, line_at};
 use crate::run_line::{ending, run_keyword, run_line};
-use keep_schedule::Run;
+use keep_rule::Run;
 use keep_tree::Forest;
 use std::alloc::Global;
 

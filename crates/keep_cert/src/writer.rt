@@ -1,12 +1,13 @@
 ghost use Rattle.std.specs.Prelude.{◌≡◌, ◌≤◌, ◌<◌, ◌++◌, ◌∷◌, [], All, IfOk, OnOk, decimal, flat_map, length};
-ghost use Rattle.keep_cert.specs.CertificateText.{CanBeWritten, IsAmong, certificate_text, counted, end_text, header_text, name_of, run_text, start_text, unkeepable_text};
+ghost use Rattle.keep_rule.specs.Runs.{counted};
+ghost use Rattle.keep_cert.specs.CertificateText.{CanBeWritten, IsAmong, certificate_text, end_text, header_text, name_of, run_text, start_text, unkeepable_text};
 ghost use Rattle.keep_cert.specs.Printing.{certified};
 ghost use Rattle.keep_cert.specs.declared.cert.Body.TheVariants.{Runs, Unkeepable};
 ghost use Rattle.keep_cert.specs.declared.cert.Version.TheVariants.{Two};
 
 use crate::cert::Body;
 use keep_moment::{Moment, Text};
-use keep_schedule::{LIMIT, Run};
+use keep_rule::{LIMIT, Run};
 use keep_tree::Forest;
 use std::alloc::{AllocError, Global};
 

@@ -9,9 +9,8 @@ use Rattle.keep_tree.specs.Forest.{Grove}
 use Rattle.keep_tree.specs.Push.{IsForest}
 use Rattle.keep_rule.specs.declared.wake.Wake.{Wake}
 use Rattle.keep_rule.specs.Plans.{moments}
-use Rattle.keep_schedule.specs.declared.force.Force.{Force}
-use Rattle.keep_schedule.specs.Forces.{moments_of}
-use Rattle.keep_schedule.specs.Runs.{all_wakes}
+use Rattle.keep_rule.specs.declared.force.Force.{Force}
+use Rattle.keep_rule.specs.Runs.{all_wakes, moments_of}
 use Rattle.keep_plan.specs.Decides.{IsTooLong}
 use Rattle.keep_inventory.specs.Stock.{Stock}
 use Rattle.keep_inventory.specs.Inventory.{inventory}
@@ -136,7 +135,7 @@ module _ (Text : Texts) (Halt : Halts) where
   runs_alike bytes other exit exit' out out' errors errors' one d a b =
       let grove = sym (one_grove bytes other d) in
       let g = d.stock.grove in
-      let forest = (inventory_law bytes d.stock d.reads).0 in (
+      let forest = (inventory_law bytes d.stock d.reads).forest in (
         two_fronts g out out' one forest (fronts_in bytes d.stock exit out errors d.reads a) (subst (λ g. Fronts g out') grove (fronts_in other d.other_stock exit' out' errors' d.other_reads b)),
         λ whole whole'. both_end g exit exit' out out' errors errors' one forest (ends_in bytes d.stock exit out errors d.reads whole a)
             (subst (λ g. EndsIn g exit' out' errors') grove (ends_in other d.other_stock exit' out' errors' d.other_reads whole' b)),

@@ -2,7 +2,7 @@
 -- Source: this project's own, over Vault, "Lease, renew, and revoke", and Vault, "Tokens".
 use Rattle.std.specs.Prelude.{◌≡◌, ℕ, List}
 use Rattle.keep_tree.specs.Forest.{Grove}
-use Rattle.keep_schedule.specs.declared.run.Run.{Run}
+use Rattle.keep_rule.specs.declared.run.Run.{Run}
 use Rattle.keep_plan.specs.declared.decision.Decision.{Decision}
 use Rattle.keep_plan.specs.declared.decision.Decision.TheVariants as decision
 use Rattle.keep_plan.specs.Decides.{AreBest, IsTooLong, NoneKeeps}

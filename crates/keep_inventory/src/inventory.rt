@@ -1,5 +1,5 @@
 ghost use Rattle.std.specs.Prelude.{◌≡◌, ◌<◌, length};
-ghost use Rattle.keep_inventory.specs.Stock.{IsStock, terms_at, credential_at};
+ghost use Rattle.keep_inventory.specs.Stock.{IsSendable, IsStock, terms_at, credential_at};
 ghost use Rattle.keep_inventory.specs.Intake.{stock_of};
 
 use crate::draft::Draft;
@@ -17,18 +17,23 @@ pub struct Credentials {
 
 impl Model for Credentials {
     ghost use Rattle.std.specs.Prelude.{List, ℕ, ◌++◌};
+    ghost use Rattle.std.specs.List.{All};
+    ghost use Rattle.keep_inventory.specs.Stock.{IsSendable};
 
     ghost Value = { List (List ℕ) };
 
     ghost view = { λ c. c.secrets ++ c.lease_ids };
+
+    ghost invariant = { λ c. All IsSendable (c.secrets ++ c.lease_ids) };
 }
 
 impl Credentials {
-    /// The credential of the entry at an index.
+    /// The credential of the entry at an index: 1 to 256 bytes, each from 0x21 to 0x7E.
     #[tactic(auto, using(crate::proofs::Stocks::halves))]
     pub fn get(&self, index: u32) -> &[u8]
         requires { index < length self.now }
-        ensures { result.now ≡ credential_at self.now index }
+        ensures value { result.now ≡ credential_at self.now index }
+        ensures sendable { IsSendable result.now }
     {
         let (index, tokens) = (index as usize, self.secrets.len());
         if index < tokens {
@@ -70,6 +75,7 @@ impl Inventory {
     pub fn credential(&self, index: u32) -> &[u8]
         requires { index < length self.now.grove.entries }
         ensures value { result.now ≡ credential_at self.now.credentials index }
+        ensures sendable { IsSendable result.now }
         ensures sound { IsStock self.now }
     {
         self.credentials.get(index)

@@ -9,6 +9,5 @@ pub mod Asking
 pub mod Running
 pub mod Whole
 pub mod Loops
-pub mod Supplying
 pub mod Refusing
 pub mod OneAnswer

@@ -17,13 +17,12 @@ use Rattle.keep_tree.proofs.Chains.{chain_same}
 use Rattle.keep_tree.proofs.Entries.{entry_at_set_other, entry_at_set_same}
 use Rattle.keep_tree.proofs.Placed.{parents_first, read_range, read_step, replaced_is_forest, replaces_read}
 use Rattle.keep_rule.proofs.Alive.{alive_from_last, last_from_alive}
-use Rattle.keep_inventory.specs.Stock.{Stock, credential_at, terms_at}
+use Rattle.keep_inventory.specs.Stock.{IsStock, Stock, credential_at, terms_at}
 use Rattle.keep_inventory.specs.declared.terms.Terms.{Terms}
 use Rattle.mini_broker.specs.declared.row.Row.{Row}
 use Rattle.mini_broker.specs.Rows.{row_of, rows_of}
 use Rattle.mini_broker.specs.Renewing.{with_row}
 use Rattle.keep_run.specs.Listed.{Mirrors, ended, is_alive, listed, with_forest}
-use Rattle.keep_run.specs.Supplied.{IsSupplied}
 use Rattle.keep_run.proofs.Ranges.{filter_range, map_of_map, map_range}
 use Rattle.keep_run.proofs.Sweeping.{lone_name, name_in, swept_all, swept_later}
 
@@ -182,7 +181,7 @@ renewal_within e t late small = most e.ceiling where
   most (Some c) = omega arith
 
 -- what an inventory keeps stays where an end is changed
-pub ended_supplied : (s : Stock) → IsSupplied s → (i end : ℕ) → i < length s.grove.entries → end ≤ END_MAX → IsSupplied (with_forest s (ended s.grove i end))
+pub ended_supplied : (s : Stock) → IsStock s → (i end : ℕ) → i < length s.grove.entries → end ≤ END_MAX → IsStock (with_forest s (ended s.grove i end))
 ended_supplied s supplied i end within far =
     let g = s.grove in
     let h = ended g i end in
@@ -192,7 +191,10 @@ ended_supplied s supplied i end within far =
     record {
       forest = ended_forest g supplied.forest i end within far;
       steps = λ j inside. let a = supplied.steps j (omega arith) in let b = steps j in omega arith;
-      periods = λ j inside. elim (supplied.periods j (omega arith)) [ inl none ↦ inl none | inr same ↦ inr (same ∙ sym (steps j)) ];
+      step_is = λ j inside. steps j ∙ supplied.step_is j (omega arith);
+      ceiling_is = λ j inside. ended_field (λ (e : Entry). e.ceiling) g i end within refl j ∙ supplied.ceiling_is j (omega arith);
       apart = λ j k hj hk kind credential. supplied.apart j k (omega arith) (omega arith) (sym (kinds j) ∙ kind ∙ kinds k) credential;
-      texts = λ j inside lease. supplied.texts j (omega arith) (sym (kinds j) ∙ lease);
+      credentials = supplied.credentials ∙ sym count;
+      terms = supplied.terms ∙ sym count;
+      sendable = supplied.sendable;
     }

@@ -10,7 +10,8 @@ use Rattle.keep_tree.specs.Push.{IsForest, is_lease, is_under_lease}
 use Rattle.keep_tree.specs.Renewal.{capped, renewal}
 use Rattle.keep_tree.proofs.Carrying.{and_left, and_right}
 use Rattle.keep_tree.proofs.Chains.{cases_Option}
-use Rattle.keep_inventory.specs.Stock.{Stock, credential_at, terms_at}
+use Rattle.keep_inventory.specs.Stock.{IsStock, Stock, credential_at, terms_at}
+use Rattle.keep_inventory.proofs.Stocks.{credential_text, period_is}
 use Rattle.vault_http.specs.declared.request.Request.{Request}
 use Rattle.vault_json.specs.Request.{increment_answer}
 use Rattle.vault_json.specs.Written.{lease_text, renew_text}
@@ -31,7 +32,6 @@ use Rattle.mini_broker.specs.Step.{after_sweep, by_call, counted, refuses as ref
 use Rattle.mini_broker.specs.Subject.{Subject, bearer, is_lease_with, is_token_with, lease_with, belongs, owned, subject, token_with, with_asked, with_bearer}
 use Rattle.mini_broker.specs.Sweep.{swept}
 use Rattle.keep_run.specs.Renewing.{asked_as, request_of}
-use Rattle.keep_run.specs.Supplied.{IsSupplied}
 use Rattle.keep_run.specs.Listed.{is_alive, listed}
 use Rattle.keep_run.proofs.Ranges.{found_lone}
 use Rattle.keep_run.proofs.Sweeping.{alive_up}
@@ -85,7 +85,7 @@ token_hit s c j hit =
     )
 
 token_found :
-    (s : Stock) → IsSupplied s → (t i : ℕ) → i < length s.grove.entries → (entry_at s.grove.entries i).kind ≡ Token → is_alive s.grove t i ≡ true →
+    (s : Stock) → IsStock s → (t i : ℕ) → i < length s.grove.entries → (entry_at s.grove.entries i).kind ≡ Token → is_alive s.grove t i ≡ true →
     token_with (listed s t) (credential_at s.credentials i) ≡ Some (row_of s i)
 unfolding token_with listed
 token_found s supplied t i within token alive =
@@ -108,7 +108,7 @@ lease_hit s c j hit =
     )
 
 lease_found :
-    (s : Stock) → IsSupplied s → (t i : ℕ) → i < length s.grove.entries → (entry_at s.grove.entries i).kind ≡ Lease → is_alive s.grove t i ≡ true →
+    (s : Stock) → IsStock s → (t i : ℕ) → i < length s.grove.entries → (entry_at s.grove.entries i).kind ≡ Lease → is_alive s.grove t i ≡ true →
     lease_with (listed s t) (credential_at s.credentials i) ≡ Some (row_of s i)
 unfolding lease_with listed
 lease_found s supplied t i within lease alive =
@@ -140,7 +140,7 @@ call_for Token = RenewSelf
 call_for Lease = RenewLease
 
 subject_token :
-    (s : Stock) → IsSupplied s → (port t i : ℕ) → i < length s.grove.entries → (entry_at s.grove.entries i).kind ≡ Token → is_alive s.grove t i ≡ true →
+    (s : Stock) → IsStock s → (port t i : ℕ) → i < length s.grove.entries → (entry_at s.grove.entries i).kind ≡ Token → is_alive s.grove t i ≡ true →
     subject (listed s t) RenewSelf (asked_as Token port s.credentials i (entry_at s.grove.entries i)) ≡ Ok (record { row = row_of s i; increment = Some (entry_at s.grove.entries i).step })
 unfolding subject
 subject_token s supplied port t i within token alive =
@@ -178,7 +178,7 @@ owner_may token lease increment over =
     (ap (λ o. belongs o token.name) over ∙ (bytes_decides token.name token.name).1 refl)
 
 subject_lease :
-    (s : Stock) → IsSupplied s → (port t i : ℕ) → i < length s.grove.entries → (entry_at s.grove.entries i).kind ≡ Lease → is_alive s.grove t i ≡ true →
+    (s : Stock) → IsStock s → (port t i : ℕ) → i < length s.grove.entries → (entry_at s.grove.entries i).kind ≡ Lease → is_alive s.grove t i ≡ true →
     subject (listed s t) RenewLease (asked_as Lease port s.credentials i (entry_at s.grove.entries i)) ≡ Ok (record { row = row_of s i; increment = Some (entry_at s.grove.entries i).step })
 unfolding subject
 subject_lease s supplied port t i within lease alive =
@@ -192,7 +192,7 @@ subject_lease s supplied port t i within lease alive =
     let body = lease_text (credential_at s.credentials i) e.step in
     ap (λ o. with_bearer rows RenewLease body (bearer rows (option_map (credential_at s.credentials) o))) child
     ∙ ap (λ o. with_bearer rows RenewLease body o) (token_found s supplied t p (omega arith) over.1.1.1 (alive_up g supplied.forest t i p child alive))
-    ∙ ap (λ a. with_asked rows (row_of s p) a) (lease_renew_asked (credential_at s.credentials i) e.step (supplied.texts i within lease) (supplied.steps i within))
+    ∙ ap (λ a. with_asked rows (row_of s p) a) (lease_renew_asked (credential_at s.credentials i) e.step (credential_text s supplied i within) (supplied.steps i within))
     ∙ ap (λ o. owned (row_of s p) (Some e.step) o) (lease_found s supplied t i within lease alive)
     ∙ owner_may (row_of s p) (row_of s i) (Some e.step) (parent_name s i p child)
 
@@ -202,24 +202,21 @@ same_cond : (b : Bool) (n : ℕ) → cond b n n ≡ n
 same_cond true n = refl
 same_cond false n = refl
 
-step_is : (s : Stock) → IsSupplied s → (i : ℕ) → i < length s.grove.entries → step_of (row_of s i) (Some (entry_at s.grove.entries i).step) ≡ (entry_at s.grove.entries i).step
+step_is : (s : Stock) → IsStock s → (i : ℕ) → i < length s.grove.entries → step_of (row_of s i) (Some (entry_at s.grove.entries i).step) ≡ (entry_at s.grove.entries i).step
 unfolding step_of row_of
 step_is s supplied i within =
     let period = (terms_at s.terms i).period in
     let step = (entry_at s.grove.entries i).step in
     elim (cases_Bool (period == 0)) [
       | inl none ↦ cond-true (period == 0) (cond (step == 0) step step) period none ∙ same_cond (step == 0) step
-      | inr some ↦ cond-false (period == 0) (cond (step == 0) step step) period some ∙ elim (supplied.periods i within) [
-        | inl zero' ↦ absurd (let bad : true ≡ false = sym (ap (λ n. n == 0) zero') ∙ some in cc)
-        | inr same ↦ same
-      ]
+      | inr some ↦ cond-false (period == 0) (cond (step == 0) step step) period some ∙ sym (period_is s supplied i within some)
     ]
 
 ceiling_in : (s : Stock) (i : ℕ) → (row_of s i).ceiling ≡ (entry_at s.grove.entries i).ceiling
 unfolding row_of
 ceiling_in s i = refl
 
-end_is : (s : Stock) → IsSupplied s → (t i : ℕ) → i < length s.grove.entries → new_end None t (row_of s i) (Some (entry_at s.grove.entries i).step) ≡ renewal (entry_at s.grove.entries i) t
+end_is : (s : Stock) → IsStock s → (t i : ℕ) → i < length s.grove.entries → new_end None t (row_of s i) (Some (entry_at s.grove.entries i).step) ≡ renewal (entry_at s.grove.entries i) t
 unfolding new_end renewal
 end_is s supplied t i within =
     ap (λ n. capped (row_of s i).ceiling (t + n)) (step_is s supplied i within) ∙ ap (λ c. capped c (t + (entry_at s.grove.entries i).step)) (ceiling_in s i)
@@ -227,7 +224,7 @@ end_is s supplied t i within =
 -- ---- the step
 
 served_as :
-    (s : Stock) → IsSupplied s → (port t i : ℕ) → i < length s.grove.entries → is_alive s.grove t i ≡ true →
+    (s : Stock) → IsStock s → (port t i : ℕ) → i < length s.grove.entries → is_alive s.grove t i ≡ true →
     subject (listed s t) (call_for (entry_at s.grove.entries i).kind) (request_of port s.credentials s.grove i) ≡ Ok (record { row = row_of s i; increment = Some (entry_at s.grove.entries i).step })
 unfolding request_of
 served_as s supplied port t i within alive =
@@ -238,7 +235,7 @@ served_as s supplied port t i within alive =
     (λ lease. ap says lease ∙ subject_lease s supplied port t i within lease alive)
 
 granted_is :
-    (s : Stock) → IsSupplied s → (port t i : ℕ) → i < length s.grove.entries → (entry_at s.grove.entries i).renewable ≡ true → is_alive s.grove t i ≡ true →
+    (s : Stock) → IsStock s → (port t i : ℕ) → i < length s.grove.entries → (entry_at s.grove.entries i).renewable ≡ true → is_alive s.grove t i ≡ true →
     renewal_served (listed s t) t (call_for (entry_at s.grove.entries i).kind) (request_of port s.credentials s.grove i) None ≡ Ok (renewed_row s t i)
 unfolding renewal_served
 granted_is s supplied port t i within able alive =
@@ -287,7 +284,7 @@ renews_faultless rows count t call r =
 
 -- the table and the answer after the request of an entry that is alive and renewable
 pub serves :
-    (s : Stock) → IsSupplied s → (port t i : ℕ) (l : Ledger) → i < length s.grove.entries → (entry_at s.grove.entries i).renewable ≡ true → is_alive s.grove t i ≡ true →
+    (s : Stock) → IsStock s → (port t i : ℕ) (l : Ledger) → i < length s.grove.entries → (entry_at s.grove.entries i).renewable ≡ true → is_alive s.grove t i ≡ true →
     l.faults ≡ [] → swept t l.rows ≡ listed s t →
     step l t (request_of port s.credentials s.grove i)
     ≡ record { answer = tells (call_for (entry_at s.grove.entries i).kind) (renewed_row s t i); ledger = record { rows = with_row (listed s t) (renewed_row s t i); faults = []; count = next_number l.count } }

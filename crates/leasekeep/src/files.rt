@@ -7,6 +7,7 @@ use std::alloc::Global;
 use std::rt::Files;
 
 /// The files of the system, of which nothing is known before they are read.
+#[derive(Debug, Drop)]
 pub struct Disk<'a, R> {
     pub rt: &'a R,
 }
