@@ -40,6 +40,7 @@ class Trial:
         self.file = folder / "inventory.toml"
         self.socket = folder / "broker.sock"
         self.relay = Relay(self.socket)
+        self._own = Relay(folder / "own.sock")
         self.daemon: asyncio.subprocess.Process | None = None
 
     async def start_broker(self, inventory: Inventory) -> None:
@@ -48,14 +49,16 @@ class Trial:
         rows.write_text(inventory_text(inventory))
         broker = LiveBroker(self._minibroker, rows)
         await broker.start()
-        self.relay.broker = broker
+        self.relay.broker = self._own.broker = broker
+        await self._own.start()
         await self.relay.start()
 
     async def stop_broker(self) -> None:
         await self.relay.stop()
+        await self._own.stop()
         if self.relay.broker is not None:
             await self.relay.broker.stop()
-            self.relay.broker = None
+            self.relay.broker = self._own.broker = None
 
     async def start_daemon(self, log: Path, address: str = "") -> None:
         """Starts leasekeepd on the inventory; its log is added to the file."""
@@ -76,9 +79,9 @@ class Trial:
         return await self.daemon.wait()
 
     async def look_up_all(self) -> dict[str, Heard]:
-        """What the broker says of each entry. A row that has ended is never listed again: so one that is alive now
-        was so throughout."""
-        broker = Broker(HttpTransport(Address(str(self.socket))), SystemClock(), 5.0)
+        """What the broker says of each entry, past the relay that the agent uses. A row that has ended is never
+        listed again: so one that is alive now was so throughout."""
+        broker = Broker(HttpTransport(Address(str(self.folder / "own.sock"))), SystemClock(), 5.0)
         return {entry.name: await broker.look_up(self.inventory, entry) for entry in self.inventory.entries}
 
     async def dead(self) -> list[str]:
