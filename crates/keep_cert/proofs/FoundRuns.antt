@@ -8,19 +8,21 @@ use Rattle.std.specs.Cmp.Lexicographic.{bytes_decides}
 use Rattle.std.specs.List.{join_with_byte}
 use Rattle.keep_moment.specs.declared.moment.TheConstants.{LAST}
 use Rattle.keep_tree.specs.declared.entry.Entry.{Entry}
-use Rattle.keep_schedule.specs.declared.run.Run.{Run}
+use Rattle.keep_rule.specs.declared.run.Run.{Run}
 use Rattle.keep_cert.specs.declared.cert.Body.{Body}
 use Rattle.keep_cert.specs.declared.cert.Body.TheVariants.{Runs, Unkeepable}
 use Rattle.keep_cert.specs.declared.cert.Cert.{Cert}
 use Rattle.keep_cert.specs.declared.cert.Version.{Version}
 use Rattle.keep_cert.specs.declared.cert.Version.TheVariants.{One, Two}
-use Rattle.keep_schedule.specs.declared.limit.TheConstants.{LIMIT}
+use Rattle.keep_rule.specs.declared.limit.TheConstants.{LIMIT}
 use Rattle.keep_cert.specs.declared.cert.TheConstants.{MAX_LINES}
 use Rattle.keep_cert.specs.declared.fault.CertFault.{CertFault}
 use Rattle.keep_cert.specs.declared.fault.CertFault.TheVariants.{BadHeader}
 use Rattle.keep_cert.specs.Answers.{Gives}
-use Rattle.keep_cert.specs.CertificateText.{AreRuns, CanBeWritten, IsAmong, IsBody, IsRun, Writes, body_text, certificate_text, counted, end_text, header_text, name_of, run_text, start_text, unkeepable_text}
-use Rattle.keep_cert.specs.Pieces.{keyword, line_at, lines, pieces, three, three_words, two, two_words}
+use Rattle.keep_rule.specs.Runs.{counted}
+use Rattle.keep_cert.specs.CertificateText.{AreRuns, CanBeWritten, IsAmong, IsBody, IsRun, Writes, body_text, certificate_text, end_text, header_text, name_of, run_text, start_text, unkeepable_text}
+use Rattle.keep_words.specs.Pieces.{keyword, pieces, three, two}
+use Rattle.keep_cert.specs.Lines.{line_at, lines, three_words, two_words}
 use Rattle.keep_cert.specs.Reading.{body_of, certificate_of, ending, entry_named, header_of, nothing_behind, run_keyword, run_line, runs_of, start_of, unkeepable_of, version_of}
 use Rattle.keep_cert.proofs.Found.{entry_found, keyword_is, line_from_words, number_spelled, some_from_ok, step_ok, three_is, two_is}
 use Rattle.keep_cert.proofs.FoundLines.{RoomFor, end_found, if_ok, nothing_found, run_line_found}

@@ -8,22 +8,22 @@ use Rattle.keep_tree.specs.Over.{Over}
 use Rattle.keep_tree.specs.Push.{IsForest}
 use Rattle.keep_tree.proofs.Entries.{entry_at_past}
 use Rattle.keep_tree.proofs.Placed.{parents_first}
-use Rattle.keep_schedule.specs.declared.force.Force.{Force}
-use Rattle.keep_schedule.specs.declared.limit.TheConstants.{LIMIT}
-use Rattle.keep_schedule.specs.declared.run.Run.{Run}
+use Rattle.keep_rule.specs.declared.force.Force.{Force}
+use Rattle.keep_rule.specs.declared.limit.TheConstants.{LIMIT}
+use Rattle.keep_rule.specs.declared.run.Run.{Run}
 use Rattle.keep_schedule.specs.Forces.{AreForces, IsForce}
-use Rattle.keep_schedule.specs.Runs.{all_wakes, wakes, wakes_of}
+use Rattle.keep_rule.specs.Runs.{all_wakes, counted, wakes, wakes_of}
 use Rattle.keep_plan.specs.declared.decision.Decision.{Decision}
 use Rattle.keep_plan.specs.declared.decision.Decision.TheVariants as decision
 use Rattle.keep_plan.specs.Decides.{Decides}
-use Rattle.keep_plan.specs.Planned as planned
+use Rattle.keep_rule.specs.Runs as of_rule
 use Rattle.keep_plan.specs.Planned.{IsPlanned, Planned}
 use Rattle.keep_schedule.proofs.Bridge.{over_at_most}
 use Rattle.keep_plan.proofs.Walking.{length_all_cons}
 use Rattle.keep_cert.specs.declared.cert.Body.{Body}
 use Rattle.keep_cert.specs.declared.cert.Body.TheVariants.{Runs, Unkeepable}
 use Rattle.keep_cert.specs.declared.cert.Version.TheVariants.{Two}
-use Rattle.keep_cert.specs.CertificateText.{AreRuns, IsAmong, IsBody, certificate_text, counted}
+use Rattle.keep_cert.specs.CertificateText.{AreRuns, IsAmong, IsBody, certificate_text}
 use Rattle.keep_cert.specs.Laws.{DecidedIsOf, PrintedIsRead}
 use Rattle.keep_cert.specs.Printing.{certified, claim}
 use Rattle.keep_cert.proofs.ReadBackAll.{written_is_read}
@@ -69,7 +69,7 @@ first_of_run g forest s prev first step zero entry needed rest some forces = abs
 first_of_run g forest s prev first step (suc n) entry needed rest some forces =
     force_within g forest s prev (record { at = first; entry = entry; needed = needed }) forces.0
 
-pub runs_within : (g : Grove) → IsForest g → (s : ℕ) (prev : Option ℕ) (rs : List Run) → planned.AreRuns rs → AreForces g.entries g.margin s (end_of g.entries) prev (all_wakes rs) → AreRuns Two g.entries rs
+pub runs_within : (g : Grove) → IsForest g → (s : ℕ) (prev : Option ℕ) (rs : List Run) → of_rule.AreRuns rs → AreForces g.entries g.margin s (end_of g.entries) prev (all_wakes rs) → AreRuns Two g.entries rs
 runs_within g forest s prev [] runs forces = tt
 runs_within g forest s prev (r ∷ rs) runs forces =
     let here = first_of_run g forest s prev r.first r.step r.count r.entry r.needed (all_wakes rs) runs.0.some forces in

@@ -4,17 +4,18 @@ use Rattle.std.proofs.lemmas.Bool.{and_from, and_left, and_parts, and_right, con
 use Rattle.std.proofs.lemmas.List.Splits.{join_with_byte-slice_split}
 use Rattle.std.specs.List.{join_with_byte}
 use Rattle.keep_tree.specs.declared.entry.Entry.{Entry}
-use Rattle.keep_schedule.specs.declared.run.Run.{Run}
-use Rattle.keep_schedule.specs.declared.limit.TheConstants.{LIMIT}
+use Rattle.keep_rule.specs.declared.run.Run.{Run}
+use Rattle.keep_rule.specs.declared.limit.TheConstants.{LIMIT}
 use Rattle.keep_cert.specs.declared.cert.TheConstants.{MAX_LINES}
 use Rattle.keep_cert.specs.declared.cert.Version.{Version}
 use Rattle.keep_cert.specs.declared.fault.CertFault.{CertFault}
 use Rattle.keep_cert.specs.declared.fault.CertFault.TheVariants.{BadHeader, Trailing}
 use Rattle.keep_cert.specs.Answers.{◌>>=◌}
-use Rattle.keep_cert.specs.CertificateText.{counted}
-use Rattle.keep_cert.specs.Pieces.{keyword, line_at, pieces}
+use Rattle.keep_rule.specs.Runs.{counted}
+use Rattle.keep_words.specs.Pieces.{keyword, pieces}
+use Rattle.keep_cert.specs.Lines.{line_at}
 use Rattle.keep_cert.specs.Reading.{ending, header_of, is_run, nothing_behind, run_keyword, run_line, runs_of, version_of}
-use Rattle.keep_cert.proofs.Cutting.{has_piece}
+use Rattle.keep_words.proofs.Cutting.{has_piece}
 
 -- ---- the first line and what follows the last
 

@@ -5,13 +5,14 @@ use Rattle.std.specs.List.{join_with_byte}
 use Rattle.keep_moment.specs.declared.moment.TheConstants.{LAST}
 use Rattle.keep_tree.specs.declared.entry.Entry.{Entry}
 use Rattle.keep_tree.specs.Forest.{entry_at}
-use Rattle.keep_schedule.specs.declared.run.Run.{Run}
+use Rattle.keep_rule.specs.declared.run.Run.{Run}
+use Rattle.keep_rule.specs.Runs.{counted}
 use Rattle.keep_cert.specs.declared.cert.Body.{Body}
 use Rattle.keep_cert.specs.declared.cert.Body.TheVariants.{Runs, Unkeepable}
 use Rattle.keep_cert.specs.declared.cert.Cert.{Cert}
 use Rattle.keep_cert.specs.declared.cert.Version.{Version}
 use Rattle.keep_cert.specs.declared.cert.Version.TheVariants.{One, Two}
-use Rattle.keep_schedule.specs.declared.limit.TheConstants.{LIMIT}
+use Rattle.keep_rule.specs.declared.limit.TheConstants.{LIMIT}
 use Rattle.keep_cert.specs.declared.cert.TheConstants.{MAX_LINES}
 
 -- ---- the text
@@ -35,11 +36,6 @@ start_text start = line_text (codes "start" ∷ decimal start ∷ [])
 unfoldable pub run_text : Version → List Entry → Run → List ℕ
 run_text One es r = line_text (codes "wake" ∷ decimal r.first ∷ name_of es r.entry ∷ name_of es r.needed ∷ [])
 run_text Two es r = line_text (codes "run" ∷ decimal r.first ∷ decimal r.step ∷ decimal r.count ∷ name_of es r.entry ∷ name_of es r.needed ∷ [])
-
--- how many wake-ups the runs have
-abbrev pub counted : List Run → ℕ
-counted [] = 0
-counted (r ∷ rs) = r.count + counted rs
 
 unfoldable pub end_text : ℕ → List ℕ
 end_text count = line_text (codes "end" ∷ decimal count ∷ [])

@@ -6,20 +6,20 @@ use Rattle.std.specs.Option.{ok_or}
 use Rattle.keep_moment.specs.declared.moment.TheConstants.{LAST}
 use Rattle.keep_tree.specs.declared.entry.Entry.{Entry}
 use Rattle.keep_tree.specs.Forest.{index_named}
-use Rattle.keep_schedule.specs.declared.run.Run.{Run}
+use Rattle.keep_rule.specs.declared.run.Run.{Run}
 use Rattle.keep_cert.specs.declared.cert.Body.{Body}
 use Rattle.keep_cert.specs.declared.cert.Body.TheVariants.{Runs, Unkeepable}
 use Rattle.keep_cert.specs.declared.cert.Cert.{Cert}
 use Rattle.keep_cert.specs.declared.cert.Version.{Version}
 use Rattle.keep_cert.specs.declared.cert.Version.TheVariants.{One, Two}
-use Rattle.keep_schedule.specs.declared.limit.TheConstants.{LIMIT}
+use Rattle.keep_rule.specs.declared.limit.TheConstants.{LIMIT}
 use Rattle.keep_cert.specs.declared.cert.TheConstants.{MAX_LINES}
 use Rattle.keep_cert.specs.declared.fault.CertFault.{CertFault}
 use Rattle.keep_cert.specs.declared.fault.CertFault.TheVariants.{BadHeader, BadLine, UnknownName, BadNumber, Truncated, Trailing}
 use Rattle.keep_cert.specs.Answers.{◌>>=◌}
-use Rattle.keep_cert.specs.CertificateText.{counted}
-use Rattle.keep_cert.specs.Numbers.{number_at}
-use Rattle.keep_cert.specs.Pieces.{lines, cut_off, line_at, keyword, two_words, three_words, four_words, six_words}
+use Rattle.keep_rule.specs.Runs.{counted}
+use Rattle.keep_cert.specs.Lines.{cut_off, four_words, line_at, lines, number_at, six_words, three_words, two_words}
+use Rattle.keep_words.specs.Pieces.{keyword}
 
 -- the entry that a word of the nth line names
 unfoldable pub entry_named : ℕ → List Entry → List ℕ → Result ℕ CertFault

@@ -1,6 +1,6 @@
 ghost use Rattle.std.specs.Prelude.{◌≡◌};
 ghost use Rattle.keep_cert.specs.declared.cert.TheConstants.{MAX_LINES};
-ghost use Rattle.keep_schedule.specs.declared.limit.TheConstants.{LIMIT};
+ghost use Rattle.keep_rule.specs.declared.limit.TheConstants.{LIMIT};
 ghost use Rattle.keep_cert.specs.Laws.{DecidedIsOf, PrintedIsRead, ReadIsWritten, WrittenIsRead};
 
 /// The laws that join text and reading: what is read from a text is what that text writes, and a text that writes a

@@ -9,8 +9,7 @@
 mod cert;
 mod fault;
 mod laws;
-mod number;
-mod pieces;
+mod lines;
 mod printer;
 mod reader;
 mod run_line;
@@ -22,7 +21,7 @@ mod writer;
 
 pub use cert::{Body, Cert, MAX_LINES, Version};
 pub use fault::CertFault;
-pub use keep_schedule::LIMIT;
+pub use keep_rule::LIMIT;
 pub use laws::{certificates_are_read_back, decisions_are_read_back};
 pub use printer::{PrintFault, print};
 pub use reader::read;

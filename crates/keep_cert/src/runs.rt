@@ -1,6 +1,6 @@
 ghost use Rattle.std.specs.Prelude.{◌≡◌, IfOk};
 
-use keep_schedule::Run;
+use keep_rule::Run;
 use std::alloc::{AllocError, Global};
 use std::marker::Model;
 
@@ -12,7 +12,7 @@ pub struct Runs {
 
 impl Model for Runs {
     ghost use Rattle.std.specs.Prelude.{List};
-    ghost use Rattle.keep_schedule.specs.declared.run.Run.{Run};
+    ghost use Rattle.keep_rule.specs.declared.run.Run.{Run};
 
     ghost Value = { List Run };
 

@@ -7,7 +7,7 @@ mod whole;
 
 use crate::{CertFault, read};
 use keep_moment::Name;
-use keep_schedule::Run;
+use keep_rule::Run;
 use keep_tree::{Entry, Forest, Kind};
 use std::alloc::Global;
 use std::process::Abort;

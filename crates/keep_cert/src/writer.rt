@@ -1,13 +1,15 @@
 ghost use Rattle.std.specs.Prelude.{◌≡◌, ◌≤◌, ◌<◌, ◌++◌, ◌∷◌, [], All, IfOk, OnOk, decimal, flat_map, length};
-ghost use Rattle.keep_cert.specs.CertificateText.{CanBeWritten, IsAmong, certificate_text, counted, end_text, header_text, name_of, run_text, start_text, unkeepable_text};
+ghost use Rattle.keep_rule.specs.Runs.{counted};
+ghost use Rattle.keep_cert.specs.CertificateText.{CanBeWritten, IsAmong, certificate_text, end_text, header_text, name_of, run_text, start_text, unkeepable_text};
 ghost use Rattle.keep_cert.specs.Printing.{certified};
 ghost use Rattle.keep_cert.specs.declared.cert.Body.TheVariants.{Runs, Unkeepable};
 ghost use Rattle.keep_cert.specs.declared.cert.Version.TheVariants.{Two};
 
 use crate::cert::Body;
 use keep_moment::{Moment, Text};
-use keep_schedule::{LIMIT, Run};
+use keep_rule::{LIMIT, Run};
 use keep_tree::Forest;
+use keep_words::push_number;
 use std::alloc::{AllocError, Global};
 
 /// The text of a certificate of version 2 over a forest: its start, and its wake-ups or the pair that cannot be kept.
@@ -70,9 +72,8 @@ pub(crate) fn text_of_pair(
 fn push_head(alloc: Global, start: u64, text: &mut Vec<u8>) -> Result<(), AllocError>
     ensures { OnOk result (text.new.items ≡ text.old.items ++ (header_text Two ++ start_text start)) }
 {
-    let start = start.to_string(alloc)?;
     text.extend_from_slice(b"leasekeep-plan 2\nstart ")?;
-    text.extend_from_slice(start.as_bytes())?;
+    push_number(alloc, start, text)?;
     text.push(b'\n')?;
     Ok(())
 }
@@ -125,9 +126,9 @@ fn push_run(alloc: Global, forest: &Forest, run: Run, text: &mut Vec<u8>) -> Res
     ensures { OnOk result (text.new.items ≡ text.old.items ++ run_text Two forest.now.entries run) }
 {
     text.extend_from_slice(b"run ")?;
-    push_number(alloc, run.first, text)?;
-    push_number(alloc, run.step, text)?;
-    push_number(alloc, run.count, text)?;
+    push_spaced(alloc, run.first, text)?;
+    push_spaced(alloc, run.step, text)?;
+    push_spaced(alloc, run.count, text)?;
     push_pair(forest, run.entry, run.needed, text)
 }
 
@@ -135,9 +136,8 @@ fn push_run(alloc: Global, forest: &Forest, run: Run, text: &mut Vec<u8>) -> Res
 fn push_end(alloc: Global, count: u64, text: &mut Vec<u8>) -> Result<(), AllocError>
     ensures { OnOk result (text.new.items ≡ text.old.items ++ end_text count) }
 {
-    let count = count.to_string(alloc)?;
     text.extend_from_slice(b"end ")?;
-    text.extend_from_slice(count.as_bytes())?;
+    push_number(alloc, count, text)?;
     text.push(b'\n')?;
     Ok(())
 }
@@ -158,11 +158,10 @@ fn push_unkeepable(
 }
 
 /// Appends a number and a space.
-fn push_number(alloc: Global, number: u64, text: &mut Vec<u8>) -> Result<(), AllocError>
+fn push_spaced(alloc: Global, number: u64, text: &mut Vec<u8>) -> Result<(), AllocError>
     ensures { OnOk result (text.new.items ≡ text.old.items ++ (decimal number ++ 32 ∷ [])) }
 {
-    let digits = number.to_string(alloc)?;
-    text.extend_from_slice(digits.as_bytes())?;
+    push_number(alloc, number, text)?;
     text.push(b' ')?;
     Ok(())
 }

@@ -15,10 +15,9 @@ use Rattle.keep_rule.specs.Unkeepable.{Unkeepable}
 use Rattle.keep_rule.proofs.Joining.{InOrder, order_plan}
 use Rattle.keep_rule.proofs.Keeping.{forced_is_least, unkeepable}
 use Rattle.keep_rule.proofs.Tail.{moments_with_asks}
-use Rattle.keep_schedule.specs.declared.force.Force.{Force}
-use Rattle.keep_schedule.specs.declared.run.Run.{Run}
-use Rattle.keep_schedule.specs.Forces.{moments_of}
-use Rattle.keep_schedule.specs.Runs.{all_wakes, wakes_of}
+use Rattle.keep_rule.specs.declared.force.Force.{Force}
+use Rattle.keep_rule.specs.declared.run.Run.{Run}
+use Rattle.keep_rule.specs.Runs.{all_wakes, moments_of, wakes_of}
 use Rattle.keep_cert.specs.declared.cert.Body.{Body}
 use Rattle.keep_cert.specs.declared.cert.Body.TheVariants as body
 use Rattle.keep_check.specs.declared.answer.Answer.{Answer}

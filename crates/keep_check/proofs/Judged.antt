@@ -9,8 +9,8 @@ use Rattle.keep_tree.proofs.Entries.{entry_at_past}
 use Rattle.keep_rule.proofs.Alive.{alive_from_last}
 use Rattle.keep_rule.proofs.Asking.{short_over}
 use Rattle.keep_rule.specs.Schedule.{RisesStrictly}
-use Rattle.keep_schedule.specs.declared.force.Force.{Force}
-use Rattle.keep_schedule.specs.Forces.{moments_of}
+use Rattle.keep_rule.specs.declared.force.Force.{Force}
+use Rattle.keep_rule.specs.Runs.{moments_of}
 use Rattle.keep_check.specs.declared.answer.Answer.TheVariants.{No, Yes}
 use Rattle.keep_check.specs.declared.answer.Cause.{Cause}
 use Rattle.keep_check.specs.declared.answer.Cause.TheVariants.{NotForced, NotKept, NotRising, NotUnkeepable}

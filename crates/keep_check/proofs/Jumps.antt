@@ -7,10 +7,9 @@ use Rattle.std.specs.List.Sorted.{IsNonDecreasingBy}
 use Rattle.keep_tree.specs.declared.entry.Entry.{Entry}
 use Rattle.keep_tree.specs.Renewal.{renewal}
 use Rattle.keep_rule.proofs.Keeping.{IsRising}
-use Rattle.keep_schedule.specs.declared.force.Force.{Force}
-use Rattle.keep_schedule.specs.declared.run.Run.{Run}
-use Rattle.keep_schedule.specs.Forces.{moments_of}
-use Rattle.keep_schedule.specs.Runs.{all_wakes, wakes, wakes_of}
+use Rattle.keep_rule.specs.declared.force.Force.{Force}
+use Rattle.keep_rule.specs.declared.run.Run.{Run}
+use Rattle.keep_rule.specs.Runs.{all_wakes, moments_of, wakes, wakes_of}
 use Rattle.keep_cert.specs.CertificateText.{IsFit}
 use Rattle.keep_check.specs.Fit.{AllFit}
 use Rattle.keep_check.specs.Gaps.{AllNarrow, gap_of, gap_within, gaps_of, last_moment}

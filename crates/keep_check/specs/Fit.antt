@@ -2,11 +2,12 @@
 -- Source: this project's own.
 use Rattle.std.specs.Prelude.{ℕ, ◌≤◌, ◌<◌, List, [], ◌∷◌, length}
 use Rattle.keep_tree.specs.Forest.{Grove}
-use Rattle.keep_schedule.specs.declared.run.Run.{Run}
+use Rattle.keep_rule.specs.declared.run.Run.{Run}
 use Rattle.keep_cert.specs.declared.cert.Body.{Body}
 use Rattle.keep_cert.specs.declared.cert.Body.TheVariants as body
-use Rattle.keep_cert.specs.CertificateText.{IsFit, counted}
-use Rattle.keep_schedule.specs.declared.limit.TheConstants.{LIMIT}
+use Rattle.keep_rule.specs.Runs.{counted}
+use Rattle.keep_cert.specs.CertificateText.{IsFit}
+use Rattle.keep_rule.specs.declared.limit.TheConstants.{LIMIT}
 
 -- each is a run among n entries
 abbrev pub AllFit : ℕ → List Run → Type 0

@@ -2,7 +2,7 @@
 -- Words for the steps of the code: no public clause cites them.
 use Rattle.std.specs.Prelude.{◌≡◌, ℕ, ◌+◌, ◌-◌, ◌*◌, ◌≤◌, ◌<◌, max, slice_index, slice_index_or, if◌then◌else◌, nat_eq, List, [], ◌∷◌, ◌++◌, drop, length, Option, Some, None}
 use Rattle.keep_tree.specs.declared.entry.Entry.{Entry}
-use Rattle.keep_schedule.specs.declared.run.Run.{Run}
+use Rattle.keep_rule.specs.declared.run.Run.{Run}
 use Rattle.keep_check.specs.declared.gap_tree.GapTree.{GapTree}
 use Rattle.keep_check.specs.declared.gap_tree.GapTree.TheVariants.{Empty, Leaf, Fork'}
 

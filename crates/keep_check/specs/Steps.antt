@@ -4,7 +4,7 @@ use Rattle.keep_tree.specs.declared.entry.Entry.{Entry}
 use Rattle.keep_tree.specs.Forest.{Grove, end_of, entry_at}
 use Rattle.keep_tree.specs.Renewal.{all_last, renewal}
 use Rattle.keep_rule.specs.Forced.{latest_end}
-use Rattle.keep_schedule.specs.declared.force.Force.{Force}
+use Rattle.keep_rule.specs.declared.force.Force.{Force}
 use Rattle.keep_check.specs.declared.answer.Cause.{Cause}
 use Rattle.keep_check.specs.Walk.{fault}
 

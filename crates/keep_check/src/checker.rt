@@ -1,11 +1,10 @@
 ghost use Rattle.std.specs.Prelude.{◌≡◌, ℕ, IsOk, ◌↔◌, ◌<◌, ◌≤◌, IfOk, IsTrue, Ok, length};
 ghost use Rattle.keep_tree.specs.Forest.{end_of};
 ghost use Rattle.keep_rule.specs.Unkeepable.{Unkeepable};
-ghost use Rattle.keep_schedule.specs.Runs.{all_wakes};
+ghost use Rattle.keep_rule.specs.Runs.{all_wakes, counted};
 ghost use Rattle.keep_check.specs.declared.answer.Answer.TheVariants.{Yes};
-ghost use Rattle.keep_schedule.specs.declared.limit.TheConstants.{LIMIT};
+ghost use Rattle.keep_rule.specs.declared.limit.TheConstants.{LIMIT};
 ghost use Rattle.keep_check.specs.Answer.{IsAnswer, IsWalkAnswer};
-ghost use Rattle.keep_cert.specs.CertificateText.{counted};
 ghost use Rattle.keep_check.specs.Fit.{AllFit, CanBeJudged};
 ghost use Rattle.keep_check.specs.Laws.{Holds};
 ghost use Rattle.keep_cert.specs.declared.cert.Body.TheVariants as body;
@@ -16,8 +15,7 @@ use crate::kept::first_short;
 use crate::walk::first_fault;
 use keep_cert::{Body, Cert};
 use keep_moment::Moment;
-use keep_rule::reach;
-use keep_schedule::Run;
+use keep_rule::{Run, reach};
 use keep_tree::Forest;
 use std::alloc::{AllocError, Global};
 

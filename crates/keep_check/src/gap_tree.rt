@@ -3,7 +3,7 @@ ghost use Rattle.keep_check.specs.Fit.{AllFit};
 ghost use Rattle.keep_check.specs.Gaps.{HasMarks, IsFirstFrom, gap_from, gap_within, gaps_in, gaps_of, mark};
 
 use crate::walk::last_of;
-use keep_schedule::Run;
+use keep_rule::Run;
 use std::alloc::{AllocError, Global};
 
 /// The gaps of some runs, in order, in a balanced tree of their maxima, so that the first wide gap from a place on is

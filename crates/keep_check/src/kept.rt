@@ -3,8 +3,7 @@ ghost use Rattle.keep_moment.specs.declared.moment.TheConstants.{LAST};
 ghost use Rattle.keep_tree.specs.Forest.{end_of, entry_at};
 ghost use Rattle.keep_tree.specs.Push.{IsForest};
 ghost use Rattle.keep_rule.specs.Schedule.{RisesStrictly};
-ghost use Rattle.keep_schedule.specs.Forces.{moments_of};
-ghost use Rattle.keep_schedule.specs.Runs.{all_wakes, wakes};
+ghost use Rattle.keep_rule.specs.Runs.{all_wakes, moments_of, wakes};
 ghost use Rattle.keep_check.specs.Fit.{AllFit};
 ghost use Rattle.keep_check.specs.Gaps.{AllNarrow, HasMarks, IsIdleAt, gaps_in, gaps_of};
 ghost use Rattle.keep_check.specs.Kept.{own, own_end};
@@ -14,7 +13,7 @@ use crate::bound::renewal;
 use crate::gap_tree::GapTree;
 use crate::gaps::gaps_within;
 use crate::walk::last_of;
-use keep_schedule::Run;
+use keep_rule::Run;
 use keep_tree::{Entry, Forest};
 use std::alloc::{AllocError, Global};
 

@@ -19,5 +19,5 @@ mod walk;
 
 pub use answer::{Answer, Cause, CheckFault};
 pub use checker::check;
-pub use keep_schedule::LIMIT;
+pub use keep_rule::LIMIT;
 pub use laws::{answer_law, forced_test_law, kept_law, written_law, yes_law};

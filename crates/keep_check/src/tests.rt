@@ -1,12 +1,13 @@
 ghost use Rattle.std.specs.Prelude.{◌≡◌, ◌≤◌, IfSome, IsTrue};
-ghost use Rattle.keep_schedule.specs.declared.limit.TheConstants.{LIMIT};
-ghost use Rattle.keep_cert.specs.CertificateText.{IsFit, counted};
+ghost use Rattle.keep_rule.specs.declared.limit.TheConstants.{LIMIT};
+ghost use Rattle.keep_rule.specs.Runs.{counted};
+ghost use Rattle.keep_cert.specs.CertificateText.{IsFit};
 ghost use Rattle.keep_check.specs.Fit.{AllFit};
 
 use crate::{Answer, Cause, LIMIT, check};
 use keep_cert::{Body, Cert, Runs, Version};
 use keep_moment::{LAST, Moment, Name};
-use keep_schedule::Run;
+use keep_rule::Run;
 use keep_tree::{Entry, Forest, Kind};
 use std::alloc::Global;
 use std::test::Fail;

@@ -3,10 +3,10 @@ ghost use Rattle.keep_moment.specs.declared.moment.TheConstants.{LAST};
 ghost use Rattle.keep_tree.specs.Forest.{end_of, entry_at};
 ghost use Rattle.keep_tree.specs.Over.{Over};
 ghost use Rattle.keep_rule.specs.Forced.{Forced, bound};
-ghost use Rattle.keep_schedule.specs.Runs.{all_wakes, wakes, wakes_of};
-ghost use Rattle.keep_schedule.specs.declared.limit.TheConstants.{LIMIT};
+ghost use Rattle.keep_rule.specs.Runs.{all_wakes, counted, wakes, wakes_of};
+ghost use Rattle.keep_rule.specs.declared.limit.TheConstants.{LIMIT};
 ghost use Rattle.keep_check.specs.Answer.{first_fault};
-ghost use Rattle.keep_cert.specs.CertificateText.{IsFit, counted};
+ghost use Rattle.keep_cert.specs.CertificateText.{IsFit};
 ghost use Rattle.keep_check.specs.Fit.{AllFit};
 ghost use Rattle.keep_check.specs.Steps.{Finds};
 ghost use Rattle.keep_check.specs.Walk.{is_forced, rises};
@@ -14,7 +14,7 @@ ghost use Rattle.keep_check.specs.Walk.{is_forced, rises};
 use crate::answer::Cause;
 use crate::bound::{latest_end, long_from};
 use crate::gaps::gaps_to;
-use keep_schedule::Run;
+use keep_rule::Run;
 use keep_tree::Forest;
 
 /// The first wake-up of the runs that does not rise or is not forced. It costs a division or two for each run.

@@ -17,8 +17,8 @@ use Rattle.keep_rule.proofs.Asking.{asks_wanted}
 use Rattle.keep_rule.proofs.Existence.{there_is_one}
 use Rattle.keep_rule.proofs.Keeping.{one_least}
 use Rattle.keep_rule.proofs.Schedule.{schedule_is_best}
-use Rattle.keep_schedule.specs.declared.force.Force.{Force}
-use Rattle.keep_schedule.specs.Forces.{moments_of}
+use Rattle.keep_rule.specs.declared.force.Force.{Force}
+use Rattle.keep_rule.specs.Runs.{moments_of}
 use Rattle.keep_plan.specs.Planned.{Planned, next_after, to_come}
 use Rattle.keep_core.specs.InForce.{AllForcedAs}
 use Rattle.keep_core.specs.Keeping.{IsByRule, flag, waited_for}

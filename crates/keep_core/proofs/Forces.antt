@@ -15,8 +15,8 @@ use Rattle.keep_rule.specs.Forced.{bound, latest_end}
 use Rattle.keep_rule.proofs.Joining.{kept_before, plan_later}
 use Rattle.keep_rule.proofs.Keeping.{end_below_bound, renewal_later}
 use Rattle.keep_rule.proofs.Timely.{after_unwanted, after_wanted}
-use Rattle.keep_schedule.specs.Forces.{moments_of}
-use Rattle.keep_schedule.specs.declared.force.Force.{Force}
+use Rattle.keep_rule.specs.Runs.{moments_of}
+use Rattle.keep_rule.specs.declared.force.Force.{Force}
 use Rattle.keep_core.specs.InForce.{AllForcedAs}
 use Rattle.keep_core.specs.LawsOfPlans.{IsAnsweredByRule, StillForcedLaw}
 use Rattle.keep_core.specs.Replan.{IsPlanOf}

@@ -3,7 +3,7 @@
 use Rattle.std.specs.Prelude.{◌≡◌, ℕ, ◌≤◌, ◌<◌, List, ◌++◌, length}
 use Rattle.keep_tree.specs.Forest.{Grove, end_of}
 use Rattle.keep_rule.specs.Least.{IsLeastAndLatest}
-use Rattle.keep_schedule.specs.declared.limit.TheConstants.{LIMIT}
+use Rattle.keep_rule.specs.declared.limit.TheConstants.{LIMIT}
 use Rattle.keep_core.specs.Shorten.{pairs, shorten}
 use Rattle.keep_core.specs.State.{State}
 
@@ -23,7 +23,7 @@ pub record Replan (old : State) (t : ℕ) (new : State) : Type 0 where
   pub is : new ≡ planned old t moments
 
 -- planned anew at t, the forest has more than LIMIT moments to come
-pub record IsTooLong (g : Grove) (t : ℕ) : Type 0 where
+pub record ReplanTooLong (g : Grove) (t : ℕ) : Type 0 where
   pub moments : List ℕ
   pub best : IsPlanOf (shorten g t) t moments
   pub many : LIMIT < length moments

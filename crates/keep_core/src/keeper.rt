@@ -2,7 +2,7 @@ ghost use Rattle.std.specs.Prelude.{◌≡◌, [], None, IfErr, IfOk};
 ghost use Rattle.keep_tree.specs.Forest.{end_of};
 ghost use Rattle.keep_rule.specs.Asks.{first_of};
 ghost use Rattle.keep_needs.specs.Carried.{IsCarried};
-ghost use Rattle.keep_schedule.specs.Forces.{moments_of};
+ghost use Rattle.keep_rule.specs.Runs.{moments_of};
 ghost use Rattle.keep_plan.specs.Planned.{to_come};
 ghost use Rattle.keep_core.specs.InForce.{AllForcedAs, InForce};
 ghost use Rattle.keep_core.specs.Passes.{PlanFails};
@@ -33,7 +33,7 @@ pub struct Keeper {
 
 impl Model for Keeper {
     ghost use Rattle.std.specs.Prelude.{◌≡◌};
-    ghost use Rattle.keep_schedule.specs.Forces.{moments_of};
+    ghost use Rattle.keep_rule.specs.Runs.{moments_of};
     ghost use Rattle.keep_plan.specs.Planned.{to_come};
     ghost use Rattle.keep_core.specs.Keeping.{IsKeeper, seen};
     ghost use Rattle.keep_core.specs.State.{State};
@@ -53,13 +53,14 @@ impl Keeper {
         ensures refused { IfErr result (λ refused. PlanFails forest start refused.0 × (refused.1 ≡ forest)) }
     {
         let mut forest = forest;
-        match replan(alloc, &mut forest, &[], start) {
-            Ok(anew) => Ok(Keeper {
+        let mut shortened = Vec::new(alloc);
+        match replan(alloc, &mut forest, &mut shortened, start) {
+            Ok(plan) => Ok(Keeper {
                 forest,
                 last: start,
-                plan: anew.plan,
+                plan,
                 round: None,
-                shortened: anew.shortened,
+                shortened,
             }),
             Err(fault) => Err((fault, forest)),
         }

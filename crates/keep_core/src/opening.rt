@@ -4,7 +4,7 @@ ghost use Rattle.keep_rule.specs.Asks.{first_of};
 ghost use Rattle.keep_rule.specs.Plans.{asks_past};
 ghost use Rattle.keep_needs.specs.Carried.{IsCarried};
 ghost use Rattle.keep_plan.specs.Planned.{to_come};
-ghost use Rattle.keep_schedule.specs.Forces.{moments_of};
+ghost use Rattle.keep_rule.specs.Runs.{moments_of};
 ghost use Rattle.keep_core.specs.declared.fault.StepFault.TheVariants.{OutOfMemory};
 ghost use Rattle.keep_core.specs.Replan.{IsPlanOf};
 ghost use Rattle.keep_core.specs.Step.{IsDueBy};

@@ -5,13 +5,12 @@ use Rattle.std.proofs.lemmas.List.{append_cancel_left}
 use Rattle.keep_tree.specs.Carried.{IsFrom}
 use Rattle.keep_tree.specs.Forest.{Grove, end_of}
 use Rattle.keep_tree.specs.Push.{IsForest}
-use Rattle.keep_schedule.specs.declared.force.Force.{Force}
-use Rattle.keep_schedule.specs.declared.run.Run.{Run}
-use Rattle.keep_schedule.specs.Runs.{all_wakes, wakes, wakes_of}
+use Rattle.keep_rule.specs.declared.force.Force.{Force}
+use Rattle.keep_rule.specs.declared.run.Run.{Run}
+use Rattle.keep_rule.specs.Runs.{AreRuns, IsRun, all_wakes, wakes, wakes_of}
 use Rattle.keep_schedule.proofs.Bridge.{one_from}
 use Rattle.keep_schedule.proofs.Forces.{one_list}
 use Rattle.keep_plan.specs.Decides.{AreBest, AreLongest}
-use Rattle.keep_plan.specs.Planned.{AreRuns, IsRun}
 use Rattle.keep_plan.proofs.Walking.{length_all_cons}
 use Rattle.keep_cert.specs.declared.cert.Body.TheVariants as body
 use Rattle.keep_cert.specs.declared.cert.Cert.{Cert}

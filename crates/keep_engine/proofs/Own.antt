@@ -8,10 +8,10 @@ use Rattle.keep_tree.specs.Push.{IsForest}
 use Rattle.keep_rule.specs.Schedule.{RisesStrictly}
 use Rattle.keep_rule.specs.Unkeepable.{AllKeepable}
 use Rattle.keep_rule.proofs.Keeping.{unkeepable}
-use Rattle.keep_schedule.specs.declared.force.Force.{Force}
-use Rattle.keep_schedule.specs.declared.run.Run.{Run}
-use Rattle.keep_schedule.specs.Forces.{AreForced, moments_of}
-use Rattle.keep_schedule.specs.Runs.{all_wakes}
+use Rattle.keep_rule.specs.declared.force.Force.{Force}
+use Rattle.keep_rule.specs.declared.run.Run.{Run}
+use Rattle.keep_rule.specs.Runs.{all_wakes, moments_of}
+use Rattle.keep_schedule.specs.Forces.{AreForced}
 use Rattle.keep_schedule.proofs.Forces.{forces_are_best}
 use Rattle.keep_plan.specs.declared.decision.Decision.{Decision}
 use Rattle.keep_plan.specs.declared.decision.Decision.TheVariants as decision

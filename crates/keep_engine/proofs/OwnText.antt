@@ -3,7 +3,7 @@ use Rattle.std.proofs.Common.{◌≡◌, ℕ, ◌≤◌, List, None, codes, leng
 use Rattle.keep_moment.specs.declared.moment.TheConstants.{LAST}
 use Rattle.keep_tree.specs.Forest.{Grove}
 use Rattle.keep_tree.specs.Push.{IsForest}
-use Rattle.keep_schedule.specs.declared.run.Run.{Run}
+use Rattle.keep_rule.specs.declared.run.Run.{Run}
 use Rattle.keep_plan.specs.declared.decision.Decision.TheVariants as decision
 use Rattle.keep_plan.specs.Decides.{AreBest}
 use Rattle.keep_cert.specs.declared.cert.Body.{Body}
@@ -68,5 +68,5 @@ certified_is_own g s exits.Memory text forest start is = absurd is
 
 pub own_text : OwnTextLaw
 own_text bytes stock s exit text read start is =
-    let forest = (inventory_law bytes stock read).0 in
+    let forest = (inventory_law bytes stock read).forest in
     (forest, certified_is_own stock.grove s exit text forest start is)

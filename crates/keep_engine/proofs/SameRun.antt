@@ -10,9 +10,8 @@ use Rattle.keep_rule.specs.declared.wake.Wake.{Wake}
 use Rattle.keep_rule.specs.declared.wake.WakeFault.{WakeFault}
 use Rattle.keep_rule.specs.Ends.{ends_after}
 use Rattle.keep_rule.specs.Plans.{moments, wake_fault}
-use Rattle.keep_schedule.specs.declared.force.Force.{Force}
-use Rattle.keep_schedule.specs.Forces.{moments_of}
-use Rattle.keep_schedule.specs.Runs.{all_wakes}
+use Rattle.keep_rule.specs.declared.force.Force.{Force}
+use Rattle.keep_rule.specs.Runs.{all_wakes, moments_of}
 use Rattle.keep_plan.specs.Decides.{IsTooLong}
 use Rattle.keep_inventory.specs.Stock.{Stock}
 use Rattle.keep_inventory.specs.Inventory.{inventory}
@@ -304,7 +303,7 @@ check_fronts bytes stock text exits.TooLong out reads run = absurd run
 
 pub check_secrecy : CheckSecrecy
 check_secrecy bytes other text exit exit' out out' faults faults' d a ta b tb =
-    let forest = (inventory_law bytes d.stock d.reads).0 in
+    let forest = (inventory_law bytes d.stock d.reads).forest in
     let grove = sym (one_grove bytes other d) in
     let g = d.stock.grove in (
       two_fronts (IsOfCheck g text) (λ x y p q. (one_check_text g text p.0 q.0 x y forest p.1 q.1).1) out out' (check_fronts bytes d.stock text exit out d.reads a)

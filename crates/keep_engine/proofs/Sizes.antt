@@ -10,12 +10,13 @@ use Rattle.keep_moment.specs.declared.moment.TheConstants.{LAST}
 use Rattle.keep_tree.specs.Forest.{Grove, entry_at}
 use Rattle.keep_tree.specs.Push.{IsForest, is_name, is_name_byte}
 use Rattle.keep_tree.specs.declared.forest.TheConstants.{NAME_MAX}
-use Rattle.keep_schedule.specs.declared.limit.TheConstants.{LIMIT}
-use Rattle.keep_schedule.specs.declared.run.Run.{Run}
+use Rattle.keep_rule.specs.declared.limit.TheConstants.{LIMIT}
+use Rattle.keep_rule.specs.declared.run.Run.{Run}
 use Rattle.keep_cert.specs.declared.cert.Body.{Body}
 use Rattle.keep_cert.specs.declared.cert.Body.TheVariants.{Runs, Unkeepable}
 use Rattle.keep_cert.specs.declared.cert.Version.TheVariants.{Two}
-use Rattle.keep_cert.specs.CertificateText.{AreRuns, IsBody, IsRun, body_text, certificate_text, counted, end_text, header_text, line_text, name_of, run_text, start_text, unkeepable_text}
+use Rattle.keep_rule.specs.Runs.{counted}
+use Rattle.keep_cert.specs.CertificateText.{AreRuns, IsBody, IsRun, body_text, certificate_text, end_text, header_text, line_text, name_of, run_text, start_text, unkeepable_text}
 use Rattle.keep_cert.specs.Printing.{certified}
 use Rattle.keep_engine.specs.declared.limits.TheConstants.{MOST_CERTIFICATE}
 

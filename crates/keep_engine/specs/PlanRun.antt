@@ -3,7 +3,7 @@
 use Rattle.std.specs.Prelude.{◌≡◌, ℕ, IsTrue, ◌⊎◌, List, Ok, Err}
 use Rattle.std.specs.Io.KnownBytes.{Keeps}
 use Rattle.keep_tree.specs.Forest.{Grove}
-use Rattle.keep_schedule.specs.declared.run.Run.{Run}
+use Rattle.keep_rule.specs.declared.run.Run.{Run}
 use Rattle.keep_plan.specs.declared.decision.Decision.{Decision}
 use Rattle.keep_plan.specs.declared.decision.Decision.TheVariants as decision
 use Rattle.keep_plan.specs.Decides.{AreBest, IsTooLong, NoneKeeps}

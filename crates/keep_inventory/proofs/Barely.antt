@@ -5,7 +5,9 @@ use Rattle.std.specs.Cmp.Lexicographic.{slice_cmp, bytes_decides}
 use Rattle.std.specs.Ordering.{nat_cmp, is_eq, match_ordering}
 use Rattle.toml.specs.Data.{string, integer, float, boolean, datetime, array, table, Data, Items, no_items, item, Members, no_members, member, get_member}
 use Rattle.toml.specs.Text.{are_tables}
+use Rattle.keep_tree.specs.declared.forest.TheConstants.{MARGIN_MAX}
 use Rattle.keep_tree.specs.Forest.{Grove}
+use Rattle.keep_inventory.specs.declared.limits.TheConstants.{SPAN_MAX, SYSTEM_MAX}
 use Rattle.keep_inventory.specs.declared.fault.InvFault.{InvFault}
 use Rattle.keep_inventory.specs.declared.fault.InvFault.TheVariants.{BadValue}
 use Rattle.keep_inventory.specs.declared.key.Key.{Key}
@@ -23,7 +25,7 @@ use Rattle.keep_inventory.specs.Rows.{has_step, life_of, lease_terms, token_term
 use Rattle.keep_inventory.specs.Inventory.{token_entered, lease_entered, entered_by, intake_of, inventory, inventory_of, tree_of}
 use Rattle.keep_inventory.specs.Bare.{bare, bare_items, bare_members, is_secret_key}
 use Rattle.keep_inventory.specs.Laws.{SecrecyLaw}
-use Rattle.keep_inventory.proofs.Matched.{bind_ok}
+use Rattle.keep_inventory.proofs.Chains.{bind_ok}
 use Rattle.keep_inventory.proofs.Parts.{LeaseParts, TokenParts, lease_parts, made_lease, made_token, token_parts}
 use Rattle.keep_inventory.proofs.Taken.{grown, lease_entered_ok, token_entered_ok}
 
@@ -193,16 +195,16 @@ token_terms_by system_max index issued a b c d = do
   Ok (record { issued = issued; increment = increment; period = unwrap_or period 0; max_ttl = max_ttl_of system_max max_ttl; explicit_max = unwrap_or explicit_max 0 })
 
 abbrev Span : ℕ → Key → Members → Result (Option ℕ) InvFault
-Span index key ms = value_at (whole 0 4294967295) (Some index) key ms
+Span index key ms = value_at (whole 0 SPAN_MAX) (Some index) key ms
 
 token_terms_bare : (system_max index issued : ℕ) (ms : Members) → token_terms system_max index issued (bare_members ms) ≡ token_terms system_max index issued ms
 unfolding token_terms is_secret_key
 token_terms_bare system_max index issued ms =
     let by = token_terms_by system_max index issued in
-    let a = kept_whole 0 4294967295 (Some index) Increment refl ms in
-    let b = kept_whole 0 4294967295 (Some index) Period refl ms in
-    let c = kept_whole 0 4294967295 (Some index) MaxTtl refl ms in
-    let d = kept_whole 0 4294967295 (Some index) ExplicitMaxTtl refl ms in
+    let a = kept_whole 0 SPAN_MAX (Some index) Increment refl ms in
+    let b = kept_whole 0 SPAN_MAX (Some index) Period refl ms in
+    let c = kept_whole 0 SPAN_MAX (Some index) MaxTtl refl ms in
+    let d = kept_whole 0 SPAN_MAX (Some index) ExplicitMaxTtl refl ms in
     ap (λ x. by x (Span index Period (bare_members ms)) (Span index MaxTtl (bare_members ms)) (Span index ExplicitMaxTtl (bare_members ms))) a
     ∙ ap (λ x. by (Span index Increment ms) x (Span index MaxTtl (bare_members ms)) (Span index ExplicitMaxTtl (bare_members ms))) b
     ∙ ap (λ x. by (Span index Increment ms) (Span index Period ms) x (Span index ExplicitMaxTtl (bare_members ms))) c
@@ -218,8 +220,8 @@ lease_terms_by system_max index issued a b = do
 lease_terms_bare : (system_max index issued : ℕ) (ms : Members) → lease_terms system_max index issued (bare_members ms) ≡ lease_terms system_max index issued ms
 unfolding lease_terms is_secret_key
 lease_terms_bare system_max index issued ms =
-    let a = kept_whole 0 4294967295 (Some index) Increment refl ms in
-    let b = kept_whole 0 4294967295 (Some index) MaxTtl refl ms in
+    let a = kept_whole 0 SPAN_MAX (Some index) Increment refl ms in
+    let b = kept_whole 0 SPAN_MAX (Some index) MaxTtl refl ms in
     ap (λ x. lease_terms_by system_max index issued x (Span index MaxTtl (bare_members ms))) a
     ∙ ap (lease_terms_by system_max index issued (Span index Increment ms)) b
 
@@ -320,27 +322,27 @@ all_shorn step plain shears key s t (item (array x) ds) e = absurd (cc)
 
 abbrev plain_intake : Members → Result Intake InvFault
 plain_intake ms = do
-  system_max ← value_at (whole 1 4294967295) None SystemMax ms
-  margin ← value_at (whole 1 3600) None Margin ms
+  system_max ← value_at (whole 1 SPAN_MAX) None SystemMax ms
+  margin ← value_at (whole 1 MARGIN_MAX) None Margin ms
   tokens ← value_at tables None Token ms
   leases ← value_at tables None Lease ms
-  with_tokens ← entered_by (plain_token_entered (unwrap_or system_max 2764800)) Token (nothing (unwrap_or margin 1)) (unwrap_or tokens no_items)
-  entered_by (plain_lease_entered (unwrap_or system_max 2764800)) Lease with_tokens (unwrap_or leases no_items)
+  with_tokens ← entered_by (plain_token_entered (unwrap_or system_max SYSTEM_MAX)) Token (nothing (unwrap_or margin 1)) (unwrap_or tokens no_items)
+  entered_by (plain_lease_entered (unwrap_or system_max SYSTEM_MAX)) Lease with_tokens (unwrap_or leases no_items)
 
 bare_intake : (ms : Members) (t : Intake) → intake_of ms ≡ Ok t → plain_intake (bare_members ms) ≡ Ok (shorn t)
 unfolding intake_of is_secret_key
 bare_intake ms t e =
     bind_ok (only is_top_key None ms) _ t e (λ known k e1.
-    bind_ok (value_at (whole 1 4294967295) None SystemMax ms) _ t e1 (λ system_max a e2.
-    bind_ok (value_at (whole 1 3600) None Margin ms) _ t e2 (λ margin b e3.
+    bind_ok (value_at (whole 1 SPAN_MAX) None SystemMax ms) _ t e1 (λ system_max a e2.
+    bind_ok (value_at (whole 1 MARGIN_MAX) None Margin ms) _ t e2 (λ margin b e3.
     bind_ok (value_at tables None Token ms) _ t e3 (λ tokens c e4.
     bind_ok (value_at tables None Lease ms) _ t e4 (λ leases d e5.
-    bind_ok (entered_by (token_entered (unwrap_or system_max 2764800)) Token (nothing (unwrap_or margin 1)) (unwrap_or tokens no_items)) _ t e5 (λ u f e6.
-    let max = unwrap_or system_max 2764800 in
+    bind_ok (entered_by (token_entered (unwrap_or system_max SYSTEM_MAX)) Token (nothing (unwrap_or margin 1)) (unwrap_or tokens no_items)) _ t e5 (λ u f e6.
+    let max = unwrap_or system_max SYSTEM_MAX in
     let first = all_shorn (token_entered max) (plain_token_entered max) (token_shorn max) Token (nothing (unwrap_or margin 1)) u (unwrap_or tokens no_items) f in
     let second = all_shorn (lease_entered max) (plain_lease_entered max) (lease_shorn max) Lease u t (unwrap_or leases no_items) e6 in
-    follow _ system_max _ _ (kept_whole 1 4294967295 None SystemMax refl ms ∙ a)
-    (follow _ margin _ _ (kept_whole 1 3600 None Margin refl ms ∙ b)
+    follow _ system_max _ _ (kept_whole 1 SPAN_MAX None SystemMax refl ms ∙ a)
+    (follow _ margin _ _ (kept_whole 1 MARGIN_MAX None Margin refl ms ∙ b)
     (follow _ (option_map bare_items tokens) _ _ (kept_tables Token refl ms tokens c)
     (follow _ (option_map bare_items leases) _ _ (kept_tables Lease refl ms leases d)
     (follow _ (shorn u) _ _ (ap (entered_by (plain_token_entered max) Token (nothing (unwrap_or margin 1))) (or_none tokens) ∙ first)

@@ -1,144 +1,225 @@
--- Inventoried: what is read of a text is a forest, which grew by `push`, with one credential and one set of terms for each
--- entry.
-use Rattle.std.proofs.Common.{◌≡◌, ℕ, ◌<◌, ◌≤◌, ◌&&◌, Bool, true, false, cond, ◌∷◌, [], ◌++◌, length, Some, None, Option, Result, Ok, Err, nat_le, refl, subst, arith, unwrap_or}
-use Rattle.std.specs.Prelude.{IfSome}
-use Rattle.std.proofs.lemmas.Bool.{and_parts}
-use Rattle.std.proofs.lemmas.Bool.Decides.{nat_tests}
-use Rattle.std.proofs.Math.IntN.{pos, negsuc}
-use Rattle.toml.specs.Data.{string, integer, float, boolean, datetime, array, table, Data, Items, no_items, item, Members, get_member}
+-- Inventoried: what is read of a text is a stock, whatever tables it was read from: the tokens come first, then the leases, and
+-- each row that is taken keeps what every inventory keeps.
+use Rattle.std.proofs.Common.{◌≡◌, ℕ, ◌+◌, ◌-◌, ◌<◌, ◌≤◌, List, ◌∷◌, [], ◌++◌, length, Ok, refl, sym, ap, ◌∙◌, subst, arith, ⊎_elim}
+use Rattle.std.specs.List.{All}
+use Rattle.std.proofs.lemmas.Bool.{cases_lt}
+use Rattle.std.proofs.lemmas.List.{get_or_append_left, get_or_push, length_push}
+use Rattle.std.proofs.lemmas.List.Elements.{All-append, All-nil, All-push}
+use Rattle.std.proofs.Math.ListN.{length-append}
+use Rattle.toml.specs.Data.{Members}
 use Rattle.keep_tree.specs.declared.entry.Entry.{Entry}
-use Rattle.keep_tree.specs.declared.fault.TreeFault.{TreeFault}
-use Rattle.keep_tree.specs.Forest.{Grove}
-use Rattle.keep_tree.specs.Push.{IsForest, refusal}
+use Rattle.keep_tree.specs.declared.entry.Kind.{Kind}
+use Rattle.keep_tree.specs.declared.entry.Kind.TheVariants as kind
+use Rattle.keep_tree.specs.declared.forest.TheConstants.{MARGIN_MAX}
+use Rattle.keep_tree.specs.Forest.{Grove, entry_at}
+use Rattle.keep_tree.specs.Push.{IsForest}
+use Rattle.keep_tree.proofs.Entries.{entry_at_push_old, entry_at_push_new}
 use Rattle.keep_tree.proofs.Placed.{empty_is_forest, pushed_is_forest}
-use Rattle.keep_inventory.specs.declared.fault.InvFault.{InvFault}
-use Rattle.keep_inventory.specs.declared.fault.InvFault.TheVariants.{BadValue}
-use Rattle.keep_inventory.specs.declared.key.Key.{Key}
-use Rattle.keep_inventory.specs.declared.key.Key.TheVariants.{SystemMax, Margin, Token, Lease, Secret, LeaseId}
 use Rattle.keep_inventory.specs.declared.row.Row.{Row}
-use Rattle.keep_inventory.specs.Keys.{is_top_key, key_text}
-use Rattle.keep_inventory.specs.Values.{only, read_if, whole, tables, value_at}
-use Rattle.keep_inventory.specs.Stock.{IsStock, Stock}
-use Rattle.keep_inventory.specs.Intake.{Intake, nothing, stock_of, appended, pushed, distinct, with_token, with_lease}
-use Rattle.keep_inventory.specs.Rows.{token_row, lease_row}
-use Rattle.keep_inventory.specs.Inventory.{token_entered, lease_entered, entered_by, intake_of, inventory, inventory_of, tree_of}
-use Rattle.keep_inventory.specs.Laws.{InventoryLaw}
-use Rattle.keep_inventory.proofs.Matched.{bind_ok}
-use Rattle.keep_inventory.proofs.Apart.{intake_is_stock}
+use Rattle.keep_inventory.specs.declared.terms.Terms.{Terms}
+use Rattle.keep_inventory.specs.Stock.{AreApart, IsSendable, IsStock, Stock, credential_at, no_terms, terms_at}
+use Rattle.keep_inventory.specs.Intake.{Intake, nothing, stock_of}
+use Rattle.keep_inventory.specs.Inventory.{token_entered, lease_entered, intake_of, inventory, inventory_of, tree_of}
+use Rattle.keep_inventory.specs.Laws.{InventoryLaw, SendableLaw}
+use Rattle.keep_inventory.proofs.Chains.{bind_ok}
+use Rattle.keep_inventory.proofs.Apart.{Unlike, last_or_before, unlike_more}
+use Rattle.keep_inventory.proofs.Entered.{Within, intake_keeps}
+use Rattle.keep_inventory.proofs.Parts.{TokenParts, LeaseParts, token_parts, lease_parts}
+use Rattle.keep_inventory.proofs.Sendable.{lease_sendable, token_sendable}
+use Rattle.keep_inventory.proofs.Spans.{IsGood, lease_good, token_good}
+use Rattle.keep_inventory.proofs.Stocks.{first_half, second_half}
+use Rattle.keep_inventory.proofs.Taken.{Fits, KeepsIt, lease_entered_ok, token_entered_ok, took_lease, took_token}
 
-within_test : (m n : ℕ) → nat_le m n ≡ true → m ≤ n
-within_test m n h = grind (arith, nat_tests)
+-- ---- the tokens first, then the leases
 
-appended_is : (g h : Grove) → IsForest g → (e : Entry) (o : Option TreeFault) → refusal g e ≡ o → appended g e o ≡ Ok h → IsForest h
-appended_is g h forest e (Some fault) r k = absurd (cc)
-appended_is g h forest e None r k =
-    let same : record g { entries = g.entries ++ e ∷ [] } ≡ h = cc in
-    subst IsForest same (pushed_is_forest g forest e r)
+record Sorted (s : Intake) : Type 0 where
+  forest : IsForest s.grove
+  matched : length s.secrets + length s.lease_ids ≡ length s.grove.entries
+  termed : length s.terms ≡ length s.grove.entries
+  tokens : (i : ℕ) → i < length s.secrets → (entry_at s.grove.entries i).kind ≡ kind.Token
+  leases : (i : ℕ) → length s.secrets ≤ i → i < length s.grove.entries → (entry_at s.grove.entries i).kind ≡ kind.Lease
+  secrets_unlike : Unlike s.secrets
+  lease_ids_unlike : Unlike s.lease_ids
+  secrets_sendable : All IsSendable s.secrets
+  lease_ids_sendable : All IsSendable s.lease_ids
+  good : (i : ℕ) → i < length s.grove.entries → IsGood (entry_at s.grove.entries i) (terms_at s.terms i)
 
-pushed_is : (g h : Grove) → IsForest g → (e : Entry) → pushed g e ≡ Ok h → IsForest h
-unfolding pushed
-pushed_is g h forest e k = appended_is g h forest e (refusal g e) refl k
+-- no lease yet
+abbrev TokensAlone : Intake → Type 0
+TokensAlone s = Sorted s × (length s.lease_ids ≡ 0)
 
-token_is : (s t : Intake) (row : Row) → IsForest s.grove → with_token s row ≡ Ok t → IsForest t.grove
-unfolding with_token
-token_is s t row m e =
-    bind_ok (pushed s.grove row.entry) _ t e (λ g p e1.
-    bind_ok (distinct Secret (length s.grove.entries) s.secrets row.credential) _ t e1 (λ secrets d e2.
-    let made : Intake = record { grove = g; secrets = secrets; lease_ids = s.lease_ids; terms = s.terms ++ row.terms ∷ [] } in
-    let same : made ≡ t = cc in
-    subst (λ (i : Intake). IsForest i.grove) same (pushed_is s.grove g m row.entry p)))
+-- what a row has by itself
+record IsRowOf (k : Kind) (row : Row) : Type 0 where
+  kind : row.entry.kind ≡ k
+  sendable : IsSendable row.credential
+  good : IsGood row.entry row.terms
 
-lease_is : (s t : Intake) (row : Row) → IsForest s.grove → with_lease s row ≡ Ok t → IsForest t.grove
-unfolding with_lease
-lease_is s t row m e =
-    bind_ok (pushed s.grove row.entry) _ t e (λ g p e1.
-    bind_ok (distinct LeaseId (length s.grove.entries) s.lease_ids row.credential) _ t e1 (λ lease_ids d e2.
-    let made : Intake = record { grove = g; secrets = s.secrets; lease_ids = lease_ids; terms = s.terms ++ row.terms ∷ [] } in
-    let same : made ≡ t = cc in
-    subst (λ (i : Intake). IsForest i.grove) same (pushed_is s.grove g m row.entry p)))
+kind_old : (es : List Entry) (e : Entry) (k : Kind) (i : ℕ) → i < length es → (entry_at es i).kind ≡ k → (entry_at (es ++ e ∷ []) i).kind ≡ k
+kind_old es e k i h is = ap (λ (x : Entry). x.kind) (entry_at_push_old es e i h) ∙ is
 
-abbrev Keeps : (Intake → Members → Result Intake InvFault) → Type 0
-Keeps step = (s t : Intake) (ms : Members) → IsForest s.grove → step s ms ≡ Ok t → IsForest t.grove
+kind_new : (es : List Entry) (e : Entry) (k : Kind) (i : ℕ) → i ≡ length es → e.kind ≡ k → (entry_at (es ++ e ∷ []) i).kind ≡ k
+kind_new es e k i h is = ap (λ (x : Entry). x.kind) (ap (entry_at (es ++ e ∷ [])) h ∙ entry_at_push_new es e) ∙ is
 
-token_step : (system_max : ℕ) → Keeps (token_entered system_max)
-unfolding token_entered
+terms_old : (ts : List Terms) (t : Terms) (i : ℕ) → i < length ts → terms_at (ts ++ t ∷ []) i ≡ terms_at ts i
+unfolding terms_at
+terms_old ts t i h = get_or_append_left ts (t ∷ []) no_terms i h
+
+terms_new : (ts : List Terms) (t : Terms) (n : ℕ) → length ts ≡ n → terms_at (ts ++ t ∷ []) n ≡ t
+unfolding terms_at
+terms_new ts t n h = get_or_push ts t no_terms n h
+
+good_more : (es : List Entry) (ts : List Terms) (e : Entry) (t : Terms) → length ts ≡ length es → ((i : ℕ) → i < length es → IsGood (entry_at es i) (terms_at ts i)) → IsGood e t →
+    (i : ℕ) → i < length (es ++ e ∷ []) → IsGood (entry_at (es ++ e ∷ []) i) (terms_at (ts ++ t ∷ []) i)
+good_more es ts e t count good new i h =
+    let grown = length_push es e in
+    last_or_before (length es) i _ (omega arith)
+    (λ last.
+    subst (λ x. IsGood x (terms_at (ts ++ t ∷ []) i)) (sym (ap (entry_at (es ++ e ∷ [])) last ∙ entry_at_push_new es e))
+    (subst (λ x. IsGood e x) (sym (terms_new ts t i (omega arith))) new))
+    (λ old.
+    subst (λ x. IsGood x (terms_at (ts ++ t ∷ []) i)) (sym (entry_at_push_old es e i old))
+    (subst (λ x. IsGood (entry_at es i) x) (sym (terms_old ts t i (omega arith))) (good i old)))
+
+token_sorted : (s : Intake) (row : Row) → IsRowOf kind.Token row → Fits s.grove s.secrets row → TokensAlone s → TokensAlone (took_token s row)
+token_sorted s row is fits alone =
+    let old = alone.0 in
+    let l = length_push s.grove.entries row.entry in
+    let k = length_push s.secrets row.credential in
+    let n = length_push s.terms row.terms in
+    let m = old.matched in
+    let c = old.termed in
+    let none = alone.1 in (
+      record {
+        forest = pushed_is_forest s.grove old.forest row.entry fits.entry;
+        matched = omega (arith, l, k, m, none);
+        termed = omega (arith, l, n, c);
+        tokens = λ i h. last_or_before (length s.secrets) i _ (omega (arith, h, k))
+            (λ last. kind_new s.grove.entries row.entry kind.Token i (omega (arith, last, m, none)) is.kind)
+            (λ before. kind_old s.grove.entries row.entry kind.Token i (omega (arith, before, m, none)) (old.tokens i before));
+        leases = λ i past h. absurd (omega (arith, past, h, l, k, m, none));
+        secrets_unlike = unlike_more s.secrets row.credential fits.fresh old.secrets_unlike;
+        lease_ids_unlike = old.lease_ids_unlike;
+        secrets_sendable = All-push IsSendable s.secrets row.credential old.secrets_sendable is.sendable;
+        lease_ids_sendable = old.lease_ids_sendable;
+        good = good_more s.grove.entries s.terms row.entry row.terms c old.good is.good;
+      },
+      none,
+    )
+
+lease_sorted : (s : Intake) (row : Row) → IsRowOf kind.Lease row → Fits s.grove s.lease_ids row → Sorted s → Sorted (took_lease s row)
+lease_sorted s row is fits old =
+    let l = length_push s.grove.entries row.entry in
+    let k = length_push s.lease_ids row.credential in
+    let n = length_push s.terms row.terms in
+    let m = old.matched in
+    let c = old.termed in
+    record {
+      forest = pushed_is_forest s.grove old.forest row.entry fits.entry;
+      matched = omega (arith, l, k, m);
+      termed = omega (arith, l, n, c);
+      tokens = λ i h. kind_old s.grove.entries row.entry kind.Token i (omega (arith, h, m)) (old.tokens i h);
+      leases = λ i past h. last_or_before (length s.grove.entries) i _ (omega (arith, h, l))
+          (λ last. kind_new s.grove.entries row.entry kind.Lease i last is.kind)
+          (λ before. kind_old s.grove.entries row.entry kind.Lease i before (old.leases i past before));
+      secrets_unlike = old.secrets_unlike;
+      lease_ids_unlike = unlike_more s.lease_ids row.credential fits.fresh old.lease_ids_unlike;
+      secrets_sendable = old.secrets_sendable;
+      lease_ids_sendable = All-push IsSendable s.lease_ids row.credential old.lease_ids_sendable is.sendable;
+      good = good_more s.grove.entries s.terms row.entry row.terms c old.good is.good;
+    }
+
+token_is : (system_max : ℕ) (g : Grove) (texts : List (List ℕ)) (ms : Members) (row : Row) → TokenParts system_max g ms row → Fits g texts row → IsRowOf kind.Token row
+token_is system_max g texts ms row parts fits = record {
+  kind = ap (λ (r : Row). r.entry.kind) (sym parts.made);
+  sendable = token_sendable system_max g ms row parts fits.entry;
+  good = token_good system_max g ms row parts;
+}
+
+lease_is : (system_max : ℕ) (g : Grove) (texts : List (List ℕ)) (ms : Members) (row : Row) → LeaseParts system_max g ms row → Fits g texts row → IsRowOf kind.Lease row
+lease_is system_max g texts ms row parts fits = record {
+  kind = ap (λ (r : Row). r.entry.kind) (sym parts.made);
+  sendable = lease_sendable system_max g ms row parts fits.entry;
+  good = lease_good system_max g ms row parts;
+}
+
+token_step : (system_max : ℕ) → KeepsIt TokensAlone (token_entered system_max)
 token_step system_max s t ms m e =
-    bind_ok (token_row system_max s.grove ms) _ t e (λ row r e1. token_is s t row m e1)
+    let taken = token_entered_ok system_max s t ms e in
+    let row = taken.0 in
+    subst TokensAlone taken.3 (token_sorted s row (token_is system_max s.grove s.secrets ms row (token_parts system_max s.grove ms row taken.1) taken.2) taken.2 m)
 
-lease_step : (system_max : ℕ) → Keeps (lease_entered system_max)
-unfolding lease_entered
+lease_step : (system_max : ℕ) → KeepsIt Sorted (lease_entered system_max)
 lease_step system_max s t ms m e =
-    bind_ok (lease_row system_max s.grove ms) _ t e (λ row r e1. lease_is s t row m e1)
+    let taken = lease_entered_ok system_max s t ms e in
+    let row = taken.0 in
+    subst Sorted taken.3 (lease_sorted s row (lease_is system_max s.grove s.lease_ids ms row (lease_parts system_max s.grove ms row taken.1) taken.2) taken.2 m)
 
-all_kept : (step : Intake → Members → Result Intake InvFault) → Keeps step → (key : Key) (s t : Intake) (ds : Items) → IsForest s.grove → entered_by step key s ds ≡ Ok t → IsForest t.grove
-all_kept step keeps key s t no_items m e = let same : s ≡ t = cc in subst (λ (i : Intake). IsForest i.grove) same m
-all_kept step keeps key s t (item (table ms) ds) m e =
-    bind_ok (step s ms) _ t e (λ u r e1. all_kept step keeps key u t ds (keeps s u ms m r) e1)
-all_kept step keeps key s t (item (string x) ds) m e = absurd (cc)
-all_kept step keeps key s t (item (integer x) ds) m e = absurd (cc)
-all_kept step keeps key s t (item (float x) ds) m e = absurd (cc)
-all_kept step keeps key s t (item (boolean x) ds) m e = absurd (cc)
-all_kept step keeps key s t (item (datetime x) ds) m e = absurd (cc)
-all_kept step keeps key s t (item (array x) ds) m e = absurd (cc)
+none_sorted : (margin : ℕ) → Within 1 MARGIN_MAX margin → TokensAlone (nothing margin)
+none_sorted margin within = (
+  record {
+    forest = empty_is_forest margin (omega (arith, within.0)) within.1;
+    matched = refl;
+    termed = refl;
+    tokens = λ i h. absurd (omega (arith, h));
+    leases = λ i past h. absurd (omega (arith, h));
+    secrets_unlike = λ i j a b same. absurd (omega (arith, a));
+    lease_ids_unlike = λ i j a b same. absurd (omega (arith, a));
+    secrets_sendable = All-nil IsSendable;
+    lease_ids_sendable = All-nil IsSendable;
+    good = λ i h. absurd (omega (arith, h));
+  },
+  refl,
+)
 
--- ---- the margin
+-- ---- a stock
 
-abbrev IsMargin : ℕ → Type 0
-IsMargin n = (0 < n) × (n ≤ 3600)
+differ : (s : Intake) → Sorted s → (i j : ℕ) → i < length s.secrets → length s.secrets ≤ j → j < length s.grove.entries → (entry_at s.grove.entries i).kind ≡ (entry_at s.grove.entries j).kind → ⊥
+differ s sorted i j a b c same =
+    let both : kind.Token ≡ kind.Lease = sym (sorted.tokens i a) ∙ same ∙ sorted.leases j b c in cc
 
-margin_is : (n : ℕ) → nat_le 1 n && nat_le n 3600 ≡ true → IsMargin n
-margin_is n h =
-    let parts = and_parts (nat_le 1 n) (nat_le n 3600) h in
-    let low = within_test 1 n parts.0 in
-    let high = within_test n 3600 parts.1 in
-    (omega arith, omega arith)
+sorted_apart : (s : Intake) → Sorted s → AreApart (stock_of s)
+sorted_apart s sorted i j a b kinds same =
+    let n = length s.secrets in
+    let m = sorted.matched in
+    ⊎_elim
+    (λ ilow. ⊎_elim
+    (λ jlow. sorted.secrets_unlike i j ilow jlow (first_half s.secrets s.lease_ids i ilow ∙ same ∙ sym (first_half s.secrets s.lease_ids j jlow)))
+    (λ jhigh. absurd (differ s sorted i j ilow jhigh b kinds))
+    (cases_lt j n))
+    (λ ihigh. ⊎_elim
+    (λ jlow. absurd (differ s sorted j i jlow ihigh a (sym kinds)))
+    (λ jhigh.
+    let one : i - n ≡ j - n = sorted.lease_ids_unlike (i - n) (j - n) (omega (arith, a, ihigh, m)) (omega (arith, b, jhigh, m))
+    (second_half s.secrets s.lease_ids i ihigh ∙ same ∙ sym (second_half s.secrets s.lease_ids j jhigh)) in
+    omega (arith, one, ihigh, jhigh))
+    (cases_lt j n))
+    (cases_lt i n)
 
-ranged : (n : ℕ) (b : Bool) → (b ≡ true → IsMargin n) → IfSome (cond b (Some n) None) IsMargin
-ranged n true h = h refl
-ranged n false h = tt
+sorted_is_stock : (s : Intake) → Sorted s → IsStock (stock_of s)
+sorted_is_stock s sorted = record {
+  forest = sorted.forest;
+  credentials = length-append s.secrets s.lease_ids ∙ sorted.matched;
+  terms = sorted.termed;
+  apart = sorted_apart s sorted;
+  sendable = All-append IsSendable s.secrets s.lease_ids sorted.secrets_sendable sorted.lease_ids_sendable;
+  steps = λ i h. (sorted.good i h).0;
+  step_is = λ i h. (sorted.good i h).1;
+  ceiling_is = λ i h. (sorted.good i h).2;
+}
 
-whole_is : (d : Data) → IfSome (whole 1 3600 d) IsMargin
-whole_is (integer (pos n)) = ranged n (nat_le 1 n && nat_le n 3600) (margin_is n)
-whole_is (integer (negsuc n)) = tt
-whole_is (string x) = tt
-whole_is (float x) = tt
-whole_is (boolean x) = tt
-whole_is (datetime x) = tt
-whole_is (array x) = tt
-whole_is (table x) = tt
+pub intake_is_stock : (ms : Members) (t : Intake) → intake_of ms ≡ Ok t → IsStock (stock_of t)
+intake_is_stock ms t e = sorted_is_stock t (intake_keeps TokensAlone Sorted none_sorted (λ s alone. alone.0) token_step lease_step ms t e)
 
-abbrev taken : Option ℕ → Result (Option ℕ) InvFault
-taken o = elim o [ Some x ↦ Ok (Some x) | None ↦ Err (BadValue None Margin) ]
-
-found_margin : (o margin : Option ℕ) → IfSome o IsMargin → taken o ≡ Ok margin → IsMargin (unwrap_or margin 1)
-found_margin None margin h e = absurd (cc)
-found_margin (Some n) margin h e = let same : Some n ≡ margin = cc in subst (λ m. IsMargin (unwrap_or m 1)) same h
-
-read_margin : (o : Option Data) (margin : Option ℕ) → read_if (whole 1 3600) None Margin o ≡ Ok margin → IsMargin (unwrap_or margin 1)
-read_margin None margin e = let same : None ≡ margin = cc in subst (λ m. IsMargin (unwrap_or m 1)) same (omega arith, omega arith)
-read_margin (Some d) margin e = found_margin (whole 1 3600 d) margin (whole_is d) e
-
-intake_is : (ms : Members) (t : Intake) → intake_of ms ≡ Ok t → IsForest t.grove
-unfolding intake_of
-intake_is ms t e =
-    bind_ok (only is_top_key None ms) _ t e (λ known k e1.
-    bind_ok (value_at (whole 1 4294967295) None SystemMax ms) _ t e1 (λ system_max a e2.
-    bind_ok (value_at (whole 1 3600) None Margin ms) _ t e2 (λ margin b e3.
-    bind_ok (value_at tables None Token ms) _ t e3 (λ tokens c e4.
-    bind_ok (value_at tables None Lease ms) _ t e4 (λ leases d e5.
-    bind_ok (entered_by (token_entered (unwrap_or system_max 2764800)) Token (nothing (unwrap_or margin 1)) (unwrap_or tokens no_items)) _ t e5 (λ u f e6.
-    let within = read_margin (get_member (key_text Margin) ms) margin b in
-    let first : IsForest (nothing (unwrap_or margin 1)).grove = empty_is_forest (unwrap_or margin 1) within.0 within.1 in
-    let second = all_kept (token_entered (unwrap_or system_max 2764800)) (token_step (unwrap_or system_max 2764800)) Token (nothing (unwrap_or margin 1)) u (unwrap_or tokens no_items) first f in
-    all_kept (lease_entered (unwrap_or system_max 2764800)) (lease_step (unwrap_or system_max 2764800)) Lease u t (unwrap_or leases no_items) second e6))))))
-
-inventory_of_is : (ms : Members) (stock : Stock) → inventory_of ms ≡ Ok stock → IsForest stock.grove × IsStock stock
+inventory_of_is : (ms : Members) (stock : Stock) → inventory_of ms ≡ Ok stock → IsStock stock
 unfolding inventory_of
 inventory_of_is ms stock e =
     bind_ok (intake_of ms) _ stock e (λ t is e1.
     let same : stock_of t ≡ stock = cc in
-    subst (λ (s : Stock). IsForest s.grove × IsStock s) same (intake_is ms t is, intake_is_stock ms t is))
+    subst IsStock same (intake_is_stock ms t is))
 
 pub inventory_law : InventoryLaw
 unfolding inventory
 inventory_law bytes stock e = bind_ok (tree_of bytes) _ stock e (λ ms read e1. inventory_of_is ms stock e1)
+
+pub sendable_law : SendableLaw
+sendable_law bytes stock e = (inventory_law bytes stock e).sendable

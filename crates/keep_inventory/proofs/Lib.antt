@@ -3,10 +3,13 @@ pub mod Tables
 pub mod Trees
 pub mod Stocks
 pub mod Registers
-pub mod Matched
+pub mod Chains
 pub mod Parts
 pub mod Taken
+pub mod Entered
 pub mod Apart
 pub mod Sendable
+pub mod Spans
 pub mod Barely
 pub mod Inventoried
+pub mod Told

@@ -11,7 +11,7 @@ use Rattle.keep_inventory.specs.Keys.{is_token_key, is_lease_key}
 use Rattle.keep_inventory.specs.Values.{only, moment, text, credential, value_at, needed}
 use Rattle.keep_inventory.specs.Terms.{step_of, ceiling_of}
 use Rattle.keep_inventory.specs.Rows.{index_or_none, life_of, lease_row, lease_terms, token_row, token_terms}
-use Rattle.keep_inventory.proofs.Matched.{bind_ok}
+use Rattle.keep_inventory.proofs.Chains.{bind_ok}
 
 abbrev pub made_token : Grove → List ℕ → Option (List ℕ) → Life → Terms → Option ℕ → Option (List ℕ) → Row
 made_token g name parent life terms need secret = record {

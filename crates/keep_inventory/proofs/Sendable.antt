@@ -19,11 +19,10 @@ use Rattle.keep_inventory.specs.declared.key.Key.TheVariants.{SystemMax, Margin,
 use Rattle.keep_inventory.specs.declared.row.Row.{Row}
 use Rattle.keep_inventory.specs.Keys.{is_top_key, key_text}
 use Rattle.keep_inventory.specs.Values.{only, read_if, whole, tables, credential, is_credential, value_at}
-use Rattle.keep_inventory.specs.Stock.{Stock}
+use Rattle.keep_inventory.specs.Stock.{IsSendable}
 use Rattle.keep_inventory.specs.Intake.{Intake, nothing, stock_of}
 use Rattle.keep_inventory.specs.Inventory.{token_entered, lease_entered, entered_by, intake_of, inventory, inventory_of, tree_of}
-use Rattle.keep_inventory.specs.Laws.{IsSendable, SendableLaw}
-use Rattle.keep_inventory.proofs.Matched.{bind_ok}
+use Rattle.keep_inventory.proofs.Chains.{bind_ok}
 use Rattle.keep_inventory.proofs.Parts.{TokenParts, LeaseParts, token_parts, lease_parts}
 use Rattle.keep_inventory.proofs.Taken.{KeepsIt, all_keep, lease_entered_ok, token_entered_ok}
 
@@ -115,56 +114,16 @@ either_sendable : (written : Option (List ℕ)) (name : List ℕ) → IfSome wri
 either_sendable None name h k = k
 either_sendable (Some x) name h k = h
 
-token_sendable : (system_max : ℕ) (g : Grove) (ms : Members) (row : Row) → TokenParts system_max g ms row → refusal g row.entry ≡ None → IsSendable row.credential
+pub token_sendable : (system_max : ℕ) (g : Grove) (ms : Members) (row : Row) → TokenParts system_max g ms row → refusal g row.entry ≡ None → IsSendable row.credential
 token_sendable system_max g ms row parts fits =
     let name : is_name row.entry.name ≡ true = (taken_from_refusal g row.entry fits).named in
     subst (λ (r : Row). IsSendable r.credential) parts.made
     (either_sendable parts.secret parts.name (read_sendable (get_member (key_text Secret) ms) (Some (length g.entries)) Secret parts.secret parts.secret_read)
     (name_sendable parts.name (subst (λ (r : Row). is_name r.entry.name ≡ true) (sym parts.made) name)))
 
-lease_sendable : (system_max : ℕ) (g : Grove) (ms : Members) (row : Row) → LeaseParts system_max g ms row → refusal g row.entry ≡ None → IsSendable row.credential
+pub lease_sendable : (system_max : ℕ) (g : Grove) (ms : Members) (row : Row) → LeaseParts system_max g ms row → refusal g row.entry ≡ None → IsSendable row.credential
 lease_sendable system_max g ms row parts fits =
     let name : is_name row.entry.name ≡ true = (taken_from_refusal g row.entry fits).named in
     subst (λ (r : Row). IsSendable r.credential) parts.made
     (either_sendable parts.lease_id parts.name (read_sendable (get_member (key_text LeaseId) ms) (Some (length g.entries)) LeaseId parts.lease_id parts.lease_id_read)
     (name_sendable parts.name (subst (λ (r : Row). is_name r.entry.name ≡ true) (sym parts.made) name)))
-
--- ---- of a whole inventory
-
-abbrev AllSendable : Intake → Type 0
-AllSendable s = All IsSendable s.secrets × All IsSendable s.lease_ids
-
-token_step : (system_max : ℕ) → KeepsIt AllSendable (token_entered system_max)
-token_step system_max s t ms m e =
-    let taken = token_entered_ok system_max s t ms e in
-    subst AllSendable taken.3 (All-push IsSendable s.secrets taken.0.credential m.0 (token_sendable system_max s.grove ms taken.0 (token_parts system_max s.grove ms taken.0 taken.1) taken.2.entry), m.1)
-
-lease_step : (system_max : ℕ) → KeepsIt AllSendable (lease_entered system_max)
-lease_step system_max s t ms m e =
-    let taken = lease_entered_ok system_max s t ms e in
-    subst AllSendable taken.3 (m.0, All-push IsSendable s.lease_ids taken.0.credential m.1 (lease_sendable system_max s.grove ms taken.0 (lease_parts system_max s.grove ms taken.0 taken.1) taken.2.entry))
-
-intake_sendable : (ms : Members) (t : Intake) → intake_of ms ≡ Ok t → AllSendable t
-unfolding intake_of
-intake_sendable ms t e =
-    bind_ok (only is_top_key None ms) _ t e (λ known k e1.
-    bind_ok (value_at (whole 1 4294967295) None SystemMax ms) _ t e1 (λ system_max a e2.
-    bind_ok (value_at (whole 1 3600) None Margin ms) _ t e2 (λ margin b e3.
-    bind_ok (value_at tables None Token ms) _ t e3 (λ tokens c e4.
-    bind_ok (value_at tables None Lease ms) _ t e4 (λ leases d e5.
-    bind_ok (entered_by (token_entered (unwrap_or system_max 2764800)) Token (nothing (unwrap_or margin 1)) (unwrap_or tokens no_items)) _ t e5 (λ u f e6.
-    let first : AllSendable (nothing (unwrap_or margin 1)) = (All-nil IsSendable, All-nil IsSendable) in
-    let second = all_keep AllSendable (token_entered (unwrap_or system_max 2764800)) (token_step (unwrap_or system_max 2764800)) Token (nothing (unwrap_or margin 1)) u (unwrap_or tokens no_items) first f in
-    all_keep AllSendable (lease_entered (unwrap_or system_max 2764800)) (lease_step (unwrap_or system_max 2764800)) Lease u t (unwrap_or leases no_items) second e6))))))
-
-inventory_of_sendable : (ms : Members) (stock : Stock) → inventory_of ms ≡ Ok stock → All IsSendable stock.credentials
-unfolding inventory_of
-inventory_of_sendable ms stock e =
-    bind_ok (intake_of ms) _ stock e (λ t is e1.
-    let same : stock_of t ≡ stock = cc in
-    let fine = intake_sendable ms t is in
-    subst (λ (s : Stock). All IsSendable s.credentials) same (All-append IsSendable t.secrets t.lease_ids fine.0 fine.1))
-
-pub sendable_law : SendableLaw
-unfolding inventory
-sendable_law bytes stock e = bind_ok (tree_of bytes) _ stock e (λ ms read e1. inventory_of_sendable ms stock e1)

@@ -1,10 +1,17 @@
 -- What is read at an index of a stock, and that a stock keeps one credential and one set of terms for each entry.
-use Rattle.std.proofs.Common.{◌≡◌, ℕ, ◌+◌, ◌-◌, ◌<◌, ◌≤◌, List, [], ◌++◌, length, get_or, sym}
+use Rattle.std.proofs.Common.{◌≡◌, ◌==◌, ℕ, false, unwrap_or, ◌∙◌, ◌+◌, ◌-◌, ◌<◌, ◌≤◌, List, [], ◌++◌, length, get_or, sym, arith, IsUtf8}
+use Rattle.std.specs.List.{All}
+use Rattle.std.proofs.lemmas.Bool.{cond-false}
 use Rattle.std.proofs.lemmas.List.{get_or_read, get_or_append_left}
+use Rattle.std.proofs.lemmas.List.Elements.{All-from_get_or, All-get_or}
+use Rattle.std.proofs.lemmas.Str.{IsUtf8-from_ascii}
+use Rattle.std.proofs.lemmas.Str.Ascii.{IsAscii-from_all}
 use Rattle.std.proofs.Math.ListN.{length-append}
 use Rattle.std.proofs.Math.Seq.{get_or-append_right}
+use Rattle.keep_tree.specs.Forest.{entry_at}
 use Rattle.keep_inventory.specs.declared.terms.Terms.{Terms}
-use Rattle.keep_inventory.specs.Stock.{no_terms, terms_at, credential_at}
+use Rattle.keep_inventory.specs.Stock.{IsSendable, IsStock, Stock, no_terms, terms_at, credential_at}
+use Rattle.keep_inventory.specs.Laws.{TextLaw}
 
 pub terms_read : (ts : List Terms) (i : ℕ) (x : Terms) → i < length ts → x ≡ get_or ts i x → x ≡ terms_at ts i
 unfolding terms_at
@@ -21,6 +28,25 @@ first_half ss ls i h = sym (get_or_append_left ss ls [] i h)
 pub second_half : (ss ls : List (List ℕ)) (i : ℕ) → length ss ≤ i → credential_at ls (i - length ss) ≡ credential_at (ss ++ ls) i
 unfolding credential_at
 second_half ss ls i h = sym (get_or-append_right ss ls i [] h)
+
+-- each of these texts can be sent
+pub sendable_at : (cs : List (List ℕ)) (i : ℕ) → i < length cs → All IsSendable cs → IsSendable (credential_at cs i)
+unfolding credential_at
+sendable_at cs i h all = All-get_or IsSendable cs i [] h all
+
+-- what can be sent is ASCII, so UTF-8
+pub text_law : TextLaw
+text_law text sendable =
+    IsUtf8-from_ascii text (IsAscii-from_all text (All-from_get_or (λ b. b < 128) text 0
+    (λ i h. let fine = All-get_or (λ b. (0x21 ≤ b) × (b ≤ 0x7E)) text i 0 h sendable.2 in omega (arith, fine.1))))
+
+-- and so is each credential of a stock
+pub credential_text : (s : Stock) → IsStock s → (i : ℕ) → i < length s.grove.entries → IsUtf8 (credential_at s.credentials i)
+credential_text s stock i h = text_law (credential_at s.credentials i) (sendable_at s.credentials i (omega (arith, h, stock.credentials)) stock.sendable)
+
+-- a token that has a period has it as its step
+pub period_is : (s : Stock) → IsStock s → (i : ℕ) → i < length s.grove.entries → ((terms_at s.terms i).period == 0) ≡ false → (entry_at s.grove.entries i).step ≡ (terms_at s.terms i).period
+period_is s stock i h some = let t = terms_at s.terms i in stock.step_is i h ∙ cond-false (t.period == 0) (unwrap_or t.increment 0) t.period some
 
 pub length_of_halves : (ss ls : List (List ℕ)) → length (ss ++ ls) ≡ length ss + length ls
 length_of_halves ss ls = length-append ss ls

@@ -13,7 +13,7 @@ use Rattle.keep_inventory.specs.declared.row.Row.{Row}
 use Rattle.keep_inventory.specs.Intake.{Intake, appended, pushed, holds, distinct, with_token, with_lease}
 use Rattle.keep_inventory.specs.Rows.{token_row, lease_row}
 use Rattle.keep_inventory.specs.Inventory.{token_entered, lease_entered, entered_by}
-use Rattle.keep_inventory.proofs.Matched.{bind_ok}
+use Rattle.keep_inventory.proofs.Chains.{bind_ok}
 
 -- a forest with one entry more
 abbrev pub grown : Grove → Entry → Grove

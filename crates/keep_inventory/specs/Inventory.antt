@@ -4,6 +4,8 @@ use Rattle.std.specs.Prelude.{ℕ, List, Option, Some, None, Result, Ok, Err, un
 use Rattle.std.specs.Str.{is_utf8}
 use Rattle.toml.specs.Data.{Items, no_items, item, table, Members}
 use Rattle.toml.specs.Parse.{parse_document}
+use Rattle.keep_tree.specs.declared.forest.TheConstants.{MARGIN_MAX}
+use Rattle.keep_inventory.specs.declared.limits.TheConstants.{SPAN_MAX, SYSTEM_MAX}
 use Rattle.keep_inventory.specs.declared.fault.InvFault.{InvFault}
 use Rattle.keep_inventory.specs.declared.fault.InvFault.TheVariants.{NotToml, BadValue}
 use Rattle.keep_inventory.specs.declared.key.Key.{Key}
@@ -32,12 +34,12 @@ entered_by step key s (item _ ds) = Err (BadValue None key)
 unfoldable pub intake_of : Members → Result Intake InvFault
 intake_of ms = do
   known ← only is_top_key None ms
-  system_max ← value_at (whole 1 4294967295) None SystemMax ms
-  margin ← value_at (whole 1 3600) None Margin ms
+  system_max ← value_at (whole 1 SPAN_MAX) None SystemMax ms
+  margin ← value_at (whole 1 MARGIN_MAX) None Margin ms
   tokens ← value_at tables None Token ms
   leases ← value_at tables None Lease ms
-  with_tokens ← entered_by (token_entered (unwrap_or system_max 2764800)) Token (nothing (unwrap_or margin 1)) (unwrap_or tokens no_items)
-  entered_by (lease_entered (unwrap_or system_max 2764800)) Lease with_tokens (unwrap_or leases no_items)
+  with_tokens ← entered_by (token_entered (unwrap_or system_max SYSTEM_MAX)) Token (nothing (unwrap_or margin 1)) (unwrap_or tokens no_items)
+  entered_by (lease_entered (unwrap_or system_max SYSTEM_MAX)) Lease with_tokens (unwrap_or leases no_items)
 
 -- the inventory of a document's tree
 unfoldable pub inventory_of : Members → Result Stock InvFault

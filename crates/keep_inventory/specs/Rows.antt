@@ -6,6 +6,7 @@ use Rattle.keep_tree.specs.declared.entry.Kind.TheVariants as kind
 use Rattle.keep_tree.specs.Forest.{Grove, index_named}
 use Rattle.keep_inventory.specs.declared.fault.InvFault.{InvFault}
 use Rattle.keep_inventory.specs.declared.key.Key.TheVariants.{Token, Name, Parent, Issued, End, Renewable, Increment, Period, MaxTtl, ExplicitMaxTtl, Need, Secret, LeaseId}
+use Rattle.keep_inventory.specs.declared.limits.TheConstants.{SPAN_MAX}
 use Rattle.keep_inventory.specs.declared.row.Life.{Life}
 use Rattle.keep_inventory.specs.declared.row.Row.{Row}
 use Rattle.keep_inventory.specs.declared.terms.Terms.{Terms}
@@ -34,18 +35,18 @@ has_step index increment period = if period == 0 then (needed index Increment in
 
 unfoldable pub token_terms : ℕ → ℕ → ℕ → Members → Result Terms InvFault
 token_terms system_max index issued ms = do
-  increment ← value_at (whole 0 4294967295) (Some index) Increment ms
-  period ← value_at (whole 0 4294967295) (Some index) Period ms
+  increment ← value_at (whole 0 SPAN_MAX) (Some index) Increment ms
+  period ← value_at (whole 0 SPAN_MAX) (Some index) Period ms
   step ← has_step index increment (unwrap_or period 0)
-  max_ttl ← value_at (whole 0 4294967295) (Some index) MaxTtl ms
-  explicit_max ← value_at (whole 0 4294967295) (Some index) ExplicitMaxTtl ms
+  max_ttl ← value_at (whole 0 SPAN_MAX) (Some index) MaxTtl ms
+  explicit_max ← value_at (whole 0 SPAN_MAX) (Some index) ExplicitMaxTtl ms
   Ok (record { issued = issued; increment = increment; period = unwrap_or period 0; max_ttl = max_ttl_of system_max max_ttl; explicit_max = unwrap_or explicit_max 0 })
 
 unfoldable pub lease_terms : ℕ → ℕ → ℕ → Members → Result Terms InvFault
 lease_terms system_max index issued ms = do
-  increment_if ← value_at (whole 0 4294967295) (Some index) Increment ms
+  increment_if ← value_at (whole 0 SPAN_MAX) (Some index) Increment ms
   increment ← needed index Increment increment_if
-  max_ttl ← value_at (whole 0 4294967295) (Some index) MaxTtl ms
+  max_ttl ← value_at (whole 0 SPAN_MAX) (Some index) MaxTtl ms
   Ok (record { issued = issued; increment = Some increment; period = 0; max_ttl = max_ttl_of system_max max_ttl; explicit_max = 0 })
 
 -- the entry, the credential and the terms that the table of the next token writes, or its first fault

@@ -1,7 +1,11 @@
 -- What an inventory holds: a forest, and beside each entry the credential that is sent for it and its terms.
-use Rattle.std.specs.Prelude.{◌≡◌, ℕ, ◌<◌, List, [], None, length, slice_index_or}
+use Rattle.std.specs.Prelude.{◌≡◌, ℕ, ◌<◌, ◌≤◌, List, [], None, length, slice_index_or}
+use Rattle.std.specs.List.{All}
 use Rattle.keep_tree.specs.Forest.{Grove, entry_at}
+use Rattle.keep_tree.specs.Push.{IsForest}
+use Rattle.keep_inventory.specs.declared.limits.TheConstants.{CREDENTIAL_MAX, SPAN_MAX}
 use Rattle.keep_inventory.specs.declared.terms.Terms.{Terms}
+use Rattle.keep_inventory.specs.Terms.{ceiling_of, step_of}
 
 pub record Stock : Type 0 where
   pub grove : Grove
@@ -26,6 +30,18 @@ AreApart s =
     (i j : ℕ) → i < length s.grove.entries → j < length s.grove.entries → (entry_at s.grove.entries i).kind ≡ (entry_at s.grove.entries j).kind →
     credential_at s.credentials i ≡ credential_at s.credentials j → i ≡ j
 
--- one credential and one set of terms for each entry, and of one kind no credential twice
-abbrev pub IsStock : Stock → Type 0
-IsStock s = (length s.credentials ≡ length s.grove.entries) × (length s.terms ≡ length s.grove.entries) × AreApart s
+-- 1 to 256 bytes, each from 0x21 to 0x7E: they can stand in the head of a message, and are UTF-8
+abbrev pub IsSendable : List ℕ → Type 0
+IsSendable text = (0 < length text) × (length text ≤ CREDENTIAL_MAX) × All (λ b. (0x21 ≤ b) × (b ≤ 0x7E)) text
+
+-- what every inventory keeps: a forest, one credential and one set of terms for each entry, of one kind no credential
+-- twice, and each can be sent; a step is a duration, and step and ceiling are those of the terms
+pub record IsStock (s : Stock) : Type 0 where
+  pub forest : IsForest s.grove
+  pub credentials : length s.credentials ≡ length s.grove.entries
+  pub terms : length s.terms ≡ length s.grove.entries
+  pub apart : AreApart s
+  pub sendable : All IsSendable s.credentials
+  pub steps : (i : ℕ) → i < length s.grove.entries → (entry_at s.grove.entries i).step ≤ SPAN_MAX
+  pub step_is : (i : ℕ) → i < length s.grove.entries → (entry_at s.grove.entries i).step ≡ step_of (terms_at s.terms i)
+  pub ceiling_is : (i : ℕ) → i < length s.grove.entries → (entry_at s.grove.entries i).ceiling ≡ ceiling_of (terms_at s.terms i)

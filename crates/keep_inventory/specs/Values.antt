@@ -9,6 +9,7 @@ use Rattle.toml.specs.Text.{are_tables}
 use Rattle.keep_moment.specs.MomentOf.{moment_of}
 use Rattle.keep_moment.specs.declared.moment.TheConstants.{LAST}
 use Rattle.keep_tree.specs.declared.forest.TheConstants.{END_MAX}
+use Rattle.keep_inventory.specs.declared.limits.TheConstants.{CREDENTIAL_MAX}
 use Rattle.keep_inventory.specs.declared.key.Key.{Key}
 use Rattle.keep_inventory.specs.declared.fault.InvFault.{InvFault}
 use Rattle.keep_inventory.specs.declared.fault.InvFault.TheVariants.{MissingKey, UnknownKey, BadValue}
@@ -43,7 +44,7 @@ text _ = None
 
 -- 1 to 256 bytes from 0x21 to 0x7E
 abbrev pub is_credential : List ℕ → Bool
-is_credential s = nat_lt 0 (length s) && (nat_le (length s) 256 && list_all (is_in_range 0x21 0x7E) s)
+is_credential s = nat_lt 0 (length s) && (nat_le (length s) CREDENTIAL_MAX && list_all (is_in_range 0x21 0x7E) s)
 
 -- a token's own value, or a lease's id
 abbrev pub credential : Data → Option (List ℕ)

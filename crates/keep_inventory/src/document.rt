@@ -9,16 +9,11 @@ use crate::fault::InvFault;
 use crate::inventory::Inventory;
 use crate::key::Key;
 use crate::known::only_top_keys;
+use crate::limits::{SPAN_MAX, SYSTEM_MAX};
 use crate::value::{span_at, tables_at};
-use keep_moment::Span;
 use keep_tree::MARGIN_MAX;
 use std::alloc::Global;
 use toml::Table;
-
-/// The system's maximum TTL where the inventory names none, in seconds: 32 days.
-///
-/// Source: Vault, "Lease, renew, and revoke" (maximum TTL).
-pub const SYSTEM_MAX: Span = 2764800;
 
 /// The inventory that these bytes write: a document of TOML 1.1 in UTF-8, with the tables `[[token]]` and `[[lease]]`.
 ///
@@ -63,7 +58,7 @@ fn read_draft(alloc: Global, table: &Table) -> Result<Draft, InvFault>
     ensures { Gives (λ intake. intake) result (intake_of (table_view table.now)) }
 {
     only_top_keys(table)?;
-    let system_max = span_at(table, None, Key::SystemMax, 1, Span::MAX)?.unwrap_or(SYSTEM_MAX);
+    let system_max = span_at(table, None, Key::SystemMax, 1, SPAN_MAX)?.unwrap_or(SYSTEM_MAX);
     let margin = span_at(table, None, Key::Margin, 1, MARGIN_MAX)?.unwrap_or(1);
     let tokens = tables_at(table, Key::Token)?.unwrap_or(&[]);
     let leases = tables_at(table, Key::Lease)?.unwrap_or(&[]);

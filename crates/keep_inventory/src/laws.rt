@@ -1,14 +1,27 @@
-ghost use Rattle.keep_inventory.specs.Laws.{InventoryLaw, SecrecyLaw, SendableLaw};
+ghost use Rattle.std.specs.Prelude.{◌≡◌};
+ghost use Rattle.keep_inventory.specs.declared.limits.TheConstants.{CREDENTIAL_MAX, MOST_INVENTORY, SPAN_MAX, SYSTEM_MAX};
+ghost use Rattle.keep_inventory.specs.Laws.{InventoryLaw, SecrecyLaw, SendableLaw, TextLaw};
+
+/// The limits of inventories, each by its number.
+pub fn limits_of_inventories()
+    ensures text { MOST_INVENTORY ≡ 1048576 }
+    ensures span { SPAN_MAX ≡ 4294967295 }
+    ensures system { SYSTEM_MAX ≡ 2764800 }
+    ensures credential { CREDENTIAL_MAX ≡ 256 }
+{}
 
 /// The law that the inventory of a text is a forest, as one that grew entry by entry, with one credential and one set of
-/// terms for each of its entries, and with no credential twice for tokens or for leases.
+/// terms for each of its entries, with no credential twice for tokens or for leases; that each credential can be sent, that
+/// each step is a duration, and that the step of a periodic token is its period.
 pub fn inventories_are_forests()
     ensures { InventoryLaw }
 {}
 
-/// The law that each credential of the inventory of a text can be sent: it has 1 to 256 bytes, each from 0x21 to 0x7E.
+/// The law that each credential of the inventory of a text can be sent: it has 1 to 256 bytes, each from 0x21 to 0x7E. So
+/// it is UTF-8.
 pub fn credentials_are_sendable()
-    ensures { SendableLaw }
+    ensures inventory { SendableLaw }
+    ensures text { TextLaw }
 {}
 
 /// The law that nothing but the credentials of an inventory comes from the keys `secret` and `lease_id`: two documents that

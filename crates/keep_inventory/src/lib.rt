@@ -2,8 +2,8 @@
 //!
 //! The contract for the layers above: [`read`] gives the forest, the credentials and the terms that the definition
 //! Inventory gives for the document's tree, or its first fault; [`Inventory`] has one credential and one set of terms for
-//! each entry of its forest, and of one kind no
-//! credential twice. Begin with `document`, then `row`.
+//! each entry of its forest, of one kind no credential twice, and credentials that can be sent. Begin with `document`, then
+//! `row`.
 #![tactic(auto)]
 
 mod document;
@@ -13,6 +13,8 @@ mod inventory;
 mod key;
 mod known;
 mod laws;
+mod limits;
+mod lookup;
 mod register;
 mod row;
 mod terms;
@@ -20,9 +22,14 @@ mod terms;
 mod tests;
 mod value;
 
-pub use document::{SYSTEM_MAX, read};
+pub use document::read;
 pub use fault::InvFault;
 pub use inventory::{Credentials, Inventory};
 pub use key::Key;
-pub use laws::{credentials_are_sendable, inventories_are_forests, secrets_stay_in_credentials};
+pub use laws::{
+    credentials_are_sendable, inventories_are_forests, limits_of_inventories,
+    secrets_stay_in_credentials,
+};
+pub use limits::{CREDENTIAL_MAX, MOST_INVENTORY, SPAN_MAX, SYSTEM_MAX};
+pub use lookup::LookupFault;
 pub use terms::Terms;

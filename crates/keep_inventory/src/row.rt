@@ -6,6 +6,7 @@ ghost use Rattle.keep_inventory.specs.Rows.{index_or_none, life_of, has_step, to
 use crate::fault::InvFault;
 use crate::key::Key;
 use crate::known::{only_lease_keys, only_token_keys};
+use crate::limits::SPAN_MAX;
 use crate::terms::{Terms, max_ttl};
 use crate::value::{credential_at, end_at, flag_at, moment_at, span_at, text_at};
 use keep_moment::{Moment, Name, Span, Text};
@@ -173,11 +174,11 @@ fn token_terms(
 ) -> Result<Terms, InvFault>
     ensures { result ≡ token_terms system_max index issued (table_view table.now) }
 {
-    let increment = span_at(table, Some(index), Key::Increment, 0, Span::MAX)?;
-    let period = span_at(table, Some(index), Key::Period, 0, Span::MAX)?.unwrap_or(0);
+    let increment = span_at(table, Some(index), Key::Increment, 0, SPAN_MAX)?;
+    let period = span_at(table, Some(index), Key::Period, 0, SPAN_MAX)?.unwrap_or(0);
     has_step(index, increment, period)?;
-    let longest = span_at(table, Some(index), Key::MaxTtl, 0, Span::MAX)?;
-    let explicit_max = span_at(table, Some(index), Key::ExplicitMaxTtl, 0, Span::MAX)?;
+    let longest = span_at(table, Some(index), Key::MaxTtl, 0, SPAN_MAX)?;
+    let explicit_max = span_at(table, Some(index), Key::ExplicitMaxTtl, 0, SPAN_MAX)?;
     Ok(Terms {
         issued,
         increment,
@@ -197,10 +198,10 @@ fn lease_terms(
 ) -> Result<Terms, InvFault>
     ensures { result ≡ lease_terms system_max index issued (table_view table.now) }
 {
-    let increment = span_at(table, Some(index), Key::Increment, 0, Span::MAX)?.ok_or(
+    let increment = span_at(table, Some(index), Key::Increment, 0, SPAN_MAX)?.ok_or(
         InvFault::MissingKey(index, Key::Increment),
     )?;
-    let longest = span_at(table, Some(index), Key::MaxTtl, 0, Span::MAX)?;
+    let longest = span_at(table, Some(index), Key::MaxTtl, 0, SPAN_MAX)?;
     Ok(Terms {
         issued,
         increment: Some(increment),

@@ -10,12 +10,10 @@ ghost use Rattle.keep_inventory.specs.Values.{whole, moment, ending, flag, text,
 
 use crate::fault::InvFault;
 use crate::key::Key;
+use crate::limits::CREDENTIAL_MAX;
 use keep_moment::{LAST, Moment, Span, read_rfc3339};
 use keep_tree::END_MAX;
 use toml::{Table, Value};
-
-/// The most bytes of a credential.
-pub const CREDENTIAL_MAX: usize = 256;
 
 // The value at a key.
 fn at(table: &Table, key: Key) -> Option<&Value>

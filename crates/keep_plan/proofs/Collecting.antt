@@ -1,13 +1,13 @@
 -- Runs that are taken from a schedule one by one: what they are together; for `collect`.
 use Rattle.std.proofs.Common.{◌≡◌, ◌∙◌, ℕ, ◌+◌, ◌-◌, ◌<◌, ◌≤◌, ◌++◌, List, [], ◌∷◌, length, refl, sym, ap, subst, arith}
 use Rattle.std.proofs.lemmas.List.{append-nil, append_assoc, length-append}
-use Rattle.keep_schedule.specs.declared.force.Force.{Force}
-use Rattle.keep_schedule.specs.declared.run.Run.{Run}
-use Rattle.keep_schedule.specs.Runs.{IsFirstRun, all_wakes, wakes}
-use Rattle.keep_schedule.specs.declared.limit.TheConstants.{LIMIT}
+use Rattle.keep_rule.specs.declared.force.Force.{Force}
+use Rattle.keep_rule.specs.declared.run.Run.{Run}
+use Rattle.keep_rule.specs.Runs.{AreRuns, IsRun, all_wakes, wakes}
+use Rattle.keep_schedule.specs.Given.{IsFirstRun}
+use Rattle.keep_rule.specs.declared.limit.TheConstants.{LIMIT}
 use Rattle.keep_plan.specs.Collecting.{AreLongestBefore, IsOverlong, IsTaken, IsWhole}
 use Rattle.keep_plan.specs.Decides.{AreLongest}
-use Rattle.keep_plan.specs.Planned.{AreRuns, IsRun}
 use Rattle.keep_plan.proofs.Walking.{length_wakes_of}
 
 -- the wake-ups of one run more

@@ -11,10 +11,10 @@ use Rattle.keep_rule.proofs.Existence.{there_is_one}
 use Rattle.keep_rule.proofs.FewestRequests.{fewest_requests}
 use Rattle.keep_rule.proofs.Keeping.{unkeepable}
 use Rattle.keep_rule.proofs.Schedule.{schedule_is_best}
-use Rattle.keep_schedule.specs.declared.force.Force.{Force}
-use Rattle.keep_schedule.specs.declared.run.Run.{Run}
-use Rattle.keep_schedule.specs.Forces.{AreForces, moments_of}
-use Rattle.keep_schedule.specs.Runs.{all_wakes}
+use Rattle.keep_rule.specs.declared.force.Force.{Force}
+use Rattle.keep_rule.specs.declared.run.Run.{Run}
+use Rattle.keep_rule.specs.Runs.{all_wakes, moments_of}
+use Rattle.keep_schedule.specs.Forces.{AreForces}
 use Rattle.keep_schedule.proofs.Bridge.{forces_schedule}
 use Rattle.keep_schedule.proofs.Forces.{forces_are_best}
 use Rattle.keep_plan.specs.Collecting.{IsOverlong, IsWhole}

@@ -3,10 +3,10 @@ use Rattle.std.proofs.Common.{◌≡◌, ◌≢◌, ◌==◌, ◌∙◌, ℕ, ze
 use Rattle.std.proofs.lemmas.Bool.{cases_Bool, cases_lt, cond-true, cond-false}
 use Rattle.std.proofs.lemmas.Bool.Decides.{nat_tests}
 use Rattle.std.proofs.lemmas.List.{drop-set, drop_all, drop_more, length-append}
-use Rattle.keep_schedule.specs.declared.force.Force.{Force}
-use Rattle.keep_schedule.specs.declared.run.Run.{Run}
-use Rattle.keep_schedule.specs.Runs.{all_wakes, wakes, wakes_of}
-use Rattle.keep_plan.specs.Planned.{AreRuns, IsPlanned, IsRun, IsTail, Planned, behind_first, in_front, to_come, without_first}
+use Rattle.keep_rule.specs.declared.force.Force.{Force}
+use Rattle.keep_rule.specs.declared.run.Run.{Run}
+use Rattle.keep_rule.specs.Runs.{AreRuns, IsRun, all_wakes, wakes, wakes_of}
+use Rattle.keep_plan.specs.Planned.{IsPlanned, IsTail, Planned, behind_first, in_front, to_come, without_first}
 
 -- the first wake-up of a run
 abbrev pub first_wake : Run → Force

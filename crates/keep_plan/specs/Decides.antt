@@ -9,14 +9,14 @@ use Rattle.keep_rule.specs.Least.{IsLeastAndLatest}
 use Rattle.keep_rule.specs.Plans.{IsPlan, moments}
 use Rattle.keep_rule.specs.Requests.{requests}
 use Rattle.keep_needs.specs.Carried.{IsCarried}
-use Rattle.keep_schedule.specs.declared.force.Force.{Force}
-use Rattle.keep_schedule.specs.declared.run.Run.{Run}
-use Rattle.keep_schedule.specs.Forces.{AreForces, moments_of}
-use Rattle.keep_schedule.specs.Runs.{all_wakes, wakes}
+use Rattle.keep_rule.specs.declared.force.Force.{Force}
+use Rattle.keep_rule.specs.declared.run.Run.{Run}
+use Rattle.keep_rule.specs.Runs.{AreRuns, all_wakes, moments_of, wakes}
+use Rattle.keep_schedule.specs.Forces.{AreForces}
 use Rattle.keep_plan.specs.declared.decision.Decision.{Decision}
 use Rattle.keep_plan.specs.declared.decision.Decision.TheVariants.{Keep, TooLong, Unkeepable}
-use Rattle.keep_schedule.specs.declared.limit.TheConstants.{LIMIT}
-use Rattle.keep_plan.specs.Planned.{AreRuns, Planned}
+use Rattle.keep_rule.specs.declared.limit.TheConstants.{LIMIT}
+use Rattle.keep_plan.specs.Planned.{Planned}
 use Rattle.keep_plan.specs.Shortfall.{IsShortfall}
 
 -- each run goes from the left as long as it can: what follows begins with no longer one

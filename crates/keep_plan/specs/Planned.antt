@@ -3,10 +3,10 @@
 use Rattle.std.specs.Prelude.{◌≡◌, ◌==◌, ℕ, ◌+◌, ◌-◌, ◌*◌, ◌≤◌, ◌<◌, ◌↔◌, if◌then◌else◌, List, [], ◌∷◌, Option, Some, None, length, nat_lt}
 use Rattle.keep_moment.specs.declared.moment.TheConstants.{LAST}
 use Rattle.keep_needs.specs.Carried.{CarriedNeed}
-use Rattle.keep_schedule.specs.declared.force.Force.{Force}
-use Rattle.keep_schedule.specs.declared.run.Run.{Run}
-use Rattle.keep_schedule.specs.Runs.{all_wakes}
-use Rattle.keep_schedule.specs.declared.limit.TheConstants.{LIMIT}
+use Rattle.keep_rule.specs.declared.force.Force.{Force}
+use Rattle.keep_rule.specs.declared.run.Run.{Run}
+use Rattle.keep_rule.specs.Runs.{AreRuns, all_wakes}
+use Rattle.keep_rule.specs.declared.limit.TheConstants.{LIMIT}
 
 -- the start and the carried needs that a plan was made by, and the runs of the wake-ups that are still to come
 pub record Planned : Type 0 where
@@ -17,16 +17,6 @@ pub record Planned : Type 0 where
 -- the wake-ups of a plan that are still to come
 abbrev pub to_come : Planned → List Force
 to_come p = all_wakes p.runs
-
--- one wake-up or more, the last of them at a moment; the step is 0 exactly where there is one
-pub record IsRun (r : Run) : Type 0 where
-  pub some : 0 < r.count
-  pub lone : (r.step ≡ 0) ↔ (r.count ≡ 1)
-  pub last : r.first + (r.count - 1) * r.step ≤ LAST
-
-abbrev pub AreRuns : List Run → Type 0
-AreRuns [] = Unit {0}
-AreRuns (r ∷ rs) = IsRun r × AreRuns rs
 
 -- the runs of a plan, of LIMIT wake-ups in all at most
 pub record IsPlanned (p : Planned) : Type 0 where

@@ -1,6 +1,6 @@
 ghost use Rattle.std.specs.Prelude.{◌≡◌, ℕ};
-ghost use Rattle.keep_schedule.specs.Runs.{all_wakes, wakes};
-ghost use Rattle.keep_plan.specs.Planned.{AreRuns, IsRun, behind_first, next_after};
+ghost use Rattle.keep_rule.specs.Runs.{AreRuns, IsRun, all_wakes, wakes};
+ghost use Rattle.keep_plan.specs.Planned.{behind_first, next_after};
 
 use keep_moment::Moment;
 use keep_schedule::Run;

@@ -1,7 +1,6 @@
 ghost use Rattle.std.specs.Prelude.{◌≡◌, List};
 ghost use Rattle.std.specs.Iterator.{YieldsFirst, item_count};
-ghost use Rattle.keep_schedule.specs.Runs.{all_wakes};
-ghost use Rattle.keep_plan.specs.Planned.{AreRuns};
+ghost use Rattle.keep_rule.specs.Runs.{AreRuns, all_wakes};
 
 use crate::runs::behind_first;
 use keep_moment::Moment;
@@ -17,9 +16,9 @@ pub struct Wakes<'a> {
 
 impl<'a> Model for Wakes<'a> {
     ghost use Rattle.std.specs.Prelude.{List};
-    ghost use Rattle.keep_schedule.specs.declared.force.Force.{Force};
-    ghost use Rattle.keep_schedule.specs.Runs.{all_wakes};
-    ghost use Rattle.keep_plan.specs.Planned.{AreRuns, in_front};
+    ghost use Rattle.keep_rule.specs.declared.force.Force.{Force};
+    ghost use Rattle.keep_rule.specs.Runs.{AreRuns, all_wakes};
+    ghost use Rattle.keep_plan.specs.Planned.{in_front};
 
     ghost Value = { List Force };
 

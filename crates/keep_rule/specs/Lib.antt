@@ -1,4 +1,5 @@
 pub mod Plans
+pub mod Runs
 pub mod Ends
 pub mod Keeps
 pub mod Reach

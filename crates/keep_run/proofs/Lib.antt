@@ -1,5 +1,3 @@
-pub mod Ranges
-pub mod Sweeping
 pub mod Serving
 pub mod Mirroring
 pub mod Replying
@@ -9,6 +7,5 @@ pub mod Asking
 pub mod Running
 pub mod Whole
 pub mod Loops
-pub mod Supplying
 pub mod Refusing
 pub mod OneAnswer

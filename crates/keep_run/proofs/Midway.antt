@@ -18,19 +18,20 @@ use Rattle.keep_rule.specs.Ends.{is_asked}
 use Rattle.keep_rule.specs.Schedule.{RisesStrictly}
 use Rattle.keep_rule.proofs.Alive.{alive_from_last, last_from_alive}
 use Rattle.keep_rule.proofs.Asking.{asked_end, asks_wanted}
-use Rattle.keep_schedule.specs.declared.limit.TheConstants.{LIMIT}
+use Rattle.keep_rule.specs.declared.limit.TheConstants.{LIMIT}
 use Rattle.keep_core.specs.declared.event.Event.TheVariants.{Told}
 use Rattle.keep_core.specs.declared.event.Output.{Output}
 use Rattle.keep_core.specs.declared.event.Output.TheVariants as out
 use Rattle.keep_core.specs.LawsOfPlans.{IsAnsweredByRule}
 use Rattle.keep_core.specs.Refusal.{refusal, unless_asked}
 use Rattle.keep_core.specs.Replan.{IsPlanOf, Replan}
-use Rattle.keep_core.specs.Runs.{Turn}
+use Rattle.keep_core.specs.History.{Turn}
 use Rattle.keep_core.specs.Shorten.{shorten}
 use Rattle.keep_core.specs.State.{State}
 use Rattle.keep_core.specs.Step.{answered, change, without}
 use Rattle.keep_core.proofs.Standing.{tail_kept}
-use Rattle.keep_run.specs.Listed.{ended, is_alive}
+use Rattle.mini_broker.specs.Listed.{is_alive}
+use Rattle.keep_run.specs.Listed.{ended}
 use Rattle.keep_run.proofs.Mirroring.{ended_count, ended_other, ended_same}
 
 -- ---- lists of indices that rise

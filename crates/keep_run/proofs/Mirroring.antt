@@ -17,15 +17,17 @@ use Rattle.keep_tree.proofs.Chains.{chain_same}
 use Rattle.keep_tree.proofs.Entries.{entry_at_set_other, entry_at_set_same}
 use Rattle.keep_tree.proofs.Placed.{parents_first, read_range, read_step, replaced_is_forest, replaces_read}
 use Rattle.keep_rule.proofs.Alive.{alive_from_last, last_from_alive}
-use Rattle.keep_inventory.specs.Stock.{Stock, credential_at, terms_at}
+use Rattle.keep_inventory.specs.Stock.{IsStock, Stock, credential_at, terms_at}
 use Rattle.keep_inventory.specs.declared.terms.Terms.{Terms}
 use Rattle.mini_broker.specs.declared.row.Row.{Row}
 use Rattle.mini_broker.specs.Rows.{row_of, rows_of}
 use Rattle.mini_broker.specs.Renewing.{with_row}
-use Rattle.keep_run.specs.Listed.{Mirrors, ended, is_alive, listed, with_forest}
-use Rattle.keep_run.specs.Supplied.{IsSupplied}
-use Rattle.keep_run.proofs.Ranges.{filter_range, map_of_map, map_range}
-use Rattle.keep_run.proofs.Sweeping.{lone_name, name_in, swept_all, swept_later}
+use Rattle.mini_broker.specs.Listed.{is_alive, listed}
+use Rattle.mini_broker.proofs.Ranges.{filter_range, map_of_map, map_range}
+use Rattle.mini_broker.proofs.Swept.{swept_later}
+use Rattle.mini_broker.proofs.Sweeping.{lone_name, name_in, swept_inventory}
+use Rattle.mini_broker.specs.Sweep.{swept}
+use Rattle.keep_run.specs.Listed.{Mirrors, ended, with_forest}
 
 -- ---- an entry's end alone is changed
 
@@ -168,10 +170,10 @@ with_row_listed s forest t i end within before after =
     ∙ ap (λ k. map (row_of (with_forest s h)) (filter (is_alive h t) (range_with_len 0 k))) (sym (ended_count g i end))
 
 pub mirrors_first : (s : Stock) → IsForest s.grove → (t : ℕ) → Mirrors s t (rows_of s)
-mirrors_first s forest t m le = swept_all s forest m
+mirrors_first s forest t m le = swept_inventory s forest m
 
 pub mirrors_listed : (s : Stock) → IsForest s.grove → (t : ℕ) → Mirrors s t (listed s t)
-mirrors_listed s forest t m le = swept_later s forest t m (λ i within gone. dies_later s.grove t m i le gone)
+mirrors_listed s forest t m le = ap (swept m) (sym (swept_inventory s forest t)) ∙ swept_later (rows_of s) t m le ∙ swept_inventory s forest m
 
 -- a renewal's end is within the greatest
 pub renewal_within : (e : Entry) (t : ℕ) → t ≤ LAST → e.step ≤ 4294967295 → renewal e t ≤ t + 4294967295
@@ -182,7 +184,7 @@ renewal_within e t late small = most e.ceiling where
   most (Some c) = omega arith
 
 -- what an inventory keeps stays where an end is changed
-pub ended_supplied : (s : Stock) → IsSupplied s → (i end : ℕ) → i < length s.grove.entries → end ≤ END_MAX → IsSupplied (with_forest s (ended s.grove i end))
+pub ended_supplied : (s : Stock) → IsStock s → (i end : ℕ) → i < length s.grove.entries → end ≤ END_MAX → IsStock (with_forest s (ended s.grove i end))
 ended_supplied s supplied i end within far =
     let g = s.grove in
     let h = ended g i end in
@@ -192,7 +194,10 @@ ended_supplied s supplied i end within far =
     record {
       forest = ended_forest g supplied.forest i end within far;
       steps = λ j inside. let a = supplied.steps j (omega arith) in let b = steps j in omega arith;
-      periods = λ j inside. elim (supplied.periods j (omega arith)) [ inl none ↦ inl none | inr same ↦ inr (same ∙ sym (steps j)) ];
+      step_is = λ j inside. steps j ∙ supplied.step_is j (omega arith);
+      ceiling_is = λ j inside. ended_field (λ (e : Entry). e.ceiling) g i end within refl j ∙ supplied.ceiling_is j (omega arith);
       apart = λ j k hj hk kind credential. supplied.apart j k (omega arith) (omega arith) (sym (kinds j) ∙ kind ∙ kinds k) credential;
-      texts = λ j inside lease. supplied.texts j (omega arith) (sym (kinds j) ∙ lease);
+      credentials = supplied.credentials ∙ sym count;
+      terms = supplied.terms ∙ sym count;
+      sendable = supplied.sendable;
     }

@@ -7,7 +7,8 @@ use Rattle.keep_tree.specs.declared.entry.Kind.{Kind}
 use Rattle.keep_tree.specs.declared.entry.Kind.TheVariants.{Token, Lease}
 use Rattle.keep_tree.specs.Forest.{entry_at}
 use Rattle.keep_tree.specs.Renewal.{renewal}
-use Rattle.keep_inventory.specs.Stock.{Stock, credential_at}
+use Rattle.keep_inventory.specs.Stock.{IsStock, Stock, credential_at}
+use Rattle.keep_inventory.proofs.Stocks.{credential_text}
 use Rattle.vault_http.specs.declared.reply.Reply.{Reply}
 use Rattle.vault_json.specs.Renewed.{renew_lease_answer, renew_self_answer}
 use Rattle.vault_json.specs.Written.{renewed_lease_text}
@@ -20,9 +21,9 @@ use Rattle.mini_broker.specs.Step.{IsBody, Says, Tells, seconds_to, tells}
 use Rattle.keep_core.specs.declared.event.Event.TheVariants.{Told, Refused, Lost}
 use Rattle.keep_run.specs.Renewing.{event_of, of_lease, of_token, refuses, told_by}
 use Rattle.keep_run.specs.Closed.{reply_in}
-use Rattle.keep_run.specs.Supplied.{IsSupplied}
 use Rattle.keep_run.proofs.Mirroring.{renewal_within}
-use Rattle.keep_run.proofs.Serving.{call_for, credential_in, renewable_in, renewed_row}
+use Rattle.mini_broker.specs.Granted.{call_for}
+use Rattle.keep_run.proofs.Serving.{credential_in, renewable_in, renewed_row}
 
 ok_is_told : (kind : Kind) (id : List ℕ) (i : ℕ) (r : Reply) → r.status ≡ 200 → event_of kind id i (Some r) ≡ told_by kind id i r.body
 unfolding event_of
@@ -50,13 +51,13 @@ sent_told kind id i t row same text served.Dropped says = absurd says
 
 -- the reply tells the seconds to the rule's end
 pub tells_rule :
-    (s : Stock) → IsSupplied s → (t i : ℕ) → t ≤ LAST → i < length s.grove.entries → (entry_at s.grove.entries i).renewable ≡ true → (sent : Served) →
+    (s : Stock) → IsStock s → (t i : ℕ) → t ≤ LAST → i < length s.grove.entries → (entry_at s.grove.entries i).renewable ≡ true → (sent : Served) →
     Says t (tells (call_for (entry_at s.grove.entries i).kind) (renewed_row s t i)) sent →
     event_of (entry_at s.grove.entries i).kind (credential_at s.credentials i) i (reply_in sent) ≡ Told i (renewal (entry_at s.grove.entries i) t - t) true
 tells_rule s supplied t i late within able sent says =
     let e = entry_at s.grove.entries i in
     let end = renewal e t in
     let far = renewal_within e t late (supplied.steps i within) in
-    sent_told e.kind (credential_at s.credentials i) i t (renewed_row s t i) (credential_in s i) (supplied.texts i within) sent says
+    sent_told e.kind (credential_at s.credentials i) i t (renewed_row s t i) (credential_in s i) (λ lease. credential_text s supplied i within) sent says
     ∙ ap (λ n. Told i n (row_of s i).renewable) (let k : min (end - t) 4294967295 ≡ end - t = omega arith in k)
     ∙ ap (λ b. Told i (end - t) b) (renewable_in s i ∙ able)

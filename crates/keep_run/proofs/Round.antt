@@ -9,8 +9,8 @@ use Rattle.keep_tree.specs.Forest.{Grove, entry_at}
 use Rattle.keep_tree.specs.Push.{IsForest}
 use Rattle.keep_tree.specs.Renewal.{renewal}
 use Rattle.keep_rule.specs.Asks.{first_of}
-use Rattle.keep_schedule.specs.declared.limit.TheConstants.{LIMIT}
-use Rattle.keep_inventory.specs.Stock.{Stock, credential_at}
+use Rattle.keep_rule.specs.declared.limit.TheConstants.{LIMIT}
+use Rattle.keep_inventory.specs.Stock.{IsStock, Stock, credential_at}
 use Rattle.mini_broker.specs.declared.served.Served.{Served}
 use Rattle.mini_broker.specs.Ledger.{Ledger}
 use Rattle.mini_broker.specs.Faults.{next_number}
@@ -21,19 +21,20 @@ use Rattle.keep_core.specs.declared.event.Output.{Output}
 use Rattle.keep_core.specs.declared.fault.StepFault.{StepFault}
 use Rattle.keep_core.specs.LawsOfPlans.{IsAnsweredByRule}
 use Rattle.keep_core.specs.Replan.{IsPlanOf}
-use Rattle.keep_core.specs.Runs.{Turn}
+use Rattle.keep_core.specs.History.{Turn}
 use Rattle.keep_core.specs.State.{State}
 use Rattle.keep_core.proofs.Once.{once}
 use Rattle.keep_core.proofs.Standing.{tail_kept}
 use Rattle.keep_run.specs.Closed.{AreAnswered, Exchanged, IsAnswered, World, closing, event_in, reply_in, taken, told_next}
 use Rattle.keep_run.specs.Laws.{IsToldByRule}
-use Rattle.keep_run.specs.Listed.{Mirrors, ended, listed, with_forest}
+use Rattle.mini_broker.specs.Listed.{listed}
+use Rattle.keep_run.specs.Listed.{Mirrors, ended, with_forest}
 use Rattle.keep_run.specs.Renewing.{event_for, event_of, request_of}
-use Rattle.keep_run.specs.Supplied.{IsSupplied}
 use Rattle.keep_run.proofs.Mirroring.{ended_other, ended_same, ended_supplied, mirrors_listed, renewal_within, with_row_listed}
 use Rattle.keep_run.proofs.Midway.{Midway, heard_as, heard_state, here_first, is_due, midway_last, midway_more, settled, told_turn, waiting}
 use Rattle.keep_run.proofs.Replying.{tells_rule}
-use Rattle.keep_run.proofs.Serving.{call_for, renewed_row, serves}
+use Rattle.mini_broker.specs.Granted.{call_for}
+use Rattle.keep_run.proofs.Serving.{renewed_row, serves}
 
 -- h is g but for the ends
 abbrev pub SameBut : Grove → Grove → Type 0
@@ -62,7 +63,7 @@ pub record AtRest (stock : Stock) (w : World) (t : ℕ) (ts : List ℕ) : Type 0
   pub few : length ts ≤ LIMIT
   pub late : t ≤ LAST
   pub same : SameBut stock.grove g
-  pub supplied : IsSupplied (with_forest stock g)
+  pub supplied : IsStock (with_forest stock g)
   pub mirrors : Mirrors (with_forest stock g) t w.table.rows
   pub none : w.table.faults ≡ []
 
@@ -75,7 +76,7 @@ pub record InRound (stock : Stock) (w : World) (g h : Grove) (t : ℕ) (rest tod
   pub few : length rest ≤ LIMIT
   pub late : t ≤ LAST
   pub same : SameBut stock.grove h
-  pub supplied : IsSupplied (with_forest stock h)
+  pub supplied : IsStock (with_forest stock h)
   pub mirrors : Mirrors (with_forest stock h) t w.table.rows
   pub none : w.table.faults ≡ []
 
@@ -84,7 +85,7 @@ pub record IsGranted (stock : Stock) (h : Grove) (t : ℕ) (rest : List ℕ) (i 
   pub output : x.output ≡ heard_as rest todo
   pub told : IsToldByRule stock t x
   pub keeper : new.keeper ≡ heard_state (ended h i (renewal (entry_at h.entries i) t)) t rest todo
-  pub supplied : IsSupplied (with_forest stock (ended h i (renewal (entry_at h.entries i) t)))
+  pub supplied : IsStock (with_forest stock (ended h i (renewal (entry_at h.entries i) t)))
   pub mirrors : Mirrors (with_forest stock (ended h i (renewal (entry_at h.entries i) t))) t new.table.rows
   pub none : new.table.faults ≡ []
 

@@ -13,7 +13,7 @@ use Rattle.keep_rule.specs.Asks.{asking, asks, first_of, with_asks}
 use Rattle.keep_rule.specs.Plans.{IsPlan, moments}
 use Rattle.keep_rule.specs.Requests.{requests}
 use Rattle.keep_rule.proofs.LaterStart.{same_requests}
-use Rattle.keep_schedule.specs.declared.limit.TheConstants.{LIMIT}
+use Rattle.keep_rule.specs.declared.limit.TheConstants.{LIMIT}
 use Rattle.keep_inventory.specs.Stock.{Stock}
 use Rattle.mini_broker.specs.Sweep.{swept}
 use Rattle.keep_core.specs.declared.event.Event.TheVariants.{Tick}
@@ -22,7 +22,7 @@ use Rattle.keep_core.specs.declared.event.Output.TheVariants as out
 use Rattle.keep_core.specs.declared.fault.StepFault.{StepFault}
 use Rattle.keep_core.specs.Refusal.{refusal}
 use Rattle.keep_core.specs.Replan.{IsPlanOf, Replan}
-use Rattle.keep_core.specs.Runs.{Turn}
+use Rattle.keep_core.specs.History.{Turn}
 use Rattle.keep_core.specs.State.{State}
 use Rattle.keep_core.specs.Step.{StepTick}
 use Rattle.keep_core.proofs.Once.{once}

@@ -15,21 +15,21 @@ use Rattle.keep_rule.specs.Keeps.{ends_at}
 use Rattle.keep_rule.specs.Plans.{moments}
 use Rattle.keep_rule.proofs.Alive.{last_from_alive}
 use Rattle.keep_rule.proofs.Keeping.{one_least}
-use Rattle.keep_schedule.specs.declared.limit.TheConstants.{LIMIT}
-use Rattle.keep_inventory.specs.Stock.{Stock}
+use Rattle.keep_rule.specs.declared.limit.TheConstants.{LIMIT}
+use Rattle.keep_inventory.specs.Stock.{IsStock, Stock}
 use Rattle.mini_broker.specs.Rows.{row_named}
 use Rattle.mini_broker.specs.Sweep.{swept}
 use Rattle.keep_core.specs.declared.event.Event.{Event}
 use Rattle.keep_core.specs.declared.event.Event.TheVariants.{Tick}
 use Rattle.keep_plan.specs.Planned.{to_come}
-use Rattle.keep_schedule.specs.Forces.{moments_of}
-use Rattle.keep_schedule.specs.declared.force.Force.{Force}
+use Rattle.keep_rule.specs.Runs.{moments_of}
+use Rattle.keep_rule.specs.declared.force.Force.{Force}
 use Rattle.keep_core.specs.declared.event.Output.{Output}
 use Rattle.keep_core.specs.declared.fault.StepFault.{StepFault}
 use Rattle.keep_core.specs.declared.fault.StepFault.TheVariants.{ClockBack, RoundOpen, NotAsked, BadIndex, OutOfRange, TooLong, OutOfMemory}
 use Rattle.keep_core.specs.declared.shortened.ShortNeed.{ShortNeed}
 use Rattle.keep_core.specs.Replan.{IsPlanOf}
-use Rattle.keep_core.specs.Runs.{Turn}
+use Rattle.keep_core.specs.History.{Turn}
 use Rattle.keep_core.specs.Shorten.{pairs}
 use Rattle.keep_core.specs.State.{State}
 use Rattle.keep_core.proofs.Kept.{keepable}
@@ -40,14 +40,14 @@ use Rattle.keep_run.specs.Closed.{Beat, IsOpening, World, reply_in, requests_of,
 use Rattle.keep_run.specs.Renewing.{event_for}
 use Rattle.keep_run.specs.Text.{beat_text, course_text, done_text, short_lines}
 use Rattle.keep_run.specs.Laws.{AnswersTakenLaw, IsTaken, LeastLaw, PlannedRunLaw, RehearsalLaw, SoFarLaw, StandsLaw}
-use Rattle.keep_run.specs.Listed.{is_alive, listed, with_forest}
-use Rattle.keep_run.specs.Supplied.{IsSupplied}
+use Rattle.mini_broker.specs.Listed.{is_alive, listed}
+use Rattle.keep_run.specs.Listed.{with_forest}
 use Rattle.keep_run.proofs.Midway.{settled}
 use Rattle.keep_run.proofs.Mirroring.{mirrors_first}
 use Rattle.keep_run.proofs.Round.{AtRest, InRound, next_turn, part_goes}
-use Rattle.keep_run.proofs.Supplying.{supplied}
+use Rattle.keep_inventory.proofs.Inventoried.{inventory_law}
 use Rattle.keep_run.proofs.Running.{Awaits, asks_open, requests_from, run_goes, tick_leaves, tick_says, tick_turn}
-use Rattle.keep_run.proofs.Sweeping.{named_among}
+use Rattle.mini_broker.proofs.Sweeping.{named_among}
 
 -- ---- the opening
 
@@ -62,7 +62,7 @@ opened_as stock start ts short w plan o =
     ∙ ap (λ ps. record (settled g start o.planned.moments) { shortened = ps }) same.1
     ∙ ap (λ us. settled g start us) moments_are
 
-opening_rests : (stock : Stock) (start : ℕ) (ts : List ℕ) (short : List ShortNeed) (w : World) → IsSupplied stock → start ≤ LAST → IsPlanOf stock.grove start ts → length ts ≤ LIMIT → IsOpening stock [] start short w → AtRest stock w start ts
+opening_rests : (stock : Stock) (start : ℕ) (ts : List ℕ) (short : List ShortNeed) (w : World) → IsStock stock → start ≤ LAST → IsPlanOf stock.grove start ts → length ts ≤ LIMIT → IsOpening stock [] start short w → AtRest stock w start ts
 opening_rests stock start ts short w supplied late plan few o = record {
   g = stock.grove;
   keeper = ap (λ (x : World). x.keeper) o.is ∙ ap taken (opened_as stock start ts short w plan o);
@@ -209,7 +209,7 @@ planned_run bytes stock start p read late decides few course final run =
     let ts = moments_of (to_come p) in
     let plan : IsPlanOf stock.grove start ts = decides.best.least in
     let count : length ts ≡ length (to_come p) = length-map (to_come p) (λ (x : Force). x.at) in
-    let is = rehearsal stock start ts (supplied bytes stock read) late plan (omega arith) course final run in
+    let is = rehearsal stock start ts (inventory_law bytes stock read) late plan (omega arith) course final run in
     let rounds_are : length (rounds course.beats) ≡ length (to_come p) = sym (length-map (rounds course.beats) (λ (b : Beat). b.at)) ∙ ap length is.0 ∙ count in
     let text = flat_map (beat_text stock) course.beats in (
       is.0,

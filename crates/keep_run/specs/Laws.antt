@@ -9,13 +9,13 @@ use Rattle.keep_rule.specs.Asks.{with_asks}
 use Rattle.keep_rule.specs.Keeps.{Keeps}
 use Rattle.keep_rule.specs.Plans.{IsPlan}
 use Rattle.keep_rule.specs.Requests.{requests}
-use Rattle.keep_schedule.specs.declared.limit.TheConstants.{LIMIT}
-use Rattle.keep_schedule.specs.Forces.{moments_of}
+use Rattle.keep_rule.specs.declared.limit.TheConstants.{LIMIT}
+use Rattle.keep_rule.specs.Runs.{moments_of}
 use Rattle.keep_plan.specs.declared.decision.Decision.TheVariants.{Keep}
 use Rattle.keep_plan.specs.Decides.{Decides}
 use Rattle.keep_plan.specs.Planned.{Planned, to_come}
 use Rattle.keep_inventory.specs.Inventory.{inventory}
-use Rattle.keep_inventory.specs.Stock.{Stock}
+use Rattle.keep_inventory.specs.Stock.{IsStock, Stock}
 use Rattle.mini_broker.specs.declared.served.Served.{Served}
 use Rattle.mini_broker.specs.Step.{Says, step}
 use Rattle.mini_broker.specs.Rows.{row_named}
@@ -27,12 +27,11 @@ use Rattle.keep_core.specs.declared.fault.StepFault.{StepFault}
 use Rattle.keep_core.specs.declared.fault.StepFault.TheVariants.{OutOfMemory}
 use Rattle.keep_core.specs.declared.shortened.ShortNeed.{ShortNeed}
 use Rattle.keep_core.specs.Replan.{IsPlanOf}
-use Rattle.keep_core.specs.Runs.{Turn}
+use Rattle.keep_core.specs.History.{Turn}
 use Rattle.keep_core.specs.State.{State}
 use Rattle.keep_run.specs.Closed.{AreAnswered, Beat, Course, Exchanged, IsClosedRun, IsOpening, Played, World, event_in, reply_in, requests_of, rounds, taken}
 use Rattle.keep_run.specs.Renewing.{event_for, request_of}
 use Rattle.keep_run.specs.Text.{beat_text, course_text, done_text}
-use Rattle.keep_run.specs.Supplied.{IsSupplied}
 
 -- the entry was told the end that the renewal rule gives at t, and nothing was shortened
 pub record IsToldByRule (stock : Stock) (t : ℕ) (x : Exchanged) : Type 0 where
@@ -68,7 +67,7 @@ pub record GoesAsPlanned (stock : Stock) (start : ℕ) (ts : List ℕ) (beats : 
 -- without faults, a run of an inventory that a plan keeps goes as planned, as far as it went
 abbrev pub SoFarLaw : Type 0
 SoFarLaw =
-    (stock : Stock) (start : ℕ) (ts : List ℕ) → IsSupplied stock → start ≤ LAST → IsPlanOf stock.grove start ts → length ts ≤ LIMIT →
+    (stock : Stock) (start : ℕ) (ts : List ℕ) → IsStock stock → start ≤ LAST → IsPlanOf stock.grove start ts → length ts ≤ LIMIT →
     (short : List ShortNeed) (opening final : World) (beats : List Beat) (next : Option ℕ) → IsOpening stock [] start short opening →
     Played 8200 stock.credentials opening (Some start) beats final next →
     (short ≡ []) × GoesAsPlanned stock start ts beats final next
@@ -76,7 +75,7 @@ SoFarLaw =
 -- so the closed run has exactly as many rounds as the plan has wake-ups, at its moments, and as many requests as its Asks
 abbrev pub RehearsalLaw : Type 0
 RehearsalLaw =
-    (stock : Stock) (start : ℕ) (ts : List ℕ) → IsSupplied stock → start ≤ LAST → IsPlanOf stock.grove start ts → length ts ≤ 100000 →
+    (stock : Stock) (start : ℕ) (ts : List ℕ) → IsStock stock → start ≤ LAST → IsPlanOf stock.grove start ts → length ts ≤ 100000 →
     (course : Course) (final : World) → IsClosedRun stock [] start course final →
     (map (λ b. b.at) (rounds course.beats) ≡ ts)
     × ((requests_of course.beats ≡ requests (with_asks stock.grove.entries stock.grove.margin start (end_of stock.grove.entries) ts))
@@ -85,14 +84,14 @@ RehearsalLaw =
 -- and no plan that keeps has fewer wake-ups than the rehearsal made
 abbrev pub LeastLaw : Type 0
 LeastLaw =
-    (stock : Stock) (start : ℕ) (ts : List ℕ) → IsSupplied stock → start ≤ LAST → IsPlanOf stock.grove start ts → length ts ≤ 100000 →
+    (stock : Stock) (start : ℕ) (ts : List ℕ) → IsStock stock → start ≤ LAST → IsPlanOf stock.grove start ts → length ts ≤ 100000 →
     (course : Course) (final : World) → IsClosedRun stock [] start course final →
     (plan : List Wake) → IsPlan start plan → Keeps stock.grove.entries stock.grove.margin start (end_of stock.grove.entries) plan → length (rounds course.beats) ≤ length plan
 
 -- nor is any answer of a round refused: the round at t was opened, some of the asked have answered, and i is the next
 abbrev pub AnswersTakenLaw : Type 0
 AnswersTakenLaw =
-    (stock : Stock) (start : ℕ) (ts : List ℕ) → IsSupplied stock → start ≤ LAST → IsPlanOf stock.grove start ts → length ts ≤ LIMIT →
+    (stock : Stock) (start : ℕ) (ts : List ℕ) → IsStock stock → start ≤ LAST → IsPlanOf stock.grove start ts → length ts ≤ LIMIT →
     (short : List ShortNeed) (opening final : World) (beats : List Beat) (t : ℕ) → IsOpening stock [] start short opening →
     Played 8200 stock.credentials opening (Some start) beats final (Some t) →
     (asked : List ℕ) (keeper : State) → Turn final.keeper (Tick t) (Ok (out.Ask asked)) keeper →
@@ -115,7 +114,7 @@ PlannedRunLaw =
 -- a sweep at it
 abbrev pub StandsLaw : Type 0
 StandsLaw =
-    (stock : Stock) (start : ℕ) (ts : List ℕ) → IsSupplied stock → start ≤ LAST → IsPlanOf stock.grove start ts → length ts ≤ LIMIT →
+    (stock : Stock) (start : ℕ) (ts : List ℕ) → IsStock stock → start ≤ LAST → IsPlanOf stock.grove start ts → length ts ≤ LIMIT →
     (short : List ShortNeed) (opening mid final : World) (before after : List Beat) (due : Option ℕ) → IsOpening stock [] start short opening →
     Played 8200 stock.credentials opening (Some start) before mid due → Played 8200 stock.credentials mid due after final None →
     (m i : ℕ) → start ≤ m → All (λ b. b.at ≤ m) before → All (λ b. m < b.at) after → m < (entry_at stock.grove.entries i).need

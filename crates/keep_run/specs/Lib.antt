@@ -1,7 +1,6 @@
 pub mod Renewing
 pub mod Closed
 pub mod Text
-pub mod Supplied
 pub mod Listed
 pub mod Laws
 pub mod Stops

@@ -1,7 +1,6 @@
 //! Laws of the Closed run without faults.
 ghost use Rattle.keep_run.specs.Laws.{AnswersTakenLaw, LeastLaw, PlannedRunLaw, RehearsalLaw, SoFarLaw, StandsLaw};
 ghost use Rattle.keep_run.specs.Stops.{AnswerMoreLaw, EndLaw, NeverRefusedLaw, SplitLaw, TickMoreLaw};
-ghost use Rattle.keep_run.specs.Supplied.{SuppliedLaw};
 
 /// The law of a run so far: without faults, the run of an inventory that a plan keeps has its rounds at the plan's moments,
 /// tells each asked entry the renewal rule's end, and keeps the row of each entry listed until its need.
@@ -32,11 +31,6 @@ pub fn answer_more_law()
 /// The law of the end: what the outer loop keeps is then the closed run, and its text is whole with the last line.
 pub fn end_law()
     ensures { EndLaw }
-{}
-
-/// The law of supplied inventories: of every text that is one.
-pub fn supplied_law()
-    ensures { SuppliedLaw }
 {}
 
 /// The law of answers: without faults no answer of a round is refused but for want of memory.

@@ -21,8 +21,9 @@ use Rattle.keep_rule.proofs.Keeping.{end_below_bound}
 use Rattle.keep_rule.proofs.Lists.{need_within}
 use Rattle.keep_rule.proofs.Next.{can_be_led}
 use Rattle.keep_needs.specs.Carried.{CarriedNeed, IsCarried, NamesFrom, load_at}
-use Rattle.keep_schedule.specs.declared.force.Force.{Force}
-use Rattle.keep_schedule.specs.Forces.{AreForces, moments_of}
+use Rattle.keep_rule.specs.declared.force.Force.{Force}
+use Rattle.keep_rule.specs.Runs.{moments_of}
+use Rattle.keep_schedule.specs.Forces.{AreForces}
 use Rattle.keep_schedule.specs.Prospect.{IsInSight, Prospect, terms_of}
 use Rattle.keep_schedule.specs.Terms.{AreLed, IsSound, Terms, deadline}
 use Rattle.keep_schedule.proofs.Leading.{ahead}

@@ -11,8 +11,9 @@ use Rattle.keep_rule.specs.Forced.{bound}
 use Rattle.keep_rule.specs.Schedule.{IsNext, IsSchedule}
 use Rattle.keep_rule.proofs.Existence.{there_is_one}
 use Rattle.keep_rule.proofs.Schedule.{schedule_is_best}
-use Rattle.keep_schedule.specs.declared.force.Force.{Force}
-use Rattle.keep_schedule.specs.Forces.{AreForced, AreForces, IsForce, moments_of}
+use Rattle.keep_rule.specs.declared.force.Force.{Force}
+use Rattle.keep_rule.specs.Runs.{moments_of}
+use Rattle.keep_schedule.specs.Forces.{AreForced, AreForces, IsForce}
 use Rattle.keep_schedule.specs.Laws.{ForcesLaw}
 use Rattle.keep_schedule.proofs.Bridge.{carrier, forces_schedule, one_from}
 use Rattle.keep_schedule.proofs.Leading.{same_force}

@@ -1,7 +1,7 @@
 -- Who leads: at most one entry at a time, and so at most one list of wake-ups.
 use Rattle.std.proofs.Common.{◌≡◌, ℕ, ◌+◌, ◌-◌, ◌<◌, ◌≤◌, max, List, [], ◌∷◌, Option, Some, None, refl, sym, ap, ◌∙◌, subst, arith, inl, inr}
 use Rattle.std.proofs.lemmas.Bool.{cases_lt}
-use Rattle.keep_schedule.specs.declared.force.Force.{Force}
+use Rattle.keep_rule.specs.declared.force.Force.{Force}
 use Rattle.keep_schedule.specs.Terms.{Ahead, AreLed, IsSound, Leads, Terms, deadline}
 
 pub ahead : (x i y j : ℕ) → x ≤ y → (x ≡ y → i ≤ j) → Ahead x i y j

@@ -6,17 +6,18 @@ use Rattle.std.proofs.lemmas.List.Sorted.{All-permutation, Contains-permutation,
 use Rattle.std.specs.List.{Contains}
 use Rattle.std.specs.List.Sorted.{IsPermutation}
 use Rattle.keep_moment.specs.declared.moment.TheConstants.{LAST}
-use Rattle.keep_schedule.specs.declared.force.Force.{Force}
+use Rattle.keep_rule.specs.declared.force.Force.{Force}
 use Rattle.keep_schedule.specs.declared.groups.Groups.{Groups}
 use Rattle.keep_schedule.specs.declared.groups.Next.{Next}
 use Rattle.keep_schedule.specs.declared.groups.Next.TheVariants.{Done, Joined, Waiting}
-use Rattle.keep_schedule.specs.declared.run.Run.{Run}
+use Rattle.keep_rule.specs.declared.run.Run.{Run}
 use Rattle.keep_schedule.specs.Courses.{IsToCome}
 use Rattle.keep_schedule.specs.Groups.{IsGrouped, IsKeyed, Joins, Settles, Waits}
 use Rattle.keep_schedule.specs.Line.{FirstOf, Lined, Spot, spot}
 use Rattle.keep_schedule.specs.Prospect.{Prospect, terms_of}
 use Rattle.keep_schedule.specs.Queues.{Fills, IsBegun, IsDue, IsReady}
-use Rattle.keep_schedule.specs.Runs.{GivesHead, GivesRun, IsFirstRun, wakes, wakes_of}
+use Rattle.keep_rule.specs.Runs.{wakes, wakes_of}
+use Rattle.keep_schedule.specs.Given.{GivesHead, GivesRun, IsFirstRun}
 use Rattle.keep_schedule.specs.Stretches.{IsOther, Stretches}
 use Rattle.keep_schedule.specs.Terms.{Ahead, AreLed, IsSound, Leads, Terms, deadline}
 use Rattle.keep_schedule.proofs.Bridge.{need_past}

@@ -1,8 +1,8 @@
 -- Runs of wake-ups: while one entry leads, its wake-ups are its step less the margin apart.
 use Rattle.std.proofs.Common.{◌≡◌, ℕ, zero, suc, ◌+◌, ◌-◌, ◌*◌, ◌<◌, ◌≤◌, ◌++◌, max, List, [], ◌∷◌, Some, refl, ap, ◌∙◌, subst, arith}
-use Rattle.keep_schedule.specs.declared.force.Force.{Force}
+use Rattle.keep_rule.specs.declared.force.Force.{Force}
 use Rattle.keep_schedule.specs.Terms.{AreLed, Leads, Terms}
-use Rattle.keep_schedule.specs.Runs.{wakes_of}
+use Rattle.keep_rule.specs.Runs.{wakes_of}
 use Rattle.keep_schedule.specs.Stretches.{LeadsAll}
 use Rattle.keep_schedule.proofs.Leading.{one_leads, same_force}
 

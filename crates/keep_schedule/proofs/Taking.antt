@@ -1,10 +1,10 @@
 -- Taking wake-ups from the list to come: who leads of the first n, and what taking the head leaves.
 use Rattle.std.proofs.Common.{◌≡◌, ℕ, ◌-◌, List, [], ◌∷◌, length, Option, Some, None, sym, ap, ◌∙◌, subst, arith, inl, inr}
 use Rattle.std.proofs.lemmas.Bool.{cases_lt}
-use Rattle.keep_schedule.specs.declared.force.Force.{Force}
+use Rattle.keep_rule.specs.declared.force.Force.{Force}
 use Rattle.keep_schedule.specs.Courses.{IsLeader, IsToCome, LeadsBelow}
 use Rattle.keep_schedule.specs.Prospect.{Prospect, terms_of}
-use Rattle.keep_schedule.specs.Runs.{GivesHead}
+use Rattle.keep_schedule.specs.Given.{GivesHead}
 use Rattle.keep_schedule.specs.Terms.{AreLed, Leads, deadline}
 use Rattle.keep_tree.specs.Forest.{Grove, end_of}
 use Rattle.keep_tree.specs.Push.{IsForest}

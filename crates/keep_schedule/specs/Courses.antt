@@ -2,7 +2,7 @@
 -- Source: this project's own.
 use Rattle.std.specs.Prelude.{ℕ, ◌≤◌, ◌<◌, List, Option, Some, None}
 use Rattle.keep_moment.specs.declared.moment.TheConstants.{LAST}
-use Rattle.keep_schedule.specs.declared.force.Force.{Force}
+use Rattle.keep_rule.specs.declared.force.Force.{Force}
 use Rattle.keep_schedule.specs.Prospect.{Prospect, terms_of}
 use Rattle.keep_schedule.specs.Terms.{Ahead, AreLed, Leads, Terms, deadline}
 

@@ -4,7 +4,7 @@ use Rattle.std.specs.Prelude.{◌≡◌, ℕ, ◌-◌, ◌≤◌, ◌<◌, List,
 use Rattle.keep_tree.specs.declared.entry.Entry.{Entry}
 use Rattle.keep_tree.specs.Carried.{IsFrom, carried}
 use Rattle.keep_rule.specs.Forced.{Forced, bound}
-use Rattle.keep_schedule.specs.declared.force.Force.{Force}
+use Rattle.keep_rule.specs.declared.force.Force.{Force}
 
 -- behind a wake-up at prev, x is the next: of all entries whose bound falls short of their carried need, its entry has the
 -- least bound, of several the lowest index; it comes the margin before that bound, for the entry that has the need
@@ -24,7 +24,3 @@ AreForces es margin s ends prev (x ∷ xs) = IsForce es margin s ends prev x × 
 abbrev pub AreForced : List Entry → ℕ → ℕ → (ℕ → ℕ) → Option ℕ → List Force → Type 0
 AreForced es margin s ends prev [] = Unit {0}
 AreForced es margin s ends prev (x ∷ xs) = Forced es margin s ends prev x.at x.entry x.needed × AreForced es margin s ends (Some x.at) xs
-
-abbrev pub moments_of : List Force → List ℕ
-moments_of [] = []
-moments_of (x ∷ xs) = x.at ∷ moments_of xs

@@ -5,8 +5,9 @@ use Rattle.keep_tree.specs.Push.{IsForest}
 use Rattle.keep_rule.specs.Unkeepable.{AllKeepable}
 use Rattle.keep_rule.specs.Least.{IsLeastAndLatest}
 use Rattle.keep_rule.specs.Schedule.{RisesStrictly}
-use Rattle.keep_schedule.specs.declared.force.Force.{Force}
-use Rattle.keep_schedule.specs.Forces.{AreForced, AreForces, moments_of}
+use Rattle.keep_rule.specs.declared.force.Force.{Force}
+use Rattle.keep_rule.specs.Runs.{moments_of}
+use Rattle.keep_schedule.specs.Forces.{AreForced, AreForces}
 
 -- where no pair is Unkeepable, there is a list of forces, and only one; each of its wake-ups is Forced by the pair that it
 -- names, and its moments rise strictly from s on and are least and latest

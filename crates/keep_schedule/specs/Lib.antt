@@ -1,5 +1,5 @@
 pub mod Forces
-pub mod Runs
+pub mod Given
 pub mod Terms
 pub mod Prospect
 pub mod Courses

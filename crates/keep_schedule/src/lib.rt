@@ -7,14 +7,11 @@
 #![tactic(auto)]
 
 mod fault;
-mod force;
 mod groups;
 mod laws;
-mod limit;
 mod line;
 mod outlook;
 mod queue;
-mod run;
 mod scan;
 mod schedule;
 mod stretch;
@@ -22,10 +19,8 @@ mod stretch;
 mod tests;
 
 pub use fault::ScheduleFault;
-pub use force::Force;
+pub use keep_rule::{Force, LIMIT, Run};
 pub use laws::forces_law;
-pub use limit::LIMIT;
 pub use queue::QueueSchedule;
-pub use run::Run;
 pub use scan::ScanSchedule;
 pub use schedule::Schedule;

@@ -2,16 +2,16 @@ ghost use Rattle.std.specs.Prelude.{◌≡◌, ℕ, ◌<◌, ◌↔◌, List, le
 ghost use Rattle.keep_tree.specs.Forest.{end_of};
 ghost use Rattle.keep_rule.specs.Unkeepable.{AllKeepable};
 ghost use Rattle.keep_needs.specs.Carried.{IsCarried};
-ghost use Rattle.keep_schedule.specs.declared.force.Force.{Force};
+ghost use Rattle.keep_rule.specs.declared.force.Force.{Force};
 ghost use Rattle.keep_schedule.specs.Courses.{IsLeader, IsToCome, IsWithin, TakesLead};
 ghost use Rattle.keep_schedule.specs.Forces.{AreForces};
 ghost use Rattle.keep_schedule.specs.Prospect.{IsInSight, terms_of};
 
-use crate::force::Force;
 use crate::outlook::Outlook;
 use crate::schedule::Schedule;
 use keep_moment::Moment;
 use keep_needs::Carried;
+use keep_rule::Force;
 use keep_tree::Forest;
 use std::marker::Model;
 

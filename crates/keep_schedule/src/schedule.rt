@@ -1,11 +1,11 @@
-ghost use Rattle.keep_schedule.specs.Runs.{GivesHead};
+ghost use Rattle.keep_schedule.specs.Given.{GivesHead};
 
-use crate::force::Force;
+use keep_rule::Force;
 
 /// A list of wake-ups to come, taken from its head.
 pub trait Schedule {
     ghost use Rattle.std.specs.Prelude.{List};
-    ghost use Rattle.keep_schedule.specs.declared.force.Force.{Force};
+    ghost use Rattle.keep_rule.specs.declared.force.Force.{Force};
 
     /// A list is that of the wake-ups to come.
     ghost comes: { Self → List Force → Type 0 };

@@ -1,6 +1,6 @@
 use super::{IN_WAKES, WEB, forest_of, run};
 use crate::{Body, CertFault, Version, read, text_of};
-use keep_schedule::Run;
+use keep_rule::Run;
 use std::process::Abort;
 use std::test::Fail;
 

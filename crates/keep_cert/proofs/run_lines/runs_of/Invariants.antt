@@ -1,8 +1,8 @@
 -- The lines from here on, behind the runs that were found, are the whole from the start.
 use Rattle.std.proofs.Common.{◌≡◌, ◌≤◌, ◌*◌, [], length}
-use Rattle.keep_schedule.specs.declared.limit.TheConstants.{LIMIT}
-use Rattle.keep_cert.specs.CertificateText.{counted}
-use Rattle.keep_cert.specs.Pieces.{lines}
+use Rattle.keep_rule.specs.declared.limit.TheConstants.{LIMIT}
+use Rattle.keep_rule.specs.Runs.{counted}
+use Rattle.keep_cert.specs.Lines.{lines}
 use Rattle.keep_cert.specs.Reading.{runs_of}
 use Rattle.keep_cert.proofs.run_lines.runs_of.Given as goal
 

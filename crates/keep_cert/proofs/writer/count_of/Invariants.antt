@@ -1,5 +1,5 @@
 use Rattle.std.proofs.Common.{◌≡◌, ◌+◌, drop}
-use Rattle.keep_cert.specs.CertificateText.{counted}
+use Rattle.keep_rule.specs.Runs.{counted}
 use Rattle.keep_cert.proofs.writer.count_of.Given as goal
 
 abbrev pub invariant-loop-run : goal.invariant-loop-run

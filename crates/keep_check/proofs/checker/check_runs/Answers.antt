@@ -1,7 +1,6 @@
 use Rattle.std.proofs.Common.{◌≡◌, None, Some, subst}
 use Rattle.keep_tree.specs.Forest.{end_of}
-use Rattle.keep_schedule.specs.Forces.{moments_of}
-use Rattle.keep_schedule.specs.Runs.{all_wakes}
+use Rattle.keep_rule.specs.Runs.{all_wakes, moments_of}
 use Rattle.keep_check.specs.Answer.{first_fault}
 use Rattle.keep_check.specs.Kept.{own}
 use Rattle.keep_check.specs.Steps.{FirstShort}

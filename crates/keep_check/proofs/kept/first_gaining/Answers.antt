@@ -1,9 +1,8 @@
 use Rattle.std.proofs.Common.{arith, get_or, inl, inr, leb, leb-true, le-leb, rules}
 use Rattle.std.proofs.lemmas.Bool.{cases_eq}
 use Rattle.std.proofs.lemmas.List.Sorted.{IsPartitionPoint-from_clause, IsPartitionedBy-leb}
-use Rattle.keep_schedule.specs.declared.run.Run.{Run}
-use Rattle.keep_schedule.specs.Forces.{moments_of}
-use Rattle.keep_schedule.specs.Runs.{all_wakes}
+use Rattle.keep_rule.specs.declared.run.Run.{Run}
+use Rattle.keep_rule.specs.Runs.{all_wakes, moments_of}
 use Rattle.keep_check.proofs.Jumps.{firsts_rise}
 use Rattle.keep_check.proofs.Keeping.{rising_strictly}
 use Rattle.keep_check.proofs.OwnRuns.{blank}

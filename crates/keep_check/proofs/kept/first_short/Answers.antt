@@ -2,8 +2,7 @@ use Rattle.std.proofs.Common.{◌≡◌, ◌∙◌, ◌+◌, ◌<◌, ◌≤◌,
 use Rattle.keep_tree.specs.declared.entry.Entry.{Entry}
 use Rattle.keep_tree.specs.Forest.{end_of, entry_at}
 use Rattle.keep_rule.proofs.Rounds.{LastsBelow}
-use Rattle.keep_schedule.specs.Forces.{moments_of}
-use Rattle.keep_schedule.specs.Runs.{all_wakes}
+use Rattle.keep_rule.specs.Runs.{all_wakes, moments_of}
 use Rattle.keep_check.specs.Kept.{own}
 use Rattle.keep_check.specs.Steps.{least_with}
 use Rattle.keep_check.proofs.Lasts.{all_last_more, least_here, least_pushed, short_here}

@@ -1,8 +1,7 @@
 use Rattle.std.proofs.Common.{◌≡◌, vec_len}
 use Rattle.keep_tree.specs.Forest.{end_of}
 use Rattle.keep_rule.proofs.Rounds.{LastsBelow}
-use Rattle.keep_schedule.specs.Forces.{moments_of}
-use Rattle.keep_schedule.specs.Runs.{all_wakes}
+use Rattle.keep_rule.specs.Runs.{all_wakes, moments_of}
 use Rattle.keep_check.specs.Kept.{own}
 use Rattle.keep_check.specs.Steps.{AllLast}
 use Rattle.keep_check.proofs.kept.first_short.Given as goal

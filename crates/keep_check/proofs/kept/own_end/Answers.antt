@@ -1,8 +1,7 @@
 use Rattle.std.proofs.Common.{◌∙◌, ap, sym}
 use Rattle.keep_tree.specs.declared.entry.Entry.{Entry}
 use Rattle.keep_tree.specs.Forest.{end_of, entry_at}
-use Rattle.keep_schedule.specs.Forces.{moments_of}
-use Rattle.keep_schedule.specs.Runs.{all_wakes}
+use Rattle.keep_rule.specs.Runs.{all_wakes, moments_of}
 use Rattle.keep_check.specs.Kept.{own, own_end}
 use Rattle.keep_check.proofs.OwnEnds.{own_all_fixed}
 use Rattle.keep_check.proofs.kept.own_end.Goals as goal

@@ -2,9 +2,8 @@ use Rattle.std.proofs.Common.{◌≡◌, ◌∙◌, ◌+◌, ◌-◌, List, ap, 
 use Rattle.std.proofs.lemmas.List.{drop_all, drop_more}
 use Rattle.keep_tree.specs.Renewal.{renewal}
 use Rattle.keep_rule.proofs.Keeping.{IsRising}
-use Rattle.keep_schedule.specs.declared.run.Run.{Run}
-use Rattle.keep_schedule.specs.Forces.{moments_of}
-use Rattle.keep_schedule.specs.Runs.{all_wakes}
+use Rattle.keep_rule.specs.declared.run.Run.{Run}
+use Rattle.keep_rule.specs.Runs.{all_wakes, moments_of}
 use Rattle.keep_check.specs.Kept.{own_end}
 use Rattle.keep_check.proofs.Jumps.{fit_at, jumps, rising_from, skips}
 use Rattle.keep_check.proofs.Keeping.{rising_strictly}

@@ -1,6 +1,6 @@
 use Rattle.std.proofs.Common.{◌+◌, ◌≤◌, drop}
-use Rattle.keep_schedule.specs.declared.limit.TheConstants.{LIMIT}
-use Rattle.keep_cert.specs.CertificateText.{counted}
+use Rattle.keep_rule.specs.declared.limit.TheConstants.{LIMIT}
+use Rattle.keep_rule.specs.Runs.{counted}
 use Rattle.keep_check.specs.Fit.{AllFit}
 use Rattle.keep_check.proofs.tests.fit_count.Given as goal
 

@@ -3,7 +3,7 @@ use Rattle.std.proofs.Math.Nat.{mul-le-mul_left}
 use Rattle.keep_tree.specs.declared.entry.Entry.{Entry}
 use Rattle.keep_tree.specs.Forest.{end_of, entry_at}
 use Rattle.keep_rule.specs.Forced.{latest_end}
-use Rattle.keep_schedule.specs.Runs.{wakes_of}
+use Rattle.keep_rule.specs.Runs.{wakes_of}
 use Rattle.keep_check.specs.declared.answer.Cause.TheVariants.{NotRising}
 use Rattle.keep_check.specs.Steps.{LongFrom}
 use Rattle.keep_check.specs.Walk.{fault}

@@ -1,8 +1,8 @@
 use Rattle.std.proofs.Common.{◌≡◌, ◌∙◌, ◌+◌, ◌-◌, ◌*◌, ◌<◌, ◌∷◌, ◌++◌, sym, ap, subst, arith}
 use Rattle.keep_tree.specs.Forest.{end_of}
 use Rattle.keep_rule.proofs.Keeping.{end_below_bound}
-use Rattle.keep_schedule.specs.declared.force.Force.{Force}
-use Rattle.keep_schedule.specs.Runs.{wakes_of}
+use Rattle.keep_rule.specs.declared.force.Force.{Force}
+use Rattle.keep_rule.specs.Runs.{wakes_of}
 use Rattle.keep_check.specs.Steps.{Finds}
 use Rattle.keep_check.specs.Walk.{fault}
 use Rattle.keep_check.proofs.Answers.{first_rises, forced_parts}

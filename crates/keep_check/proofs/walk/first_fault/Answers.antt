@@ -1,7 +1,7 @@
 use Rattle.std.proofs.Common.{◌∙◌, ap, arith, sym}
 use Rattle.std.proofs.lemmas.List.{drop_all}
 use Rattle.keep_tree.specs.Forest.{end_of}
-use Rattle.keep_schedule.specs.Runs.{all_wakes}
+use Rattle.keep_rule.specs.Runs.{all_wakes}
 use Rattle.keep_check.specs.Walk.{fault}
 use Rattle.keep_check.proofs.Run.{fault_at_none}
 use Rattle.keep_check.proofs.walk.first_fault.Goals as goal

@@ -1,9 +1,8 @@
 use Rattle.std.proofs.Common.{◌≡◌, ◌+◌, ◌≤◌, IfSome, drop, length}
 use Rattle.keep_moment.specs.declared.moment.TheConstants.{LAST}
 use Rattle.keep_tree.specs.Forest.{end_of}
-use Rattle.keep_schedule.specs.Runs.{all_wakes}
+use Rattle.keep_rule.specs.Runs.{all_wakes, counted}
 use Rattle.keep_check.specs.Answer.{first_fault}
-use Rattle.keep_cert.specs.CertificateText.{counted}
 use Rattle.keep_check.specs.Fit.{AllFit}
 use Rattle.keep_check.specs.Walk.{fault}
 use Rattle.keep_check.proofs.walk.first_fault.Given as goal

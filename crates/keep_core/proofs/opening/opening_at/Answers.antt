@@ -2,8 +2,8 @@ use Rattle.std.proofs.Common.{◌≡◌, ◌∙◌, ◌≤◌, ◌<◌, ℕ, Lis
 use Rattle.keep_tree.specs.Forest.{end_of}
 use Rattle.keep_rule.specs.Asks.{asks, first_of}
 use Rattle.keep_rule.specs.Plans.{asks_past}
-use Rattle.keep_schedule.specs.declared.force.Force.{Force}
-use Rattle.keep_schedule.specs.Forces.{moments_of}
+use Rattle.keep_rule.specs.declared.force.Force.{Force}
+use Rattle.keep_rule.specs.Runs.{moments_of}
 use Rattle.keep_plan.specs.Planned.{next_after, to_come}
 use Rattle.keep_core.specs.Replan.{IsPlanOf}
 use Rattle.keep_core.specs.Waking.{AreFlags}

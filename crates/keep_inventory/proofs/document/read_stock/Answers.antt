@@ -1,5 +1,5 @@
 use Rattle.toml.specs.View.{table_view}
-use Rattle.keep_inventory.proofs.Apart.{intake_is_stock}
+use Rattle.keep_inventory.proofs.Inventoried.{intake_is_stock}
 use Rattle.keep_inventory.proofs.document.read_stock.Goals as goal
 
 pub of-requires : goal.of-requires

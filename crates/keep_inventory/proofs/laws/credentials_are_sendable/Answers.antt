@@ -1,5 +1,9 @@
-use Rattle.keep_inventory.proofs.Sendable.{sendable_law}
+use Rattle.keep_inventory.proofs.Inventoried.{sendable_law}
+use Rattle.keep_inventory.proofs.Stocks.{text_law}
 use Rattle.keep_inventory.proofs.laws.credentials_are_sendable.Goals as goal
 
-pub returns : goal.returns
-returns c = sendable_law
+pub returns-clause-inventory : goal.returns-clause-inventory
+returns-clause-inventory c = sendable_law
+
+pub returns-clause-text : goal.returns-clause-text
+returns-clause-text c = text_law

@@ -1,8 +1,8 @@
 use Rattle.std.proofs.Common.{◌∙◌, ◌+◌, ap, arith, drop, get_or, subst, sym}
 use Rattle.std.proofs.lemmas.List.{drop_more}
-use Rattle.keep_schedule.specs.declared.run.Run.{Run}
-use Rattle.keep_schedule.specs.Runs.{all_wakes, wakes}
-use Rattle.keep_plan.specs.Planned.{AreRuns, next_after}
+use Rattle.keep_rule.specs.declared.run.Run.{Run}
+use Rattle.keep_rule.specs.Runs.{AreRuns, all_wakes, wakes}
+use Rattle.keep_plan.specs.Planned.{next_after}
 use Rattle.keep_plan.proofs.Nexts.{found, next_in_front, next_later, none_found}
 use Rattle.keep_plan.proofs.runs.next_after.Goals as goal
 

@@ -1,6 +1,6 @@
 use Rattle.std.proofs.Common.{◌≡◌, drop}
-use Rattle.keep_schedule.specs.Runs.{all_wakes}
-use Rattle.keep_plan.specs.Planned.{AreRuns, next_after}
+use Rattle.keep_rule.specs.Runs.{AreRuns, all_wakes}
+use Rattle.keep_plan.specs.Planned.{next_after}
 use Rattle.keep_plan.proofs.runs.next_after.Given as goal
 
 abbrev pub invariant-loop-run : goal.invariant-loop-run

@@ -16,7 +16,7 @@ returns-in-Ok-step c =
     c.in-Ok-serve.ensures.after
     (c.in-Ok-event_from.ensures
     ∙ ap (λ (e : Entry). event_of e.kind c.get-2.result.now i c.reply_of.result) (c.get.ensures.value ∙ ap (λ (g : Grove). entry_at g.entries i) c.forest-2.ensures)
-    ∙ ap (λ id. event_of (entry_at c.args.keeper.now.forest.entries i).kind id i c.reply_of.result) c.get-2.ensures
+    ∙ ap (λ id. event_of (entry_at c.args.keeper.now.forest.entries i).kind id i c.reply_of.result) c.get-2.ensures.value
     ∙ ap (event_of (entry_at c.args.keeper.now.forest.entries i).kind _ i) c.reply_of.ensures)
     c.in-Ok-step.ensures
     c.take_shortened-short.ensures.after

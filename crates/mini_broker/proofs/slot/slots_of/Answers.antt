@@ -25,4 +25,4 @@ returns-clause-sound c =
 pub returns-clause-unlike : goal.returns-clause-unlike
 returns-clause-unlike c =
     let count : c.len-index-end.result ≡ length c.args.inventory.now.grove.entries = c.len-index-end.ensures.value ∙ ap (λ (g : Grove). length g.entries) c.forest.ensures.value in
-    subst AreUnlike (sym (all_slots c.args.inventory.now c.loop-index.index c.loop-index.slots.items c.loop-index.invariant (omega arith))) (slots_are_unlike c.args.inventory.now c.forest.ensures.sound.2)
+    subst AreUnlike (sym (all_slots c.args.inventory.now c.loop-index.index c.loop-index.slots.items c.loop-index.invariant (omega arith))) (slots_are_unlike c.args.inventory.now c.forest.ensures.sound.apart)

@@ -1,7 +1,7 @@
 use Rattle.std.proofs.Common.{◌∙◌, ◌<◌, ap, arith, drop, length, subst, sym, ◌∷◌, List}
 use Rattle.std.proofs.lemmas.List.{length-set}
-use Rattle.keep_schedule.specs.declared.run.Run.{Run}
-use Rattle.keep_schedule.specs.Runs.{all_wakes}
+use Rattle.keep_rule.specs.declared.run.Run.{Run}
+use Rattle.keep_rule.specs.Runs.{all_wakes}
 use Rattle.keep_plan.specs.Planned.{IsPlanned, Planned, to_come}
 use Rattle.keep_plan.proofs.Walking.{loses_head, passed_over, shortened_in_place, stands, still_planned}
 use Rattle.keep_plan.proofs.planned.Plan.drop_first.Goals as goal

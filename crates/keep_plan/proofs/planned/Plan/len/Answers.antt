@@ -1,5 +1,5 @@
 use Rattle.std.proofs.Common.{ap, arith, length}
-use Rattle.keep_schedule.specs.Runs.{all_wakes}
+use Rattle.keep_rule.specs.Runs.{all_wakes}
 use Rattle.keep_plan.proofs.Walking.{count_from}
 use Rattle.keep_plan.proofs.planned.Plan.len.Goals as goal
 

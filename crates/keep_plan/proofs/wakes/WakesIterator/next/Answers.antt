@@ -1,7 +1,7 @@
 use Rattle.std.proofs.Common.{◌≡◌, ◌∙◌, ◌∷◌, ap, arith, length, sym, subst}
 use Rattle.std.specs.Option.{IfSome}
-use Rattle.keep_schedule.specs.Runs.{all_wakes}
-use Rattle.keep_plan.specs.Planned.{AreRuns, IsRun, behind_first, in_front}
+use Rattle.keep_rule.specs.Runs.{AreRuns, IsRun, all_wakes}
+use Rattle.keep_plan.specs.Planned.{behind_first, in_front}
 use Rattle.keep_plan.specs.declared.wakes.Wakes.TheInside.{Inside}
 use Rattle.keep_plan.proofs.Walking.{behind_wakes}
 use Rattle.keep_plan.proofs.wakes.WakesIterator.next.Goals as goal

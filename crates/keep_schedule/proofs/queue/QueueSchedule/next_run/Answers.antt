@@ -2,7 +2,7 @@ use Rattle.std.proofs.Common.{◌≡◌, ◌+◌, ◌-◌, ◌<◌, ◌⊎◌, N
 use Rattle.keep_schedule.specs.Courses.{IsToCome}
 use Rattle.keep_schedule.specs.Prospect.{terms_of}
 use Rattle.keep_schedule.specs.Queues.{IsReady, Queue}
-use Rattle.keep_schedule.specs.Runs.{GivesRun, IsFirstRun}
+use Rattle.keep_schedule.specs.Given.{GivesRun, IsFirstRun}
 use Rattle.keep_schedule.proofs.Queueing.{gives_no_run, ready_settled, taken}
 use Rattle.keep_schedule.proofs.queue.QueueSchedule.next_run.Goals as goal
 use Rattle.keep_schedule.proofs.queue.QueueSchedule.next_run.Goals.{else-stretch-eq0, then-stretch-eq0}

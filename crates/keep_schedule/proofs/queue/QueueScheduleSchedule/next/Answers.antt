@@ -1,7 +1,7 @@
 use Rattle.std.proofs.Common.{◌≡◌, subst, refl, rules}
-use Rattle.keep_schedule.specs.declared.force.Force.{Force}
+use Rattle.keep_rule.specs.declared.force.Force.{Force}
 use Rattle.keep_schedule.specs.Courses.{IsToCome}
-use Rattle.keep_schedule.specs.Runs.{GivesRun}
+use Rattle.keep_schedule.specs.Given.{GivesRun}
 use Rattle.keep_schedule.proofs.Queueing.{head_of_run}
 use Rattle.keep_schedule.proofs.queue.QueueScheduleSchedule.next.Goals as goal
 

@@ -1,8 +1,8 @@
 use Rattle.std.proofs.Common.{◌≡◌, ◌-◌, None, Some, subst, rules}
-use Rattle.keep_schedule.specs.declared.force.Force.{Force}
+use Rattle.keep_rule.specs.declared.force.Force.{Force}
 use Rattle.keep_schedule.specs.Courses.{Course, IsLeader, IsToCome}
 use Rattle.keep_schedule.specs.Prospect.{terms_of}
-use Rattle.keep_schedule.specs.Runs.{GivesHead}
+use Rattle.keep_schedule.specs.Given.{GivesHead}
 use Rattle.keep_schedule.proofs.Taking.{gives_head, gives_none}
 use Rattle.keep_schedule.proofs.scan.ScanScheduleSchedule.next.Goals as goal
 

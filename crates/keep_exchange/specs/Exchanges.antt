@@ -1,0 +1,65 @@
+-- Exchange in memory: the Broker step's reply, through the texts of the request and of the reply.
+-- Source: RFC 9112 (the texts); this project's own (the Broker step, and which fault is which).
+use Rattle.std.specs.Prelude.{◌≡◌, ℕ, ◌⊎◌, List, [], ◌++◌, Option, Some, Result, Ok, Err, length, nat_le, if◌then◌else◌}
+use Rattle.keep_exchange.specs.declared.exchange.TheConstants.{MOST_REPLY}
+use Rattle.keep_exchange.specs.declared.fault.ExchangeFault.{ExchangeFault}
+use Rattle.keep_exchange.specs.declared.fault.ExchangeFault.TheVariants.{ConnectFailed, WriteFailed, Http, OutOfMemory}
+use Rattle.mini_broker.specs.declared.served.Served.{Served}
+use Rattle.mini_broker.specs.declared.served.Served.TheVariants as served
+use Rattle.mini_broker.specs.Ledger.{Ledger}
+use Rattle.mini_broker.specs.Step.{Says, after_sweep, step}
+use Rattle.mini_broker.specs.Stream.{sent_of}
+use Rattle.vault_http.specs.declared.http_fault.HttpFault.{HttpFault}
+use Rattle.vault_http.specs.declared.http_fault.HttpFault.TheVariants as https
+use Rattle.vault_http.specs.declared.reply.Reply.{Reply}
+use Rattle.vault_http.specs.declared.request.Request.{Request}
+use Rattle.vault_http.specs.declared.writing.SendFault.{SendFault}
+use Rattle.vault_http.specs.declared.writing.SendFault.TheVariants as sends
+use Rattle.keep_device.specs.Failures.{one_more}
+use Rattle.vault_http.specs.Written.{reply_text, request_text}
+
+-- what stands behind an exchange in memory: the broker's table, and the bytes of the last request and its reply
+pub record Behind : Type 0 where
+  pub table : Ledger
+  pub wire : List ℕ
+
+-- what is received of what a broker sends: a reply that is not sent ends before it begins, and one of more bytes than are
+-- read is too long
+abbrev pub received : Served → Result Reply ExchangeFault
+received (served.Reply reply) = if nat_le (length (reply_text reply)) MOST_REPLY then Ok reply else Err (Http https.TooLong)
+received served.Dropped = Err (Http https.Truncated)
+
+-- the request is served at t by the Broker step, and the messages of both are carried
+pub record IsExchanged (old : Ledger) (t : ℕ) (r : Request) (result : Result Reply ExchangeFault) (new : Option Behind) : Type 0 where
+  pub sent : Served
+  pub says : Says t (step old t r).answer sent
+  pub received_as : result ≡ received sent
+  pub is : new ≡ Some (record { table = (step old t r).ledger; wire = request_text r ++ sent_of sent })
+
+-- memory was wanting, before, while or after the request was served: nothing is told of the messages
+pub record IsGivenUp (old : Ledger) (t : ℕ) (r : Request) (new : Option Behind) : Type 0 where
+  pub table : Ledger
+  pub left : (table ≡ old) ⊎ ((table ≡ after_sweep old t) ⊎ (table ≡ (step old t r).ledger))
+  pub is : new ≡ Some (record { table = table; wire = [] })
+
+-- what one exchange comes to
+abbrev pub Exchanges : Ledger → ℕ → Request → Result Reply ExchangeFault → Option Behind → Type 0
+Exchanges old t r (Err OutOfMemory) new = IsGivenUp old t r new
+Exchanges old t r result new = IsExchanged old t r result new
+
+-- one failure more where a connect, an accept, a write or a read failed, and else none
+abbrev pub CountsExchange : Result Reply ExchangeFault → ℕ → ℕ → Type 0
+CountsExchange (Ok reply) before now = now ≡ before
+CountsExchange (Err ConnectFailed) before now = now ≡ one_more before
+CountsExchange (Err WriteFailed) before now = now ≡ one_more before
+CountsExchange (Err (Http https.ReadFailed)) before now = now ≡ one_more before
+CountsExchange (Err fault) before now = now ≡ before
+
+-- a fault of sending, and one of reading
+abbrev pub sending_fault : SendFault → ExchangeFault
+sending_fault sends.WriteFailed = WriteFailed
+sending_fault sends.OutOfMemory = OutOfMemory
+
+abbrev pub exchange_fault : HttpFault → ExchangeFault
+exchange_fault https.OutOfMemory = OutOfMemory
+exchange_fault fault = Http fault

@@ -1,0 +1,42 @@
+ghost use Rattle.std.specs.Prelude.{◌≤◌, Option, IfSome, length};
+ghost use Rattle.mini_broker.specs.declared.stream.TheConstants.{MOST_REQUEST};
+ghost use Rattle.vault_http.specs.RoundTripRequest.{IsWritable};
+ghost use Rattle.vault_http.specs.Written.{request_text};
+ghost use Rattle.keep_exchange.specs.Exchanges.{Behind, Exchanges, CountsExchange};
+
+use crate::ExchangeFault;
+use keep_moment::Moment;
+use std::alloc::Global;
+use vault_http::{Device, Reply, Request};
+
+/// The most bytes of a reply, its head included.
+pub const MOST_REPLY: usize = 1048576;
+
+/// What carries a request to a broker and its reply back.
+///
+/// To contracts an exchange in memory is the broker's table and the bytes that its last exchange has carried; of one over
+/// sockets they know nothing.
+pub trait Exchange: Device {
+    /// The table behind it, and the messages of its last exchange, where they are known.
+    ghost behind: { Self → Option Behind };
+
+    /// Sends a request of at most 1 MiB, which is served at `t`, and reads the reply.
+    ///
+    /// Where the table is known the reply is that of the Broker step, and the table is as that step leaves it. A reply that
+    /// the broker drops is `Http(Truncated)`; one of more than 1 MiB is `Http(TooLong)`. `OutOfMemory`: the table is as it
+    /// was, or as serving the request has left it.
+    ///
+    /// Over sockets: `ConnectFailed`, there is no connection; `WriteFailed`, the request was not sent whole;
+    /// `Http(ReadFailed)`, a read failed, and the other faults of `Http` are those of the bytes. Each of the three is
+    /// counted as one failure.
+    fn exchange(
+        &mut self,
+        alloc: Global,
+        t: Moment,
+        request: &Request,
+    ) -> Result<Reply, ExchangeFault>
+        requires writable { IsWritable request.now }
+        requires short { length (request_text request.now) ≤ MOST_REQUEST }
+        ensures exchanged { IfSome (Self.behind self.old) (λ old. Exchanges old.table t request.now result (Self.behind self.new)) }
+        ensures count { CountsExchange result (Self.failed_calls self.old) (Self.failed_calls self.new) };
+}

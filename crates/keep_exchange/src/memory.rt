@@ -1,0 +1,90 @@
+ghost use Rattle.std.specs.Prelude.{◌≡◌, [], Some};
+
+use crate::exchange::Exchange;
+use crate::fault::ExchangeFault;
+use crate::texts::{Delivery, deliver, request_of_text, text_of_request};
+use keep_moment::Moment;
+use mini_broker::Table;
+use std::alloc::Global;
+use std::marker::Model;
+use vault_http::{Device, Reply, Request};
+
+/// An exchange with a broker's table in memory: each message is written as text and read of that text.
+///
+/// To contracts it is the table and the bytes that its last exchange has carried.
+#[derive(Debug, Drop)]
+pub struct MemoryExchange {
+    table: Table,
+    wire: Vec<u8>,
+}
+
+impl Model for MemoryExchange {
+    ghost use Rattle.keep_exchange.specs.Exchanges.{Behind};
+
+    ghost Value = { Behind };
+
+    ghost view = { λ e. record { table = e.table; wire = e.wire.items } };
+}
+
+impl MemoryExchange {
+    /// The exchange with this table; nothing was carried yet. It takes no memory.
+    pub fn new(alloc: Global, table: Table) -> MemoryExchange
+        ensures { result ≡ record { table = table; wire = [] } }
+    {
+        MemoryExchange {
+            table,
+            wire: Vec::new(alloc),
+        }
+    }
+
+    /// Puts another table behind it, as if nothing was carried yet. It takes no memory.
+    pub fn give(&mut self, table: Table)
+        ensures { self.new ≡ record { table = table; wire = [] } }
+    {
+        self.table = table;
+        self.wire.clear();
+    }
+
+    /// The broker's table.
+    pub fn table(&self) -> &Table
+        ensures { result.now ≡ self.now.table }
+    {
+        &self.table
+    }
+
+    /// The bytes of the last request and of its reply, one after the other. Of a reply that was dropped there are none; and
+    /// there are none at all before the first exchange, and where memory was wanting in the last.
+    pub fn wire(&self) -> &[u8]
+        ensures { result.now ≡ self.now.wire }
+    {
+        &self.wire
+    }
+}
+
+impl Device for MemoryExchange {
+    ghost failed_calls = { λ _. 0 };
+
+    fn failures(&self) -> u64 {
+        0
+    }
+}
+
+impl Exchange for MemoryExchange {
+    ghost behind = { λ e. Some e };
+
+    fn exchange(
+        &mut self,
+        alloc: Global,
+        t: Moment,
+        request: &Request,
+    ) -> Result<Reply, ExchangeFault> {
+        self.wire.clear();
+        let mut wire = text_of_request(alloc, request)?;
+        let heard = request_of_text(alloc, &wire, request)?;
+        let served = self.table.serve(t, &heard)?;
+        let delivery = deliver(alloc, &served)?;
+        wire.extend_from_slice(&delivery.text)?;
+        self.wire = wire;
+        delivery.reply
+    }
+}

@@ -1,0 +1,123 @@
+//! Messages by way of their texts: each is written whole, and read of what was written.
+ghost use Rattle.std.specs.Prelude.{◌≡◌, ◌<◌, ◌≤◌, ◌^◌, IfOk, IsOkUnless, IsTrue, length};
+ghost use Rattle.keep_exchange.specs.Exchanges.{received};
+ghost use Rattle.keep_exchange.specs.declared.fault.ExchangeFault.TheVariants.{OutOfMemory};
+ghost use Rattle.mini_broker.specs.Stream.{MaySend, sent_of};
+ghost use Rattle.mini_broker.specs.declared.stream.TheConstants.{MOST_REQUEST};
+ghost use Rattle.mini_broker.specs.declared.served.Served.TheVariants as served;
+ghost use Rattle.vault_http.specs.RoundTrip.{is_sent};
+ghost use Rattle.vault_http.specs.RoundTripRequest.{IsWritable, without_port};
+ghost use Rattle.vault_http.specs.Written.{reply_text, request_text};
+
+use crate::exchange::MOST_REPLY;
+use crate::fault::ExchangeFault;
+use crate::sure::{SureSink, SureSource};
+use mini_broker::{MOST_REQUEST, Served};
+use std::alloc::Global;
+use vault_http::{
+    HttpFault, Reply, Request, read_reply, read_request, reply_reads_back, request_reads_back,
+    write_reply, write_request,
+};
+
+/// The text of a request.
+pub(crate) fn text_of_request(alloc: Global, request: &Request) -> Result<Vec<u8>, ExchangeFault>
+    requires { IsWritable request.now }
+    ensures text { IfOk result (λ text. text.items ≡ request_text request.now) }
+    ensures memory { IsOkUnless result OutOfMemory }
+{
+    let mut sink = SureSink::new(alloc);
+    write_request(alloc, &mut sink, request)?;
+    Ok(Vec::from_slice(alloc, sink.bytes())?)
+}
+
+/// The request as it is read of its text: the same but for its port.
+pub(crate) fn request_of_text(
+    alloc: Global,
+    text: &[u8],
+    request: &Request,
+) -> Result<Request, ExchangeFault>
+    requires writable { IsWritable request.now }
+    requires short { length (request_text request.now) ≤ MOST_REQUEST }
+    requires text { text.now ≡ request_text request.now }
+    ensures read { IfOk result (λ read. read ≡ without_port request.now) }
+    ensures memory { IsOkUnless result OutOfMemory }
+{
+    request_reads_back(request);
+    is_port(request.port);
+    let mut source = SureSource::of(alloc, text)?;
+    Ok(read_request(alloc, &mut source, MOST_REQUEST)?)
+}
+
+/// The law that a port is one of 65,536 numbers.
+fn is_port(port: u16)
+    ensures { port < 2 ^ 16 }
+{
+    let _ = port;
+}
+
+/// What was sent, and what is received of it.
+#[derive(Debug, Drop)]
+pub(crate) struct Delivery {
+    pub(crate) text: Vec<u8>,
+    pub(crate) reply: Result<Reply, ExchangeFault>,
+}
+
+/// Sends what the broker has for a request, and reads it.
+pub(crate) fn deliver(alloc: Global, served: &Served) -> Result<Delivery, ExchangeFault>
+    requires { MaySend served.now }
+    ensures text { IfOk result (λ d. d.text.items ≡ sent_of served.now) }
+    ensures reply { IfOk result (λ d. d.reply ≡ received served.now) }
+    ensures memory { IsOkUnless result OutOfMemory }
+{
+    match served {
+        Served::Reply(reply) => deliver_reply(alloc, reply),
+        Served::Dropped => Ok(Delivery {
+            text: Vec::new(alloc),
+            reply: Err(ExchangeFault::Http(HttpFault::Truncated)),
+        }),
+    }
+}
+
+fn deliver_reply(alloc: Global, reply: &Reply) -> Result<Delivery, ExchangeFault>
+    requires { IsTrue (is_sent reply.now.status) }
+    ensures text { IfOk result (λ d. d.text.items ≡ reply_text reply.now) }
+    ensures reply { IfOk result (λ d. d.reply ≡ received (served.Reply reply.now)) }
+    ensures memory { IsOkUnless result OutOfMemory }
+{
+    let text = text_of_reply(alloc, reply)?;
+    if text.len() > MOST_REPLY {
+        return Ok(Delivery {
+            text,
+            reply: Err(ExchangeFault::Http(HttpFault::TooLong)),
+        });
+    }
+    let read = reply_of_text(alloc, &text, reply)?;
+    Ok(Delivery {
+        text,
+        reply: Ok(read),
+    })
+}
+
+/// The text of a reply.
+fn text_of_reply(alloc: Global, reply: &Reply) -> Result<Vec<u8>, ExchangeFault>
+    requires { IsTrue (is_sent reply.now.status) }
+    ensures text { IfOk result (λ text. text.items ≡ reply_text reply.now) }
+    ensures memory { IsOkUnless result OutOfMemory }
+{
+    let mut sink = SureSink::new(alloc);
+    write_reply(alloc, &mut sink, reply)?;
+    Ok(Vec::from_slice(alloc, sink.bytes())?)
+}
+
+/// The reply as it is read of its text: the same.
+fn reply_of_text(alloc: Global, text: &[u8], reply: &Reply) -> Result<Reply, ExchangeFault>
+    requires status { IsTrue (is_sent reply.now.status) }
+    requires short { length (reply_text reply.now) ≤ MOST_REPLY }
+    requires text { text.now ≡ reply_text reply.now }
+    ensures read { IfOk result (λ read. read ≡ reply.now) }
+    ensures memory { IsOkUnless result OutOfMemory }
+{
+    reply_reads_back(reply);
+    let mut source = SureSource::of(alloc, text)?;
+    Ok(read_reply(alloc, &mut source, MOST_REPLY)?)
+}

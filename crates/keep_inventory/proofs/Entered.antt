@@ -1,0 +1,77 @@
+-- Entered: what holds of an inventory whatever tables it was read from: what its margin gives it and each table keeps.
+use Rattle.std.proofs.Common.{◌≡◌, ℕ, ◌<◌, ◌≤◌, ◌&&◌, Bool, true, false, cond, Some, None, Option, Result, Ok, Err, IfSome, nat_le, refl, subst, arith, unwrap_or}
+use Rattle.std.proofs.lemmas.Bool.{and_parts}
+use Rattle.std.proofs.lemmas.Bool.Decides.{nat_tests}
+use Rattle.std.proofs.Math.IntN.{pos, negsuc}
+use Rattle.toml.specs.Data.{string, integer, float, boolean, datetime, array, table, Data, Members, no_items, get_member}
+use Rattle.keep_tree.specs.declared.forest.TheConstants.{MARGIN_MAX}
+use Rattle.keep_inventory.specs.declared.limits.TheConstants.{SPAN_MAX, SYSTEM_MAX}
+use Rattle.keep_inventory.specs.declared.fault.InvFault.{InvFault}
+use Rattle.keep_inventory.specs.declared.fault.InvFault.TheVariants.{BadValue}
+use Rattle.keep_inventory.specs.declared.key.Key.{Key}
+use Rattle.keep_inventory.specs.declared.key.Key.TheVariants.{SystemMax, Margin, Token, Lease}
+use Rattle.keep_inventory.specs.Keys.{is_top_key, key_text}
+use Rattle.keep_inventory.specs.Values.{only, read_if, whole, tables, value_at}
+use Rattle.keep_inventory.specs.Intake.{Intake, nothing}
+use Rattle.keep_inventory.specs.Inventory.{token_entered, lease_entered, entered_by, intake_of}
+use Rattle.keep_inventory.proofs.Chains.{bind_ok}
+use Rattle.keep_inventory.proofs.Taken.{KeepsIt, all_keep}
+
+-- ---- a number of a range, or the one that stands for it where it is absent
+
+pub within_test : (m n : ℕ) → nat_le m n ≡ true → m ≤ n
+within_test m n h = grind (arith, nat_tests)
+
+abbrev pub Within : ℕ → ℕ → ℕ → Type 0
+Within low high n = (low ≤ n) × (n ≤ high)
+
+ranged : (low high n : ℕ) (b : Bool) → (b ≡ true → Within low high n) → IfSome (cond b (Some n) None) (Within low high)
+ranged low high n true h = h refl
+ranged low high n false h = tt
+
+both_tests : (low high n : ℕ) → nat_le low n && nat_le n high ≡ true → Within low high n
+both_tests low high n h =
+    let parts = and_parts (nat_le low n) (nat_le n high) h in
+    (within_test low n parts.0, within_test n high parts.1)
+
+whole_is : (low high : ℕ) (d : Data) → IfSome (whole low high d) (Within low high)
+whole_is low high (integer (pos n)) = ranged low high n (nat_le low n && nat_le n high) (both_tests low high n)
+whole_is low high (integer (negsuc n)) = tt
+whole_is low high (string x) = tt
+whole_is low high (float x) = tt
+whole_is low high (boolean x) = tt
+whole_is low high (datetime x) = tt
+whole_is low high (array x) = tt
+whole_is low high (table x) = tt
+
+abbrev taken : Option ℕ → Key → Option ℕ → Result (Option ℕ) InvFault
+taken place key o = elim o [ Some x ↦ Ok (Some x) | None ↦ Err (BadValue place key) ]
+
+found_is : (P : ℕ → Type 0) (place : Option ℕ) (key : Key) (absent : ℕ) (o found : Option ℕ) → IfSome o P → taken place key o ≡ Ok found → P (unwrap_or found absent)
+found_is P place key absent None found h e = absurd cc
+found_is P place key absent (Some n) found h e = let same : Some n ≡ found = cc in subst (λ m. P (unwrap_or m absent)) same h
+
+read_is : (low high absent : ℕ) → Within low high absent → (place : Option ℕ) (key : Key) (o : Option Data) (found : Option ℕ) → read_if (whole low high) place key o ≡ Ok found → Within low high (unwrap_or found absent)
+read_is low high absent k place key None found e = let same : None ≡ found = cc in subst (λ m. Within low high (unwrap_or m absent)) same k
+read_is low high absent k place key (Some d) found e = found_is (Within low high) place key absent (whole low high d) found (whole_is low high d) e
+
+pub within_read : (low high absent : ℕ) → Within low high absent → (place : Option ℕ) (key : Key) (ms : Members) (found : Option ℕ) → value_at (whole low high) place key ms ≡ Ok found → Within low high (unwrap_or found absent)
+within_read low high absent k place key ms found e = read_is low high absent k place key (get_member (key_text key) ms) found e
+
+-- ---- all tables
+
+pub intake_keeps : (First Rest : Intake → Type 0) → ((margin : ℕ) → Within 1 MARGIN_MAX margin → First (nothing margin)) → ((s : Intake) → First s → Rest s) →
+    ((system_max : ℕ) → KeepsIt First (token_entered system_max)) → ((system_max : ℕ) → KeepsIt Rest (lease_entered system_max)) →
+    (ms : Members) (t : Intake) → intake_of ms ≡ Ok t → Rest t
+unfolding intake_of
+intake_keeps First Rest begins passes tokens_keep leases_keep ms t e =
+    bind_ok (only is_top_key None ms) _ t e (λ known k e1.
+    bind_ok (value_at (whole 1 SPAN_MAX) None SystemMax ms) _ t e1 (λ system_max a e2.
+    bind_ok (value_at (whole 1 MARGIN_MAX) None Margin ms) _ t e2 (λ margin b e3.
+    bind_ok (value_at tables None Token ms) _ t e3 (λ tokens c e4.
+    bind_ok (value_at tables None Lease ms) _ t e4 (λ leases d e5.
+    bind_ok (entered_by (token_entered (unwrap_or system_max SYSTEM_MAX)) Token (nothing (unwrap_or margin 1)) (unwrap_or tokens no_items)) _ t e5 (λ u f e6.
+    let most = unwrap_or system_max SYSTEM_MAX in
+    let first = begins (unwrap_or margin 1) (within_read 1 MARGIN_MAX 1 (omega arith, omega arith) None Margin ms margin b) in
+    let second = all_keep First (token_entered most) (tokens_keep most) Token (nothing (unwrap_or margin 1)) u (unwrap_or tokens no_items) first f in
+    all_keep Rest (lease_entered most) (leases_keep most) Lease u t (unwrap_or leases no_items) (passes u second) e6))))))

@@ -1,0 +1,11 @@
+use Rattle.std.specs.Io.KnownBytes.{Appends}
+use Rattle.keep_report.proofs.Fronts.{unsent, whole_front}
+use Rattle.keep_report.proofs.sending.send.Goals as goal
+
+pub returns-in_err-flush : goal.returns-in_err-flush
+returns-in_err-flush g c =
+    let old = g.W.Device.written c.args.out.now in
+    let mid = g.W.Device.written c.write_all.new.sink in
+    let whole : Appends old mid c.args.text.now = c.in_ok-write_all.ensures.written in
+    unsent c.from_residual-in_err-flush.result c.in_err-flush.field-0.0 c.args.text.now _ (g.W.Device.failed_calls c.write_all.new.sink) c.from_residual-in_err-flush.ensures
+    (whole_front old mid (g.W.Device.written c.flush.new.self) c.args.text.now whole c.in_err-flush.ensures.bytes) c.in_ok-write_all.ensures.count c.in_err-flush.ensures.count c.in_err-flush.ensures.memory

@@ -1,0 +1,4 @@
+pub mod Exits
+pub mod Sent
+pub mod FaultLine
+pub mod Told

@@ -1,0 +1,15 @@
+ghost use Rattle.keep_report.specs.Sent.{Sends};
+
+use crate::sent::Watched;
+use crate::stop::Stop;
+use keep_device::{Sink, write_all};
+
+/// Writes a whole text and flushes. `Write`, where the writer failed, and `Memory`, which one in memory alone answers, say
+/// that a front of the text went out, or all of it without the flush.
+pub fn send<W: Sink>(out: &mut W, text: &[u8]) -> Result<(), Stop>
+    ensures { Sends result text.now (⟦<W as Watched>⟧.sent out.old out.new) }
+{
+    write_all(out, text)?;
+    out.flush()?;
+    Ok(())
+}

@@ -1,0 +1,131 @@
+"""`leasekeep run` as a process: event lines in, lines out."""
+
+from __future__ import annotations
+
+import asyncio
+import os
+import re
+from dataclasses import dataclass
+from pathlib import Path
+from typing import Protocol
+
+from .http_client import Address
+
+LINE_MOST = 1 << 20
+END_SECONDS = 0.5
+FAULTS_MOST = 4096
+
+
+@dataclass(frozen=True)
+class RunExit:
+    """How a run ended: its exit (negative: the signal that ended it) and its fault line."""
+
+    code: int
+    fault: str = ""
+
+    @property
+    def broker_entry(self) -> str | None:
+        """The entry at whose lookup it ended, if that is why."""
+        match = re.search(r"^leasekeep: broker (\S+)$", self.fault, re.MULTILINE) if self.code == 6 else None
+        return match[1] if match else None
+
+
+class Run(Protocol):
+    """A run under way."""
+
+    async def read_line(self) -> str | None:
+        """Its next line without the line feed; None where it has ended."""
+
+    async def write_line(self, line: str) -> None:
+        """Hands an event line in. A run that has ended takes it and answers nothing."""
+
+    async def end(self) -> RunExit:
+        """Ends it, if it still runs, and tells how it ended."""
+
+
+class Launcher(Protocol):
+    """Starts runs."""
+
+    async def launch(self, inventory: str, start: int) -> Run: ...
+
+
+class LaunchFault(Exception):
+    """A run that could not be started."""
+
+
+class ProcessRun:
+    """A child process."""
+
+    def __init__(self, process: asyncio.subprocess.Process, inventory: Path) -> None:
+        self._process, self._inventory = process, inventory
+        assert process.stdin and process.stdout and process.stderr
+        self._in, self._out = process.stdin, process.stdout
+        self._faults = asyncio.create_task(_front(process.stderr))
+
+    async def read_line(self) -> str | None:
+        try:
+            line = await self._out.readuntil(b"\n")
+        except (asyncio.IncompleteReadError, asyncio.LimitOverrunError):
+            return None
+        finally:
+            # Its first line shows that it has read its inventory, which holds secrets.
+            self._inventory.unlink(missing_ok=True)
+        return line[:-1].decode("ascii", "replace")
+
+    async def write_line(self, line: str) -> None:
+        try:
+            self._in.write(line.encode("ascii") + b"\n")
+            await self._in.drain()
+        except (BrokenPipeError, ConnectionResetError):
+            pass
+
+    async def end(self) -> RunExit:
+        self._inventory.unlink(missing_ok=True)
+        self._in.close()
+        try:
+            async with asyncio.timeout(END_SECONDS):
+                await self._process.wait()
+        except TimeoutError:
+            pass
+        finally:
+            if self._process.returncode is None:
+                self._process.kill()
+        code = await self._process.wait()
+        fault = await self._faults
+        return RunExit(code, fault.strip())
+
+
+async def _front(stream: asyncio.StreamReader) -> str:
+    """The front of a stream, which is read to its end."""
+    front = b""
+    while piece := await stream.read(4096):
+        front = (front + piece)[:FAULTS_MOST]
+    return front.decode("ascii", "replace")
+
+
+@dataclass(frozen=True)
+class ProcessLauncher:
+    """Starts `leasekeep run` on an inventory that it writes to the runtime folder, for its own user alone."""
+
+    program: str
+    folder: Path
+    address: Address
+    timeout: int
+
+    async def launch(self, inventory: str, start: int) -> Run:
+        path = self.folder / "run.toml"
+        try:
+            path.unlink(missing_ok=True)
+            with open(os.open(path, os.O_WRONLY | os.O_CREAT | os.O_EXCL, 0o600), "w", encoding="ascii") as file:
+                file.write(inventory)
+            process = await asyncio.create_subprocess_exec(
+                self.program, "run", str(path), self.address.word, str(start), "--timeout", str(self.timeout),
+                stdin=asyncio.subprocess.PIPE, stdout=asyncio.subprocess.PIPE, stderr=asyncio.subprocess.PIPE,
+                limit=LINE_MOST)
+        except OSError as error:
+            path.unlink(missing_ok=True)
+            raise LaunchFault(f"cannot start {self.program}: {error.strerror}") from None
+        except asyncio.CancelledError:
+            path.unlink(missing_ok=True)
+            raise
+        return ProcessRun(process, path)

@@ -1,0 +1,85 @@
+"""The broker in memory behind a real socket, in real time."""
+
+from __future__ import annotations
+
+import asyncio
+import threading
+import time
+from typing import Callable
+
+from leasekeepd_lib.http_client import MOST, Request
+
+from .vault import Vault
+
+
+class RealWorld:
+    """Real time in place of the simulated one."""
+
+    def now(self) -> float:
+        return time.time()
+
+    wall = now
+    elapsed = now
+
+
+class VaultServer:
+    """Serves a broker at a free port of 127.0.0.1, or at a UNIX socket, in a thread of its own."""
+
+    def __init__(self, vault: Vault, path: str | None = None) -> None:
+        self.vault, self._path = vault, path
+        self._loop = asyncio.new_event_loop()
+        self._ready = threading.Event()
+        self._thread = threading.Thread(target=self._run, daemon=True)
+        self.word = path or ""
+
+    def start(self) -> VaultServer:
+        self._thread.start()
+        self._ready.wait(5)
+        return self
+
+    def stop(self) -> None:
+        self._loop.call_soon_threadsafe(self._loop.stop)
+        self._thread.join(5)
+
+    def do(self, work: Callable[[Vault], None]) -> None:
+        """Does something to the broker between two requests."""
+        done = threading.Event()
+
+        def act() -> None:
+            work(self.vault)
+            done.set()
+        self._loop.call_soon_threadsafe(act)
+        done.wait(5)
+
+    def _run(self) -> None:
+        asyncio.set_event_loop(self._loop)
+        self._loop.run_until_complete(self._start())
+        self._ready.set()
+        self._loop.run_forever()
+        self._server.close()
+        for task in asyncio.all_tasks(self._loop):
+            task.cancel()
+        self._loop.run_until_complete(asyncio.sleep(0))
+        self._loop.close()
+
+    async def _start(self) -> None:
+        if self._path is not None:
+            self._server = await asyncio.start_unix_server(self._talk, self._path, limit=MOST)
+        else:
+            self._server = await asyncio.start_server(self._talk, "127.0.0.1", 0, limit=MOST)
+            self.word = str(self._server.sockets[0].getsockname()[1])
+
+    async def _talk(self, reader: asyncio.StreamReader, writer: asyncio.StreamWriter) -> None:
+        try:
+            head = (await reader.readuntil(b"\r\n\r\n")).decode("latin-1").split("\r\n")
+            method, path, _ = head[0].split(" ")
+            fields = {name.lower(): value.strip() for name, _, value in (line.partition(":") for line in head[1:])}
+            body = await reader.readexactly(int(fields.get("content-length", "0")))
+            reply = await self.vault.serve(Request(method, path, fields.get("x-vault-token", ""), body), None)
+            writer.write(b"HTTP/1.1 %d X\r\nContent-Length: %d\r\nConnection: close\r\n\r\n%s"
+                         % (reply.status, len(reply.body), reply.body))
+            await writer.drain()
+        except Exception:
+            pass
+        finally:
+            writer.close()

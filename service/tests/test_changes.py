@@ -1,0 +1,423 @@
+"""Changes, the journal and settling: each holds after a restart, and after a kill at any write."""
+
+from __future__ import annotations
+
+import asyncio
+import errno
+import io
+import os
+import random
+import shutil
+import tempfile
+import unittest
+from dataclasses import replace
+from pathlib import Path
+from typing import Any, Callable, Coroutine
+
+from leasekeepd_lib.broker import Broker
+from leasekeepd_lib.changes import ChangeFault
+from leasekeepd_lib.control import CLIENTS_MOST, ControlFault, ControlServer, send_command
+from leasekeepd_lib.engine import Parts
+from leasekeepd_lib.events import Log
+from leasekeepd_lib.inventory import Entry, Inventory, Kind, inventory_text
+from leasekeepd_lib.inventory_file import read_inventory
+from leasekeepd_lib.journal import Journal
+from leasekeepd_lib.notify import Notifier
+from leasekeepd_lib.service import Service, Surroundings
+from leasekeepd_lib.source import Source, SourceFault
+from leasekeepd_lib.storage import Storage
+
+from .model.stage import ScriptedLauncher
+from .model.vault import Act, Fault, Secret, Vault, VaultTransport
+from .model.world import World, simulate
+
+BEGAN = 1_000_000
+TABLE = """
+[[lease]]
+name = "fresh"
+token = "app"
+issued = 999000
+end = 1000500
+increment = 600
+need = 1080000
+lease_id = "db/creds/fresh"
+"""
+
+
+class Killed(BaseException):
+    """A kill -9: nothing after it happens."""
+
+
+class DyingStorage(Storage):
+    """Is killed at the given step of those that change a disk; a write is cut in the middle."""
+
+    def __init__(self, steps: int) -> None:
+        self.left = steps
+
+    def _step(self) -> None:
+        if self.left == 0:
+            raise Killed
+        self.left -= 1
+
+    def _write(self, handle: int, data: bytes) -> int:
+        if self.left == 0:
+            os.write(handle, data[:len(data) // 2])
+        self._step()
+        return super()._write(handle, data)
+
+    def _sync(self, handle: int) -> None:
+        self._step()
+        super()._sync(handle)
+
+    def _rename(self, fresh: Path, path: Path) -> None:
+        self._step()
+        super()._rename(fresh, path)
+
+    def _sync_folder(self, folder: Path) -> None:
+        self._step()
+        super()._sync_folder(folder)
+
+
+class FullStorage(Storage):
+    """A disk that is full behind some bytes."""
+
+    def __init__(self) -> None:
+        self.is_full = False
+
+    def _write(self, handle: int, data: bytes) -> int:
+        if self.is_full:
+            os.write(handle, data[:7])
+            raise OSError(errno.ENOSPC, os.strerror(errno.ENOSPC))
+        return super()._write(handle, data)
+
+
+def token(name: str, need: int, secret: str) -> Entry:
+    return Entry(name, Kind.TOKEN, None, BEGAN - 1000, BEGAN + 600, increment=900, max_ttl=900_000, need=need,
+                 credential=secret)
+
+
+INVENTORY = Inventory((token("app", BEGAN + 70_000, "s.app"), token("web", BEGAN + 80_000, "s.web")), 30)
+
+
+class Room:
+    """A folder with a file, a journal, and services on them."""
+
+    def __init__(self, folder: Path) -> None:
+        self.folder, self.file, self.output = folder, folder / "inventory.toml", io.StringIO()
+        self.world = World()
+        self.vault = Vault(self.world)
+        self.vault.load(INVENTORY)
+        self.launcher = ScriptedLauncher(self.vault)
+        self.write(INVENTORY)
+
+    def write(self, inventory: Inventory) -> None:
+        self.file.write_text(inventory_text(inventory))
+        self.file.chmod(0o600)
+
+    def service(self, storage: Storage | None = None) -> Service:
+        """A service that has read file and journal."""
+        storage = storage or Storage()
+        source = Source(self.file, self.folder / "copy.toml", 5, False, storage)
+        around = Surroundings(source, Journal(self.folder / "journal", storage), Notifier({}), storage,
+                              self.folder / "metrics")
+        parts = Parts(self.world, Broker(VaultTransport(self.vault), self.world, 5.0), self.launcher,
+                      Log(self.world, self.output), random.Random(3))
+        service = Service(around, parts)
+        service.load()
+        return service
+
+    def state(self) -> dict[str, tuple[int, str]]:
+        """The needs and credentials that a service begun now would have."""
+        return meaning(self.service().engine.inventory)
+
+
+def meaning(inventory: Inventory) -> dict[str, tuple[int, str]]:
+    return {entry.name: (entry.need, entry.secret) for entry in inventory.entries}
+
+
+class InRoom(unittest.TestCase):
+    def in_room(self, work: Callable[[Room], Coroutine[Any, Any, None]]) -> None:
+        folder = Path(tempfile.mkdtemp())
+        self.addCleanup(shutil.rmtree, folder, True)
+
+        async def go() -> None:
+            await work(Room(folder))
+        simulate(go())
+
+    async def refused(self, service: Service, *words: str) -> str:
+        with self.assertRaises(ChangeFault) as caught:
+            await service.command(list(words))
+        return str(caught.exception)
+
+
+COMMANDS = (
+    ["need", "app", "+6h"], ["add", TABLE], ["need", "fresh", "1090000"], ["replace", "web", "s.web2"],
+    ["need", "app", "1970-01-12T20:00:00Z"], ["settle"], ["drop", "fresh"], ["settle"],
+)
+
+
+class Journals(InRoom):
+    def test_each_change_holds_after_a_restart(self) -> None:
+        async def work(room: Room) -> None:
+            room.vault.rows["s.web2"] = Secret("web", Kind.TOKEN, None, BEGAN + 900, BEGAN, None)
+            service = room.service()
+            for command in COMMANDS:
+                await service.command(command)
+                self.assertEqual(room.state(), meaning(service.engine.inventory), command)
+            self.assertEqual((room.folder / "journal").stat().st_mode & 0o777, 0o600)
+            self.assertEqual(room.state(), {"app": (1_022_400, "s.app"),
+                                            "web": (BEGAN + 80_000, "s.web2")})
+        self.in_room(work)
+
+    def test_a_kill_at_any_write(self) -> None:
+        async def work(room: Room) -> None:
+            room.vault.rows["s.web2"] = Secret("web", Kind.TOKEN, None, BEGAN + 900, BEGAN, None)
+            steps = 0
+            while True:
+                (room.folder / "journal").unlink(missing_ok=True)
+                room.write(INVENTORY)
+                storage = DyingStorage(1_000)
+                service = room.service(storage)
+                storage.left = steps
+                states = [meaning(service.engine.inventory)]
+                died = False
+                for command in COMMANDS:
+                    try:
+                        await service.command(command)
+                    except Killed:
+                        died = True
+                    after = meaning(room.service(Storage()).engine.inventory)
+                    if died:
+                        wanted = await self.next_state(room, states[-1], command)
+                        self.assertIn(after, (states[-1], wanted), f"step {steps}, {command}")
+                        self.assertEqual(room.state(), after)
+                        break
+                    states.append(meaning(service.engine.inventory))
+                    self.assertEqual(after, states[-1])
+                if not died:
+                    break
+                steps += 1
+            self.assertGreater(steps, 20)
+        self.in_room(work)
+
+    async def next_state(self, room: Room, state: dict[str, tuple[int, str]], command: list[str],
+                         ) -> dict[str, tuple[int, str]]:
+        """The state that the command leads to, by hand."""
+        match command:
+            case ["need", name, when]:
+                until = {"+6h": BEGAN + 21_600, "1090000": 1_090_000}.get(when, 1_022_400)
+                return {**state, name: (until, state[name][1])}
+            case ["add", _]:
+                return {**state, "fresh": (1_080_000, "db/creds/fresh")}
+            case ["replace", name, credential]:
+                return {**state, name: (state[name][0], credential)}
+            case ["drop", name]:
+                return {other: value for other, value in state.items() if other != name}
+        return state
+
+    def test_a_moment_stands_in_the_journal_and_never_a_length(self) -> None:
+        async def work(room: Room) -> None:
+            await room.service().command(["need", "app", "+6h"])
+            room.world.suspended += 7200
+            self.assertEqual(room.state()["app"][0], BEGAN + 21_600)
+        self.in_room(work)
+
+    def test_a_file_that_has_changed_since_wins(self) -> None:
+        async def work(room: Room) -> None:
+            room.vault.rows["s.web2"] = Secret("web", Kind.TOKEN, None, BEGAN + 900, BEGAN, None)
+            service = room.service()
+            await service.command(["replace", "web", "s.web2"])
+            await service.command(["need", "web", "+1h"])
+            room.write(Inventory((INVENTORY.entries[0], token("web", BEGAN + 80_000, "s.newer")), 30))
+            service.reload()
+            self.assertEqual(room.state()["web"], (BEGAN + 3600, "s.newer"))
+            self.assertIn("note: replace web: the file has changed since, and wins", room.output.getvalue())
+        self.in_room(work)
+
+    def test_what_was_added_stays_when_the_file_is_read_anew(self) -> None:
+        async def work(room: Room) -> None:
+            service = room.service()
+            await service.command(["add", TABLE])
+            service.reload()
+            self.assertIn("fresh", meaning(service.engine.inventory))
+            self.assertNotIn("fresh", room.file.read_text())
+            await service.command(["settle"])
+            self.assertIn("fresh", meaning(read_inventory(room.file.read_bytes()).inventory or Inventory()))
+            self.assertEqual((room.folder / "journal").read_bytes(), b"")
+            self.assertEqual(room.file.stat().st_mode & 0o777, 0o600)
+        self.in_room(work)
+
+    def test_replaying_onto_a_settled_file_changes_nothing(self) -> None:
+        async def work(room: Room) -> None:
+            service = room.service()
+            for command in (["need", "app", "1040000"], ["add", TABLE], ["need", "app", "1050000"]):
+                await service.command(command)
+            journal = (room.folder / "journal").read_bytes()
+            await service.command(["settle"])
+            settled = room.state()
+            (room.folder / "journal").write_bytes(journal)
+            self.assertEqual(room.state(), settled)
+        self.in_room(work)
+
+    def test_a_full_disk(self) -> None:
+        async def work(room: Room) -> None:
+            storage = FullStorage()
+            service = room.service(storage)
+            await service.command(["need", "app", "1040000"])
+            before, journal = meaning(service.engine.inventory), (room.folder / "journal").read_bytes()
+            storage.is_full = True
+            for command in (["need", "app", "1050000"], ["drop", "web"], ["settle"]):
+                with self.assertRaises(OSError):
+                    await service.command(command)
+            self.assertEqual(meaning(service.engine.inventory), before)
+            self.assertEqual((room.folder / "journal").read_bytes(), journal)
+            self.assertEqual(meaning(read_inventory(room.file.read_bytes()).inventory or Inventory()),
+                             meaning(INVENTORY))
+            service._write_metrics()
+            service._write_metrics()
+            self.assertEqual(room.output.getvalue().count("metrics could not be written"), 1)
+            storage.is_full = False
+            service._write_metrics()
+            self.assertIn("leasekeepd_up 1", (room.folder / "metrics").read_text())
+        self.in_room(work)
+
+
+class Refused(InRoom):
+    def test_a_bad_secret_is_refused_and_the_old_one_stays(self) -> None:
+        async def work(room: Room) -> None:
+            service = room.service()
+            words = await self.refused(service, "replace", "web", "s.nobody")
+            self.assertEqual(words, "the broker answers 403 to its lookup: web keeps the old one")
+            self.assertNotIn("s.nobody", words)
+            self.assertEqual(room.state(), meaning(INVENTORY))
+            room.vault.faults.append(Fault(0, 2e9, Act.REFUSE))
+            await service.command(["replace", "web", "s.later"])
+            self.assertEqual(room.state()["web"][1], "s.later")
+        self.in_room(work)
+
+    def test_changes_that_cannot_be_made(self) -> None:
+        async def work(room: Room) -> None:
+            service = room.service()
+            for words, expected in (
+                (["need", "nobody", "+1h"], "no entry is named nobody"),
+                (["need", "web", "soon"], "WHEN is a moment"),
+                (["need", "web", "253402300800"], "WHEN is a moment"),
+                (["drop", "nobody"], "no entry is named nobody"),
+                (["replace", "web", "a b"], "1 to 256 printable"),
+                (["replace", "web", "s.app"], "another entry has that credential already"),
+                (["add", "x"], "is no TOML document"),
+                (["add", ""], "one table [[token]] or [[lease]] is wanted, and 0 came"),
+                (["add", TABLE.replace("fresh", "web")], "an entry is named web already"),
+                (["add", TABLE.replace('"app"', '"nobody"')], "names no earlier token"),
+                (["add", TABLE.replace("600", '"1h"')], "write 3600"),
+                (["add", TABLE.replace('lease_id = "db/creds/fresh"', "")], "fresh has no lease_id"),
+                (["shutdown"], "the commands are"),
+            ):
+                with self.subTest(words=words):
+                    self.assertIn(expected, await self.refused(service, *words))
+            await service.command(["add", TABLE])
+            self.assertIn("app has entries under it: drop fresh first", await self.refused(service, "drop", "app"))
+            self.assertEqual(set(room.state()), {"app", "web", "fresh"})
+        self.in_room(work)
+
+    def test_changes_within_five_seconds_are_one_beginning(self) -> None:
+        async def work(room: Room) -> None:
+            room.vault.rows["db/creds/fresh"] = Secret("fresh", Kind.LEASE, "app", BEGAN + 500, BEGAN, None)
+            service = room.service()
+            task = asyncio.create_task(service.engine.serve())
+            await room.world.until(BEGAN + 10)
+            await service.command(["add", TABLE])
+            await asyncio.sleep(3)
+            await service.command(["drop", "web"])
+            await service.command(["need", "app", "+8h"])
+            await room.world.until(BEGAN + 100)
+            self.assertEqual(service.engine.beginnings, 2)
+            self.assertEqual({entry.name for entry in service.engine.assignment.kept.entries}, {"app", "fresh"})
+            self.assertEqual(service.engine.assignment.kept.carried["app"], 1_080_000)
+            await service.command(["need", "app", "1085000"])
+            await room.world.until(BEGAN + 110)
+            self.assertEqual(service.engine.beginnings, 2)
+            self.assertIn("need app 1085000", room.launcher.runs[-1].events)
+            task.cancel()
+            await asyncio.gather(task, return_exceptions=True)
+        self.in_room(work)
+
+
+class Files(InRoom):
+    def test_the_last_good_file_is_kept_and_served(self) -> None:
+        async def work(room: Room) -> None:
+            room.service()
+            self.assertEqual((room.folder / "copy.toml").stat().st_mode & 0o777, 0o600)
+            for spoil in (lambda: room.file.write_text("x"), lambda: room.file.chmod(0o644), room.file.unlink):
+                room.write(INVENTORY)
+                spoil()
+                self.assertEqual(room.state(), meaning(INVENTORY))
+                self.assertIn("alert: file is faulty", room.output.getvalue())
+            (room.folder / "copy.toml").unlink()
+            with self.assertRaises(SourceFault):
+                room.service()
+        self.in_room(work)
+
+    def test_refusals(self) -> None:
+        async def work(room: Room) -> None:
+            no_secret = Inventory((replace(INVENTORY.entries[0], credential=None),), 30)
+            for inventory, mode, expected in (
+                (no_secret, 0o600, "app secret: is missing"),
+                (Inventory(INVENTORY.entries, 19), 0o600, "margin: is 19 s, under four times the time-out of 5 s"),
+                (INVENTORY, 0o604, "others may read or write this file (mode 0604)"),
+            ):
+                room.write(inventory)
+                room.file.chmod(mode)
+                with self.assertRaises(SourceFault) as caught:
+                    room.service()
+                self.assertIn(expected, str(caught.exception))
+                self.assertNotIn("s.app", str(caught.exception))
+        self.in_room(work)
+
+
+class Sockets(unittest.TestCase):
+    """Clients of the control socket that mean no good, in real time."""
+
+    def test_garbage_silence_and_a_mebibyte(self) -> None:
+        folder = Path(tempfile.mkdtemp())
+        self.addCleanup(shutil.rmtree, folder, True)
+        path = folder / "control.sock"
+
+        async def handle(words: list[str]) -> list[str]:
+            return [" ".join(words)]
+
+        async def raw(data: bytes) -> bytes:
+            reader, writer = await asyncio.open_unix_connection(str(path))
+            writer.write(data)
+            try:
+                await writer.drain()
+                answer = await asyncio.wait_for(reader.read(), 5)
+            except (ConnectionError, OSError):
+                answer = b""
+            writer.close()
+            return answer
+
+        async def go() -> None:
+            server = ControlServer(path, None, handle)
+            await server.start()
+            self.assertEqual(path.stat().st_mode & 0o777, 0o660)
+            silent = [await asyncio.open_unix_connection(str(path)) for _ in range(CLIENTS_MOST - 1)]
+            for data in (b"need web\n", b"{}\n", b"[]\n", b"[1]\n", b"\xff\n", b"[" * 60_000 + b"\n"):
+                self.assertTrue((await raw(data)).startswith(b"error: one line of JSON"), data[:20])
+            await raw(b'"' + b"x" * (1 << 20))
+            answer = await asyncio.to_thread(send_command, path, ["need", "web", "+6h"])
+            self.assertEqual(answer, ["need web +6h"])
+            silent.append(await asyncio.open_unix_connection(str(path)))
+            self.assertEqual(await raw(b'["status"]\n'), b"")
+            for _, writer in silent:
+                writer.close()
+            await asyncio.sleep(0.1)
+            self.assertEqual(await raw(b'["status"]\n'), b"ok\nstatus\n")
+            server.stop()
+            with self.assertRaises(ControlFault):
+                await asyncio.to_thread(send_command, path, ["status"])
+        asyncio.run(go())
+
+
+if __name__ == "__main__":
+    unittest.main()

@@ -1,0 +1,141 @@
+"""Random scenarios: faults within the margin, one behind the other. Nothing that is needed may be lost.
+
+SCENARIOS=N python3 -m unittest tests.test_random_scenarios tries N of them; FIRST=S begins at seed S.
+"""
+
+from __future__ import annotations
+
+import os
+import random
+import unittest
+from dataclasses import dataclass
+from typing import Awaitable, Callable
+
+from leasekeepd_lib.inventory import Entry, Inventory, Kind
+
+from .model.stage import TIMEOUT, Stage
+from .model.vault import Act, Fault, about, both, lookups, renewals
+from .model.world import simulate
+
+BEGAN = 1_000_000
+SCENARIOS = int(os.environ.get("SCENARIOS", "60"))
+FIRST = int(os.environ.get("FIRST", "0"))
+
+
+@dataclass
+class Plot:
+    """One random scenario."""
+
+    chance: random.Random
+    margin: int
+    inventory: Inventory
+
+    @property
+    def bearable(self) -> float:
+        """The longest outage, kill or suspension that is promised to be survived."""
+        return self.margin - max(TIMEOUT + 3, self.margin / 4)
+
+
+def plot(seed: int) -> Plot:
+    chance = random.Random(seed)
+    margin = chance.choice((20, 40, 60, 120, 300))
+    entries: list[Entry] = []
+    tokens: list[str] = []
+    count = chance.randint(1, 16)
+    for place in range(count):
+        step = int(margin * chance.choice((2.0, 2.5, 4, 10)))
+        parent = chance.choice(tokens) if tokens and chance.random() < 0.5 else None
+        name = f"t{place}"
+        tokens.append(name)
+        left = chance.randint(margin + 15, step + 20) if step > margin + 15 else step
+        need = BEGAN + 30_000 if chance.random() < 0.8 else 0
+        entries.append(Entry(name, Kind.TOKEN, parent, BEGAN - 500, BEGAN + left, increment=step, max_ttl=900_000,
+                             need=need, credential=f"s.{name}"))
+    # An unneeded token over nothing that is needed may end: only what is needed counts.
+    for place in range(chance.randint(0, 10)):
+        step = int(margin * chance.choice((2.0, 3, 8)))
+        entries.append(Entry(f"l{place}", Kind.LEASE, chance.choice(tokens), BEGAN - 500,
+                             BEGAN + chance.randint(margin + 15, max(step, margin + 16)), increment=step,
+                             max_ttl=900_000, need=BEGAN + 30_000, credential=f"db/{place}"))
+    return Plot(chance, margin, Inventory(tuple(entries), margin))
+
+
+def happening(plot: Plot, stage: Stage) -> tuple[str, Callable[[float], Awaitable[None]]]:
+    """One thing that happens, at the present moment."""
+    chance = plot.chance
+    length = chance.uniform(1, plot.bearable)
+
+    def during(act: Act, status: int, on: object) -> Callable[[float], Awaitable[None]]:
+        async def act_it(now: float) -> None:
+            stage.vault.faults = [Fault(BEGAN + now, BEGAN + now + length, act, status, 0.0, on)]  # type: ignore
+        return act_it
+
+    async def killed(_now: float) -> None:
+        await stage.restart()
+
+    async def run_killed(_now: float) -> None:
+        stage.kill_run() if stage.launcher.runs else None
+
+    async def suspended(_now: float) -> None:
+        stage.world.suspended += length
+
+    async def jumped(_now: float) -> None:
+        stage.world.wall_ahead += chance.uniform(-4000, 4000)
+
+    async def dead_for_a_while(now: float) -> None:
+        await stage.stop()
+        await stage.world.until(BEGAN + now + length)
+        await stage.restart()
+    one = about(chance.choice([entry.name for entry in plot.inventory.entries]))
+    return chance.choice((
+        ("refuse", during(Act.REFUSE, 0, lambda request, name: True)),
+        ("hang", during(Act.HANG, 0, lambda request, name: True)),
+        ("500", during(Act.STATUS, 500, lambda request, name: True)),
+        ("403", during(Act.STATUS, 403, lambda request, name: True)),
+        ("403 renewals", during(Act.STATUS, 403, renewals)),
+        ("500 of one", during(Act.STATUS, 500, one)),
+        ("400 renewals of one", during(Act.STATUS, 400, both(one, renewals))),
+        ("500 lookups", during(Act.STATUS, 500, lookups)),
+        ("500 lookups of one", during(Act.STATUS, 500, both(one, lookups))),
+        ("hang renewals of one", during(Act.HANG, 0, both(one, renewals))),
+        ("drops renewals", during(Act.DROP, 0, renewals)),
+        ("killed", killed), ("run killed", run_killed), ("suspended", suspended), ("jumped", jumped),
+        ("dead for a while", dead_for_a_while),
+    ))
+
+
+async def act_out(seed: int) -> tuple[Stage, list[str]]:
+    plotted = plot(seed)
+    stage = Stage(plotted.inventory)
+    stage.vault.load(plotted.inventory)
+    stage.vault.tells_date = plotted.chance.random() < 0.5
+    stage.vault.latency = plotted.chance.choice((0.0, 0.0, 0.01, 0.1))
+    happened = []
+    now = 0.0
+    for _ in range(plotted.chance.randint(1, 5)):
+        now += plotted.chance.uniform(3 * plotted.margin, 8 * plotted.margin)
+        now = max(now, stage.world.now() - BEGAN + 2 * plotted.margin)
+        await stage.until(now)
+        words, act = happening(plotted, stage)
+        happened.append(f"{now:.1f} {words}")
+        await act(now)
+    await stage.finish(max(now, stage.world.now() - BEGAN) + 12 * plotted.margin)
+    return stage, happened
+
+
+def needed(stage: Stage) -> set[str]:
+    """The entries that are needed, by themselves or by one under them."""
+    return {name for name, need in stage.inventory.carried.items() if need}
+
+
+class RandomScenarios(unittest.TestCase):
+    def test_nothing_needed_is_lost(self) -> None:
+        for seed in range(FIRST, FIRST + SCENARIOS):
+            with self.subTest(seed=seed):
+                stage, happened = simulate(act_out(seed))
+                lost = [name for name in stage.lost() if name in needed(stage)]
+                self.assertEqual(lost, [], f"{happened}\n{stage.output.getvalue()[-3000:]}")
+
+
+if __name__ == "__main__":
+    unittest.main()
