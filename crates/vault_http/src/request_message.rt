@@ -6,8 +6,8 @@ ghost use Rattle.vault_http.specs.Starts.{IsStart, request_at};
 ghost use Rattle.httparse.specs.Grammar.{HasNoRequest};
 
 use crate::framing::{Framing, LengthFault};
-use crate::front::front_of;
-use crate::heads::{RequestFront, Start, request_head};
+use crate::first_bytes::front_of;
+use crate::found_head::{RequestFront, Start, request_head};
 use crate::message::{Head, Message};
 use crate::{HttpFault, Request};
 use http::Method;
