@@ -17,7 +17,7 @@ use Rattle.vault_http.specs.Heads.{FoundRequest, framing_of_request, token_of, I
 use Rattle.vault_http.specs.Messages.{IsOpenRequest, IsFramed, request_of, IsRequest, UnlessMemory}
 use Rattle.vault_http.specs.Starts.{IsStart, IsTokenWithin, request_at}
 use Rattle.vault_http.proofs.Fronts.{take-grows}
-use Rattle.vault_http.proofs.MessageLemmas.{ head_on, not_headless, not_length, not_body}
+use Rattle.vault_http.proofs.MessageLemmas.{head_on, not_headless, not_length, not_body}
 use Rattle.vault_http.specs.declared.found_head.TheConstants.{MOST_FIELDS}
 
 overflows_on : (front more : List ℕ) → RequestOverflows MOST_FIELDS front → RequestOverflows MOST_FIELDS (front ++ more)

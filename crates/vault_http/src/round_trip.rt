@@ -42,5 +42,4 @@ pub fn held_is_read(max: usize)
 pub fn http_limits_law()
     ensures fields { MOST_FIELDS ≡ 64 }
     ensures small { SMALL_HEAD ≡ 4096 }
-{
-}
+{}
