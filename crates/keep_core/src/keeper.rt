@@ -75,11 +75,9 @@ impl Keeper {
         self.last
     }
 
-    /// The forest, with the ends as told and the needs in force. Its contract also says what every keeper is: a round is open
-    /// since the last moment and waits for somebody, and the plan is in force whenever no round is open.
+    /// The forest, with the ends as told and the needs in force.
     pub fn forest(&self) -> &Forest
-        ensures value { result.now ≡ self.now.forest }
-        ensures state { IsState self.now }
+        ensures { result.now ≡ self.now.forest }
     {
         &self.forest
     }
@@ -91,9 +89,11 @@ impl Keeper {
         self.forest
     }
 
-    /// The moment of the open round, `None` where no round is open.
+    /// The moment of the open round, `None` where no round is open. The contract says beside it what every keeper is: a round is
+    /// open since the last moment and waits for somebody, and the plan is in force whenever no round is open.
     pub fn open_round(&self) -> Option<Moment>
-        ensures { result ≡ moment_of self.now.round }
+        ensures value { result ≡ moment_of self.now.round }
+        ensures state { IsState self.now }
     {
         match &self.round {
             None => None,
