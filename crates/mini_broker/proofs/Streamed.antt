@@ -33,7 +33,7 @@ pub left_by_sending :
 left_by_sending ends l after t (Ok x) before now count done = tt
 left_by_sending ends l after t (Err streams.ReadFailed) before now count done = elim count [ ]
 left_by_sending ends l after t (Err streams.WriteFailed) before now count done = done
-left_by_sending ends l after t (Err streams.OutOfMemory) before now count done = inr (inl done)
+left_by_sending ends l after t (Err streams.OutOfMemory) before now count done = inr done
 
 -- ---- what is sent may be sent
 
