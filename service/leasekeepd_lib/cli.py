@@ -4,6 +4,7 @@ from __future__ import annotations
 
 import argparse
 import asyncio
+import fcntl
 import os
 import random
 import signal
@@ -187,6 +188,9 @@ def _serve(arguments: argparse.Namespace) -> int:
         print(f"leasekeepd: {error.filename}: {error.strerror}", file=sys.stderr)
         return EXIT_FAULT
     try:
+        if _lock(arguments.state) is None:
+            print(f"leasekeepd: {arguments.state}: another leasekeepd serves with this state", file=sys.stderr)
+            return EXIT_FAULT
         return asyncio.run(_serve_until_told(arguments))
     except SourceFault as fault:
         print("\n".join(f"leasekeepd: {line}" for line in str(fault).splitlines()), file=sys.stderr)
@@ -195,6 +199,17 @@ def _serve(arguments: argparse.Namespace) -> int:
     except KeyError:
         print(f"leasekeepd: --group: no group is named {arguments.group}", file=sys.stderr)
     return EXIT_FAULT
+
+
+def _lock(folder: Path) -> int | None:
+    """Holds the state folder for this process alone, up to its end; None where another one holds it."""
+    handle = os.open(folder / "lock", os.O_RDWR | os.O_CREAT | os.O_CLOEXEC, 0o600)
+    try:
+        fcntl.flock(handle, fcntl.LOCK_EX | fcntl.LOCK_NB)
+    except BlockingIOError:
+        os.close(handle)
+        return None
+    return handle
 
 
 async def _serve_until_told(arguments: argparse.Namespace) -> int:
