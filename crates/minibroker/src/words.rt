@@ -36,11 +36,34 @@ pub struct Command {
     pub patience: u64,
 }
 
+/// A value of the command line.
+#[derive(Clone, Copy)]
+enum Value {
+    File,
+    Port,
+    Count,
+    Moment,
+    Seconds,
+}
+
+impl Value {
+    /// What a value that is not there, or not of its kind, is told.
+    fn mistake(self) -> &'static str {
+        match self {
+            Value::File => "FILE is missing",
+            Value::Port => "PORT is neither in 0..=65535 nor a path with a `/`",
+            Value::Count => "COUNT is not in 0..=1000000",
+            Value::Moment => "MOMENT is neither in 0..=253402300799 nor `-`",
+            Value::Seconds => "SECONDS is not in 1..=60",
+        }
+    }
+}
+
 /// Why the matches of a command line give no command.
-#[derive(Drop)]
+#[derive(Clone, Copy)]
 enum Unread {
     /// A value is not there, or is not of its kind.
-    Value(&'static str),
+    Value(Value),
     /// Memory was refused.
     Memory,
 }
@@ -80,7 +103,7 @@ pub fn read_command<R: Env + AllocGlobal + Print + Eprint, E: Sink>(
     };
     match command_of(alloc, &matches) {
         Ok(command) => Ok(command),
-        Err(Unread::Value(message)) => match mistake(alloc, message) {
+        Err(Unread::Value(value)) => match mistake(alloc, value.mistake()) {
             Ok(error) => Err(show(rt, &error, errors)),
             Err(_) => Err(Stop::Memory.report(alloc, PROGRAM, errors)),
         },
@@ -111,17 +134,20 @@ fn show<R: AllocGlobal + Print + Eprint, E: Sink>(rt: &R, error: &Error, errors:
 
 /// The command, with all its values. Behind this nothing asks for a value by its name.
 fn command_of(alloc: Global, matches: &ArgMatches<'_>) -> Result<Command, Unread> {
-    let file = matches.get_str("FILE").ok_or(Unread::Value("FILE is missing"))?;
-    let place = matches.get_str("PORT").ok_or(Unread::Value("PORT is missing"))?;
-    let moments = matches.get_str("MOMENT").ok_or(Unread::Value("MOMENT is missing"))?;
-    let count = matches.get_one::<u64>("COUNT").ok_or(Unread::Value("COUNT is missing"))?;
+    let file = matches.get_str("FILE").ok_or(Unread::Value(Value::File))?;
+    let place = matches.get_str("PORT").ok_or(Unread::Value(Value::Port))?;
+    let moments = matches.get_str("MOMENT").ok_or(Unread::Value(Value::Moment))?;
     Ok(Command {
         file: String::from_str(alloc, file)?,
         place: place_of(alloc, place)?,
-        count: u32::try_from(count).ok().ok_or(Unread::Value("COUNT is not in 0..=1000000"))?,
-        moments: moments_of(moments)?,
+        count: count_of(matches).ok_or(Unread::Value(Value::Count))?,
+        moments: moments_of(moments).ok_or(Unread::Value(Value::Moment))?,
         patience: patience_of(matches)?,
     })
+}
+
+fn count_of(matches: &ArgMatches<'_>) -> Option<u32> {
+    u32::try_from(matches.get_one::<u64>("COUNT")?).ok()
 }
 
 /// A word with a slash is a path, and every other one has to be a port.
@@ -131,23 +157,15 @@ fn place_of(alloc: Global, word: &str) -> Result<Place, Unread> {
     }
     match word.parse::<u16>() {
         Ok(port) => Ok(Place::Port(port)),
-        Err(_) => Err(Unread::Value(
-            "PORT is neither in 0..=65535 nor a path with a `/`",
-        )),
+        Err(_) => Err(Unread::Value(Value::Port)),
     }
 }
 
-fn moments_of(word: &str) -> Result<Moments, Unread> {
+fn moments_of(word: &str) -> Option<Moments> {
     if word == "-" {
-        return Ok(Moments::Lines);
+        return Some(Moments::Lines);
     }
-    let seconds = word.parse::<u64>().ok().and_then(|seconds| Moment::new(seconds));
-    match seconds {
-        Some(moment) => Ok(Moments::All(moment)),
-        None => Err(Unread::Value(
-            "MOMENT is neither in 0..=253402300799 nor `-`",
-        )),
-    }
+    Some(Moments::All(Moment::new(word.parse::<u64>().ok()?)?))
 }
 
 /// The time that is given, or the one that stands for it where it is absent. One that is given and unreadable is a fault.
@@ -155,6 +173,6 @@ fn patience_of(matches: &ArgMatches<'_>) -> Result<u64, Unread> {
     match matches.try_get_one::<u64>("timeout") {
         Ok(Some(seconds)) => Ok(seconds),
         Ok(None) => Ok(PATIENCE),
-        Err(_) => Err(Unread::Value("SECONDS is not in 1..=60")),
+        Err(_) => Err(Unread::Value(Value::Seconds)),
     }
 }
