@@ -374,6 +374,19 @@ class Refused(InRoom):
         self.in_room(work)
 
 
+class Learned(InRoom):
+    def test_what_was_learned_of_another_credential_is_forgotten(self) -> None:
+        async def work(room: Room) -> None:
+            service = room.service()
+            for name in ("app", "web"):
+                service.engine.book[name].at_ceiling = True
+            room.write(Inventory((INVENTORY.entries[0], token("web", BEGAN + 80_000, "s.newer")), 30))
+            service.reload()
+            self.assertTrue(service.engine.book["app"].at_ceiling)
+            self.assertFalse(service.engine.book["web"].at_ceiling)
+        self.in_room(work)
+
+
 class Files(InRoom):
     def test_the_last_good_file_is_kept_and_served(self) -> None:
         async def work(room: Room) -> None:
