@@ -93,7 +93,7 @@ pub record IsUnserved (ends : Ends) (l : Ledger) (t : ℕ) (after : Ledger) : Ty
   pub message : Result Request HttpFault
   pub left : ℕ
   pub unread : Option (List ℕ)
-  pub read : IfSome ends.remaining (λ bytes. Settles (IsRequest MOST_REQUEST) bytes unread ends.reads_left left message)
+  pub read : IfSome ends.remaining (λ bytes. SettlesRequest MOST_REQUEST bytes unread ends.reads_left left message)
   pub kept : Keeps unread ends.rest
   pub unwritten : Keeps ends.old ends.new
   pub wants : WantsMemory l t message after
