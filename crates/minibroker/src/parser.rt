@@ -39,11 +39,7 @@ fn minibroker<'a>(alloc: Global) -> Result<Command<'a>, AllocError> {
         .version("0.1.0")
         .about(ABOUT)
         .after_help(AFTER)
-        .arg(word(
-            alloc,
-            "FILE",
-            "The inventory, at most 1 MiB",
-        ))?
+        .arg(word(alloc, "FILE", "The inventory, at most 1 MiB"))?
         .arg(word(
             alloc,
             "PORT",
@@ -64,7 +60,9 @@ fn minibroker<'a>(alloc: Global) -> Result<Command<'a>, AllocError> {
             Arg::new(alloc, "timeout")
                 .long("timeout")
                 .value_name("SECONDS")
-                .help("How long one read or write of a connection may take, 1 to 60 seconds; 5 unless given")
+                .help(
+                    "How long one read or write of a connection may take, 1 to 60 seconds; 5 unless given",
+                )
                 .value_parser(clap::value_parser!(u64).range(1..=60)),
         )
 }

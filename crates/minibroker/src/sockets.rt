@@ -2,13 +2,12 @@ use crate::words::Command;
 use keep_device::{Counted, Sink, Source, write_all};
 use keep_report::Stop;
 use mini_broker::{LineFault, StreamFault, Table, next_moment};
-use std::fs;
-use std::io;
 use std::io::{Read, Write};
 use std::net::{IpAddr, Ipv4Addr, Net, OpenListener, OpenStream, SocketAddr, TcpListener};
 use std::os::unix::net::UnixListener;
 use std::rt::Files;
 use std::time::Duration;
+use std::{fs, io};
 
 /// Serves the connections to a port of 127.0.0.1, one after the other. Of port 0 a line tells which one the system chose.
 pub fn serve_port<R: AllocGlobal + Net, S: Source, E: Sink>(
@@ -22,7 +21,10 @@ pub fn serve_port<R: AllocGlobal + Net, S: Source, E: Sink>(
     let here = SocketAddr::new(IpAddr::V4(Ipv4Addr::LOCALHOST), port);
     let listener = TcpListener::bind(rt, here).map_err(|error| stop_of(&error))?;
     if port == 0 {
-        let chosen = listener.local_addr().map_err(|error| stop_of(&error))?.port();
+        let chosen = listener
+            .local_addr()
+            .map_err(|error| stop_of(&error))?
+            .port();
         let line = format!(in rt.alloc(); "listening 127.0.0.1:{chosen}\n")?;
         let _ = write_all(errors, line.as_bytes());
         let _ = errors.flush();

@@ -136,7 +136,9 @@ fn show<R: AllocGlobal + Print + Eprint, E: Sink>(rt: &R, error: &Error, errors:
 fn command_of(alloc: Global, matches: &ArgMatches<'_>) -> Result<Command, Unread> {
     let file = matches.get_str("FILE").ok_or(Unread::Value(Value::File))?;
     let place = matches.get_str("PORT").ok_or(Unread::Value(Value::Port))?;
-    let moments = matches.get_str("MOMENT").ok_or(Unread::Value(Value::Moment))?;
+    let moments = matches
+        .get_str("MOMENT")
+        .ok_or(Unread::Value(Value::Moment))?;
     Ok(Command {
         file: String::from_str(alloc, file)?,
         place: place_of(alloc, place)?,
