@@ -89,6 +89,7 @@ def _parser() -> argparse.ArgumentParser:
     dropped = commands.add_parser("drop", parents=[runtime], help="keep an entry no more")
     dropped.add_argument("name", metavar="NAME")
     commands.add_parser("status", parents=[runtime], help="show how each entry stands")
+    commands.add_parser("settle", parents=[runtime], help="write file and journal as one new file")
     linted = commands.add_parser("lint", help="tell every fault and doubt of an inventory, with its line")
     linted.add_argument("file", type=Path, metavar="FILE")
     linted.add_argument("--timeout", type=_timeout, default=5, metavar="SECONDS", help="the time-out of serve")
@@ -96,7 +97,6 @@ def _parser() -> argparse.ArgumentParser:
     found.add_argument("file", type=Path, metavar="LIST")
     found.add_argument("address", type=_address, metavar="PORT|SOCKET")
     found.add_argument("--timeout", type=_timeout, default=5, metavar="SECONDS")
-    commands.add_parser("settle", parents=[runtime], help="write file and journal as one new file")
     return parser
 
 
@@ -142,8 +142,13 @@ def _lint(arguments: argparse.Namespace) -> int:
     for finding in found:
         print(finding.text(str(arguments.file)))
     faults, doubts = kinds_of(found)
-    print(f"{arguments.file}: {faults} faults, {doubts} doubts", file=sys.stderr)
+    sys.stdout.flush()
+    print(f"{arguments.file}: {_count(faults, 'fault')}, {_count(doubts, 'doubt')}", file=sys.stderr)
     return EXIT_FAULT if faults else 0
+
+
+def _count(number: int, word: str) -> str:
+    return f"{number} {word}" if number == 1 else f"{number} {word}s"
 
 
 def _inventory(arguments: argparse.Namespace) -> int:

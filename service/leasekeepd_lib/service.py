@@ -79,7 +79,7 @@ class Service:
             self._tell_fault(fault)
             self._log.alert("file", "is faulty: the last good copy is served")
             self._file = copy
-        self.engine.inventory = self._with_journal()
+        self.engine.take(self._with_journal())
 
     def reload(self) -> None:
         """Reads the file anew, as SIGHUP asks; a faulty one is refused and the old run goes on."""
@@ -90,7 +90,7 @@ class Service:
             self._log.alert("file", "is faulty: it is not taken, the old one is kept to")
             return
         self._keep_copy()
-        self.engine.inventory = self._with_journal()
+        self.engine.take(self._with_journal())
         self.engine.inbox.begin("the file was read anew")
 
     def _tell_fault(self, fault: SourceFault) -> None:
@@ -178,7 +178,7 @@ class Service:
         """Writes a change, and makes it within five seconds."""
         changed = apply_judged(self.engine.inventory, change)
         self._around.journal.add(change)
-        self.engine.inventory = changed
+        self.engine.take(changed)
         self._log.info(change.what.value, change.name)
         self._begin_soon(f"{change.what.value} {change.name}")
         return []
@@ -198,7 +198,7 @@ class Service:
         self._around.journal.add(change)
         self._log.info("need", name, date_text(until))
         if self._soon is not None or not self.engine.change_need(changed, name, until):
-            self.engine.inventory = changed
+            self.engine.take(changed)
             self._begin_soon(f"need {name}")
         return [f"{name} is needed until {date_text(until)}"]
 
@@ -215,7 +215,6 @@ class Service:
         if heard.facts is not None and heard.facts.never_ends:
             raise ChangeFault(f"it never ends (ttl 0) and needs no keeping: {name} keeps the old one")
         self._change(self._described(change))
-        self.engine.book.forget(name)
         return [] if heard.verdict is Verdict.GOOD else [f"it could not be looked up ({heard.why}), and is taken"]
 
     def _add(self, table: str) -> list[str]:

@@ -78,6 +78,22 @@ class DyingStorage(Storage):
         super()._sync_folder(folder)
 
 
+class WatchedStorage(Storage):
+    """Counts what is written and not yet synced."""
+
+    def __init__(self) -> None:
+        self.writes = self.unsynced = 0
+
+    def _write(self, handle: int, data: bytes) -> int:
+        self.writes += 1
+        self.unsynced += 1
+        return super()._write(handle, data)
+
+    def _sync(self, handle: int) -> None:
+        super()._sync(handle)
+        self.unsynced = 0
+
+
 class FullStorage(Storage):
     """A disk that is full behind some bytes."""
 
@@ -191,6 +207,9 @@ class Journals(InRoom):
                         wanted = await self.next_state(room, states[-1], command)
                         self.assertIn(after, (states[-1], wanted), f"step {steps}, {command}")
                         self.assertEqual(room.state(), after)
+                        # What is changed behind the kill holds too.
+                        await room.service().command(["need", "app", "1033333"])
+                        self.assertEqual(room.state(), {**after, "app": (1_033_333, after["app"][1])})
                         break
                     states.append(meaning(service.engine.inventory))
                     self.assertEqual(after, states[-1])
@@ -214,6 +233,33 @@ class Journals(InRoom):
             case ["drop", name]:
                 return {other: value for other, value in state.items() if other != name}
         return state
+
+    def test_each_change_is_synced_before_it_is_acknowledged(self) -> None:
+        async def work(room: Room) -> None:
+            storage = WatchedStorage()
+            service = room.service(storage)
+            for command in (["need", "app", "1040000"], ["add", TABLE], ["settle"], ["drop", "web"]):
+                await service.command(command)
+                self.assertEqual(storage.unsynced, 0, command)
+            self.assertGreater(storage.writes, 5)
+        self.in_room(work)
+
+    def test_a_kill_between_the_writes_of_settle_is_not_even_noted(self) -> None:
+        async def work(room: Room) -> None:
+            await room.service().command(["need", "app", "1040000"])
+            await room.service().command(["need", "app", "1050000"])
+            storage = DyingStorage(1_000)
+            service = room.service(storage)
+            storage.left = 7  # The mark (write, sync), the file (write, sync, rename, sync), one of the journal's.
+            with self.assertRaises(Killed):
+                await service.command(["settle"])
+            self.assertGreater(len((room.folder / "journal").read_bytes()), 0)
+            settled = read_inventory(room.file.read_bytes()).inventory or Inventory()
+            self.assertEqual(meaning(settled)["app"][0], 1_050_000)
+            room.output.truncate(0)
+            self.assertEqual(room.state(), meaning(settled))
+            self.assertNotIn("note", room.output.getvalue())
+        self.in_room(work)
 
     def test_a_moment_stands_in_the_journal_and_never_a_length(self) -> None:
         async def work(room: Room) -> None:
@@ -371,6 +417,19 @@ class Refused(InRoom):
             self.assertIn("need app 1085000", room.launcher.runs[-1].events)
             task.cancel()
             await asyncio.gather(task, return_exceptions=True)
+        self.in_room(work)
+
+
+class Learned(InRoom):
+    def test_what_was_learned_of_another_credential_is_forgotten(self) -> None:
+        async def work(room: Room) -> None:
+            service = room.service()
+            for name in ("app", "web"):
+                service.engine.book[name].at_ceiling = True
+            room.write(Inventory((INVENTORY.entries[0], token("web", BEGAN + 80_000, "s.newer")), 30))
+            service.reload()
+            self.assertTrue(service.engine.book["app"].at_ceiling)
+            self.assertFalse(service.engine.book["web"].at_ceiling)
         self.in_room(work)
 
 
