@@ -1,2 +1,5 @@
 pub mod ReadBack
 pub mod Carried
+pub mod Lengths
+pub mod Answered
+pub mod Sendable
