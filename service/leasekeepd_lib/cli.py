@@ -7,6 +7,7 @@ import asyncio
 import os
 import random
 import signal
+import stat
 import sys
 from pathlib import Path
 from typing import Sequence
@@ -14,10 +15,12 @@ from typing import Sequence
 from .broker import Broker
 from .clock import SystemClock
 from .control import ControlFault, ControlServer, send_command
+from .discover import DiscoverFault, discover, read_short_list
 from .engine import Parts
 from .events import Alerts, Log
 from .http_client import Address, HttpTransport
 from .journal import Journal
+from .lint import kinds_of, lint
 from .notify import Notifier
 from .run_process import ProcessLauncher
 from .service import Service, Surroundings
@@ -27,6 +30,8 @@ from .storage import Storage
 EXIT_FAULT = 1
 EXIT_COMMAND_LINE = 2
 STDIN_MOST = 65536
+SOCKET = "control.sock"
+SYSTEM_RUNTIME = Path("/run/leasekeepd")
 
 
 def _folder(variable: str, otherwise: str) -> Path:
@@ -37,6 +42,13 @@ def _folder(variable: str, otherwise: str) -> Path:
 def _runtime_folder() -> Path:
     own = os.environ.get("XDG_RUNTIME_DIR", "/run")
     return _folder("RUNTIME_DIRECTORY", f"{own}/leasekeepd")
+
+
+def _socket(arguments: argparse.Namespace) -> Path:
+    """The control socket of the service that a command is for."""
+    own = (arguments.runtime or _runtime_folder()) / SOCKET
+    of_the_system = SYSTEM_RUNTIME / SOCKET
+    return of_the_system if arguments.runtime is None and not own.exists() and of_the_system.exists() else own
 
 
 def _state_folder() -> Path:
@@ -62,8 +74,9 @@ def _parser() -> argparse.ArgumentParser:
         prog="leasekeepd", description="Keeps Vault tokens and leases alive: drives `leasekeep run` in real time.")
     commands = parser.add_subparsers(dest="command", required=True, metavar="COMMAND")
     runtime = argparse.ArgumentParser(add_help=False)
-    runtime.add_argument("--runtime", type=Path, metavar="FOLDER", default=_runtime_folder(),
-                         help="folder of the control socket (default: %(default)s)")
+    runtime.add_argument("--runtime", type=Path, metavar="FOLDER",
+                         help=f"folder of the control socket (default: {_runtime_folder()}, and for commands"
+                         f" {SYSTEM_RUNTIME} where that has a socket and the other has none)")
     _add_serve(commands, runtime)
     need = commands.add_parser("need", parents=[runtime], help="change until when an entry is needed")
     need.add_argument("name", metavar="NAME")
@@ -75,6 +88,13 @@ def _parser() -> argparse.ArgumentParser:
     dropped = commands.add_parser("drop", parents=[runtime], help="keep an entry no more")
     dropped.add_argument("name", metavar="NAME")
     commands.add_parser("status", parents=[runtime], help="show how each entry stands")
+    linted = commands.add_parser("lint", help="tell every fault and doubt of an inventory, with its line")
+    linted.add_argument("file", type=Path, metavar="FILE")
+    linted.add_argument("--timeout", type=_timeout, default=5, metavar="SECONDS", help="the time-out of serve")
+    found = commands.add_parser("inventory", help="make an inventory of a short list and lookups at the broker")
+    found.add_argument("file", type=Path, metavar="LIST")
+    found.add_argument("address", type=_address, metavar="PORT|SOCKET")
+    found.add_argument("--timeout", type=_timeout, default=5, metavar="SECONDS")
     commands.add_parser("settle", parents=[runtime], help="write file and journal as one new file")
     return parser
 
@@ -103,7 +123,41 @@ def main(words: Sequence[str] | None = None) -> int:
     arguments = _parser().parse_args(words)
     if arguments.command == "serve":
         return _serve(arguments)
+    if arguments.command == "lint":
+        return _lint(arguments)
+    if arguments.command == "inventory":
+        return _inventory(arguments)
     return _client(arguments)
+
+
+def _lint(arguments: argparse.Namespace) -> int:
+    try:
+        data = arguments.file.read_bytes()
+        mode = stat.S_IMODE(arguments.file.stat().st_mode)
+    except OSError as error:
+        print(f"leasekeepd: lint: {arguments.file}: {error.strerror}", file=sys.stderr)
+        return EXIT_COMMAND_LINE
+    found = lint(data, mode, arguments.timeout, SystemClock().wall())
+    for finding in found:
+        print(finding.text(str(arguments.file)))
+    faults, doubts = kinds_of(found)
+    print(f"{arguments.file}: {faults} faults, {doubts} doubts", file=sys.stderr)
+    return EXIT_FAULT if faults else 0
+
+
+def _inventory(arguments: argparse.Namespace) -> int:
+    clock = SystemClock()
+
+    async def discovered() -> str:
+        broker = Broker(HttpTransport(arguments.address), clock, arguments.timeout)
+        return await discover(broker, clock, read_short_list(arguments.file))
+    try:
+        sys.stdout.write(asyncio.run(discovered()))
+    except DiscoverFault as fault:
+        for line in str(fault).splitlines():
+            print(f"leasekeepd: inventory: {line}", file=sys.stderr)
+        return EXIT_FAULT
+    return 0
 
 
 def _client(arguments: argparse.Namespace) -> int:
@@ -116,7 +170,7 @@ def _client(arguments: argparse.Namespace) -> int:
         text = sys.stdin.read(STDIN_MOST)
         words.append(text.strip() if arguments.command == "replace" else text)
     try:
-        for line in send_command(arguments.runtime / "control.sock", words):
+        for line in send_command(_socket(arguments), words):
             print(line)
     except ControlFault as fault:
         print(f"leasekeepd: {arguments.command}: {fault}", file=sys.stderr)
@@ -125,6 +179,7 @@ def _client(arguments: argparse.Namespace) -> int:
 
 
 def _serve(arguments: argparse.Namespace) -> int:
+    arguments.runtime = arguments.runtime or _runtime_folder()
     try:
         for folder in (arguments.state, arguments.runtime):
             folder.mkdir(mode=0o750, parents=True, exist_ok=True)
@@ -145,7 +200,7 @@ def _serve(arguments: argparse.Namespace) -> int:
 async def _serve_until_told(arguments: argparse.Namespace) -> int:
     service = build(arguments)
     service.load()
-    control = ControlServer(arguments.runtime / "control.sock", arguments.group, service.command)
+    control = ControlServer(arguments.runtime / SOCKET, arguments.group, service.command)
     await control.start()
     loop = asyncio.get_running_loop()
     work = asyncio.create_task(service.serve())
@@ -171,5 +226,5 @@ def build(arguments: argparse.Namespace) -> Service:
                     arguments.names_are_secrets, storage)
     surroundings = Surroundings(
         source, Journal(arguments.state / "journal", storage), Notifier(os.environ), storage, arguments.metrics,
-        Alerts(arguments.alert) if arguments.alert else None)
+        Alerts(arguments.alert, clock) if arguments.alert else None)
     return Service(surroundings, Parts(clock, broker, launcher, log, random.Random()))

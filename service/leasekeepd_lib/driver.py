@@ -21,6 +21,8 @@ LOOK_AT_CLOCKS = 30.0
 TRIES_BEFORE_PROBE = 3
 AGAIN_AFTER_REFUSAL = 1.0
 AGAIN_AFTER_SHORT_GRANT = 3.0
+BEHIND = 0.002
+"""Seconds behind a moment at which it is handed in: what rounding takes off must not make it early."""
 QUIET = 10.0
 """Seconds before a wake-up within which no beginning is made that can wait."""
 DAY_LATEST = DAY + 3600.0
@@ -142,7 +144,11 @@ class Driver:
                 inventory.mapped(lambda entry: replace(entry, need=until) if entry.name == name else entry)
                 for inventory in (self._kept, self._wanted))
             answer = await self._link.hand_in(f"need {name} {until}")
-            self._take_shorts(answer)
+            if any(cut == name for cut, _ in answer.shorts):
+                # It may live longer than the run knows: lookups tell.
+                self._inbox.begin(f"need {name} is past what was told of it")
+            else:
+                self._take_shorts(answer)
         return await self._hand_in(self._last_moment)
 
     async def _hand_in(self, moment: int) -> Due | None:
@@ -162,7 +168,7 @@ class Driver:
         return self._due_at(answer.next_wake)
 
     def _due_at(self, moment: int) -> Due:
-        return Due(moment, self._run_clock.elapsed_at(moment))
+        return Due(moment, self._run_clock.elapsed_at(moment) + BEHIND)
 
     async def _due_again(self, moment: int, answer: Answer) -> Due:
         """A round that told its own moment as the next (rule 11)."""

@@ -61,20 +61,28 @@ class Log:
 
 ALERT_SECONDS = 30.0
 ALERTS_WAITING = 1000
+SAME_AGAIN = 600.0
+"""Seconds within which the same words are alerted once."""
 
 
 class Alerts:
-    """Runs a program with the words of each warning: one at a time, half a minute at most each."""
+    """Runs a program with the words of each warning: one at a time, half a minute at most each, the same words once
+    in ten minutes."""
 
-    def __init__(self, program: str) -> None:
-        self._program = program
+    def __init__(self, program: str, clock: Clock) -> None:
+        self._program, self._clock = program, clock
+        self._told: dict[str, float] = {}
         self._waiting: deque[str] = deque(maxlen=ALERTS_WAITING)
         self._came = asyncio.Event()
 
     def hear(self, level: Level, text: str) -> None:
-        if level.is_alerted:
-            self._waiting.append(text)
-            self._came.set()
+        now = self._clock.elapsed()
+        if not level.is_alerted or now - self._told.get(text, -SAME_AGAIN) < SAME_AGAIN:
+            return
+        self._told = {words: told for words, told in self._told.items() if now - told < SAME_AGAIN}
+        self._told[text] = now
+        self._waiting.append(text)
+        self._came.set()
 
     async def serve(self) -> None:
         """Runs until it is cancelled."""

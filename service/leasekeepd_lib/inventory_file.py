@@ -17,6 +17,8 @@ from .rfc3339 import read_rfc3339
 LIMIT = 1 << 20
 NAME = re.compile(r"[A-Za-z0-9\-_./]{1,64}", re.ASCII)
 CREDENTIAL = re.compile(r"[!-~]{1,256}", re.ASCII)
+TOKEN_VALUE = re.compile(r"(hvs|hvb|hvr|s|b)\.[A-Za-z0-9_\-]{8,}", re.ASCII)
+"""What the values of Vault's tokens look like."""
 _TABLE = re.compile(r"\s*\[\[\s*[\"']?(token|lease)[\"']?\s*\]\]")
 _KEY = re.compile(r"\s*[\"']?([A-Za-z0-9_-]+)[\"']?\s*=")
 _MOMENT = 'a whole number of seconds since 1970, or a date such as "2026-11-22T09:00:00Z"'
@@ -27,6 +29,11 @@ KEYS = {
     Kind.LEASE: (*_COMMON, "token", "lease_id"),
 }
 _TOP = ("system_max", "margin", "token", "lease")
+
+
+def shown(name: str) -> str:
+    """The name, unless it might be a token's value."""
+    return "(a name like a token's value)" if TOKEN_VALUE.fullmatch(name) else name
 
 
 @dataclass
@@ -82,8 +89,8 @@ class _Table:
     def __init__(self, reading: Reading, kind: Kind | None, place: int, values: dict[str, Any]) -> None:
         self.reading, self.kind, self.place, self.values = reading, kind, place, values
         named = values.get("name")
-        self.label = named if isinstance(named, str) and NAME.fullmatch(named) else (
-            f"{kind.value} {place + 1}" if kind else "")
+        is_name = isinstance(named, str) and NAME.fullmatch(named) is not None
+        self.label = shown(named) if is_name else f"{kind.value} {place + 1}" if kind else ""
 
     def fault(self, key: str, problem: str, mend: str) -> None:
         line = self.reading.lines.of_key(self.kind, self.place, key)
@@ -116,6 +123,8 @@ def _hint(value: Any) -> str:
         return f"durations are whole seconds without quotes: write {seconds}"
     if isinstance(value, str) and value.isascii() and value.isdigit():
         return "write it without quotes"
+    if type(value) is int and value > LAST and value // 1000 <= LAST:
+        return f"are these milliseconds? write {value // 1000}"
     return "mend the value"
 
 
@@ -241,7 +250,7 @@ def _judge_tree(reading: Reading, inventory: Inventory) -> None:
     for entry in inventory.entries:
         for key, problem, mend in _tree_faults(inventory, entry, seen, depth, credentials):
             line = reading.line_of(entry.name, key)
-            reading.findings.append(Finding(Severity.FAULT, line, entry.name, key, problem, mend))
+            reading.findings.append(Finding(Severity.FAULT, line, shown(entry.name), key, problem, mend))
         depth.setdefault(entry.name, depth.get(entry.parent or "", 0) + 1)
         seen.setdefault(entry.name, entry)
         credentials.add((entry.kind, entry.secret))
@@ -262,7 +271,8 @@ def _tree_faults(
         faults.append((key, "names a lease", "name the lease's token"))
     if entry.step <= inventory.margin:
         what = "period" if entry.period else "increment"
-        faults.append((what, f"is not greater than the margin of {inventory.margin} s", "ask for more, or lower margin"))
+        problem = f"is not greater than the margin of {inventory.margin} s"
+        faults.append((what, problem, "ask for more, or lower margin"))
     ceiling = inventory.ceiling(entry, entry.issued, entry.period, entry.explicit_max_ttl)
     if ceiling is not None and ceiling > END_MAX:
         faults.append(("max_ttl", "leads past the last moment", "lower it"))

@@ -67,6 +67,9 @@ class ProcessRun:
             line = await self._out.readuntil(b"\n")
         except (asyncio.IncompleteReadError, asyncio.LimitOverrunError):
             return None
+        finally:
+            # Its first line shows that it has read its inventory, which holds secrets.
+            self._inventory.unlink(missing_ok=True)
         return line[:-1].decode("ascii", "replace")
 
     async def write_line(self, line: str) -> None:
@@ -122,4 +125,7 @@ class ProcessLauncher:
         except OSError as error:
             path.unlink(missing_ok=True)
             raise LaunchFault(f"cannot start {self.program}: {error.strerror}") from None
+        except asyncio.CancelledError:
+            path.unlink(missing_ok=True)
+            raise
         return ProcessRun(process, path)

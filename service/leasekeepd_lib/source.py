@@ -8,7 +8,7 @@ from pathlib import Path
 
 from .findings import Finding, Severity
 from .inventory import Inventory, Kind
-from .inventory_file import Reading, read_inventory
+from .inventory_file import Reading, read_inventory, shown
 from .storage import Storage
 
 TIMEOUTS_IN_MARGIN = 4
@@ -69,7 +69,7 @@ def refusals(reading: Reading, timeout: int, names_are_secrets: bool, mode: int)
     found = []
 
     def refuse(name: str, key: str, problem: str, mend: str) -> None:
-        found.append(Finding(Severity.FAULT, reading.line_of(name, key), name, key, problem, mend))
+        found.append(Finding(Severity.FAULT, reading.line_of(name, key), shown(name), key, problem, mend))
     if mode & (stat.S_IROTH | stat.S_IWOTH):
         refuse("", "", f"others may read or write this file (mode {mode:04o})", "chmod o-rwx it: it holds secrets")
     inventory = reading.inventory

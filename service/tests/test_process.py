@@ -13,23 +13,12 @@ import unittest
 from pathlib import Path
 
 from leasekeepd_lib.inventory import Entry, Inventory, Kind, inventory_text
+from trial.programs import find_program
 
 from .model.server import RealWorld, VaultServer
-from .model.vault import Secret, Vault
+from .model.vault import Vault
 
 SERVICE = Path(__file__).resolve().parents[1]
-SCRIPTED = SERVICE / "tests" / "scripted_leasekeep"
-
-
-def built_leasekeep() -> str | None:
-    """A built `leasekeep` that has the command `run`; None where there is none."""
-    built = SERVICE.parent / "crates" / "leasekeep" / "out" / "leasekeep"
-    for program in (os.environ.get("LEASEKEEP"), str(built), shutil.which("leasekeep")):
-        if program and Path(program).exists():
-            shown = subprocess.run([program, "run", "--help"], capture_output=True, text=True, timeout=10)
-            if shown.returncode == 0 and "PORT" in shown.stdout:
-                return program
-    return None
 
 
 class Daemon:
@@ -90,7 +79,7 @@ class Process(unittest.TestCase):
         vault.load(self.inventory)
         self.server = VaultServer(vault).start()
         self.addCleanup(self.server.stop)
-        self.program = str(SCRIPTED)
+        self.program = find_program("leasekeep") or str(SERVICE / "tests" / "scripted_leasekeep")
 
     def daemon(self, *more: str, environment: dict[str, str] | None = None) -> Daemon:
         daemon = Daemon(self.folder, self.inventory, self.server.word, self.program, *more, environment=environment)
@@ -122,7 +111,7 @@ class Process(unittest.TestCase):
         wrong = daemon.command("need", "nobody", "+6h")
         self.assertEqual((wrong.returncode, wrong.stderr), (1, "leasekeepd: need: no entry is named nobody\n"))
         self.assertIn('leasekeepd_end_seconds{entry="db"}', metrics.read_text())
-        time.sleep(4)
+        time.sleep(2)
         self.assert_alive()
         self.assertEqual(daemon.terminate(), 0)
         for secret in ("s.app-secret", "db/creds/1"):
@@ -176,15 +165,6 @@ class Process(unittest.TestCase):
         daemon = self.daemon()
         daemon.wait_for("alert: file is faulty: the last good copy is served")
         daemon.wait_for("sleep", times=2)
-
-
-@unittest.skipIf(built_leasekeep() is None, "no built leasekeep with the command `run` (LEASEKEEP, crates, PATH)")
-class BuiltProcess(Process):
-    """The same with the built program."""
-
-    def setUp(self) -> None:
-        super().setUp()
-        self.program = built_leasekeep() or ""
 
 
 if __name__ == "__main__":

@@ -207,7 +207,7 @@ class Retries(Scenario):
     def test_11_no_answer_lost(self) -> None:
         async def scene(stage: Stage) -> None:
             await stage.finish(150)
-        self.play(fleet(1, 600, 60, 200), scene, {"e0": {"ceiling": BEGAN + 200}})
+        self.play(fleet(1, 600, 60, 200), scene, {"e0": {"ceiling": BEGAN + 200.5}})
         self.assertEqual(self.stage.launcher.runs[0].events, [tick(0), tick(140), tick(141)])
 
     def test_11_some_lost_while_the_broker_answers(self) -> None:

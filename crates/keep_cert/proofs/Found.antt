@@ -15,10 +15,11 @@ use Rattle.keep_tree.proofs.Entries.{index_named_within}
 use Rattle.keep_cert.specs.declared.fault.CertFault.{CertFault}
 use Rattle.keep_cert.specs.Answers.{◌>>=◌}
 use Rattle.keep_cert.specs.CertificateText.{line_text, name_of}
-use Rattle.keep_cert.specs.Numbers.{is_spelled, number_at, number_of}
-use Rattle.keep_cert.specs.Pieces.{cut_off, keyword, line_at, pieces, two, three, four, six, two_words, three_words, four_words, six_words}
+use Rattle.keep_cert.specs.Lines.{cut_off, four_words, line_at, number_at, six_words, three_words, two_words}
+use Rattle.keep_words.specs.Numbers.{number_up_to}
+use Rattle.keep_words.proofs.Numbers as numbers
+use Rattle.keep_words.specs.Pieces.{keyword, pieces, two, three, four, six}
 use Rattle.keep_cert.specs.Reading.{entry_named}
-use Rattle.keep_cert.proofs.Digits.{own}
 
 -- a step that gives a value had one from the step before
 pub step_ok : {A B P : Type 0} (r : Result A CertFault) (f : A → Result B CertFault) (y : B) → (r >>= f) ≡ Ok y → ((x : A) → r ≡ Ok x → f x ≡ Ok y → P) → P
@@ -74,28 +75,13 @@ line_from_words line ws e = ap (λ l. l ++ 10 ∷ []) (sym (join_with_byte-slice
 pub keyword_is : (line word first : List ℕ) (ws : List (List ℕ)) → pieces 32 line ≡ first ∷ ws → bytes_eq (keyword line) word ≡ true → first ≡ word
 unfolding keyword
 keyword_is line word first ws e key =
-    sym (ap (λ l. Rattle.keep_cert.specs.Pieces.first l) e) ∙ (bytes_decides (keyword line) word).0 key
+    sym (ap (λ l. Rattle.keep_words.specs.Pieces.first l) e) ∙ (bytes_decides (keyword line) word).0 key
 
 -- ---- numbers
 
-chosen : {A : Type 0} (b : Bool) (x y : A) → (if b then Some x else None) ≡ Some y → (b ≡ true) × (x ≡ y)
-chosen true x y e = (refl, cc)
-chosen false x y e = cc
-
-first_digit : (text : List ℕ) → (not (get_or text 0 0 == 48) || (length text == 1)) ≡ true → get_or text 0 0 ≡ 48 → length text ≡ 1
-first_digit text e zero_first =
-    ⊎_elim (λ t. let no : not (get_or text 0 0 == 48) ≡ false = rw zero_first refl in cc) (λ t. eqb-true _ _ t) (or_cases (not (get_or text 0 0 == 48)) (length text == 1) e)
-
 pub number_spelled : (n : ℕ) (word : List ℕ) (k : ℕ) → number_at n word ≡ Ok k → (word ≡ decimal k) × (k ≤ LAST)
-unfolding number_at number_of is_spelled
-number_spelled n word k e =
-    let v = digits_value 10 word in
-    let h = chosen _ v k (some_from_ok (number_of word) _ k e) in
-    let p = and_parts (is_spelled word) (nat_le v LAST) h.0 in
-    let q = and_parts (list_all is_ascii_digit word) _ p.0 in
-    let r = and_parts (nat_lt 0 (length word)) _ q.1 in
-    let small : v ≤ LAST = leb-true _ _ p.1 in
-    (sym (decimal-digits_value own word q.0 (ltb-true _ _ r.0) (first_digit word r.1) (omega (arith, small))) ∙ ap decimal h.1, subst (λ x. x ≤ LAST) h.1 small)
+unfolding number_at
+number_spelled n word k e = numbers.number_spelled LAST (omega arith) word k (some_from_ok (number_up_to LAST word) _ k e)
 
 -- ---- names
 

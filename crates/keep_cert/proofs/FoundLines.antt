@@ -9,8 +9,8 @@ use Rattle.keep_cert.specs.declared.cert.Version.TheVariants.{One, Two}
 use Rattle.keep_rule.specs.declared.limit.TheConstants.{LIMIT}
 use Rattle.keep_cert.specs.declared.fault.CertFault.{CertFault}
 use Rattle.keep_cert.specs.CertificateText.{IsRun, end_text, name_of, run_text}
-use Rattle.keep_cert.specs.Numbers.{number_at}
-use Rattle.keep_cert.specs.Pieces.{four, four_words, keyword, pieces, six, six_words, two, two_words}
+use Rattle.keep_cert.specs.Lines.{four_words, number_at, six_words, two_words}
+use Rattle.keep_words.specs.Pieces.{four, keyword, pieces, six, two}
 use Rattle.keep_cert.specs.Reading.{end_of_runs, ending, entry_named, is_run, nothing_behind, right, run_keyword, run_line, run_of, wake_of}
 use Rattle.keep_cert.proofs.Found.{entry_found, four_is, keyword_is, line_from_words, number_spelled, six_is, some_from_ok, step_ok, two_is}
 use Rattle.keep_cert.proofs.Turns.{ok_same}

@@ -21,7 +21,8 @@ use Rattle.keep_cert.specs.declared.fault.CertFault.TheVariants.{BadHeader}
 use Rattle.keep_cert.specs.Answers.{Gives}
 use Rattle.keep_rule.specs.Runs.{counted}
 use Rattle.keep_cert.specs.CertificateText.{AreRuns, CanBeWritten, IsAmong, IsBody, IsRun, Writes, body_text, certificate_text, end_text, header_text, name_of, run_text, start_text, unkeepable_text}
-use Rattle.keep_cert.specs.Pieces.{keyword, line_at, lines, pieces, three, three_words, two, two_words}
+use Rattle.keep_words.specs.Pieces.{keyword, pieces, three, two}
+use Rattle.keep_cert.specs.Lines.{line_at, lines, three_words, two_words}
 use Rattle.keep_cert.specs.Reading.{body_of, certificate_of, ending, entry_named, header_of, nothing_behind, run_keyword, run_line, runs_of, start_of, unkeepable_of, version_of}
 use Rattle.keep_cert.proofs.Found.{entry_found, keyword_is, line_from_words, number_spelled, some_from_ok, step_ok, three_is, two_is}
 use Rattle.keep_cert.proofs.FoundLines.{RoomFor, end_found, if_ok, nothing_found, run_line_found}

@@ -1,6 +1,5 @@
 pub mod Answering
 pub mod Cutting
-pub mod Digits
 pub mod Turns
 pub mod Found
 pub mod FoundLines

@@ -18,33 +18,16 @@ use Rattle.keep_cert.specs.declared.cert.Version.TheVariants.{One, Two}
 use Rattle.keep_rule.specs.declared.limit.TheConstants.{LIMIT}
 use Rattle.keep_cert.specs.declared.fault.CertFault.TheVariants.{BadLine, BadNumber, UnknownName}
 use Rattle.keep_cert.specs.CertificateText.{IsRun, line_text, name_of, run_text}
-use Rattle.keep_cert.specs.Numbers.{is_spelled, number_at, number_of}
-use Rattle.keep_cert.specs.Pieces.{four, four_words, keyword, six, six_words}
+use Rattle.keep_cert.specs.Lines.{four_words, number_at, six_words}
+use Rattle.keep_words.proofs.Numbers as numbers
+use Rattle.keep_words.specs.Pieces.{four, keyword, six}
 use Rattle.keep_cert.specs.Reading.{entry_named, is_run, right, run_keyword, run_line, run_of, wake_of}
-use Rattle.keep_cert.proofs.Digits.{own}
 use Rattle.keep_cert.proofs.Turns.{value_on}
 use Rattle.keep_cert.proofs.Words.{AreWords, IsWord, decimal_is_word, keyword_back, keyword_test, name_is_word, words_back}
 
-one_zero : (k : ℕ) → k < 2 ^ 64 → (not (get_or (decimal k) 0 0 == 48) || (length (decimal k) == 1)) ≡ true
-one_zero k small =
-    elim (cases_eq k 0) [
-      | inl zero_is ↦
-          let alone : length (decimal k) ≡ 1 = ap length (decimal_digit k (omega (arith, zero_is))) in
-          or_right (not (get_or (decimal k) 0 0 == 48)) _ (eq-eqb _ _ alone)
-      | inr some ↦
-          let front = first_decimal k (omega (arith, some)) small in
-          or_left (not (get_or (decimal k) 0 0 == 48)) (length (decimal k) == 1) (not_from_false (get_or (decimal k) 0 0 == 48) (ne_eqb (get_or (decimal k) 0 0) 48 (λ e. omega (arith, e, front))))
-    ]
-
 pub number_back : (n k : ℕ) → k ≤ LAST → number_at n (decimal k) ≡ Ok k
-unfolding number_at number_of is_spelled
-number_back n k few =
-    let small : k < 2 ^ 64 = omega (arith, few) in
-    let value : digits_value 10 (decimal k) ≡ k = digits_value-decimal own k small in
-    let spelled = and_from (list_all is_ascii_digit (decimal k)) _ (digits_decimal own k small)
-    (and_from (nat_lt 0 (length (decimal k))) _ (lt-ltb _ _ (decimal_nonempty k small)) (one_zero k small)) in
-    let within : nat_le (digits_value 10 (decimal k)) LAST ≡ true = le-leb _ _ (subst (λ x. x ≤ LAST) (sym value) few) in
-    ap (λ o. ok_or o (BadNumber n)) (cond-true _ _ _ (and_from (is_spelled (decimal k)) _ spelled within) ∙ ap Some value)
+unfolding number_at
+number_back n k few = ap (λ o. ok_or o (BadNumber n)) (numbers.number_back LAST (omega arith) k few)
 
 module _ (g : Grove) (f : IsForest g) where
   pub entry_back : (n i : ℕ) → i < length g.entries → entry_named n g.entries (name_of g.entries i) ≡ Ok i

@@ -19,8 +19,8 @@ use Rattle.keep_cert.specs.declared.cert.TheConstants.{MAX_LINES}
 use Rattle.keep_cert.specs.declared.fault.CertFault.TheVariants.{BadLine}
 use Rattle.keep_rule.specs.Runs.{counted}
 use Rattle.keep_cert.specs.CertificateText.{AreRuns, IsBody, IsRun, Writes, body_text, certificate_text, end_text, header_text, line_text, name_of, run_text, start_text, unkeepable_text}
-use Rattle.keep_cert.specs.Numbers.{number_at}
-use Rattle.keep_cert.specs.Pieces.{keyword, line_at, pieces, three, three_words, two, two_words}
+use Rattle.keep_cert.specs.Lines.{line_at, number_at, three_words, two_words}
+use Rattle.keep_words.specs.Pieces.{keyword, pieces, three, two}
 use Rattle.keep_cert.specs.Reading.{body_of, certificate_of, end_of_runs, ending, entry_named, header_of, nothing_behind, right, run_keyword, runs_of, start_of, unkeepable_of, version_of}
 use Rattle.keep_cert.proofs.Cutting.{whole_line}
 use Rattle.keep_cert.proofs.ReadBack.{entry_back, name_word, number_back, run_as_line, run_is_not, run_keyword_back, run_line_back, run_text_is, run_words, run_words_are}

@@ -12,9 +12,10 @@ use Rattle.keep_cert.specs.declared.fault.CertFault.{CertFault}
 use Rattle.keep_cert.specs.declared.fault.CertFault.TheVariants.{BadHeader, Trailing}
 use Rattle.keep_cert.specs.Answers.{◌>>=◌}
 use Rattle.keep_rule.specs.Runs.{counted}
-use Rattle.keep_cert.specs.Pieces.{keyword, line_at, pieces}
+use Rattle.keep_words.specs.Pieces.{keyword, pieces}
+use Rattle.keep_cert.specs.Lines.{line_at}
 use Rattle.keep_cert.specs.Reading.{ending, header_of, is_run, nothing_behind, run_keyword, run_line, runs_of, version_of}
-use Rattle.keep_cert.proofs.Cutting.{has_piece}
+use Rattle.keep_words.proofs.Cutting.{has_piece}
 
 -- ---- the first line and what follows the last
 

@@ -1,5 +1,5 @@
 -- Words without spaces and line feeds: what is joined is cut into the same pieces.
-use Rattle.std.proofs.Common.{◌≡◌, ℕ, ◌+◌, ◌%◌, ◌^◌, ◌<◌, Bool, true, false, not, ◌==◌, List, [], ◌∷◌, ◌++◌, append_assoc, bytes_eq, decimal, refl, sym, ap, ◌∙◌, arith, All}
+use Rattle.std.proofs.Common.{◌≡◌, ℕ, ◌+◌, ◌%◌, ◌^◌, ◌<◌, Bool, true, false, not, ◌==◌, List, [], ◌∷◌, ◌++◌, append_assoc, bytes_eq, decimal, refl, sym, ap, ◌∙◌, arith, inl}
 use Rattle.std.proofs.lemmas.Bool.{and_from, and_parts, ne_eqb, not-true, not_from_false}
 use Rattle.std.proofs.lemmas.Fmt.{decimal_by_steps}
 use Rattle.std.proofs.lemmas.List.Folds.{list_all-append}
@@ -7,19 +7,11 @@ use Rattle.std.proofs.lemmas.List.Splits.{slice_split_at, slice_split_none}
 use Rattle.std.proofs.lemmas.List.Sums.{AllPass-from_list_all}
 use Rattle.std.specs.Cmp.Lexicographic.{bytes_decides}
 use Rattle.std.specs.List.{join_with_byte, list_all}
+use Rattle.keep_words.specs.Laws.{AllLack, Lacks}
+use Rattle.keep_words.proofs.Joined.{cut_back, decimal_lacks, lacks_append, lacks_each}
 use Rattle.keep_tree.specs.Push.{is_name, is_name_byte}
 use Rattle.keep_cert.specs.CertificateText.{line_text}
-use Rattle.keep_cert.specs.Pieces.{first, keyword, pieces}
-
--- none of the bytes is this one
-abbrev pub Lacks : ℕ → List ℕ → Type 0
-Lacks b text = list_all (λ x. not (x == b)) text ≡ true
-
-lacks_each : (b : ℕ) (text : List ℕ) → Lacks b text → All (λ x. (x == b) ≡ false) text
-lacks_each b text h = λ k d l. not-true _ (AllPass-from_list_all (λ x. not (x == b)) text h k d l)
-
-lacks_append : (b : ℕ) (xs ys : List ℕ) → Lacks b xs → Lacks b ys → Lacks b (xs ++ ys)
-lacks_append b xs ys h k = list_all-append (λ x. not (x == b)) xs ys ∙ and_from _ _ h k
+use Rattle.keep_words.specs.Pieces.{first, keyword, pieces}
 
 pub record IsWord (w : List ℕ) : Type 0 where
   pub spaces : Lacks 32 w
@@ -31,16 +23,8 @@ AreWords (w ∷ ws) = IsWord w × AreWords ws
 
 -- ---- numbers and names are words
 
-digit_lacks : (b d : ℕ) → b < 48 → Lacks b ((48 + d) ∷ [])
-digit_lacks b d small = and_from _ true (not_from_false _ (ne_eqb (48 + d) b (λ e. omega (arith, e)))) refl
-
 pub decimal_is_word : (n : ℕ) → n < 2 ^ 64 → IsWord (decimal n)
-decimal_is_word = decimal_by_steps (λ n ds. IsWord ds)
-    (λ n few. record { spaces = digit_lacks 32 n (omega arith); feeds = digit_lacks 10 n (omega arith) })
-    (λ n ds some h. record {
-      spaces = lacks_append 32 ds ((48 + n % 10) ∷ []) h.spaces (digit_lacks 32 (n % 10) (omega arith));
-      feeds = lacks_append 10 ds ((48 + n % 10) ∷ []) h.feeds (digit_lacks 10 (n % 10) (omega arith));
-    })
+decimal_is_word n small = record { spaces = decimal_lacks 32 (inl (omega arith)) n small; feeds = decimal_lacks 10 (inl (omega arith)) n small }
 
 each_weaker : (p q : ℕ → Bool) → ((x : ℕ) → p x ≡ true → q x ≡ true) → (xs : List ℕ) → list_all p xs ≡ true → list_all q xs ≡ true
 each_weaker p q weaker [] h = refl
@@ -60,12 +44,12 @@ name_is_word name h =
 
 -- ---- words and lines
 
+lack_spaces : (ws : List (List ℕ)) → AreWords ws → AllLack 32 ws
+lack_spaces [] h = tt
+lack_spaces (w ∷ ws) h = (h.0.spaces, lack_spaces ws h.1)
+
 pub words_back : (w : List ℕ) (ws : List (List ℕ)) → AreWords (w ∷ ws) → pieces 32 (join_with_byte 32 (w ∷ ws)) ≡ w ∷ ws
-unfolding pieces
-words_back w [] h = slice_split_none (λ c. c == 32) w (lacks_each 32 w h.0.spaces)
-words_back w (x ∷ ws) h =
-    slice_split_at (λ c. c == 32) w 32 (join_with_byte 32 (x ∷ ws)) (lacks_each 32 w h.0.spaces) refl
-    ∙ ap (λ rest. w ∷ rest) (words_back x ws h.1)
+words_back w ws h = cut_back 32 w ws (lack_spaces (w ∷ ws) h)
 
 line_lacks : (ws : List (List ℕ)) → AreWords ws → Lacks 10 (join_with_byte 32 ws)
 line_lacks [] h = refl

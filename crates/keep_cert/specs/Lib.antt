@@ -1,6 +1,5 @@
 pub mod Answers
-pub mod Numbers
-pub mod Pieces
+pub mod Lines
 pub mod CertificateText
 pub mod Reading
 pub mod Printing

@@ -18,8 +18,8 @@ use Rattle.keep_cert.specs.declared.fault.CertFault.{CertFault}
 use Rattle.keep_cert.specs.declared.fault.CertFault.TheVariants.{BadHeader, BadLine, UnknownName, BadNumber, Truncated, Trailing}
 use Rattle.keep_cert.specs.Answers.{◌>>=◌}
 use Rattle.keep_rule.specs.Runs.{counted}
-use Rattle.keep_cert.specs.Numbers.{number_at}
-use Rattle.keep_cert.specs.Pieces.{lines, cut_off, line_at, keyword, two_words, three_words, four_words, six_words}
+use Rattle.keep_cert.specs.Lines.{cut_off, four_words, line_at, lines, number_at, six_words, three_words, two_words}
+use Rattle.keep_words.specs.Pieces.{keyword}
 
 -- the entry that a word of the nth line names
 unfoldable pub entry_named : ℕ → List Entry → List ℕ → Result ℕ CertFault

@@ -9,8 +9,7 @@
 mod cert;
 mod fault;
 mod laws;
-mod number;
-mod pieces;
+mod lines;
 mod printer;
 mod reader;
 mod run_line;

@@ -1,19 +1,19 @@
 ghost use Rattle.std.specs.Prelude.{◌≡◌, ◌≤◌, [], List, ℕ, IfOk};
 ghost use Rattle.keep_cert.specs.Answers.{Gives};
 ghost use Rattle.keep_cert.specs.CertificateText.{CanBeWritten, Writes};
-ghost use Rattle.keep_cert.specs.Pieces.{lines};
+ghost use Rattle.keep_cert.specs.Lines.{lines};
 ghost use Rattle.keep_cert.specs.Reading.{version_of, header_of, start_of, unkeepable_of, body_of, certificate_of};
 ghost use Rattle.keep_cert.specs.declared.cert.Version.{Version};
 
 use crate::cert::{Body, Cert, Version};
 use crate::fault::CertFault;
-use crate::number::number_at;
-use crate::pieces::{begins, cut, line_at, three_words, two_words};
+use crate::lines::{line_at, number_at, three_words, two_words};
 use crate::run_line::{entry_named, nothing_behind};
 use crate::run_lines::runs_of;
 use crate::runs::Runs;
 use keep_moment::Moment;
 use keep_tree::Forest;
+use keep_words::{begins, cut};
 use std::alloc::Global;
 
 /// The certificate that a text writes over a forest, in version 1 or 2. A line `wake` of version 1 is a run of one

@@ -1,16 +1,16 @@
 ghost use Rattle.std.specs.Prelude.{◌≡◌, ◌≤◌, ◌+◌, ◌-◌, ◌*◌, IfOk, length};
 ghost use Rattle.keep_cert.specs.Answers.{Gives};
-ghost use Rattle.keep_cert.specs.Pieces.{lines};
+ghost use Rattle.keep_cert.specs.Lines.{lines};
 ghost use Rattle.keep_cert.specs.declared.cert.TheConstants.{MAX_LINES};
 ghost use Rattle.keep_cert.specs.Reading.{entry_named, wake_of, run_of, is_run, run_keyword, run_line, nothing_behind, end_of_runs, ending};
 
 use crate::cert::Version;
 use crate::fault::CertFault;
-use crate::number::number_at;
-use crate::pieces::{begins, four_words, six_words, two_words};
+use crate::lines::{four_words, number_at, six_words, two_words};
 use keep_moment::LAST;
 use keep_rule::{LIMIT, Run};
 use keep_tree::Forest;
+use keep_words::begins;
 
 /// The entry that a word of the `n`th line names.
 #[tactic(auto, unfolding(crate::specs::Reading::entry_named))]

@@ -1,14 +1,15 @@
 ghost use Rattle.std.specs.Prelude.{[]};
 ghost use Rattle.keep_cert.specs.Answers.{Gives};
-ghost use Rattle.keep_cert.specs.Pieces.{lines};
+ghost use Rattle.keep_cert.specs.Lines.{lines};
 ghost use Rattle.keep_cert.specs.Reading.{runs_of};
 
 use crate::cert::{MAX_LINES, Version};
 use crate::fault::CertFault;
-use crate::pieces::{begins, line_at};
+use crate::lines::line_at;
 use crate::run_line::{ending, run_keyword, run_line};
 use keep_rule::Run;
 use keep_tree::Forest;
+use keep_words::begins;
 use std::alloc::Global;
 
 /// The runs of the lines behind `start`, the third line first.

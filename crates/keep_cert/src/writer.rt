@@ -9,6 +9,7 @@ use crate::cert::Body;
 use keep_moment::{Moment, Text};
 use keep_rule::{LIMIT, Run};
 use keep_tree::Forest;
+use keep_words::push_number;
 use std::alloc::{AllocError, Global};
 
 /// The text of a certificate of version 2 over a forest: its start, and its wake-ups or the pair that cannot be kept.
@@ -71,9 +72,8 @@ pub(crate) fn text_of_pair(
 fn push_head(alloc: Global, start: u64, text: &mut Vec<u8>) -> Result<(), AllocError>
     ensures { OnOk result (text.new.items ≡ text.old.items ++ (header_text Two ++ start_text start)) }
 {
-    let start = start.to_string(alloc)?;
     text.extend_from_slice(b"leasekeep-plan 2\nstart ")?;
-    text.extend_from_slice(start.as_bytes())?;
+    push_number(alloc, start, text)?;
     text.push(b'\n')?;
     Ok(())
 }
@@ -126,9 +126,9 @@ fn push_run(alloc: Global, forest: &Forest, run: Run, text: &mut Vec<u8>) -> Res
     ensures { OnOk result (text.new.items ≡ text.old.items ++ run_text Two forest.now.entries run) }
 {
     text.extend_from_slice(b"run ")?;
-    push_number(alloc, run.first, text)?;
-    push_number(alloc, run.step, text)?;
-    push_number(alloc, run.count, text)?;
+    push_spaced(alloc, run.first, text)?;
+    push_spaced(alloc, run.step, text)?;
+    push_spaced(alloc, run.count, text)?;
     push_pair(forest, run.entry, run.needed, text)
 }
 
@@ -136,9 +136,8 @@ fn push_run(alloc: Global, forest: &Forest, run: Run, text: &mut Vec<u8>) -> Res
 fn push_end(alloc: Global, count: u64, text: &mut Vec<u8>) -> Result<(), AllocError>
     ensures { OnOk result (text.new.items ≡ text.old.items ++ end_text count) }
 {
-    let count = count.to_string(alloc)?;
     text.extend_from_slice(b"end ")?;
-    text.extend_from_slice(count.as_bytes())?;
+    push_number(alloc, count, text)?;
     text.push(b'\n')?;
     Ok(())
 }
@@ -159,11 +158,10 @@ fn push_unkeepable(
 }
 
 /// Appends a number and a space.
-fn push_number(alloc: Global, number: u64, text: &mut Vec<u8>) -> Result<(), AllocError>
+fn push_spaced(alloc: Global, number: u64, text: &mut Vec<u8>) -> Result<(), AllocError>
     ensures { OnOk result (text.new.items ≡ text.old.items ++ (decimal number ++ 32 ∷ [])) }
 {
-    let digits = number.to_string(alloc)?;
-    text.extend_from_slice(digits.as_bytes())?;
+    push_number(alloc, number, text)?;
     text.push(b' ')?;
     Ok(())
 }

@@ -5,6 +5,7 @@ use Rattle.std.proofs.lemmas.Bool.Decides.{nat_tests}
 use Rattle.std.proofs.lemmas.List.{append-nil, length-set}
 use Rattle.keep_tree.specs.declared.entry.Entry.{Entry}
 use Rattle.keep_tree.specs.Forest.{Grove, entry_at}
+use Rattle.keep_tree.specs.Push.{IsForest}
 use Rattle.keep_tree.specs.Renewal.{renewal}
 use Rattle.keep_tree.proofs.Carrying.{and_left, and_right}
 use Rattle.keep_needs.specs.Carried.{IsCarried}
@@ -18,15 +19,18 @@ use Rattle.keep_core.specs.declared.fault.StepFault.TheVariants.{ClockBack, Roun
 use Rattle.keep_core.specs.declared.round.OpenRound.{OpenRound}
 use Rattle.keep_core.specs.declared.shortened.ShortNeed.{ShortNeed}
 use Rattle.keep_core.specs.Hearing.{is_rules, others}
-use Rattle.keep_core.specs.Keeping.{IsByRule, IsKeeper, IsOpen, flag, seen, waited_for}
-use Rattle.keep_core.specs.LawsOfRuns.{IsAnswer}
+use Rattle.keep_core.specs.Keeping.{IsByRule, IsKeeper, IsOpen, flag, seen, shown, waited_for}
+use Rattle.keep_core.specs.LawsOfHistories.{IsAnswer}
 use Rattle.keep_core.specs.Passes.{PlanFails}
 use Rattle.keep_core.specs.Refusal.{TellsSpan, refusal, waits_for}
-use Rattle.keep_core.specs.Replan.{IsPlanOf, Replan}
-use Rattle.keep_core.specs.Runs.{Turn}
+use Rattle.keep_core.specs.Replan.{IsPlanOf, Replan, ReplanTooLong}
+use Rattle.keep_core.specs.History.{Turn}
 use Rattle.keep_core.specs.Shorten.{pairs, shorten}
 use Rattle.keep_core.specs.State.{Round, State}
-use Rattle.keep_core.specs.Step.{IsLastAnswer, MayWant, Step, StepAnswer, StepTooLong, AnswerTooLong, answered, change, left, of_entry, without}
+use Rattle.keep_core.specs.States.{IsOpened}
+use Rattle.keep_core.specs.Step.{IsLastAnswer, MayWant, Step, StepAnswer, answered, change, left, of_entry, without}
+use Rattle.keep_core.proofs.Changed.{answered_forest}
+use Rattle.keep_core.proofs.Opened.{hears_more, last_fits}
 use Rattle.keep_core.proofs.ByRule.{closes_by_rule, more_by_rule}
 use Rattle.keep_core.proofs.Hearing.{answer_taken, carried_heard, waited_less, waited_set}
 use Rattle.keep_core.proofs.Made.{count_moments}
@@ -74,6 +78,33 @@ by_rule_more h last p r event round_is taken by_rule rules =
 some_is : (r n : OpenRound) → Some r ≡ Some n → r ≡ n
 some_is r n is = ap (λ (o : Option OpenRound). elim o [ None ↦ r | Some x ↦ x ]) is
 
+-- its entry is waited for
+waits_in_round : (r : OpenRound) (event : Event) {h : Grove} → Takes h r event → waits_for (Some (shown r)) (of_entry event) ≡ true
+waits_in_round r event taken = waits_flag r.waiting.items (of_entry event) taken.there ∙ taken.waits
+
+-- and it leaves a forest
+pub answered_keeper : (h : Grove) (last : ℕ) (p : Planned) (r : OpenRound) (event : Event) → IsKeeper h last p (Some r) → Takes h r event → IsForest (change h (of_entry event) (answered r.at event))
+answered_keeper h last p r event keeper taken =
+    let late = keeper.late in
+    let at = (keeper.open_round r refl).at in
+    answered_forest h keeper.forest event taken.seconds (of_entry event) taken.within r.at (omega arith)
+
+-- planning anew after it is not too long
+pub answer_fits :
+    (h : Grove) (last : ℕ) (p : Planned) (r : OpenRound) (event : Event) → IsKeeper h last p (Some r) → Takes h r event → ReplanTooLong (change h (of_entry event) (answered r.at event)) r.at → ⊥
+answer_fits h last p r event keeper taken long =
+    last_fits h (moments_of (to_come p)) (shown r) event (keeper.open_round r refl).opened taken.within (waits_in_round r event taken) (answered_keeper h last p r event keeper taken) long
+
+-- a fault of planning anew that is not too long is want of memory
+pub only_memory : (g : Grove) (t : ℕ) (fault : StepFault) → PlanFails g t fault → (ReplanTooLong g t → ⊥) → fault ≡ OutOfMemory
+only_memory g t OutOfMemory fails fits = refl
+only_memory g t TooLong fails fits = absurd (fits fails)
+only_memory g t ClockBack fails fits = absurd fails
+only_memory g t RoundOpen fails fits = absurd fails
+only_memory g t NotAsked fails fits = absurd fails
+only_memory g t BadIndex fails fits = absurd fails
+only_memory g t OutOfRange fails fits = absurd fails
+
 -- one answer more, and others are waited for
 pub heard_keeper :
     (h k : Grove) (last : ℕ) (p : Planned) (r n : OpenRound) (event : Event) → IsKeeper h last p (Some r) → Takes h r event → k ≡ change h (of_entry event) (answered r.at event) →
@@ -84,17 +115,22 @@ heard_keeper h k last p r n event keeper taken is at flags less by_rule others =
     let round_is = keeper.open_round r refl in
     let fewer = waited_less r.waiting.items i taken.there taken.waits in
     let set' = waited_set r.waiting.items i taken.there in
+    let left_is : shown n ≡ left (shown r) i = ap (λ t. record { at = t; unanswered = waited_for n.waiting.items }) at ∙ ap (λ us. record { at = r.at; unanswered = us }) (ap waited_for flags ∙ set') in
     let opened : IsOpen k last p n = record {
       at = at ∙ round_is.at;
       count = ap length flags ∙ length-set r.waiting.items i false ∙ round_is.count ∙ sym (ap (λ (g : Grove). length g.entries) is ∙ length-set h.entries i (answered r.at event (entry_at h.entries i)));
       left = (let e = ap (λ xs. length (waited_for xs)) flags in let l = round_is.left in omega arith);
       some = (let e = ap length set' in let l = round_is.left in omega arith);
+      opened = subst (λ g. IsOpened g (moments_of (to_come p)) (shown n)) (sym is)
+          (subst (IsOpened (change h i (answered r.at event)) (moments_of (to_come p))) (sym left_is) (hears_more h (moments_of (to_come p)) (shown r) event round_is.opened taken.within (waits_in_round r event taken)));
       by_rule = λ yes'.
           let both = sym by_rule ∙ yes' in
           let rule = by_rule_more h last p r event round_is taken (and_left r.by_rule _ both) (and_right r.by_rule _ both) in
           subst (λ xs. IsByRule k last p xs) (sym flags) (subst (λ g. IsByRule g last p (set r.waiting.items i false)) (sym is) rule);
     } in
     record {
+      forest = subst IsForest (sym is) (answered_keeper h last p r event keeper taken);
+      late = keeper.late;
       carried = subst (λ g. IsCarried g p.start p.carried) (sym is) (carried_heard h i r.at event taken.within p.start p.carried keeper.carried);
       start = keeper.start;
       few = keeper.few;
@@ -126,6 +162,8 @@ stays h k last p r event keeper taken is by_rule rules none =
       shorten = closes.0;
       pairs = closes.1;
       keeper = record {
+        forest = subst IsForest (sym is) (answered_keeper h last p r event keeper taken);
+        late = keeper.late;
         carried = subst (λ g. IsCarried g p.start p.carried) (sym is) (carried_heard h i r.at event taken.within p.start p.carried keeper.carried);
         start = keeper.start;
         few = keeper.few;
@@ -160,13 +198,6 @@ as_answer old (Refused i) output new answer step = step
 as_answer old (Lost i) output new answer step = step
 as_answer old (Need i until) output new answer step = absurd answer
 
-as_long : (old : State) (event : Event) → IsAnswer event → AnswerTooLong old event → StepTooLong old event
-as_long old (Tick t) answer long = absurd answer
-as_long old (Told i seconds renewable) answer long = long
-as_long old (Refused i) answer long = long
-as_long old (Lost i) answer long = long
-as_long old (Need i until) answer long = absurd answer
-
 as_last : (old : State) (event : Event) → IsAnswer event → IsLastAnswer old event → MayWant old event
 as_last old (Tick t) answer last = absurd answer
 as_last old (Told i seconds renewable) answer last = last
@@ -174,16 +205,10 @@ as_last old (Refused i) answer last = last
 as_last old (Lost i) answer last = last
 as_last old (Need i until) answer last = absurd answer
 
-pub fails_turn :
-    (old new : State) (event : Event) (round : Round) (fault : StepFault) → IsAnswer event → refusal old event ≡ None → old.round ≡ Some round → (left round (of_entry event)).unanswered ≡ [] →
-    PlanFails (change old.forest (of_entry event) (answered round.at event)) round.at fault → new ≡ old → Turn old event (Err fault) new
-fails_turn old new event round TooLong answer none is last fails same = (none, (as_long old event answer (round, (is, (last, fails))), same))
-fails_turn old new event round OutOfMemory answer none is last fails same = (none, (as_last old event answer (round, (is, last)), same))
-fails_turn old new event round ClockBack answer none is last fails same = absurd fails
-fails_turn old new event round RoundOpen answer none is last fails same = absurd fails
-fails_turn old new event round NotAsked answer none is last fails same = absurd fails
-fails_turn old new event round BadIndex answer none is last fails same = absurd fails
-fails_turn old new event round OutOfRange answer none is last fails same = absurd fails
+pub wants_turn :
+    (old new : State) (event : Event) (round : Round) → IsAnswer event → refusal old event ≡ None → old.round ≡ Some round → (left round (of_entry event)).unanswered ≡ [] →
+    new ≡ old → Turn old event (Err OutOfMemory) new
+wants_turn old new event round answer none is last same = (none, (as_last old event answer (round, (is, last)), same))
 
 pub somebody : (xs : List ℕ) → 0 < length xs → xs ≢ []
 somebody xs some = λ none. let e = ap length none in omega arith

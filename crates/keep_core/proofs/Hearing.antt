@@ -15,7 +15,7 @@ use Rattle.keep_core.specs.declared.event.Event.TheVariants.{Tick, Told, Refused
 use Rattle.keep_core.specs.declared.fault.StepFault.{StepFault}
 use Rattle.keep_core.specs.declared.fault.StepFault.TheVariants.{BadIndex, NotAsked, OutOfRange}
 use Rattle.keep_core.specs.Keeping.{flag, waited_for}
-use Rattle.keep_core.specs.LawsOfRuns.{IsAnswer}
+use Rattle.keep_core.specs.LawsOfHistories.{IsAnswer}
 use Rattle.keep_core.specs.Refusal.{LONGEST, TellsSpan, refusal, unless_asked, waits_for}
 use Rattle.keep_core.specs.State.{Round, State}
 use Rattle.keep_core.specs.Step.{answered, change, of_entry, without}

@@ -10,13 +10,14 @@ pub mod Passing
 pub mod Made
 pub mod Waiting
 pub mod Taken
+pub mod Changed
+pub mod NoLonger
+pub mod Opened
 pub mod ByRule
 pub mod Hearing
 pub mod Heard
 pub mod Waking
 pub mod Stepping
-pub mod NoLonger
-pub mod Opened
 pub mod States
 pub mod Closing
 pub mod Once

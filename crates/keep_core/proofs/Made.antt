@@ -1,8 +1,10 @@
 -- What planning anew made: a state that is planned anew, and parts of a keeper that belong together.
-use Rattle.std.proofs.Common.{◌≡◌, ◌∙◌, ℕ, suc, ◌<◌, ◌++◌, List, [], ◌∷◌, Option, Some, None, length, refl, ap, subst, arith}
+use Rattle.std.proofs.Common.{◌≡◌, ◌∙◌, ℕ, suc, ◌<◌, ◌≤◌, ◌++◌, List, [], ◌∷◌, Option, Some, None, length, refl, ap, subst, arith}
+use Rattle.keep_moment.specs.declared.moment.TheConstants.{LAST}
 use Rattle.keep_tree.specs.declared.entry.Entry.{Entry}
 use Rattle.keep_tree.specs.Carried.{carried}
 use Rattle.keep_tree.specs.Forest.{Grove, end_of}
+use Rattle.keep_tree.specs.Push.{IsForest}
 use Rattle.keep_tree.proofs.Carrying.{carried_at_least, carried_is_of}
 use Rattle.keep_rule.specs.Forced.{bound}
 use Rattle.keep_rule.specs.declared.force.Force.{Force}
@@ -53,8 +55,10 @@ made s t h p list is noted kept = record {
       ∙ ap (λ xs. record { forest = shorten s.forest t; last = t; to_come = moments_of (to_come p); round = s.round; shortened = xs }) noted;
 }
 
-pub made_keeper : (h : Grove) (t : ℕ) (p : Planned) → IsKept h t p → IsKeeper h t p None
-made_keeper h t p kept = record {
+pub made_keeper : (h : Grove) (t : ℕ) (p : Planned) → IsForest h → t ≤ LAST → IsKept h t p → IsKeeper h t p None
+made_keeper h t p forest late kept = record {
+  forest = forest;
+  late = late;
   carried = kept.carried;
   start = (let e = kept.start in omega arith);
   few = kept.best.few;

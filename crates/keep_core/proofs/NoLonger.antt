@@ -26,8 +26,9 @@ use Rattle.keep_rule.proofs.Next.{can_be_led, next_comes}
 use Rattle.keep_rule.proofs.Schedule.{schedule_is_best}
 use Rattle.keep_rule.proofs.Tail.{moments_with_asks}
 use Rattle.keep_rule.proofs.Timely.{AllTimely, timely_keeps}
-use Rattle.keep_core.specs.LawsOfPlans.{IsAnswered, NoLongerLaw}
+use Rattle.keep_core.specs.LawsOfPlans.{NoLongerLaw}
 use Rattle.keep_core.specs.Replan.{IsPlanOf}
+use Rattle.keep_core.specs.States.{IsAnswered}
 use Rattle.keep_core.specs.Shorten.{shorten}
 use Rattle.keep_core.proofs.Hearing.{over_same}
 use Rattle.keep_core.proofs.Kept.{unchanged}

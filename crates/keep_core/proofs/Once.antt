@@ -11,10 +11,10 @@ use Rattle.keep_core.specs.declared.fault.StepFault.{StepFault}
 use Rattle.keep_core.specs.declared.fault.StepFault.TheVariants.{ClockBack, RoundOpen, NotAsked, BadIndex, OutOfRange, TooLong, OutOfMemory}
 use Rattle.keep_core.specs.LawsOfSteps.{NextAsksLaw, OnceLaw}
 use Rattle.keep_core.specs.Refusal.{refusal}
-use Rattle.keep_core.specs.Replan.{IsPlanOf, IsTooLong, Replan}
-use Rattle.keep_core.specs.Runs.{Turn}
+use Rattle.keep_core.specs.Replan.{IsPlanOf, ReplanTooLong, Replan}
+use Rattle.keep_core.specs.History.{Turn}
 use Rattle.keep_core.specs.State.{Round, State}
-use Rattle.keep_core.specs.Step.{AnswerTooLong, StepAnswer, StepNeed, StepTick, heard, left, needed, of_entry, opened}
+use Rattle.keep_core.specs.Step.{StepAnswer, StepNeed, StepTick, heard, left, needed, of_entry, opened}
 use Rattle.keep_core.proofs.Orders.{not_both, replan_once}
 use Rattle.keep_core.proofs.Standing.{best_first, kept_plan}
 
@@ -23,7 +23,7 @@ Same a x b y = (a ≡ b) × (x ≡ y)
 
 -- planned anew from a state at a moment, and then decided by what that made; or too long, which leaves the old state
 abbrev Comes : State → State → ℕ → (State → Output) → (State → State) → Result Output StepFault → State → Type 0
-Comes old from at says leaves a x = ((mid : State) × Replan from at mid × (a ≡ Ok (says mid)) × (x ≡ leaves mid)) ⊎ (IsTooLong from.forest at × (a ≡ Err TooLong) × (x ≡ old))
+Comes old from at says leaves a x = ((mid : State) × Replan from at mid × (a ≡ Ok (says mid)) × (x ≡ leaves mid)) ⊎ (ReplanTooLong from.forest at × (a ≡ Err TooLong) × (x ≡ old))
 
 one_comes :
     (old from : State) (at : ℕ) (says : State → Output) (leaves : State → State) (a b : Result Output StepFault) (x y : State) → Comes old from at says leaves a x →
@@ -125,9 +125,6 @@ answer_comes old event (out.Sleep w) new step = absurd step
 answer_comes old event (out.Ask asked) new step = absurd step
 answer_comes old event out.Planned new step = absurd step
 
-answer_long : (old : State) (event : Event) (new : State) → AnswerTooLong old event → new ≡ old → AnswerComes old event (Err TooLong) new
-answer_long old event new long same = (long.0, long.1.0, inr (long.1.1.0, inr (long.1.1.1, refl, same)))
-
 -- what an event gives that is not refused
 abbrev EventComes : State → Event → Result Output StepFault → State → Type 0
 EventComes old (Tick t) a x = Comes old old t (λ mid. tick_says mid t mid.to_come) (λ mid. tick_leaves mid t mid.to_come) a x
@@ -156,10 +153,10 @@ turn_comes old (Told i seconds renewable) (Ok output) x memory turn = inr (turn.
 turn_comes old (Refused i) (Ok output) x memory turn = inr (turn.0, answer_comes old (Refused i) output x turn.1)
 turn_comes old (Lost i) (Ok output) x memory turn = inr (turn.0, answer_comes old (Lost i) output x turn.1)
 turn_comes old (Need i until) (Ok output) x memory turn = inr (turn.0, need_comes old i until output x turn.1)
-turn_comes old (Tick t) (Err TooLong) x memory turn = inr (turn.0, inr (turn.1.0, refl, turn.1.1))
-turn_comes old (Told i seconds renewable) (Err TooLong) x memory turn = inr (turn.0, answer_long old (Told i seconds renewable) x turn.1.0 turn.1.1)
-turn_comes old (Refused i) (Err TooLong) x memory turn = inr (turn.0, answer_long old (Refused i) x turn.1.0 turn.1.1)
-turn_comes old (Lost i) (Err TooLong) x memory turn = inr (turn.0, answer_long old (Lost i) x turn.1.0 turn.1.1)
+turn_comes old (Tick t) (Err TooLong) x memory turn = absurd turn.1.0
+turn_comes old (Told i seconds renewable) (Err TooLong) x memory turn = absurd turn.1.0
+turn_comes old (Refused i) (Err TooLong) x memory turn = absurd turn.1.0
+turn_comes old (Lost i) (Err TooLong) x memory turn = absurd turn.1.0
 turn_comes old (Need i until) (Err TooLong) x memory turn = inr (turn.0, inr (turn.1.0, refl, turn.1.1))
 turn_comes old event (Err ClockBack) x memory turn = inl (ClockBack, turn.0, refl, turn.1)
 turn_comes old event (Err RoundOpen) x memory turn = inl (RoundOpen, turn.0, refl, turn.1)

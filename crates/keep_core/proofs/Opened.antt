@@ -1,5 +1,5 @@
--- An open round: what was there when it opened, at its opening and with one answer more.
-use Rattle.std.proofs.Common.{◌≡◌, ◌∙◌, ◌==◌, ℕ, ◌<◌, ◌≤◌, true, false, List, ◌∷◌, Some, length, set, refl, sym, ap, subst, inl, inr}
+-- An open round: what it has left of its opening, at the opening and with one answer more; and that nothing in it is too long.
+use Rattle.std.proofs.Common.{◌≡◌, ◌∙◌, ◌==◌, ℕ, ◌<◌, ◌≤◌, true, false, List, ◌∷◌, Some, length, set, refl, sym, ap, subst, arith, inl, inr}
 use Rattle.std.proofs.lemmas.Bool.{cases_Bool, cases_eq}
 use Rattle.std.proofs.lemmas.List.{length-set}
 use Rattle.std.specs.List.{list_any}
@@ -8,16 +8,16 @@ use Rattle.keep_tree.specs.declared.entry.Entry.{Entry}
 use Rattle.keep_tree.specs.Forest.{Grove, end_of, entry_at}
 use Rattle.keep_tree.specs.Push.{IsForest}
 use Rattle.keep_tree.proofs.Entries.{entry_at_set_other, entry_at_set_same}
-use Rattle.keep_rule.specs.Asks.{asking, first_of}
+use Rattle.keep_rule.specs.Asks.{asking, asks, first_of}
 use Rattle.keep_rule.specs.Ends.{is_asked}
 use Rattle.keep_core.specs.declared.event.Event.{Event}
 use Rattle.keep_core.specs.declared.event.Event.TheVariants.{Tick, Told, Refused, Lost, Need}
-use Rattle.keep_core.specs.LawsOfPlans.{IsAnswered}
-use Rattle.keep_core.specs.LawsOfSteps.{IsOpened}
 use Rattle.keep_core.specs.Refusal.{waits_for}
-use Rattle.keep_core.specs.Replan.{IsPlanOf}
-use Rattle.keep_core.specs.State.{Round, State}
-use Rattle.keep_core.specs.Step.{answered, change, heard, left, of_entry, opened, without}
+use Rattle.keep_core.specs.Replan.{IsPlanOf, ReplanTooLong}
+use Rattle.keep_core.specs.State.{Round}
+use Rattle.keep_core.specs.States.{IsAnswered, IsOpened}
+use Rattle.keep_core.specs.Step.{answered, change, left, of_entry, without}
+use Rattle.keep_core.proofs.NoLonger.{no_longer}
 use Rattle.keep_core.proofs.Orders.{none_within}
 
 unanswered_is : (g : Grove) (t : ℕ) (rest : List ℕ) → IsAnswered g g t (first_of rest)
@@ -25,15 +25,15 @@ unanswered_is g t rest = record { margin = refl; count = refl; each = λ i. refl
 
 -- a round that opens
 pub opens :
-    (mid : State) (t : ℕ) (rest : List ℕ) → IsForest mid.forest → IsPlanOf mid.forest t (t ∷ rest) → length (t ∷ rest) ≤ LIMIT →
-    IsOpened (record mid { to_come = rest; round = Some (opened mid t (first_of rest)) }) (opened mid t (first_of rest))
+    (h : Grove) (t : ℕ) (rest : List ℕ) → IsForest h → IsPlanOf h t (t ∷ rest) → length (t ∷ rest) ≤ LIMIT →
+    IsOpened h rest (record { at = t; unanswered = asks h.entries h.margin t (end_of h.entries) t (first_of rest) })
 unfolding is_asked
-opens mid t rest forest best few = record {
-  before = mid.forest;
+opens h t rest forest best few = record {
+  before = h;
   forest = forest;
   best = best;
   few = few;
-  answered = unanswered_is mid.forest t rest;
+  answered = unanswered_is h t rest;
   asked = λ i waits. waits;
 }
 
@@ -83,19 +83,31 @@ answered_more g h t rest a event at within asked =
     }
 
 pub hears_more :
-    (old : State) (round : Round) (event : Event) → IsOpened old round → of_entry event < length old.forest.entries → waits_for (Some round) (of_entry event) ≡ true →
-    IsOpened (heard old event round.at (Some (left round (of_entry event)))) (left round (of_entry event))
-hears_more old round event o within waits = record {
+    (h : Grove) (ts : List ℕ) (round : Round) (event : Event) → IsOpened h ts round → of_entry event < length h.entries → waits_for (Some round) (of_entry event) ≡ true →
+    IsOpened (change h (of_entry event) (answered round.at event)) ts (left round (of_entry event))
+hears_more h ts round event o within waits = record {
   before = o.before;
   forest = o.forest;
   best = o.best;
   few = o.few;
-  answered = answered_more o.before old.forest round.at old.to_come o.answered event round.at within (o.asked (of_entry event) waits);
+  answered = answered_more o.before h round.at ts o.answered event round.at within (o.asked (of_entry event) waits);
   asked = λ i still. o.asked i (still_waits round (of_entry event) i still);
 }
 
--- and the last: what an open round leads to that closes
-pub hears_last :
-    (old : State) (round : Round) (event : Event) → (o : IsOpened old round) → of_entry event < length old.forest.entries → waits_for (Some round) (of_entry event) ≡ true →
-    IsAnswered o.before (change old.forest (of_entry event) (answered round.at event)) round.at (first_of old.to_come)
-hears_last old round event o within waits = answered_more o.before old.forest round.at old.to_come o.answered event round.at within (o.asked (of_entry event) waits)
+-- and the last, which closes the round: planning anew is not too long
+pub last_fits :
+    (h : Grove) (ts : List ℕ) (round : Round) (event : Event) → IsOpened h ts round → of_entry event < length h.entries → waits_for (Some round) (of_entry event) ≡ true →
+    let k = change h (of_entry event) (answered round.at event) in IsForest k → ReplanTooLong k round.at → ⊥
+last_fits h ts round event o within waits forest long =
+    let few = o.few in
+    let many = long.many in
+    let answered = answered_more o.before h round.at ts o.answered event round.at within (o.asked (of_entry event) waits) in
+    let most = no_longer.1 o.before _ round.at ts long.moments o.forest forest o.best answered long.best in
+    absurd (omega arith)
+
+-- nor is it at a tick
+pub tick_fits : (g : Grove) (s t : ℕ) (ts : List ℕ) → IsForest g → s ≤ t → IsPlanOf g s ts → length ts ≤ LIMIT → ReplanTooLong g t → ⊥
+tick_fits g s t ts forest later best few long =
+    let many = long.many in
+    let most = no_longer.0 g s t ts long.moments forest later best long.best in
+    absurd (omega arith)

@@ -1,4 +1,4 @@
--- The order of answers: a run of answers leads to a state that the answers alone decide, entry by entry.
+-- The order of answers: a history of answers leads to a state that the answers alone decide, entry by entry.
 use Rattle.std.proofs.Common.{◌≡◌, ◌≢◌, ◌==◌, ℕ, ◌<◌, ◌⊎◌, ◌||◌, Bool, true, false, cond, not, List, [], ◌∷◌, Option, Some, None, Result, Ok, Err, filter, is_none, length, map, nat_le, nat_lt, refl, sym, ap, ◌∙◌, subst, arith, inl, inr}
 use Rattle.std.proofs.lemmas.Bool.{cases_eq, cases_lt, cond-true, cond-false}
 use Rattle.std.proofs.lemmas.Bool.Decides.{nat_tests}
@@ -16,10 +16,10 @@ use Rattle.keep_core.specs.declared.event.Output.{Output}
 use Rattle.keep_core.specs.declared.event.Output.TheVariants as out
 use Rattle.keep_core.specs.declared.fault.StepFault.{StepFault}
 use Rattle.keep_core.specs.declared.fault.StepFault.TheVariants.{NotAsked, BadIndex, OutOfRange}
-use Rattle.keep_core.specs.LawsOfRuns.{AllTaken, IsAnswer, answer_for}
+use Rattle.keep_core.specs.LawsOfHistories.{AllTaken, IsAnswer, answer_for}
 use Rattle.keep_core.specs.Refusal.{LONGEST, refusal, unless_asked, waits_for}
-use Rattle.keep_core.specs.Replan.{IsTooLong, Replan, planned}
-use Rattle.keep_core.specs.Runs.{Run}
+use Rattle.keep_core.specs.Replan.{ReplanTooLong, Replan, planned}
+use Rattle.keep_core.specs.History.{History}
 use Rattle.keep_core.specs.Shorten.{shorten}
 use Rattle.keep_core.specs.State.{Round, State}
 use Rattle.keep_core.specs.Step.{Step, StepAnswer, answered, change, heard, left, of_entry, without}
@@ -55,7 +55,7 @@ Waits old round ans new = (left_over ans round.unanswered ≢ []) × (new ≡ wa
 abbrev Closes : State → Round → (ℕ → Option Event) → State → Type 0
 Closes old round ans new = (left_over ans round.unanswered ≡ []) × Replan (closing old round ans) round.at new
 
--- where a run of answers leads; who is not unanswered has no answer
+-- where a history of answers leads; who is not unanswered has no answer
 record Outcome (old : State) (round : Round) (ans : ℕ → Option Event) (new : State) : Type 0 where
   asked : (i : ℕ) → list_any (λ j. j == i) round.unanswered ≡ false → ans i ≡ None
   ends : Waits old round ans new ⊎ Closes old round ans new
@@ -227,12 +227,12 @@ step_taken old (Lost i) output new answer step = step
 step_taken old (Need i until) output new answer step = absurd answer
 
 -- no answer is taken once the round is closed
-closed_end : (s new : State) (rest : List Event) (results : List (Result Output StepFault)) → s.round ≡ None → AreAnswers rest → AllTaken results → Run s rest results new → (rest ≡ []) × (new ≡ s)
-closed_end s new [] [] closed answers well run = (refl, run)
-closed_end s new [] (result ∷ results) closed answers well run = absurd run
-closed_end s new (event ∷ rest) [] closed answers well run = absurd run
-closed_end s new (event ∷ rest) (Ok output ∷ results) closed answers well run = absurd (never_asked s (of_entry event) closed (taken s event answers.0 run.1.0.0))
-closed_end s new (event ∷ rest) (Err fault ∷ results) closed answers well run = absurd well
+closed_end : (s new : State) (rest : List Event) (results : List (Result Output StepFault)) → s.round ≡ None → AreAnswers rest → AllTaken results → History s rest results new → (rest ≡ []) × (new ≡ s)
+closed_end s new [] [] closed answers well history = (refl, history)
+closed_end s new [] (result ∷ results) closed answers well history = absurd history
+closed_end s new (event ∷ rest) [] closed answers well history = absurd history
+closed_end s new (event ∷ rest) (Ok output ∷ results) closed answers well history = absurd (never_asked s (of_entry event) closed (taken s event answers.0 history.1.0.0))
+closed_end s new (event ∷ rest) (Err fault ∷ results) closed answers well history = absurd well
 
 asked_more :
     (event : Event) (rest : List Event) (us : List ℕ) → list_any (λ j. j == of_entry event) us ≡ true → ((j : ℕ) → list_any (λ k. k == j) (without (of_entry event) us) ≡ false → answer_for rest j ≡ None) →
@@ -295,34 +295,34 @@ same_round old r round a b = let both : Some r ≡ Some round = sym a ∙ b in c
 
 abbrev FromHere : List Event → List (Result Output StepFault) → State → Type 0
 FromHere rest results new =
-    (s : State) (r : Round) → s.round ≡ Some r → r.unanswered ≢ [] → Run s rest results new → Outcome s r (answer_for rest) new
+    (s : State) (r : Round) → s.round ≡ Some r → r.unanswered ≢ [] → History s rest results new → Outcome s r (answer_for rest) new
 
 step_outcome :
     (old mid new : State) (round : Round) (event : Event) (rest : List Event) (output : Output) (results : List (Result Output StepFault)) → old.round ≡ Some round →
-    unless_asked old (of_entry event) ≡ None → AreAnswers rest → AllTaken results → StepAnswer old event output mid → Run mid rest results new → FromHere rest results new →
+    unless_asked old (of_entry event) ≡ None → AreAnswers rest → AllTaken results → StepAnswer old event output mid → History mid rest results new → FromHere rest results new →
     Outcome old round (answer_for (event ∷ rest)) new
-step_outcome old mid new round event rest out.Waiting results is asked answers well step run onward =
+step_outcome old mid new round event rest out.Waiting results is asked answers well step history onward =
     let parts = asked_parts old (of_entry event) asked in
     let there : list_any (λ j. j == of_entry event) round.unanswered ≡ true = sym (ap (λ r. waits_for r (of_entry event)) is) ∙ parts.1 in
     let r = same_round old step.0 round step.1.0 is in
     let some : without (of_entry event) round.unanswered ≢ [] = subst (λ (x : Round). without (of_entry event) x.unanswered ≢ []) r step.1.1.0 in
     let heard_is : mid ≡ heard old event round.at (Some (left round (of_entry event))) = subst (λ (x : Round). mid ≡ heard old event x.at (Some (left x (of_entry event)))) r step.1.1.1 in
     one_more old new round event rest parts.0 there
-    (onward (heard old event round.at (Some (left round (of_entry event)))) (left round (of_entry event)) refl some (subst (λ s. Run s rest results new) heard_is run))
-step_outcome old mid new round event rest (out.Round next) results is asked answers well step run onward =
+    (onward (heard old event round.at (Some (left round (of_entry event)))) (left round (of_entry event)) refl some (subst (λ s. History s rest results new) heard_is history))
+step_outcome old mid new round event rest (out.Round next) results is asked answers well step history onward =
     let parts = asked_parts old (of_entry event) asked in
     let there : list_any (λ j. j == of_entry event) round.unanswered ≡ true = sym (ap (λ r. waits_for r (of_entry event)) is) ∙ parts.1 in
     let r = same_round old step.0 round step.1.0 is in
     let none : without (of_entry event) round.unanswered ≡ [] = subst (λ (x : Round). without (of_entry event) x.unanswered ≡ []) r step.1.1.0 in
     let replan : Replan (heard old event round.at None) round.at mid = subst (λ (x : Round). Replan (heard old event x.at None) x.at mid) r step.1.1.1.0 in
     let closed : mid.round ≡ None = ap (λ (s : State). s.round) replan.is in
-    let end = closed_end mid new rest results closed answers well run in
+    let end = closed_end mid new rest results closed answers well history in
     let here = last_closes old mid round event parts.0 there none replan in
     subst (λ s. Outcome old round (answer_for (event ∷ rest)) s) (sym end.1) (subst (λ es. Outcome old round (answer_for (event ∷ es)) mid) (sym end.0) here)
-step_outcome old mid new round event rest out.Idle results is asked answers well step run onward = absurd step
-step_outcome old mid new round event rest (out.Sleep w) results is asked answers well step run onward = absurd step
-step_outcome old mid new round event rest (out.Ask list) results is asked answers well step run onward = absurd step
-step_outcome old mid new round event rest out.Planned results is asked answers well step run onward = absurd step
+step_outcome old mid new round event rest out.Idle results is asked answers well step history onward = absurd step
+step_outcome old mid new round event rest (out.Sleep w) results is asked answers well step history onward = absurd step
+step_outcome old mid new round event rest (out.Ask list) results is asked answers well step history onward = absurd step
+step_outcome old mid new round event rest out.Planned results is asked answers well step history onward = absurd step
 
 no_answers : (old new : State) (round : Round) → old.round ≡ Some round → round.unanswered ≢ [] → new ≡ old → Outcome old round (answer_for []) new
 no_answers old new round is some same = record {
@@ -336,15 +336,15 @@ no_answers old new round is some same = record {
 
 outcome :
     (events : List Event) (results : List (Result Output StepFault)) (old new : State) (round : Round) → old.round ≡ Some round → round.unanswered ≢ [] → AreAnswers events → AllTaken results →
-    Run old events results new → Outcome old round (answer_for events) new
-outcome [] [] old new round is some answers well run = no_answers old new round is some run
-outcome [] (result ∷ results) old new round is some answers well run = absurd run
-outcome (event ∷ rest) [] old new round is some answers well run = absurd run
-outcome (event ∷ rest) (Ok output ∷ results) old new round is some answers well run =
-    let turn = run.1.0 in
-    step_outcome old run.0 new round event rest output results is (taken old event answers.0 turn.0) answers.1 well (step_taken old event output run.0 answers.0 turn.1) run.1.1
+    History old events results new → Outcome old round (answer_for events) new
+outcome [] [] old new round is some answers well history = no_answers old new round is some history
+outcome [] (result ∷ results) old new round is some answers well history = absurd history
+outcome (event ∷ rest) [] old new round is some answers well history = absurd history
+outcome (event ∷ rest) (Ok output ∷ results) old new round is some answers well history =
+    let turn = history.1.0 in
+    step_outcome old history.0 new round event rest output results is (taken old event answers.0 turn.0) answers.1 well (step_taken old event output history.0 answers.0 turn.1) history.1.1
     (λ s r open_here unanswered onward. outcome rest results s new r open_here unanswered answers.1 well onward)
-outcome (event ∷ rest) (Err fault ∷ results) old new round is some answers well run = absurd well
+outcome (event ∷ rest) (Err fault ∷ results) old new round is some answers well history = absurd well
 
 -- planning anew gives one state
 pub replan_once : (s : State) (t : ℕ) (x y : State) → Replan s t x → Replan s t y → x ≡ y
@@ -353,7 +353,7 @@ replan_once s t x y a b =
     a.is ∙ ap (planned s t) (one_least h.entries h.margin t (end_of h.entries) a.moments b.moments a.best b.best) ∙ sym b.is
 
 -- and is not too long where it gives one
-pub not_both : (s : State) (t : ℕ) (x : State) → Replan s t x → IsTooLong s.forest t → ⊥
+pub not_both : (s : State) (t : ℕ) (x : State) → Replan s t x → ReplanTooLong s.forest t → ⊥
 not_both s t x a b =
     let h = shorten s.forest t in
     let same = ap length (one_least h.entries h.margin t (end_of h.entries) a.moments b.moments a.best b.best) in
@@ -372,8 +372,8 @@ agree old x y round ans a b =
 pub taken_alike :
     (old x y : State) (round : Round) → old.round ≡ Some round → round.unanswered ≢ [] → (these others : List Event) → AreAnswers these → AreAnswers others →
     ((i : ℕ) → answer_for these i ≡ answer_for others i) → (results more : List (Result Output StepFault)) → AllTaken results → AllTaken more →
-    Run old these results x → Run old others more y → x ≡ y
-taken_alike old x y round is some these others answers too same results more well also run onward =
-    let a = outcome these results old x round is some answers well run in
+    History old these results x → History old others more y → x ≡ y
+taken_alike old x y round is some these others answers too same results more well also history onward =
+    let a = outcome these results old x round is some answers well history in
     let b = outcome others more old y round is some too also onward in
     agree old x y round (answer_for others) (subst (λ ans. Outcome old round ans x) (fun_ext same) a) b

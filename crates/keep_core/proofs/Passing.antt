@@ -1,8 +1,9 @@
 -- The passes over the entries: one entry more, for the loops of planning anew.
-use Rattle.std.proofs.Common.{◌≡◌, ℕ, ◌+◌, ◌<◌, ◌≤◌, ◌++◌, Bool, true, false, cond, List, [], ◌∷◌, Option, Some, None, filter, get_or, length, map, nat_lt, set, unwrap_or, refl, sym, ap, ◌∙◌, subst, arith, inl, inr}
+use Rattle.std.proofs.Common.{◌≡◌, ℕ, ◌+◌, ◌<◌, ◌≤◌, ◌++◌, Bool, true, false, cond, List, [], ◌∷◌, Option, Some, None, filter, get_or, length, map, nat_lt, set, take, unwrap_or, refl, sym, ap, ◌∙◌, subst, arith, inl, inr}
 use Rattle.std.proofs.lemmas.Bool.{cases_eq, cases_lt, cond-true}
 use Rattle.std.proofs.lemmas.Bool.Decides.{nat_tests}
 use Rattle.std.proofs.lemmas.List.{append-nil, get_or_append_left, get_or_push, length-map, length-set, length_push, map-append}
+use Rattle.std.proofs.Math.Seq.{take-append_seam}
 use Rattle.std.specs.List.{range_with_len}
 use Rattle.keep_moment.specs.declared.moment.TheConstants.{LAST}
 use Rattle.keep_tree.specs.declared.entry.Entry.{Entry}
@@ -16,7 +17,7 @@ use Rattle.keep_plan.proofs.Wanted.{asked_more}
 use Rattle.keep_core.specs.declared.fault.StepFault.{StepFault}
 use Rattle.keep_core.specs.declared.fault.StepFault.TheVariants.{ClockBack, RoundOpen, NotAsked, BadIndex, OutOfRange, TooLong, OutOfMemory}
 use Rattle.keep_core.specs.declared.shortened.ShortNeed.{ShortNeed}
-use Rattle.keep_core.specs.Passes.{AreLeast, AreNeeds, PlanFails, PlanRefused, needing, shorter, so_far}
+use Rattle.keep_core.specs.Passes.{AreLeast, AreNeeds, HasNeeds, PlanFails, PlanRefused, needing, shorter, so_far, with_needs}
 use Rattle.keep_core.specs.Shorten.{cut_to, exceeds, is_short, least_of, least_reach, lesser, need_left, pair_of, pairs, shorten}
 use Rattle.keep_core.proofs.Kept.{plannable, same_entries}
 use Rattle.keep_core.proofs.Needing.{length_needing, needing_at}
@@ -180,6 +181,13 @@ restored g h t needs is are =
     let within : i < length g.entries = (let l = shorten_count g t in omega arith) in
     ap (λ k. record (entry_at g.entries i) { need = k }) (sym (are.each i within)) ∙ ap (λ (x : Entry). record x { need = get_or needs i 0 }) (sym (shorten_at g t i within))))
     ∙ ap (λ m. record { entries = g.entries; margin = m }) (shorten_margin g t)
+
+-- shortening taken back
+pub taken_back :
+    (g h : Grove) (t : ℕ) (list more : List ShortNeed) (needs : List ℕ) (noted : ℕ) → h ≡ shorten g t → more ≡ list ++ pairs g t → noted ≡ length list → HasNeeds g needs →
+    (with_needs h needs ≡ g) × (take noted more ≡ list)
+taken_back g h t list more needs noted is notes count has =
+    (restored g h t needs is has, ap (take noted) notes ∙ ap (λ n. take n (list ++ pairs g t)) count ∙ take-append_seam list (pairs g t))
 
 -- a plan that is too long, or for which there is no memory
 pub fails : (g : Grove) → IsForest g → (t : ℕ) (fault : StepFault) → PlanRefused (shorten g t) t fault → PlanFails g t fault

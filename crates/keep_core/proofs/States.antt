@@ -20,14 +20,17 @@ use Rattle.keep_core.specs.declared.event.Output.TheVariants as out
 use Rattle.keep_core.specs.declared.fault.StepFault.{StepFault}
 use Rattle.keep_core.specs.declared.fault.StepFault.TheVariants.{ClockBack, RoundOpen, NotAsked, BadIndex, OutOfRange, TooLong, OutOfMemory}
 use Rattle.keep_core.specs.declared.shortened.ShortNeed.{ShortNeed}
+use Rattle.keep_core.specs.LawsOfHistories.{IsAnswer}
 use Rattle.keep_core.specs.LawsOfNeeds.{IsShortened}
-use Rattle.keep_core.specs.LawsOfSteps.{Adds, AddsLaw, AskLaw, IsOpened, IsState, StateLaw, with_needs}
+use Rattle.keep_core.specs.LawsOfSteps.{Adds, AddsLaw, AskLaw, StateLaw, with_need}
 use Rattle.keep_core.specs.Refusal.{refusal, waits_for}
 use Rattle.keep_core.specs.Replan.{IsPlanOf, Replan}
-use Rattle.keep_core.specs.Runs.{Run, Turn}
+use Rattle.keep_core.specs.History.{History, Turn}
 use Rattle.keep_core.specs.Shorten.{pairs, shorten}
 use Rattle.keep_core.specs.State.{Round, State, unplanned}
+use Rattle.keep_core.specs.States.{IsOpened, IsState}
 use Rattle.keep_core.specs.Step.{StepAnswer, StepNeed, StepTick, answered, change, heard, left, needed, of_entry, opened}
+use Rattle.keep_core.proofs.Changed.{answered_forest, needed_forest}
 use Rattle.keep_core.proofs.Hearing.{answer_taken}
 use Rattle.keep_core.proofs.Kept.{shortened, unchanged}
 use Rattle.keep_core.proofs.Opened.{answered_only, hears_more, opens}
@@ -37,57 +40,16 @@ use Rattle.keep_core.proofs.Standing.{kept_plan, someone}
 use Rattle.keep_core.proofs.Taken.{need_taken, tick_taken}
 use Rattle.keep_core.proofs.Turns.{open_sound, replan_force}
 
--- a forest with an entry changed, in its end within the range, in its need, or in whether it is renewable
-changed_forest :
-    (g : Grove) → IsForest g → (i : ℕ) → i < length g.entries → (end need : ℕ) (renewable : Bool) → end ≤ END_MAX → need ≤ LAST →
-    IsForest (change g i (λ e. record e { end = end; need = need; renewable = renewable }))
-changed_forest g forest i within end need renewable far late =
-    let x = entry_at g.entries i in
-    let e : Entry = record x { end = end; need = need; renewable = renewable } in
-    let old = read_range g forest i x within refl in
-    replaced_is_forest g forest i e (replaces_read g forest i x e within refl refl refl refl (read_step g forest i x within refl) (record { end = far; ceiling = old.ceiling; need = late }))
-
--- the forest after an answer to a round, at whatever moment
+-- an answer that is taken: its entry is one, and is waited for, and leaves a forest at whatever moment
 pub record Hears (s : State) (event : Event) : Type 0 where
   pub within : of_entry event < length s.forest.entries
   pub waits : waits_for s.round (of_entry event) ≡ true
   pub forest : (at : ℕ) → at ≤ LAST → IsForest (change s.forest (of_entry event) (answered at event))
 
-pub hears_told : (s : State) → IsForest s.forest → (i seconds : ℕ) (renewable : Bool) → refusal s (Told i seconds renewable) ≡ None → Hears s (Told i seconds renewable)
-unfolding answered
-hears_told s forest i seconds renewable taken =
-    let range = answer_taken s (Told i seconds renewable) tt taken in
-    record {
-      within = range.within;
-      waits = range.waits;
-      forest = λ at late.
-          let x = entry_at s.forest.entries i in
-          let old = read_range s.forest forest i x range.within refl in
-          let span = range.seconds in
-          changed_forest s.forest forest i range.within (at + seconds) x.need renewable (omega arith) old.need;
-    }
-
-pub hears_refused : (s : State) → IsForest s.forest → (i : ℕ) → refusal s (Refused i) ≡ None → Hears s (Refused i)
-unfolding answered
-hears_refused s forest i taken =
-    let is = answer_taken s (Refused i) tt taken in
-    let within = is.within in
-    record {
-      within = within;
-      waits = is.waits;
-      forest = λ at late. let x = entry_at s.forest.entries i in let old = read_range s.forest forest i x within refl in changed_forest s.forest forest i within x.end x.need false old.end old.need;
-    }
-
-pub hears_lost : (s : State) → IsForest s.forest → (i : ℕ) → refusal s (Lost i) ≡ None → Hears s (Lost i)
-unfolding answered
-hears_lost s forest i taken =
-    let is = answer_taken s (Lost i) tt taken in
-    let within = is.within in
-    record {
-      within = within;
-      waits = is.waits;
-      forest = λ at late. let x = entry_at s.forest.entries i in let old = read_range s.forest forest i x within refl in changed_forest s.forest forest i within x.end x.need x.renewable old.end old.need;
-    }
+pub hears : (s : State) → IsForest s.forest → (event : Event) → IsAnswer event → refusal s event ≡ None → Hears s event
+hears s forest event answer none =
+    let taken = answer_taken s event answer none in
+    record { within = taken.within; waits = taken.waits; forest = answered_forest s.forest forest event taken.seconds (of_entry event) taken.within }
 
 -- what is planned anew from a forest is a state
 planned_state : (s : State) (t : ℕ) (new : State) → IsForest s.forest → t ≤ LAST → s.round ≡ None → Replan s t new → IsState new
@@ -113,25 +75,25 @@ moved g k h t pair count needs x =
 
 -- and adds the pairs of that planning
 planned_adds :
-    (old : State) (before : Grove) (of_these : ℕ → Type 0) (s : State) (t : ℕ) (new : State) → IsForest s.forest → s.shortened ≡ old.shortened →
-    length s.forest.entries ≡ length before.entries → ((i : ℕ) → (entry_at s.forest.entries i).need ≡ (entry_at before.entries i).need) →
-    ((i : ℕ) → of_these i → (entry_at s.forest.entries i).need ≡ (entry_at old.forest.entries i).need) → Replan s t new → Adds old before new of_these
-planned_adds old before of_these s t new forest same count alike needs r =
-    let h = shorten s.forest t in
+    (before from : State) (t : ℕ) (new : State) → IsForest from.forest → from.shortened ≡ before.shortened → length from.forest.entries ≡ length before.forest.entries →
+    ((i : ℕ) → (entry_at from.forest.entries i).need ≡ (entry_at before.forest.entries i).need) → Replan from t new → Adds before new
+planned_adds before from t new forest same count alike r =
+    let g = from.forest in
+    let h = shorten g t in
     let none : ShortNeed = record { entry = 0; need = 0 } in
-    let each : All (IsShortened before h t) (pairs s.forest t) =
-    All-from_get_or (IsShortened before h t) (pairs s.forest t) none
-    (λ i within. moved s.forest before h t _ count alike (All-get_or (IsShortened s.forest h t) (pairs s.forest t) i none within (shortened s.forest t forest))) in
+    let each : All (IsShortened before.forest h t) (pairs g t) =
+    All-from_get_or (IsShortened before.forest h t) (pairs g t) none
+    (λ i within. moved g before.forest h t _ count alike (All-get_or (IsShortened g h t) (pairs g t) i none within (shortened g t forest))) in
     record {
-      pairs = pairs s.forest t;
-      noted = ap (λ (x : State). x.shortened) r.is ∙ ap (λ xs. xs ++ pairs s.forest t) same;
-      each = subst (λ (x : State). All (IsShortened before x.forest x.last) (pairs s.forest t)) (sym r.is) each;
-      others = λ i other whole. ap (λ (x : State). (entry_at x.forest.entries i).need) r.is ∙ ap (λ (e : Entry). e.need) ((unchanged s.forest t).1.1 i whole) ∙ needs i other;
+      pairs = pairs g t;
+      noted = ap (λ (x : State). x.shortened) r.is ∙ ap (λ xs. xs ++ pairs g t) same;
+      each = subst (λ (x : State). All (IsShortened before.forest x.forest x.last) (pairs g t)) (sym r.is) each;
+      others = λ i whole. ap (λ (x : State). (entry_at x.forest.entries i).need) r.is ∙ ap (λ (e : Entry). e.need) ((unchanged g t).1.1 i whole) ∙ alike i;
     }
 
 -- what plans nothing anew adds none
-adds_none : (old : State) (before : Grove) (of_these : ℕ → Type 0) (new : State) → new.shortened ≡ old.shortened → ((i : ℕ) → (entry_at new.forest.entries i).need ≡ (entry_at old.forest.entries i).need) → Adds old before new of_these
-adds_none old before of_these new same needs = record { pairs = []; noted = same ∙ sym (append-nil old.shortened); each = All-nil _; others = λ i other whole. needs i }
+adds_none : (before new : State) → new.shortened ≡ before.shortened → ((i : ℕ) → (entry_at new.forest.entries i).need ≡ (entry_at before.forest.entries i).need) → Adds before new
+adds_none before new same needs = record { pairs = []; noted = same ∙ sym (append-nil before.shortened); each = All-nil _; others = λ i whole. needs i }
 
 -- an answer changes no need
 heard_need : (s : State) (event : Event) → Hears s event → (at : ℕ) (i : ℕ) → (entry_at (change s.forest (of_entry event) (answered at event)).entries i).need ≡ (entry_at s.forest.entries i).need
@@ -144,19 +106,15 @@ heard_need s event hears at i =
       | inr apart ↦ ap (λ (x : Entry). x.need) (entry_at_set_other es k i e apart)
     ]
 
--- an event sets no need of i
-abbrev Unset : Event → ℕ → Type 0
-Unset event i = (until : ℕ) → event ≢ Need i until
-
 abbrev Leads : State → Event → State → Type 0
-Leads old event new = IsState new × Adds old (with_needs old event) new (Unset event)
+Leads old event new = IsState new × Adds (with_need old event) new
 
 tick_leads : (old : State) (t : ℕ) (output : Output) (new : State) → IsState old → refusal old (Tick t) ≡ None → StepTick old t output new → Leads old (Tick t) new
 tick_leads old t output new state taken step = by_output output step where
   planned_leads : (mid : State) → Replan old t mid → Leads old (Tick t) mid
   planned_leads mid r =
       let parts = tick_taken old t taken in
-      (planned_state old t mid state.forest parts.0 parts.2 r, planned_adds old old.forest (Unset (Tick t)) old t mid state.forest refl refl (λ i. refl) (λ i other. refl) r)
+      (planned_state old t mid state.forest parts.0 parts.2 r, planned_adds old old t mid state.forest refl refl (λ i. refl) r)
 
   by_output : (output : Output) → StepTick old t output new → Leads old (Tick t) new
   by_output out.Idle step = planned_leads new step.0
@@ -191,21 +149,21 @@ tick_leads old t output new state taken step = by_output output step where
               let few : length (t ∷ rest) ≤ LIMIT = subst (λ (ts : List ℕ). length ts ≤ LIMIT) step.1.1.1.0 in_force.1 in
               let same : Some (opened mid t (first_of rest)) ≡ Some round = sym (ap (λ (s : State). s.round) is) ∙ open_now in
               let inner : opened mid t (first_of rest) ≡ round = cc in
-              subst (IsOpened new) inner (subst (λ s. IsOpened s (opened mid t (first_of rest))) (sym is) (opens mid t rest leads.0.forest best few));
+              subst (λ (s : State). IsOpened s.forest s.to_come round) (sym is) (subst (IsOpened mid.forest rest) inner (opens mid.forest t rest leads.0.forest best few));
           sound = open_sound new _ (ap (λ (s : State). s.round) is);
         },
         record {
           pairs = a.pairs;
           noted = ap (λ (s : State). s.shortened) is ∙ a.noted;
           each = subst (λ (s : State). All (IsShortened old.forest s.forest s.last) a.pairs) (sym is) a.each;
-          others = λ i other whole. ap (λ (s : State). (entry_at s.forest.entries i).need) is ∙ a.others i other whole;
+          others = λ i whole. ap (λ (s : State). (entry_at s.forest.entries i).need) is ∙ a.others i whole;
         },
       )
   by_output out.Waiting step = absurd step
   by_output (out.Round next) step = absurd step
   by_output out.Planned step = absurd step
 
-answer_leads : (old : State) (event : Event) (output : Output) (new : State) → IsState old → Hears old event → with_needs old event ≡ old.forest → StepAnswer old event output new → Leads old event new
+answer_leads : (old : State) (event : Event) (output : Output) (new : State) → IsState old → Hears old event → with_need old event ≡ old → StepAnswer old event output new → Leads old event new
 answer_leads old event out.Waiting new state hears plain step =
     let round = step.0 in
     let is = step.1.1.1 in
@@ -226,10 +184,10 @@ answer_leads old event out.Waiting new state hears plain step =
             let same : Some (left round (of_entry event)) ≡ Some now = sym (ap (λ (s : State). s.round) is) ∙ open_now in
             let inner : left round (of_entry event) ≡ now = cc in
             let waits = sym (ap (λ r. waits_for r (of_entry event)) step.1.0) ∙ hears.waits in
-            subst (IsOpened new) inner (subst (λ s. IsOpened s (left round (of_entry event))) (sym is) (hears_more old round event (state.opened round step.1.0) hears.within waits));
+            subst (λ (s : State). IsOpened s.forest s.to_come now) (sym is) (subst (IsOpened (change old.forest (of_entry event) (answered round.at event)) old.to_come) inner (hears_more old.forest old.to_come round event (state.opened round step.1.0) hears.within waits));
         sound = open_sound new _ (ap (λ (s : State). s.round) is);
       },
-      adds_none old (with_needs old event) (Unset event) new (ap (λ (s : State). s.shortened) is) (λ i. ap (λ (s : State). (entry_at s.forest.entries i).need) is ∙ heard_need old event hears round.at i),
+      subst (λ s. Adds s new) (sym plain) (adds_none old new (ap (λ (s : State). s.shortened) is) (λ i. ap (λ (s : State). (entry_at s.forest.entries i).need) is ∙ heard_need old event hears round.at i)),
     )
 answer_leads old event (out.Round next) new state hears plain step =
     let round = step.0 in
@@ -237,7 +195,7 @@ answer_leads old event (out.Round next) new state hears plain step =
     let late = state.last in
     let from = heard old event round.at None in
     let forest : IsForest from.forest = hears.forest round.at (omega arith) in
-    (planned_state from round.at new forest (omega arith) refl step.1.1.1.0, subst (λ g. Adds old g new (Unset event)) (sym plain) (planned_adds old old.forest (Unset event) from round.at new forest refl (length-set old.forest.entries (of_entry event) _) (heard_need old event hears round.at) (λ i other. heard_need old event hears round.at i) step.1.1.1.0))
+    (planned_state from round.at new forest (omega arith) refl step.1.1.1.0, subst (λ s. Adds s new) (sym plain) (planned_adds old from round.at new forest refl (length-set old.forest.entries (of_entry event) _) (heard_need old event hears round.at) step.1.1.1.0))
 answer_leads old event out.Idle new state hears plain step = absurd step
 answer_leads old event (out.Sleep w) new state hears plain step = absurd step
 answer_leads old event (out.Ask asked) new state hears plain step = absurd step
@@ -246,57 +204,49 @@ answer_leads old event out.Planned new state hears plain step = absurd step
 need_leads : (old : State) (i until : ℕ) (output : Output) (new : State) → IsState old → refusal old (Need i until) ≡ None → StepNeed old i until output new → Leads old (Need i until) new
 need_leads old i until out.Planned new state taken step =
     let parts = need_taken old i until taken in
-    let x = entry_at old.forest.entries i in
-    let range = read_range old.forest state.forest i x parts.1 refl in
     let from = needed old i until in
-    let forest : IsForest from.forest = changed_forest old.forest state.forest i parts.1 x.end until x.renewable range.end parts.0 in (
-      planned_state from old.last new forest state.last parts.2 step,
-      planned_adds old from.forest (Unset (Need i until)) from old.last new forest refl refl (λ k. refl)
-          (λ k other. elim (cases_eq k i) [
-            | inl same ↦ absurd (other until (ap (λ j. Need j until) (sym same)))
-            | inr apart ↦ ap (λ (e : Entry). e.need) (entry_at_set_other old.forest.entries i k (record x { need = until }) apart)
-          ])
-          step,
-    )
+    let forest = needed_forest old.forest state.forest i parts.1 until parts.0 in
+    (planned_state from old.last new forest state.last parts.2 step, planned_adds from from old.last new forest refl refl (λ k. refl) step)
 need_leads old i until out.Idle new state taken step = absurd step
 need_leads old i until (out.Sleep w) new state taken step = absurd step
 need_leads old i until (out.Ask asked) new state taken step = absurd step
 need_leads old i until out.Waiting new state taken step = absurd step
 need_leads old i until (out.Round next) new state taken step = absurd step
 
-stays_leads : (old : State) (event : Event) (new : State) → IsState old → new ≡ old → Leads old event new
-stays_leads old event new state same = (subst IsState (sym same) state, adds_none old (with_needs old event) (Unset event) new (ap (λ (s : State). s.shortened) same) (λ i. ap (λ (s : State). (entry_at s.forest.entries i).need) same))
+step_leads : (old : State) (event : Event) (output : Output) (new : State) → IsState old → Turn old event (Ok output) new → Leads old event new
+step_leads old (Tick t) output new state turn = tick_leads old t output new state turn.0 turn.1
+step_leads old (Told i seconds renewable) output new state turn = let e = Told i seconds renewable in answer_leads old e output new state (hears old state.forest e tt turn.0) refl turn.1
+step_leads old (Refused i) output new state turn = answer_leads old (Refused i) output new state (hears old state.forest (Refused i) tt turn.0) refl turn.1
+step_leads old (Lost i) output new state turn = answer_leads old (Lost i) output new state (hears old state.forest (Lost i) tt turn.0) refl turn.1
+step_leads old (Need i until) output new state turn = need_leads old i until output new state turn.0 turn.1
 
-pub turn_leads : (old : State) (event : Event) (result : Result Output StepFault) (new : State) → IsState old → Turn old event result new → Leads old event new
-turn_leads old (Tick t) (Ok output) new state turn = tick_leads old t output new state turn.0 turn.1
-turn_leads old (Told i seconds renewable) (Ok output) new state turn = answer_leads old (Told i seconds renewable) output new state (hears_told old state.forest i seconds renewable turn.0) refl turn.1
-turn_leads old (Refused i) (Ok output) new state turn = answer_leads old (Refused i) output new state (hears_refused old state.forest i turn.0) refl turn.1
-turn_leads old (Lost i) (Ok output) new state turn = answer_leads old (Lost i) output new state (hears_lost old state.forest i turn.0) refl turn.1
-turn_leads old (Need i until) (Ok output) new state turn = need_leads old i until output new state turn.0 turn.1
-turn_leads old event (Err ClockBack) new state turn = stays_leads old event new state turn.1
-turn_leads old event (Err RoundOpen) new state turn = stays_leads old event new state turn.1
-turn_leads old event (Err NotAsked) new state turn = stays_leads old event new state turn.1
-turn_leads old event (Err BadIndex) new state turn = stays_leads old event new state turn.1
-turn_leads old event (Err OutOfRange) new state turn = stays_leads old event new state turn.1
-turn_leads old event (Err TooLong) new state turn = stays_leads old event new state turn.1.1
-turn_leads old event (Err OutOfMemory) new state turn = stays_leads old event new state turn.1.1
+-- a refusal leaves the state
+pub turn_state : (old : State) (event : Event) (result : Result Output StepFault) (new : State) → IsState old → Turn old event result new → IsState new
+turn_state old event (Ok output) new state turn = (step_leads old event output new state turn).0
+turn_state old event (Err ClockBack) new state turn = subst IsState (sym turn.1) state
+turn_state old event (Err RoundOpen) new state turn = subst IsState (sym turn.1) state
+turn_state old event (Err NotAsked) new state turn = subst IsState (sym turn.1) state
+turn_state old event (Err BadIndex) new state turn = subst IsState (sym turn.1) state
+turn_state old event (Err OutOfRange) new state turn = subst IsState (sym turn.1) state
+turn_state old event (Err TooLong) new state turn = subst IsState (sym turn.1.1) state
+turn_state old event (Err OutOfMemory) new state turn = subst IsState (sym turn.1.1) state
 
 pub adds : AddsLaw
 adds = (
-  λ g start new forest r. planned_adds (unplanned g) g (λ i. Unit {0}) (unplanned g) start new forest refl refl (λ i. refl) (λ i all. refl) r,
-  λ old new event result state turn. (turn_leads old event result new state turn).1,
+  λ g start new forest r. planned_adds (unplanned g) (unplanned g) start new forest refl refl (λ i. refl) r,
+  λ old new event output state turn. (step_leads old event output new state turn).1,
 )
 
-run_state : (old new : State) (events : List Event) (results : List (Result Output StepFault)) → IsState old → Run old events results new → IsState new
-run_state old new [] [] state run = subst IsState (sym run) state
-run_state old new [] (result ∷ results) state run = absurd run
-run_state old new (event ∷ events) [] state run = absurd run
-run_state old new (event ∷ events) (result ∷ results) state run = run_state run.0 new events results (turn_leads old event result run.0 state run.1.0).0 run.1.1
+history_state : (old new : State) (events : List Event) (results : List (Result Output StepFault)) → IsState old → History old events results new → IsState new
+history_state old new [] [] state history = subst IsState (sym history) state
+history_state old new [] (result ∷ results) state history = absurd history
+history_state old new (event ∷ events) [] state history = absurd history
+history_state old new (event ∷ events) (result ∷ results) state history = history_state history.0 new events results (turn_state old event result history.0 state history.1.0) history.1.1
 
 pub states : StateLaw
-states g start old new events results forest late r run =
+states g start old new events results forest late r history =
     let first = planned_state (unplanned g) start old forest late refl r in
-    (first, run_state old new events results first run)
+    (first, history_state old new events results first history)
 
 pub asked_at : AskLaw
 asked_at old new (Tick t) asked state turn =

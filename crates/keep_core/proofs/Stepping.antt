@@ -1,4 +1,4 @@
--- One event after another: a refusal is a turn of its own, and a run goes on with one turn more.
+-- One event after another: a refusal is a turn of its own, and a history goes on with one turn more.
 use Rattle.std.proofs.Common.{◌≡◌, ◌++◌, Bool, true, false, cond, List, [], ◌∷◌, Option, Some, None, IfSome, Result, Err, is_some, length, nat_le, nat_lt, refl, subst}
 use Rattle.keep_moment.specs.declared.moment.TheConstants.{LAST}
 use Rattle.keep_core.specs.declared.event.Event.{Event}
@@ -7,7 +7,7 @@ use Rattle.keep_core.specs.declared.event.Output.{Output}
 use Rattle.keep_core.specs.declared.fault.StepFault.{StepFault}
 use Rattle.keep_core.specs.declared.fault.StepFault.TheVariants.{ClockBack, RoundOpen, NotAsked, BadIndex, OutOfRange, TooLong, OutOfMemory}
 use Rattle.keep_core.specs.Refusal.{LONGEST, refusal, waits_for}
-use Rattle.keep_core.specs.Runs.{Run, Turn}
+use Rattle.keep_core.specs.History.{History, Turn}
 use Rattle.keep_core.specs.State.{Round, State}
 
 -- a fault that does not come of planning anew
@@ -50,10 +50,10 @@ refused s event fault is = by_fault fault is (subst (λ o. IfSome o IsEarly) is 
   by_fault OutOfMemory is early = absurd early
 
 -- one turn more
-pub run_more :
+pub history_more :
     (old mid new : State) (events : List Event) (event : Event) (results : List (Result Output StepFault)) (result : Result Output StepFault) →
-    Run old events results mid → Turn mid event result new → Run old (events ++ event ∷ []) (results ++ result ∷ []) new
-run_more old mid new [] event [] result run turn = (new, (subst (λ s. Turn s event result new) run turn, refl))
-run_more old mid new [] event (r ∷ results) result run turn = absurd run
-run_more old mid new (e ∷ events) event [] result run turn = absurd run
-run_more old mid new (e ∷ events) event (r ∷ results) result run turn = (run.0, (run.1.0, run_more run.0 mid new events event results result run.1.1 turn))
+    History old events results mid → Turn mid event result new → History old (events ++ event ∷ []) (results ++ result ∷ []) new
+history_more old mid new [] event [] result history turn = (new, (subst (λ s. Turn s event result new) history turn, refl))
+history_more old mid new [] event (r ∷ results) result history turn = absurd history
+history_more old mid new (e ∷ events) event [] result history turn = absurd history
+history_more old mid new (e ∷ events) event (r ∷ results) result history turn = (history.0, (history.1.0, history_more history.0 mid new events event results result history.1.1 turn))

@@ -7,9 +7,9 @@ use Rattle.keep_core.specs.declared.event.Output.TheVariants as out
 use Rattle.keep_core.specs.declared.fault.StepFault.{StepFault}
 use Rattle.keep_core.specs.declared.fault.StepFault.TheVariants.{ClockBack, RoundOpen, NotAsked, BadIndex, OutOfRange, TooLong, OutOfMemory}
 use Rattle.keep_core.specs.InForce.{InForce, IsSound}
-use Rattle.keep_core.specs.LawsOfRuns.{InForceLaw}
+use Rattle.keep_core.specs.LawsOfHistories.{InForceLaw}
 use Rattle.keep_core.specs.Replan.{Replan}
-use Rattle.keep_core.specs.Runs.{Turn}
+use Rattle.keep_core.specs.History.{Turn}
 use Rattle.keep_core.specs.State.{Round, State}
 use Rattle.keep_core.specs.Step.{StepAnswer, StepNeed, StepTick}
 
@@ -59,7 +59,7 @@ turn_sound old event (Err TooLong) new sound turn = subst IsSound (sym turn.1.1)
 turn_sound old event (Err OutOfMemory) new sound turn = subst IsSound (sym turn.1.1) sound
 
 pub in_force : InForceLaw
-in_force old new [] [] sound run = subst IsSound (sym run) sound
-in_force old new [] (result ∷ results) sound run = absurd run
-in_force old new (event ∷ events) [] sound run = absurd run
-in_force old new (event ∷ events) (result ∷ results) sound run = in_force run.0 new events results (turn_sound old event result run.0 sound run.1.0) run.1.1
+in_force old new [] [] sound history = subst IsSound (sym history) sound
+in_force old new [] (result ∷ results) sound history = absurd history
+in_force old new (event ∷ events) [] sound history = absurd history
+in_force old new (event ∷ events) (result ∷ results) sound history = in_force history.0 new events results (turn_sound old event result history.0 sound history.1.0) history.1.1

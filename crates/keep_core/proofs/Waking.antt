@@ -6,6 +6,7 @@ use Rattle.std.proofs.lemmas.List.{get_or-set_other, get_or-set_same, length-set
 use Rattle.std.proofs.lemmas.List.Elements.{All-from_get_or, All-get_or, All-nil}
 use Rattle.std.proofs.lemmas.List.Folds.{list_any-append}
 use Rattle.std.specs.List.{All, list_any, range_with_len}
+use Rattle.keep_moment.specs.declared.moment.TheConstants.{LAST}
 use Rattle.keep_tree.specs.declared.entry.Entry.{Entry}
 use Rattle.keep_tree.specs.Forest.{Grove, end_of}
 use Rattle.keep_tree.specs.Push.{IsForest}
@@ -25,10 +26,13 @@ use Rattle.keep_core.specs.InForce.{AllForcedAs}
 use Rattle.keep_core.specs.Keeping.{IsKeeper, IsOpen, flag, waited_for}
 use Rattle.keep_core.specs.Replan.{IsPlanOf, Replan}
 use Rattle.keep_core.specs.State.{State}
-use Rattle.keep_core.specs.Step.{StepTick, opened}
+use Rattle.keep_core.specs.States.{IsOpened}
+use Rattle.keep_core.specs.Step.{IsDueBy, StepTick, opened}
 use Rattle.keep_core.specs.Waking.{AreFlags, IsOpening, Wakes, is_late}
 use Rattle.keep_core.proofs.ByRule.{next_is, opens_by_rule, rises_strictly}
 use Rattle.keep_core.proofs.Forces.{still_forced}
+use Rattle.keep_core.proofs.Made.{count_moments}
+use Rattle.keep_core.proofs.Opened.{opens as opens_whole}
 use Rattle.keep_core.proofs.Standing.{best_first, tick}
 use Rattle.keep_core.proofs.Waiting.{kept_test, kept_there}
 
@@ -121,6 +125,11 @@ none_before h s t (w ∷ ts) best e =
     let from = (best_first h s w ts best).1 in
     All-from_get_or (λ u. t ≤ u) (w ∷ ts) 0 (λ i within. let l = All-get_or (λ u. w ≤ u) (w ∷ ts) i 0 within from in omega arith)
 
+-- a late tick is past the first of them
+pub late_due : (t : ℕ) (next : Option ℕ) → is_late t next ≡ true → IsDueBy t next
+late_due t None e = absurd cc
+late_due t (Some w) e = (let yes' : nat_lt w t ≡ true = e in grind (arith, nat_tests))
+
 forced_then :
     (h : Grove) → IsForest h → (s t : ℕ) (xs : List Force) → IsPlanOf h s (moments_of xs) → is_late t (first_of (moments_of xs)) ≡ false →
     AllForcedAs h.entries h.margin s (end_of h.entries) None xs → AllForcedAs h.entries h.margin t (end_of h.entries) None xs
@@ -130,15 +139,17 @@ forced_then h forest s t (x ∷ xs) best e forced =
     (still_forced h s x xs forest best forced).0 t (grind (arith, nat_tests))
 
 -- then the parts of a keeper belong together at the tick's moment
-pub kept_keeper : (h : Grove) → IsForest h → (s t : ℕ) (p : Planned) → IsKeeper h s p None → s ≤ t → is_late t (first_of (moments_of (to_come p))) ≡ false → IsKeeper h t p None
-kept_keeper h forest s t p k later e =
+pub kept_keeper : (h : Grove) (s t : ℕ) (p : Planned) → IsKeeper h s p None → s ≤ t → t ≤ LAST → is_late t (first_of (moments_of (to_come p))) ≡ false → IsKeeper h t p None
+kept_keeper h s t p k later late e =
     let ts = moments_of (to_come p) in
     record {
+      forest = k.forest;
+      late = late;
       carried = k.carried;
       start = (let l = k.start in omega arith);
       few = k.few;
       best = λ none. (tick h s t ts later (none_before h s t ts (k.best refl) e) (k.best refl)).1.1;
-      forced = λ none. forced_then h forest s t (to_come p) (k.best refl) e (k.forced refl);
+      forced = λ none. forced_then h k.forest s t (to_come p) (k.best refl) e (k.forced refl);
       open_round = λ r is. absurd cc;
     }
 
@@ -162,9 +173,13 @@ opened_keeper h t p q o k opens start carried tail =
       count = opens.count;
       left = opens.left ∙ ap length (sym opens.waiting);
       some = (let l = opens.left in let n = opens.some in omega arith);
+      opened = subst (IsOpened h ts) (sym (ap (λ n. record { at = n; unanswered = waited_for o.round.waiting.items }) opens.at ∙ ap (λ us. record { at = t; unanswered = us }) (opens.waiting ∙ asked)))
+          (opens_whole h t ts k.forest best (let c = count_moments (to_come q) in let l = ap length tail.1 in let n = k.few in omega arith));
       by_rule = λ _. opens_by_rule h opens.forest t x q at best forced o.round.waiting.items (opens.waiting ∙ asked);
     } in
     record {
+      forest = k.forest;
+      late = k.late;
       carried = subst (λ n. IsCarried h n q.carried) (sym start) (subst (IsCarried h p.start) (sym carried) k.carried);
       start = (let l = k.start in omega arith);
       few = (let l = ap length tail.1 in let n = k.few in omega arith);

@@ -2,6 +2,7 @@
 -- Source: this project's own.
 use Rattle.std.specs.Prelude.{◌≡◌, ℕ, ◌≤◌, ◌<◌, Bool, true, false, not, ◌&&◌, if◌then◌else◌, List, ◌∷◌, Option, Some, None, filter, length, slice_index_or}
 use Rattle.std.specs.List.{range_with_len}
+use Rattle.keep_moment.specs.declared.moment.TheConstants.{LAST}
 use Rattle.keep_tree.specs.Forest.{Grove, end_of, entry_at}
 use Rattle.keep_tree.specs.Push.{IsForest}
 use Rattle.keep_tree.specs.Renewal.{renewal}
@@ -16,6 +17,7 @@ use Rattle.keep_core.specs.declared.round.OpenRound.{OpenRound}
 use Rattle.keep_core.specs.InForce.{AllForcedAs}
 use Rattle.keep_core.specs.Replan.{IsPlanOf}
 use Rattle.keep_core.specs.State.{Round}
+use Rattle.keep_core.specs.States.{IsOpened}
 
 -- whether the answer of an entry is waited for
 abbrev pub flag : List Bool → ℕ → Bool
@@ -26,9 +28,12 @@ unfoldable pub waited_for : List Bool → List ℕ
 waited_for flags = filter (flag flags) (range_with_len 0 (length flags))
 
 -- what callers see of a round
+abbrev pub shown : OpenRound → Round
+shown r = record { at = r.at; unanswered = waited_for r.waiting.items }
+
 abbrev pub seen : Option OpenRound → Option Round
 seen None = None
-seen (Some r) = Some (record { at = r.at; unanswered = waited_for r.waiting.items })
+seen (Some r) = Some (shown r)
 
 -- g is the forest at the opening of a round at t, with a plan whose first wake-up was x and whose others are still to come;
 -- of the entries that were asked, those that are no longer waited for were told the rule's end and stay renewable
@@ -51,10 +56,13 @@ pub record IsOpen (h : Grove) (last : ℕ) (p : Planned) (r : OpenRound) : Type 
   pub count : length r.waiting.items ≡ length h.entries
   pub left : r.left ≡ length (waited_for r.waiting.items)
   pub some : 0 < r.left
+  pub opened : IsOpened h (moments_of (to_come p)) (shown r)
   pub by_rule : r.by_rule ≡ true → IsByRule h last p r.waiting.items
 
 -- a forest, the last moment, a plan and a round, if one is open, that belong together
 pub record IsKeeper (h : Grove) (last : ℕ) (p : Planned) (round : Option OpenRound) : Type 0 where
+  pub forest : IsForest h
+  pub late : last ≤ LAST
   pub carried : IsCarried h p.start p.carried
   pub start : p.start ≤ last
   pub few : length (to_come p) ≤ LIMIT

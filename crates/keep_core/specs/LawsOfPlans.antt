@@ -1,6 +1,6 @@
 -- Laws of plans: where the plan in force is what planning anew would give. Each is the contract of a public function without
 -- a body.
-use Rattle.std.specs.Prelude.{◌≡◌, ℕ, ◌≤◌, ◌<◌, false, if◌then◌else◌, List, [], ◌∷◌, Option, None, length}
+use Rattle.std.specs.Prelude.{◌≡◌, ℕ, ◌≤◌, ◌<◌, if◌then◌else◌, List, [], ◌∷◌, Option, None, length}
 use Rattle.std.specs.List.{All}
 use Rattle.keep_tree.specs.Forest.{Grove, end_of, entry_at}
 use Rattle.keep_tree.specs.Push.{IsForest}
@@ -13,6 +13,7 @@ use Rattle.keep_core.specs.InForce.{AllForcedAs, InForce}
 use Rattle.keep_core.specs.Replan.{IsPlanOf, Replan}
 use Rattle.keep_core.specs.Shorten.{pairs, shorten}
 use Rattle.keep_core.specs.State.{State}
+use Rattle.keep_core.specs.States.{IsAnswered}
 
 -- a tick that is not late: the plan in force is what planning anew gives, and no need is shortened
 abbrev pub TickLaw : Type 0
@@ -49,14 +50,6 @@ StillForcedLaw =
     (g : Grove) (s : ℕ) (x : Force) (xs : List Force) → IsForest g → IsPlanOf g s (moments_of (x ∷ xs)) → AllForcedAs g.entries g.margin s (end_of g.entries) None (x ∷ xs) →
     ((t : ℕ) → t ≤ x.at → AllForcedAs g.entries g.margin t (end_of g.entries) None (x ∷ xs))
     × ((h : Grove) → IsAnsweredByRule g h x.at (first_of (moments_of xs)) → AllForcedAs h.entries h.margin x.at (end_of h.entries) None xs)
-
--- h is g after answers to a round at t, whatever they were: an entry has changed in its end and in whether it is renewable
--- alone, and only where it is among the Asks
-pub record IsAnswered (g h : Grove) (t : ℕ) (next : Option ℕ) : Type 0 where
-  pub margin : h.margin ≡ g.margin
-  pub count : length h.entries ≡ length g.entries
-  pub each : (i : ℕ) → entry_at h.entries i ≡ record (entry_at g.entries i) { end = (entry_at h.entries i).end; renewable = (entry_at h.entries i).renewable }
-  pub others : (i : ℕ) → is_asked (asking g.entries g.margin t (end_of g.entries) t next) i ≡ false → entry_at h.entries i ≡ entry_at g.entries i
 
 -- planning anew gives no more wake-ups than the plan in force has: at whatever later moment, and at the moment of a round,
 -- whatever the answers to it

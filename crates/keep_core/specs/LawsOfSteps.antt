@@ -1,13 +1,11 @@
 -- Laws of steps: what holds of every state that events lead to, which needs an event shortens, and when entries are asked.
 -- Each is the contract of a public function without a body.
-use Rattle.std.specs.Prelude.{◌≡◌, ◌≢◌, ℕ, ◌≤◌, ◌<◌, true, List, [], ◌∷◌, ◌++◌, Some, Result, Ok, Err, length}
+use Rattle.std.specs.Prelude.{◌≡◌, ◌≢◌, ℕ, ◌≤◌, ◌<◌, List, ◌∷◌, ◌++◌, Some, Result, Ok, Err, length}
 use Rattle.std.specs.List.{All, Contains}
 use Rattle.keep_moment.specs.declared.moment.TheConstants.{LAST}
 use Rattle.keep_tree.specs.Forest.{Grove, end_of, entry_at}
 use Rattle.keep_tree.specs.Push.{IsForest}
-use Rattle.keep_rule.specs.Asks.{asking, asks, first_of}
-use Rattle.keep_rule.specs.Ends.{is_asked}
-use Rattle.keep_rule.specs.declared.limit.TheConstants.{LIMIT}
+use Rattle.keep_rule.specs.Asks.{asks, first_of}
 use Rattle.keep_core.specs.declared.event.Event.{Event}
 use Rattle.keep_core.specs.declared.event.Event.TheVariants.{Tick, Need}
 use Rattle.keep_core.specs.declared.event.Output.{Output}
@@ -15,59 +13,38 @@ use Rattle.keep_core.specs.declared.event.Output.TheVariants as out
 use Rattle.keep_core.specs.declared.fault.StepFault.{StepFault}
 use Rattle.keep_core.specs.declared.fault.StepFault.TheVariants.{OutOfMemory}
 use Rattle.keep_core.specs.declared.shortened.ShortNeed.{ShortNeed}
-use Rattle.keep_core.specs.InForce.{InForce, IsSound}
+use Rattle.keep_core.specs.InForce.{InForce}
 use Rattle.keep_core.specs.LawsOfNeeds.{IsShortened}
-use Rattle.keep_core.specs.LawsOfPlans.{IsAnswered}
-use Rattle.keep_core.specs.Refusal.{waits_for}
-use Rattle.keep_core.specs.Replan.{IsPlanOf, Replan}
-use Rattle.keep_core.specs.Runs.{Run, Turn}
-use Rattle.keep_core.specs.State.{Round, State, unplanned}
+use Rattle.keep_core.specs.Replan.{Replan}
+use Rattle.keep_core.specs.History.{History, Turn}
+use Rattle.keep_core.specs.State.{State, unplanned}
+use Rattle.keep_core.specs.States.{IsState}
 use Rattle.keep_core.specs.Step.{needed}
-
--- what was there when the round opened: a forest, for which the round's moment and the moments to come were the plan in
--- force. Since then answers have changed what was asked alone, and each who is waited for was asked
-pub record IsOpened (s : State) (round : Round) : Type 0 where
-  pub before : Grove
-  pub forest : IsForest before
-  pub best : IsPlanOf before round.at (round.at ∷ s.to_come)
-  pub few : length (round.at ∷ s.to_come) ≤ LIMIT
-  pub answered : IsAnswered before s.forest round.at (first_of s.to_come)
-  pub asked : (i : ℕ) → waits_for (Some round) i ≡ true → is_asked (asking before.entries before.margin round.at (end_of before.entries) round.at (first_of s.to_come)) i ≡ true
-
--- a forest and a last moment; a round that is open since then, in which someone is waited for; and a plan in force wherever
--- no round is open
-pub record IsState (s : State) : Type 0 where
-  pub forest : IsForest s.forest
-  pub last : s.last ≤ LAST
-  pub open_since : (round : Round) → s.round ≡ Some round → round.at ≡ s.last
-  pub waits : (round : Round) → s.round ≡ Some round → round.unanswered ≢ []
-  pub opened : (round : Round) → s.round ≡ Some round → IsOpened s round
-  pub sound : IsSound s
 
 -- whatever events come after the opening, and whatever of them is refused, they lead to such a state
 abbrev pub StateLaw : Type 0
 StateLaw =
     (g : Grove) (start : ℕ) (old new : State) (events : List Event) (results : List (Result Output StepFault)) → IsForest g → start ≤ LAST → Replan (unplanned g) start old →
-    Run old events results new → IsState old × IsState new
+    History old events results new → IsState old × IsState new
 
--- what planning anew adds to the needs that were shortened: each is shortened, as far as it has to be and no farther, by the
--- ends and needs as they then are. Of the entries of which this is asked, no other need is changed
-pub record Adds (old : State) (before : Grove) (new : State) (of_these : ℕ → Type 0) : Type 0 where
+-- planning anew adds these pairs to the needs that were shortened, where it plans with the ends and needs of this state: each
+-- pair is shortened, as far as it has to be and no farther, and no other need is changed
+pub record Adds (before new : State) : Type 0 where
   pub pairs : List ShortNeed
-  pub noted : new.shortened ≡ old.shortened ++ pairs
-  pub each : All (IsShortened before new.forest new.last) pairs
-  pub others : (i : ℕ) → of_these i → ((need : ℕ) → Contains pairs (record { entry = i; need = need }) → ⊥) → (entry_at new.forest.entries i).need ≡ (entry_at old.forest.entries i).need
+  pub noted : new.shortened ≡ before.shortened ++ pairs
+  pub each : All (IsShortened before.forest new.forest new.last) pairs
+  pub others : (i : ℕ) → ((need : ℕ) → Contains pairs (record { entry = i; need = need }) → ⊥) → (entry_at new.forest.entries i).need ≡ (entry_at before.forest.entries i).need
 
--- the forest with the needs that an event plans anew with: those in force, or with the new one
-abbrev pub with_needs : State → Event → Grove
-with_needs old (Need i until) = (needed old i until).forest
-with_needs old event = old.forest
+-- the state with the needs that an event plans anew with: with the new one, if it gives one
+abbrev pub with_need : State → Event → State
+with_need old (Need i until) = needed old i until
+with_need old event = old
 
--- the opening adds such pairs, and so does each event. No other need is changed but by Need
+-- the opening adds such pairs, and so does each event that is not refused. Hence no other need is changed but by Need
 abbrev pub AddsLaw : Type 0
 AddsLaw =
-    ((g : Grove) (start : ℕ) (new : State) → IsForest g → Replan (unplanned g) start new → Adds (unplanned g) g new (λ i. Unit {0}))
-    × ((old new : State) (event : Event) (result : Result Output StepFault) → IsState old → Turn old event result new → Adds old (with_needs old event) new (λ i. (until : ℕ) → event ≢ Need i until))
+    ((g : Grove) (start : ℕ) (new : State) → IsForest g → Replan (unplanned g) start new → Adds (unplanned g) new)
+    × ((old new : State) (event : Event) (output : Output) → IsState old → Turn old event (Ok output) new → Adds (with_need old event) new)
 
 -- these entries are asked at t: the first moment of the plan in force there, which is that of before where the tick is not
 -- late. They are the Asks, and someone is asked

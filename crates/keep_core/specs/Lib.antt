@@ -3,8 +3,9 @@ pub mod Shorten
 pub mod Refusal
 pub mod Replan
 pub mod Step
-pub mod Runs
+pub mod History
 pub mod InForce
+pub mod States
 pub mod Passes
 pub mod Keeping
 pub mod Waking
@@ -12,4 +13,4 @@ pub mod Hearing
 pub mod LawsOfNeeds
 pub mod LawsOfPlans
 pub mod LawsOfSteps
-pub mod LawsOfRuns
+pub mod LawsOfHistories

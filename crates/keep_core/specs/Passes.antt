@@ -4,10 +4,10 @@ use Rattle.std.specs.Prelude.{◌≡◌, ℕ, ◌<◌, if◌then◌else◌, List
 use Rattle.std.specs.List.{range_with_len}
 use Rattle.keep_tree.specs.declared.entry.Entry.{Entry}
 use Rattle.keep_tree.specs.Forest.{Grove, entry_at}
-use Rattle.keep_plan.specs.Decides.{IsTooLong as IsLong}
+use Rattle.keep_plan.specs.Decides.{IsTooLong}
 use Rattle.keep_core.specs.declared.fault.StepFault.{StepFault}
 use Rattle.keep_core.specs.declared.fault.StepFault.TheVariants.{TooLong, OutOfMemory}
-use Rattle.keep_core.specs.Replan.{IsTooLong}
+use Rattle.keep_core.specs.Replan.{ReplanTooLong}
 use Rattle.keep_core.specs.Shorten.{cut_to, exceeds, least_reach}
 
 -- the entries with these needs
@@ -28,18 +28,26 @@ pub record AreNeeds (n : ℕ) (f : ℕ → ℕ) (needs : List ℕ) : Type 0 wher
   pub count : length needs ≡ n
   pub each : (i : ℕ) → i < n → slice_index needs i ≡ f i
 
+-- the forest with these needs
+abbrev pub with_needs : Grove → List ℕ → Grove
+with_needs g needs = record { entries = needing g.entries (slice_index needs); margin = g.margin }
+
+-- the needs of a forest
+abbrev pub HasNeeds : Grove → List ℕ → Type 0
+HasNeeds g needs = AreNeeds (length g.entries) (λ i. (entry_at g.entries i).need) needs
+
 -- what a need is shortened to, None where it is not
 unfoldable pub shorter : ℕ → Option ℕ → ℕ → Option ℕ
 shorter t reach need = if exceeds t reach need then Some (cut_to reach need) else None
 
 -- what stands in the way of a plan
 abbrev pub PlanFails : Grove → ℕ → StepFault → Type 0
-PlanFails g t TooLong = IsTooLong g t
+PlanFails g t TooLong = ReplanTooLong g t
 PlanFails g t OutOfMemory = Unit {0}
 PlanFails g t fault = ⊥
 
 -- the same of a forest in which no need is to be shortened
 abbrev pub PlanRefused : Grove → ℕ → StepFault → Type 0
-PlanRefused g t TooLong = IsLong g t
+PlanRefused g t TooLong = IsTooLong g t
 PlanRefused g t OutOfMemory = Unit {0}
 PlanRefused g t fault = ⊥

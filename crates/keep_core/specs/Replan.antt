@@ -23,7 +23,7 @@ pub record Replan (old : State) (t : ℕ) (new : State) : Type 0 where
   pub is : new ≡ planned old t moments
 
 -- planned anew at t, the forest has more than LIMIT moments to come
-pub record IsTooLong (g : Grove) (t : ℕ) : Type 0 where
+pub record ReplanTooLong (g : Grove) (t : ℕ) : Type 0 where
   pub moments : List ℕ
   pub best : IsPlanOf (shorten g t) t moments
   pub many : LIMIT < length moments

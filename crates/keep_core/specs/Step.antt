@@ -8,7 +8,7 @@ use Rattle.keep_core.specs.declared.event.Event.{Event}
 use Rattle.keep_core.specs.declared.event.Event.TheVariants.{Tick, Told, Refused, Lost, Need}
 use Rattle.keep_core.specs.declared.event.Output.{Output}
 use Rattle.keep_core.specs.declared.event.Output.TheVariants as out
-use Rattle.keep_core.specs.Replan.{IsTooLong, Replan}
+use Rattle.keep_core.specs.Replan.{ReplanTooLong, Replan}
 use Rattle.keep_core.specs.State.{Round, State}
 
 -- the forest with the entry i changed
@@ -80,18 +80,10 @@ Step old (Refused i) output new = StepAnswer old (Refused i) output new
 Step old (Lost i) output new = StepAnswer old (Lost i) output new
 Step old (Need i until) output new = StepNeed old i until output new
 
--- planning anew after the last answer of a round is too long
-abbrev pub AnswerTooLong : State → Event → Type 0
-AnswerTooLong old event =
-    (round : Round) × ((old.round ≡ Some round) × (((left round (of_entry event)).unanswered ≡ []) × IsTooLong (heard old event round.at None).forest round.at))
-
--- the plan that an event makes anew is too long
+-- the plan made anew is too long: with a new need alone. No tick and no answer makes a plan longer than the one in force was
 abbrev pub StepTooLong : State → Event → Type 0
-StepTooLong old (Tick t) = IsTooLong old.forest t
-StepTooLong old (Told i seconds renewable) = AnswerTooLong old (Told i seconds renewable)
-StepTooLong old (Refused i) = AnswerTooLong old (Refused i)
-StepTooLong old (Lost i) = AnswerTooLong old (Lost i)
-StepTooLong old (Need i until) = IsTooLong (needed old i until).forest old.last
+StepTooLong old (Need i until) = ReplanTooLong (needed old i until).forest old.last
+StepTooLong old event = ⊥
 
 -- the first moment to come is there, and is no later than t
 abbrev pub IsDueBy : ℕ → Option ℕ → Type 0

@@ -3,21 +3,23 @@ ghost use Rattle.keep_tree.specs.Forest.{entry_at};
 ghost use Rattle.keep_tree.specs.Renewal.{renewal};
 ghost use Rattle.keep_rule.specs.Asks.{first_of};
 ghost use Rattle.keep_plan.specs.Decides.{IsKept};
+ghost use Rattle.keep_core.specs.declared.fault.StepFault.TheVariants.{OutOfMemory};
 ghost use Rattle.keep_core.specs.Hearing.{heard_in, is_rules, others};
-ghost use Rattle.keep_core.specs.LawsOfRuns.{IsAnswer};
+ghost use Rattle.keep_core.specs.LawsOfHistories.{IsAnswer};
 ghost use Rattle.keep_core.specs.Passes.{PlanFails};
 ghost use Rattle.keep_core.specs.Refusal.{TellsSpan, refusal, waits_for};
 ghost use Rattle.keep_core.specs.Replan.{Replan};
-ghost use Rattle.keep_core.specs.Runs.{Turn};
+ghost use Rattle.keep_core.specs.History.{Turn};
 ghost use Rattle.keep_core.specs.Shorten.{pairs, shorten};
 ghost use Rattle.keep_core.specs.Step.{answered, change, heard, of_entry};
 
 use crate::event::{Event, Output};
 use crate::fault::StepFault;
 use crate::keeper::Keeper;
-use crate::replan::{Replanned, replan};
+use crate::replan::replan;
 use crate::shortened::ShortNeed;
 use keep_moment::Moment;
+use keep_plan::Plan;
 use keep_tree::{Entry, Forest};
 use std::alloc::Global;
 
@@ -86,7 +88,7 @@ impl Keeper {
         requires entry { of_entry event ≡ i }
         requires last { length (others self.old.round i) ≡ 0 }
         ensures planned { IfOk result (λ _. IfSome self.old.round (λ round. Replan (heard self.old event round.at None) round.at self.new)) }
-        ensures refused { IfErr result (λ fault. IfSome self.old.round (λ round. PlanFails (change self.old.forest i (answered round.at event)) round.at fault)) }
+        ensures refused { IfErr result (λ fault. fault ≡ OutOfMemory) }
         ensures unchanged { OnErr result (self.new ≡ self.old) }
     {
         // an answer is taken only where a round is open
@@ -98,10 +100,9 @@ impl Keeper {
             return Ok(());
         }
         let alloc = *self.shortened.allocator();
-        match replan_with_answer(alloc, &mut self.forest, &self.shortened, i, event, round.at) {
-            Ok(anew) => {
-                self.plan = anew.plan;
-                self.shortened = anew.shortened;
+        match replan_with_answer(alloc, &mut self.forest, &mut self.shortened, i, event, round.at) {
+            Ok(plan) => {
+                self.plan = plan;
                 Ok(())
             }
             Err(fault) => {
@@ -161,22 +162,22 @@ fn tell(forest: &mut Forest, i: u32, event: Event, at: Moment)
     }
 }
 
-/// Takes an answer to a round at `at` and plans anew from there. Refused, the forest is as it was.
+/// Takes an answer to a round at `at` and plans anew from there. Refused, the forest and the list are as they were.
 fn replan_with_answer(
     alloc: Global,
     forest: &mut Forest,
-    shortened: &[ShortNeed],
+    shortened: &mut Vec<ShortNeed>,
     i: u32,
     event: Event,
     at: Moment,
-) -> Result<Replanned, StepFault>
+) -> Result<Plan, StepFault>
     requires within { i < length forest.old.entries }
     requires seconds { TellsSpan event }
-    ensures shortened { IfOk result (λ anew. (forest.new ≡ shorten (change forest.old i (answered at event)) at)
-        × (anew.shortened.items ≡ shortened.now ++ pairs (change forest.old i (answered at event)) at)) }
-    ensures planned { IfOk result (λ anew. IsKept forest.new at anew.plan) }
+    ensures shortened { IfOk result (λ _. (forest.new ≡ shorten (change forest.old i (answered at event)) at)
+        × (shortened.new.items ≡ shortened.old.items ++ pairs (change forest.old i (answered at event)) at)) }
+    ensures planned { IfOk result (λ plan. IsKept forest.new at plan) }
     ensures refused { IfErr result (λ fault. PlanFails (change forest.old i (answered at event)) at fault) }
-    ensures unchanged { OnErr result (forest.new ≡ forest.old) }
+    ensures unchanged { OnErr result ((forest.new ≡ forest.old) × (shortened.new.items ≡ shortened.old.items)) }
 {
     let end = forest.get(i).end;
     let renewable = forest.get(i).renewable;

@@ -53,13 +53,14 @@ impl Keeper {
         ensures refused { IfErr result (λ refused. PlanFails forest start refused.0 × (refused.1 ≡ forest)) }
     {
         let mut forest = forest;
-        match replan(alloc, &mut forest, &[], start) {
-            Ok(anew) => Ok(Keeper {
+        let mut shortened = Vec::new(alloc);
+        match replan(alloc, &mut forest, &mut shortened, start) {
+            Ok(plan) => Ok(Keeper {
                 forest,
                 last: start,
-                plan: anew.plan,
+                plan,
                 round: None,
-                shortened: anew.shortened,
+                shortened,
             }),
             Err(fault) => Err((fault, forest)),
         }

@@ -3,16 +3,17 @@ ghost use Rattle.keep_plan.specs.Decides.{IsKept};
 ghost use Rattle.keep_core.specs.declared.event.Event.TheVariants as events;
 ghost use Rattle.keep_core.specs.Passes.{PlanFails};
 ghost use Rattle.keep_core.specs.Refusal.{refusal};
-ghost use Rattle.keep_core.specs.Runs.{Turn};
+ghost use Rattle.keep_core.specs.History.{Turn};
 ghost use Rattle.keep_core.specs.Shorten.{pairs, shorten};
 ghost use Rattle.keep_core.specs.Step.{change};
 
 use crate::event::Output;
 use crate::fault::StepFault;
 use crate::keeper::Keeper;
-use crate::replan::{Replanned, replan};
+use crate::replan::replan;
 use crate::shortened::ShortNeed;
 use keep_moment::Moment;
+use keep_plan::Plan;
 use keep_tree::Forest;
 use std::alloc::Global;
 
@@ -24,35 +25,34 @@ impl Keeper {
     {
         let alloc = *self.shortened.allocator();
         let until = Moment::new(until).unwrap();
-        let anew = replan_with_need(
+        let plan = replan_with_need(
             alloc,
             &mut self.forest,
-            &self.shortened,
+            &mut self.shortened,
             i,
             until,
             self.last,
         )?;
-        self.plan = anew.plan;
-        self.shortened = anew.shortened;
+        self.plan = plan;
         Ok(Output::Planned)
     }
 }
 
-/// Sets a need in the forest and plans anew. Refused, the forest is as it was.
+/// Sets a need in the forest and plans anew. Refused, the forest and the list are as they were.
 fn replan_with_need(
     alloc: Global,
     forest: &mut Forest,
-    shortened: &[ShortNeed],
+    shortened: &mut Vec<ShortNeed>,
     i: u32,
     until: Moment,
     at: Moment,
-) -> Result<Replanned, StepFault>
+) -> Result<Plan, StepFault>
     requires { i < length forest.old.entries }
-    ensures shortened { IfOk result (λ anew. (forest.new ≡ shorten (change forest.old i (λ e. record e { need = until })) at)
-        × (anew.shortened.items ≡ shortened.now ++ pairs (change forest.old i (λ e. record e { need = until })) at)) }
-    ensures planned { IfOk result (λ anew. IsKept forest.new at anew.plan) }
+    ensures shortened { IfOk result (λ _. (forest.new ≡ shorten (change forest.old i (λ e. record e { need = until })) at)
+        × (shortened.new.items ≡ shortened.old.items ++ pairs (change forest.old i (λ e. record e { need = until })) at)) }
+    ensures planned { IfOk result (λ plan. IsKept forest.new at plan) }
     ensures refused { IfErr result (λ fault. PlanFails (change forest.old i (λ e. record e { need = until })) at fault) }
-    ensures unchanged { OnErr result (forest.new ≡ forest.old) }
+    ensures unchanged { OnErr result ((forest.new ≡ forest.old) × (shortened.new.items ≡ shortened.old.items)) }
 {
     let before = Moment::new(forest.get(i).need).unwrap();
     forest.set_need(i, until);

@@ -1,8 +1,10 @@
-ghost use Rattle.std.specs.Prelude.{◌≡◌, ◌++◌, IfErr, IfOk, OnErr};
+ghost use Rattle.std.specs.Prelude.{◌≡◌, ◌++◌, ◌≤◌, IfErr, IfOk, OnErr, length, take};
+ghost use Rattle.keep_moment.specs.declared.moment.TheConstants.{LAST};
 ghost use Rattle.keep_tree.specs.Forest.{end_of};
+ghost use Rattle.keep_tree.specs.Push.{IsForest};
 ghost use Rattle.keep_rule.specs.Unkeepable.{AllKeepable};
 ghost use Rattle.keep_plan.specs.Decides.{IsKept};
-ghost use Rattle.keep_core.specs.Passes.{PlanFails, PlanRefused};
+ghost use Rattle.keep_core.specs.Passes.{HasNeeds, PlanFails, PlanRefused, with_needs};
 ghost use Rattle.keep_core.specs.Shorten.{pairs, shorten};
 
 use crate::fault::StepFault;
@@ -12,53 +14,79 @@ use crate::shortened::ShortNeed;
 use keep_moment::Moment;
 use keep_plan::{Decision, Plan, plan};
 use keep_tree::Forest;
-use std::alloc::Global;
+use std::alloc::{AllocError, Global};
 
-/// What planning anew gives: the plan, and the needs that were shortened till then and by it.
-#[derive(Drop)]
-pub(crate) struct Replanned {
-    pub plan: Plan,
-    pub shortened: Vec<ShortNeed>,
-}
-
-/// Shortens, in the forest, the needs that no plan from `at` can keep, and plans anew from there. Refused, the forest is as
-/// it was.
+/// Shortens, in the forest, the needs that no plan from `at` can keep, notes them behind those of before, and plans anew from
+/// there. Refused, the forest and the list are as they were.
 pub(crate) fn replan(
     alloc: Global,
     forest: &mut Forest,
-    shortened: &[ShortNeed],
+    shortened: &mut Vec<ShortNeed>,
     at: Moment,
-) -> Result<Replanned, StepFault>
-    ensures shortened { IfOk result (λ anew. (forest.new ≡ shorten forest.old at) × (anew.shortened.items ≡ shortened.now ++ pairs forest.old at)) }
-    ensures planned { IfOk result (λ anew. IsKept forest.new at anew.plan) }
+) -> Result<Plan, StepFault>
+    ensures sound { IsForest forest.old × (at ≤ LAST) }
+    ensures shortened { IfOk result (λ _. (forest.new ≡ shorten forest.old at) × (shortened.new.items ≡ shortened.old.items ++ pairs forest.old at)) }
+    ensures planned { IfOk result (λ plan. IsKept forest.new at plan) }
     ensures refused { IfErr result (λ fault. PlanFails forest.old at fault) }
-    ensures unchanged { OnErr result (forest.new ≡ forest.old) }
+    ensures unchanged { OnErr result ((forest.new ≡ forest.old) × (shortened.new.items ≡ shortened.old.items)) }
 {
-    let _entries = forest.len();
-    let reaches = least_reaches(alloc, forest, at)?;
-    let before = needs_of(alloc, forest)?;
-    let needs = needs_left(alloc, forest, &reaches, at)?;
-    let mut list = Vec::from_slice(alloc, shortened)?;
-    list.extend_from_slice(&pairs(alloc, forest, &reaches, at)?)?;
-    set_needs(forest, &needs);
+    let noted = shortened.len();
+    let needs = shorten(alloc, forest, shortened, at)?;
     match plan_kept(alloc, forest, at) {
-        Ok(plan) => Ok(Replanned {
-            plan,
-            shortened: list,
-        }),
+        Ok(plan) => Ok(plan),
         Err(fault) => {
-            set_needs(forest, &before);
+            restore(forest, shortened, &needs, noted);
             Err(fault)
         }
     }
 }
 
+/// Shortens, in the forest, the needs that no plan from `at` can keep, notes them behind those of before, and gives the needs
+/// as they were. Refused, which is for want of memory alone, the forest and the list are as they were.
+pub(crate) fn shorten(
+    alloc: Global,
+    forest: &mut Forest,
+    shortened: &mut Vec<ShortNeed>,
+    at: Moment,
+) -> Result<Vec<Moment>, AllocError>
+    ensures sound { IsForest forest.old × (at ≤ LAST) }
+    ensures shortened { IfOk result (λ _. (forest.new ≡ shorten forest.old at) × (shortened.new.items ≡ shortened.old.items ++ pairs forest.old at)) }
+    ensures before { IfOk result (λ needs. HasNeeds forest.old needs.items) }
+    ensures unchanged { OnErr result ((forest.new ≡ forest.old) × (shortened.new.items ≡ shortened.old.items)) }
+{
+    // asked only for what each of them tells the proof: that this is a forest, and that a moment
+    let _entries = forest.len();
+    let _seconds = at.get();
+    let reaches = least_reaches(alloc, forest, at)?;
+    let before = needs_of(alloc, forest)?;
+    let needs = needs_left(alloc, forest, &reaches, at)?;
+    shortened.extend_from_slice(&pairs(alloc, forest, &reaches, at)?)?;
+    set_needs(forest, &needs);
+    Ok(before)
+}
+
+/// Takes shortening back: the needs are these again, and the first `noted` pairs stay.
+pub(crate) fn restore(
+    forest: &mut Forest,
+    shortened: &mut Vec<ShortNeed>,
+    needs: &[Moment],
+    noted: usize,
+)
+    requires { length needs.now ≡ length forest.old.entries }
+    ensures forest { forest.new ≡ with_needs forest.old needs.now }
+    ensures shortened { shortened.new.items ≡ take noted shortened.old.items }
+{
+    set_needs(forest, needs);
+    shortened.truncate(noted);
+}
+
 /// The plan from `at` for a forest in which no pair is unkeepable.
-fn plan_kept(alloc: Global, forest: &Forest, at: Moment) -> Result<Plan, StepFault>
+pub(crate) fn plan_kept(alloc: Global, forest: &Forest, at: Moment) -> Result<Plan, StepFault>
     requires { AllKeepable forest.now at (end_of forest.now.entries) }
     ensures kept { IfOk result (λ plan. IsKept forest.now at plan) }
     ensures refused { IfErr result (λ fault. PlanRefused forest.now at fault) }
 {
+    // tells the proof that this is a forest
     let _entries = forest.len();
     match plan(alloc, forest, at)? {
         Decision::Keep(plan) => Ok(plan),

@@ -1,7 +1,7 @@
-ghost use Rattle.std.specs.Prelude.{◌≡◌, ◌≤◌, ◌<◌, length, slice_index, IfOk};
+ghost use Rattle.std.specs.Prelude.{◌≡◌, ◌≤◌, ◌<◌, length, IfOk};
 ghost use Rattle.keep_moment.specs.declared.moment.TheConstants.{LAST};
 ghost use Rattle.keep_tree.specs.Forest.{entry_at};
-ghost use Rattle.keep_core.specs.Passes.{AreLeast, AreNeeds, needing, shorter};
+ghost use Rattle.keep_core.specs.Passes.{AreLeast, AreNeeds, HasNeeds, shorter, with_needs};
 ghost use Rattle.keep_core.specs.Shorten.{need_left, pairs};
 
 use crate::shortened::ShortNeed;
@@ -67,7 +67,7 @@ pub(crate) fn needs_left(
 
 /// The needs of all entries.
 pub(crate) fn needs_of(alloc: Global, forest: &Forest) -> Result<Vec<Moment>, AllocError>
-    ensures { IfOk result (λ needs. AreNeeds (length forest.now.entries) (λ i. (entry_at forest.now.entries i).need) needs.items) }
+    ensures { IfOk result (λ needs. HasNeeds forest.now needs.items) }
 {
     let mut needs = Vec::new(alloc);
     for index in 0..forest.len() {
@@ -79,7 +79,7 @@ pub(crate) fn needs_of(alloc: Global, forest: &Forest) -> Result<Vec<Moment>, Al
 /// Gives the entries these needs.
 pub(crate) fn set_needs(forest: &mut Forest, needs: &[Moment])
     requires { length needs.now ≡ length forest.old.entries }
-    ensures { forest.new ≡ record { entries = needing forest.old.entries (slice_index needs.now); margin = forest.old.margin } }
+    ensures { forest.new ≡ with_needs forest.old needs.now }
 {
     for index in 0..forest.len() {
         forest.set_need(index, needs[index as usize]);

@@ -1,4 +1,4 @@
-ghost use Rattle.keep_core.specs.Runs.{Turn};
+ghost use Rattle.keep_core.specs.History.{Turn};
 
 use crate::event::{Event, Output};
 use crate::fault::StepFault;
@@ -25,8 +25,9 @@ impl Keeper {
     /// `OutOfRange`, a tick or a need after 9999-12-31T23:59:59Z, or more than 4294967295 seconds told; `BadIndex`, there is
     /// no such entry; `ClockBack`, a tick before the last moment; `RoundOpen`, a tick or a need while a round is open;
     /// `NotAsked`, an answer while no round is open, or of an entry that it does not wait for. Then, of a need alone,
-    /// `TooLong`, the plan made anew would have more than 10,000,000 wake-ups: [`too_long_law`](crate::too_long_law) says
-    /// that no tick and no answer has that refusal. `OutOfMemory` may come in the place of an output or of `TooLong`.
+    /// `TooLong`, the plan made anew would have more than 10,000,000 wake-ups: what a tick or an answer plans anew is no
+    /// longer than the plan in force was. `OutOfMemory` may come in the place of the output of a tick at the first wake-up or
+    /// after it, of the last answer of a round, and of a need, and there in the place of `TooLong`; of no other event.
     ///
     /// Source: Vault, "Lease, renew, and revoke" (a renewal's TTL counts from the renewal).
     pub fn step(&mut self, event: Event) -> Result<Output, StepFault>

@@ -1,12 +1,14 @@
 ghost use Rattle.std.specs.Prelude.{◌≡◌, ◌++◌, None, IfErr, IfOk, OnErr};
+ghost use Rattle.keep_tree.specs.Forest.{end_of};
 ghost use Rattle.keep_rule.specs.Asks.{first_of};
+ghost use Rattle.keep_rule.specs.Unkeepable.{AllKeepable};
 ghost use Rattle.keep_plan.specs.Decides.{IsKept};
 ghost use Rattle.keep_plan.specs.Planned.{to_come};
 ghost use Rattle.keep_rule.specs.Runs.{moments_of};
 ghost use Rattle.keep_core.specs.declared.event.Event.TheVariants as events;
-ghost use Rattle.keep_core.specs.Passes.{PlanFails};
+ghost use Rattle.keep_core.specs.Passes.{PlanFails, PlanRefused};
 ghost use Rattle.keep_core.specs.Refusal.{refusal};
-ghost use Rattle.keep_core.specs.Runs.{Turn};
+ghost use Rattle.keep_core.specs.History.{Turn};
 ghost use Rattle.keep_core.specs.Shorten.{pairs, shorten};
 ghost use Rattle.keep_core.specs.Waking.{Opens, Wakes, is_late};
 
@@ -14,10 +16,10 @@ use crate::event::Output;
 use crate::fault::StepFault;
 use crate::keeper::Keeper;
 use crate::opening::{Opening, opening_at};
-use crate::replan::{Replanned, replan};
-use crate::shorten::{needs_of, set_needs};
+use crate::replan::{plan_kept, restore, shorten};
 use crate::shortened::ShortNeed;
 use keep_moment::Moment;
+use keep_plan::Plan;
 use keep_tree::Forest;
 use std::alloc::Global;
 
@@ -31,9 +33,8 @@ impl Keeper {
         let alloc = *self.shortened.allocator();
         let at = Moment::new(at).unwrap();
         if self.is_late(at) {
-            let late = replan_at(alloc, &mut self.forest, &self.shortened, at)?;
-            self.plan = late.anew.plan;
-            self.shortened = late.anew.shortened;
+            let late = replan_late(alloc, &mut self.forest, &mut self.shortened, at)?;
+            self.plan = late.plan;
             self.last = at;
             return Ok(self.wake(late.opening));
         }
@@ -73,30 +74,42 @@ impl Keeper {
 /// What a late tick makes anew.
 #[derive(Drop)]
 struct Late {
-    anew: Replanned,
+    plan: Plan,
     opening: Option<Opening>,
 }
 
-/// Plans anew from `at`, with what opens a round there. Refused, the forest is as it was.
-fn replan_at(
+/// Shortens needs and plans anew from `at`, with what opens a round there. Refused, the forest and the list are as they were.
+fn replan_late(
     alloc: Global,
     forest: &mut Forest,
-    shortened: &[ShortNeed],
+    shortened: &mut Vec<ShortNeed>,
     at: Moment,
 ) -> Result<Late, StepFault>
-    ensures shortened { IfOk result (λ late. (forest.new ≡ shorten forest.old at) × (late.anew.shortened.items ≡ shortened.now ++ pairs forest.old at)) }
-    ensures planned { IfOk result (λ late. IsKept forest.new at late.anew.plan) }
-    ensures opening { IfOk result (λ late. Opens forest.new at (moments_of (to_come late.anew.plan)) late.opening) }
+    ensures shortened { IfOk result (λ _. (forest.new ≡ shorten forest.old at) × (shortened.new.items ≡ shortened.old.items ++ pairs forest.old at)) }
+    ensures planned { IfOk result (λ late. IsKept forest.new at late.plan) }
+    ensures opening { IfOk result (λ late. Opens forest.new at (moments_of (to_come late.plan)) late.opening) }
     ensures refused { IfErr result (λ fault. PlanFails forest.old at fault) }
-    ensures unchanged { OnErr result (forest.new ≡ forest.old) }
+    ensures unchanged { OnErr result ((forest.new ≡ forest.old) × (shortened.new.items ≡ shortened.old.items)) }
 {
-    let before = needs_of(alloc, forest)?;
-    let anew = replan(alloc, forest, shortened, at)?;
-    match opening_at(alloc, forest, &anew.plan, at) {
-        Ok(opening) => Ok(Late { anew, opening }),
+    let noted = shortened.len();
+    let needs = shorten(alloc, forest, shortened, at)?;
+    match plan_late(alloc, forest, at) {
+        Ok(late) => Ok(late),
         Err(fault) => {
-            set_needs(forest, &before);
+            restore(forest, shortened, &needs, noted);
             Err(fault)
         }
     }
+}
+
+/// The plan from `at` for a forest in which no pair is unkeepable, with what opens a round there.
+fn plan_late(alloc: Global, forest: &Forest, at: Moment) -> Result<Late, StepFault>
+    requires { AllKeepable forest.now at (end_of forest.now.entries) }
+    ensures planned { IfOk result (λ late. IsKept forest.now at late.plan) }
+    ensures opening { IfOk result (λ late. Opens forest.now at (moments_of (to_come late.plan)) late.opening) }
+    ensures refused { IfErr result (λ fault. PlanRefused forest.now at fault) }
+{
+    let plan = plan_kept(alloc, forest, at)?;
+    let opening = opening_at(alloc, forest, &plan, at)?;
+    Ok(Late { plan, opening })
 }

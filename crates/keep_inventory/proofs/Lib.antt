@@ -12,3 +12,4 @@ pub mod Sendable
 pub mod Spans
 pub mod Barely
 pub mod Inventoried
+pub mod Told

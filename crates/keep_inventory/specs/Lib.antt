@@ -8,4 +8,5 @@ pub mod Intake
 pub mod Rows
 pub mod Inventory
 pub mod Bare
+pub mod Lookup
 pub mod Laws

@@ -1,12 +1,16 @@
-ghost use Rattle.std.specs.Prelude.{◌≡◌, ◌<◌, length};
+ghost use Rattle.std.specs.Prelude.{◌≡◌, ◌<◌, None, Ok, Err, IfSome, length};
 ghost use Rattle.keep_inventory.specs.Stock.{IsSendable, IsStock, terms_at, credential_at};
 ghost use Rattle.keep_inventory.specs.Intake.{stock_of};
+ghost use Rattle.keep_inventory.specs.Lookup.{lookup_fault, told};
 
 use crate::draft::Draft;
+use crate::lookup::{LookupFault, is_lease, tell, told_terms, write_terms};
 use crate::register::Register;
 use crate::terms::Terms;
+use keep_moment::Moment;
 use keep_tree::Forest;
 use std::marker::Model;
+use vault_json::Lookup;
 
 /// The credentials of a forest's entries, in order: a token's own value, or a lease's id.
 #[derive(Debug, Drop)]
@@ -88,6 +92,64 @@ impl Inventory {
         ensures sound { IsStock self.now }
     {
         self.terms[index as usize]
+    }
+
+    /// Makes of the entry at an index what a broker has said of it at `now`: its end, whether it can be renewed, its issue
+    /// and its ceiling; of a token also its period, its explicit max TTL and its step. It takes no memory.
+    ///
+    /// The first that applies, and then nothing is changed: `OtherKind`, it was said of a lease and the entry is a token, or
+    /// the other way; `OtherEntry`, it was said of a lease with another id; `OtherTree`, the token is an orphan, and the
+    /// inventory names its parent; `NoStep`, the period, or the increment where there is none, is not more than the margin.
+    pub fn apply_lookup(
+        &mut self,
+        index: u32,
+        lookup: &Lookup,
+        now: Moment,
+    ) -> Result<(), LookupFault>
+        requires { index < length self.old.grove.entries }
+        ensures refused { IfSome (lookup_fault self.old index lookup.now) (λ fault. (result ≡ Err fault) × (self.new ≡ self.old)) }
+        ensures applied { lookup_fault self.old index lookup.now ≡ None → (result ≡ Ok tt) × (self.new ≡ told self.old index lookup.now now) }
+    {
+        if let Some(fault) = self.lookup_fault(index, lookup) {
+            return Err(fault);
+        }
+        let terms = told_terms(lookup, self.terms(index));
+        tell(&mut self.forest, index, lookup, &terms, now);
+        write_terms(&mut self.terms, index, terms);
+        Ok(())
+    }
+
+    /// Why what a broker has said is not applied to an entry, `None` where it is.
+    #[tactic(auto, unfolding(crate::specs::Lookup::lookup_fault))]
+    fn lookup_fault(&self, index: u32, lookup: &Lookup) -> Option<LookupFault>
+        requires { index < length self.now.grove.entries }
+        ensures { result ≡ lookup_fault self.now index lookup.now }
+    {
+        let entry = self.forest.get(index);
+        match lookup {
+            Lookup::Token { orphan, .. } => {
+                if is_lease(entry.kind) {
+                    return Some(LookupFault::OtherKind);
+                }
+                if *orphan && entry.parent.is_some() {
+                    return Some(LookupFault::OtherTree);
+                }
+                let terms = told_terms(lookup, self.terms(index));
+                if terms.step() < self.forest.margin() + 1 {
+                    return Some(LookupFault::NoStep);
+                }
+                None
+            }
+            Lookup::Lease { id, .. } => {
+                if !is_lease(entry.kind) {
+                    Some(LookupFault::OtherKind)
+                } else if self.credential(index) == id.list() {
+                    None
+                } else {
+                    Some(LookupFault::OtherEntry)
+                }
+            }
+        }
     }
 
     /// The forest and the credentials, one for each of its entries. It takes no memory.

@@ -14,6 +14,7 @@ mod key;
 mod known;
 mod laws;
 mod limits;
+mod lookup;
 mod register;
 mod row;
 mod terms;
@@ -30,4 +31,5 @@ pub use laws::{
     secrets_stay_in_credentials,
 };
 pub use limits::{CREDENTIAL_MAX, MOST_INVENTORY, SPAN_MAX, SYSTEM_MAX};
+pub use lookup::LookupFault;
 pub use terms::Terms;

@@ -1,4 +1,5 @@
-ghost use Rattle.std.specs.Prelude.{◌≡◌};
+ghost use Rattle.std.specs.Prelude.{◌≡◌, ◌≤◌, IfSome};
+ghost use Rattle.keep_tree.specs.declared.forest.TheConstants.{END_MAX};
 ghost use Rattle.keep_inventory.specs.Terms.{step_of, ceiling_of, max_ttl_of};
 
 use keep_moment::{Moment, Span};
@@ -34,16 +35,16 @@ impl Terms {
 
     /// The moment past which no renewal leads, in seconds since 1970-01-01T00:00:00Z; `None` where there is none.
     pub(crate) fn ceiling(&self) -> Option<u64>
-        ensures { result ≡ ceiling_of self.now }
+        ensures value { result ≡ ceiling_of self.now }
+        ensures within { IfSome result (λ c. c ≤ END_MAX) }
     {
         if self.period == 0 {
             let explicit = 0 < self.explicit_max && self.explicit_max < self.max_ttl;
-            let longest = if explicit {
-                self.explicit_max
+            if explicit {
+                Some(self.issued.plus(self.explicit_max))
             } else {
-                self.max_ttl
-            };
-            Some(self.issued.plus(longest))
+                Some(self.issued.plus(self.max_ttl))
+            }
         } else if self.explicit_max == 0 {
             None
         } else {

@@ -1,4 +1,5 @@
 mod faulty;
+mod lookups;
 
 use crate::{InvFault, Inventory, Key, Terms, read};
 use faulty::FAULTY;

@@ -1,5 +1,3 @@
-pub mod Ranges
-pub mod Sweeping
 pub mod Serving
 pub mod Mirroring
 pub mod Replying

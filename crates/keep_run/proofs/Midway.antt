@@ -25,12 +25,13 @@ use Rattle.keep_core.specs.declared.event.Output.TheVariants as out
 use Rattle.keep_core.specs.LawsOfPlans.{IsAnsweredByRule}
 use Rattle.keep_core.specs.Refusal.{refusal, unless_asked}
 use Rattle.keep_core.specs.Replan.{IsPlanOf, Replan}
-use Rattle.keep_core.specs.Runs.{Turn}
+use Rattle.keep_core.specs.History.{Turn}
 use Rattle.keep_core.specs.Shorten.{shorten}
 use Rattle.keep_core.specs.State.{State}
 use Rattle.keep_core.specs.Step.{answered, change, without}
 use Rattle.keep_core.proofs.Standing.{tail_kept}
-use Rattle.keep_run.specs.Listed.{ended, is_alive}
+use Rattle.mini_broker.specs.Listed.{is_alive}
+use Rattle.keep_run.specs.Listed.{ended}
 use Rattle.keep_run.proofs.Mirroring.{ended_count, ended_other, ended_same}
 
 -- ---- lists of indices that rise

@@ -22,9 +22,12 @@ use Rattle.keep_inventory.specs.declared.terms.Terms.{Terms}
 use Rattle.mini_broker.specs.declared.row.Row.{Row}
 use Rattle.mini_broker.specs.Rows.{row_of, rows_of}
 use Rattle.mini_broker.specs.Renewing.{with_row}
-use Rattle.keep_run.specs.Listed.{Mirrors, ended, is_alive, listed, with_forest}
-use Rattle.keep_run.proofs.Ranges.{filter_range, map_of_map, map_range}
-use Rattle.keep_run.proofs.Sweeping.{lone_name, name_in, swept_all, swept_later}
+use Rattle.mini_broker.specs.Listed.{is_alive, listed}
+use Rattle.mini_broker.proofs.Ranges.{filter_range, map_of_map, map_range}
+use Rattle.mini_broker.proofs.Swept.{swept_later}
+use Rattle.mini_broker.proofs.Sweeping.{lone_name, name_in, swept_inventory}
+use Rattle.mini_broker.specs.Sweep.{swept}
+use Rattle.keep_run.specs.Listed.{Mirrors, ended, with_forest}
 
 -- ---- an entry's end alone is changed
 
@@ -167,10 +170,10 @@ with_row_listed s forest t i end within before after =
     ∙ ap (λ k. map (row_of (with_forest s h)) (filter (is_alive h t) (range_with_len 0 k))) (sym (ended_count g i end))
 
 pub mirrors_first : (s : Stock) → IsForest s.grove → (t : ℕ) → Mirrors s t (rows_of s)
-mirrors_first s forest t m le = swept_all s forest m
+mirrors_first s forest t m le = swept_inventory s forest m
 
 pub mirrors_listed : (s : Stock) → IsForest s.grove → (t : ℕ) → Mirrors s t (listed s t)
-mirrors_listed s forest t m le = swept_later s forest t m (λ i within gone. dies_later s.grove t m i le gone)
+mirrors_listed s forest t m le = ap (swept m) (sym (swept_inventory s forest t)) ∙ swept_later (rows_of s) t m le ∙ swept_inventory s forest m
 
 -- a renewal's end is within the greatest
 pub renewal_within : (e : Entry) (t : ℕ) → t ≤ LAST → e.step ≤ 4294967295 → renewal e t ≤ t + 4294967295

@@ -6,7 +6,7 @@ use Rattle.mini_broker.specs.Ledger.{Ledger}
 use Rattle.mini_broker.specs.Step.{Says, step}
 use Rattle.keep_core.specs.declared.event.Event.{Event}
 use Rattle.keep_core.specs.declared.event.Output.{Output}
-use Rattle.keep_core.specs.Runs.{Turn}
+use Rattle.keep_core.specs.History.{Turn}
 use Rattle.keep_core.specs.State.{State}
 use Rattle.keep_run.specs.Closed.{World, event_in, reply_in, taken}
 use Rattle.keep_run.specs.Renewing.{event_for, request_of}

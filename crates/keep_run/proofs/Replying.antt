@@ -22,7 +22,8 @@ use Rattle.keep_core.specs.declared.event.Event.TheVariants.{Told, Refused, Lost
 use Rattle.keep_run.specs.Renewing.{event_of, of_lease, of_token, refuses, told_by}
 use Rattle.keep_run.specs.Closed.{reply_in}
 use Rattle.keep_run.proofs.Mirroring.{renewal_within}
-use Rattle.keep_run.proofs.Serving.{call_for, credential_in, renewable_in, renewed_row}
+use Rattle.mini_broker.specs.Granted.{call_for}
+use Rattle.keep_run.proofs.Serving.{credential_in, renewable_in, renewed_row}
 
 ok_is_told : (kind : Kind) (id : List ℕ) (i : ℕ) (r : Reply) → r.status ≡ 200 → event_of kind id i (Some r) ≡ told_by kind id i r.body
 unfolding event_of

@@ -22,7 +22,7 @@ use Rattle.keep_core.specs.declared.event.Output.TheVariants as out
 use Rattle.keep_core.specs.declared.fault.StepFault.{StepFault}
 use Rattle.keep_core.specs.Refusal.{refusal}
 use Rattle.keep_core.specs.Replan.{IsPlanOf, Replan}
-use Rattle.keep_core.specs.Runs.{Turn}
+use Rattle.keep_core.specs.History.{Turn}
 use Rattle.keep_core.specs.State.{State}
 use Rattle.keep_core.specs.Step.{StepTick}
 use Rattle.keep_core.proofs.Once.{once}

@@ -29,7 +29,7 @@ use Rattle.keep_core.specs.declared.fault.StepFault.{StepFault}
 use Rattle.keep_core.specs.declared.fault.StepFault.TheVariants.{ClockBack, RoundOpen, NotAsked, BadIndex, OutOfRange, TooLong, OutOfMemory}
 use Rattle.keep_core.specs.declared.shortened.ShortNeed.{ShortNeed}
 use Rattle.keep_core.specs.Replan.{IsPlanOf}
-use Rattle.keep_core.specs.Runs.{Turn}
+use Rattle.keep_core.specs.History.{Turn}
 use Rattle.keep_core.specs.Shorten.{pairs}
 use Rattle.keep_core.specs.State.{State}
 use Rattle.keep_core.proofs.Kept.{keepable}
@@ -40,13 +40,14 @@ use Rattle.keep_run.specs.Closed.{Beat, IsOpening, World, reply_in, requests_of,
 use Rattle.keep_run.specs.Renewing.{event_for}
 use Rattle.keep_run.specs.Text.{beat_text, course_text, done_text, short_lines}
 use Rattle.keep_run.specs.Laws.{AnswersTakenLaw, IsTaken, LeastLaw, PlannedRunLaw, RehearsalLaw, SoFarLaw, StandsLaw}
-use Rattle.keep_run.specs.Listed.{is_alive, listed, with_forest}
+use Rattle.mini_broker.specs.Listed.{is_alive, listed}
+use Rattle.keep_run.specs.Listed.{with_forest}
 use Rattle.keep_run.proofs.Midway.{settled}
 use Rattle.keep_run.proofs.Mirroring.{mirrors_first}
 use Rattle.keep_run.proofs.Round.{AtRest, InRound, next_turn, part_goes}
 use Rattle.keep_inventory.proofs.Inventoried.{inventory_law}
 use Rattle.keep_run.proofs.Running.{Awaits, asks_open, requests_from, run_goes, tick_leaves, tick_says, tick_turn}
-use Rattle.keep_run.proofs.Sweeping.{named_among}
+use Rattle.mini_broker.proofs.Sweeping.{named_among}
 
 -- ---- the opening
 

@@ -27,7 +27,7 @@ use Rattle.keep_core.specs.declared.fault.StepFault.{StepFault}
 use Rattle.keep_core.specs.declared.fault.StepFault.TheVariants.{OutOfMemory}
 use Rattle.keep_core.specs.declared.shortened.ShortNeed.{ShortNeed}
 use Rattle.keep_core.specs.Replan.{IsPlanOf}
-use Rattle.keep_core.specs.Runs.{Turn}
+use Rattle.keep_core.specs.History.{Turn}
 use Rattle.keep_core.specs.State.{State}
 use Rattle.keep_run.specs.Closed.{AreAnswered, Beat, Course, Exchanged, IsClosedRun, IsOpening, Played, World, event_in, reply_in, requests_of, rounds, taken}
 use Rattle.keep_run.specs.Renewing.{event_for, request_of}

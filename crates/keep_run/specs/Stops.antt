@@ -15,8 +15,8 @@ use Rattle.keep_core.specs.declared.fault.StepFault.{StepFault}
 use Rattle.keep_core.specs.declared.event.Output.TheVariants as out
 use Rattle.keep_core.specs.declared.fault.StepFault.TheVariants.{OutOfMemory, TooLong}
 use Rattle.keep_core.specs.declared.shortened.ShortNeed.{ShortNeed}
-use Rattle.keep_core.specs.Replan.{IsTooLong}
-use Rattle.keep_core.specs.Runs.{Turn}
+use Rattle.keep_core.specs.Replan.{ReplanTooLong}
+use Rattle.keep_core.specs.History.{Turn}
 use Rattle.keep_core.specs.State.{State}
 use Rattle.keep_run.specs.Renewing.{event_for, request_of}
 use Rattle.keep_run.specs.Closed.{AreAnswered, Beat, Course, Exchanged, IsAnswered, IsBeat, IsClosedRun, IsOpening, Played, World, closing, next_tick, reply_in, requests_of, rounds, taken, told_next}
@@ -77,7 +77,7 @@ pub record IsStopped (stock : Stock) (faults : List NumberedFault) (start : ℕ)
   pub text_is : text ≡ before ++ last
 
 abbrev pub StoppedAtOnce : Stock → ℕ → List ℕ → Type 0
-StoppedAtOnce stock start text = IsTooLong stock.grove start × (text ≡ [])
+StoppedAtOnce stock start text = ReplanTooLong stock.grove start × (text ≡ [])
 
 -- ---- laws of the loops
 

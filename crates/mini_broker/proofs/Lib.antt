@@ -6,3 +6,6 @@ pub mod Replaced
 pub mod Texts
 pub mod Streamed
 pub mod Swept
+pub mod Ranges
+pub mod Sweeping
+pub mod Granting

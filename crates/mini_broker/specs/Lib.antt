@@ -1,5 +1,6 @@
 pub mod Rows
 pub mod Sweep
+pub mod Listed
 pub mod Faults
 pub mod Ledger
 pub mod Slots
@@ -10,4 +11,5 @@ pub mod Renewing
 pub mod Step
 pub mod Found
 pub mod Stream
+pub mod Granted
 pub mod Laws

@@ -87,7 +87,7 @@ fn the_tail_of_a_plan_keeps_its_forces(rt: HostRuntime) -> Result<(), Fail> {
 fn runs_a_list_of_events(rt: HostRuntime) -> Result<(), Fail> {
     let mut keeper = keeper_of(rt.alloc(), &[WEB])?;
     let events = [Event::Tick(1059), Event::Tick(1060), told(0, 60)];
-    let answers = keeper.run(&events)?;
+    let answers = keeper.steps(&events)?;
     let want = [
         Said::Ask(&[0]),
         Said::Fault(StepFault::RoundOpen),

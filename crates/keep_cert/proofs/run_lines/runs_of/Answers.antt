@@ -2,7 +2,8 @@ use Rattle.std.proofs.Common.{◌≡◌, ◌+◌, ◌++◌, ◌∷◌, ◌<◌, 
 use Rattle.std.proofs.lemmas.Result.{err_from_is_err_and}
 use Rattle.keep_cert.specs.declared.cert.TheConstants.{MAX_LINES}
 use Rattle.keep_rule.specs.Runs.{counted}
-use Rattle.keep_cert.specs.Pieces.{keyword, line_at, lines}
+use Rattle.keep_words.specs.Pieces.{keyword}
+use Rattle.keep_cert.specs.Lines.{line_at, lines}
 use Rattle.keep_cert.specs.Reading.{ending, run_keyword, run_line, runs_of}
 use Rattle.keep_cert.proofs.Answering.{fails_along}
 use Rattle.keep_cert.proofs.Turns.{Behind, counted_push, full_done, full_fault, no_turn, other_done, other_fault, run_fault, run_more}

@@ -2,7 +2,7 @@
 use Rattle.std.proofs.Common.{◌≡◌, ◌≤◌, ◌*◌, [], length}
 use Rattle.keep_rule.specs.declared.limit.TheConstants.{LIMIT}
 use Rattle.keep_rule.specs.Runs.{counted}
-use Rattle.keep_cert.specs.Pieces.{lines}
+use Rattle.keep_cert.specs.Lines.{lines}
 use Rattle.keep_cert.specs.Reading.{runs_of}
 use Rattle.keep_cert.proofs.run_lines.runs_of.Given as goal
 

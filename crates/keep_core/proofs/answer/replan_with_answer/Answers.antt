@@ -15,5 +15,5 @@ returns-then-is_err-clause-unchanged c =
     let ends = ap (λ (e : Entry). e.end) c.get.ensures.value in
     let able = ap (λ (e : Entry). e.renewable) c.get-2.ensures.value in
     on_err c.replan-planned.result _ _
-    (λ same. c.set_renewable.ensures ∙ answer_back g c.replan-planned.new.forest c.set_end.new.self i c.args.at c.args.event c.get.result.now.end c.get-2.result.now.renewable c.requires.within ends able (same ∙ c.tell.ensures) c.set_end.ensures)
+    (λ same. (c.set_renewable.ensures ∙ answer_back g c.replan-planned.new.forest c.set_end.new.self i c.args.at c.args.event c.get.result.now.end c.get-2.result.now.renewable c.requires.within ends able (same.0 ∙ c.tell.ensures) c.set_end.ensures, same.1))
     c.replan-planned.ensures.unchanged

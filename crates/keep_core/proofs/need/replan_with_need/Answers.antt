@@ -18,4 +18,4 @@ returns-then-is_err-clause-unchanged c =
     let was : c.unwrap-before.result ≡ (entry_at g.entries i).need =
     moment_is c.new.result c.unwrap-before.result c.get.result.now.need c.unwrap-before.ensures c.new.ensures.value ∙ ap (λ (e : Entry). e.need) c.get.ensures.value in
     on_err c.replan-planned.result _ _
-    (λ same. c.set_need-then-is_err.ensures ∙ need_back g c.replan-planned.new.forest i c.args.until c.unwrap-before.result c.requires was (same ∙ c.set_need.ensures)) c.replan-planned.ensures.unchanged
+    (λ same. (c.set_need-then-is_err.ensures ∙ need_back g c.replan-planned.new.forest i c.args.until c.unwrap-before.result c.requires was (same.0 ∙ c.set_need.ensures), same.1)) c.replan-planned.ensures.unchanged

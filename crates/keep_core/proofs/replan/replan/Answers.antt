@@ -1,59 +1,31 @@
-use Rattle.std.proofs.Common.{◌≡◌, ◌∙◌, ◌++◌, ap, length, subst, sym}
-use Rattle.keep_tree.specs.Forest.{Grove, end_of, entry_at}
+use Rattle.std.proofs.Common.{◌≡◌, ◌∙◌, ap, arith, length, subst, sym}
+use Rattle.keep_tree.specs.Forest.{Grove, end_of}
 use Rattle.keep_rule.specs.Unkeepable.{AllKeepable}
-use Rattle.keep_core.specs.Passes.{AreNeeds, PlanRefused}
-use Rattle.keep_core.specs.Shorten.{need_left, shorten}
-use Rattle.keep_core.proofs.Passing.{fails, restored, shortened_set}
+use Rattle.keep_core.specs.Passes.{HasNeeds, PlanRefused}
+use Rattle.keep_core.proofs.Passing.{fails, taken_back}
 use Rattle.keep_core.proofs.Shortening.{shorten_count, shorten_keepable}
 use Rattle.keep_core.proofs.replan.replan.Goals as goal
 
 pub plan_kept-requires : goal.plan_kept-requires
 plan_kept-requires c =
-    let g = c.args.forest.now in
-    let at = c.args.at in
-    let forest = c.len-entries.ensures.sound in
-    let needs : AreNeeds (length g.entries) (need_left g at) c.deref-4.result.now = subst (AreNeeds (length g.entries) (need_left g at)) (sym c.deref-4.ensures.value) c.in_ok-needs.ensures in
-    let is : c.set_needs.new.forest ≡ shorten g at = c.set_needs.ensures ∙ shortened_set g at c.deref-4.result.now needs in
-    subst (λ (h : Grove). AllKeepable h at (end_of h.entries)) (sym is) (shorten_keepable g forest at)
+    let after = c.in_ok-needs.ensures in
+    subst (λ (h : Grove). AllKeepable h c.args.at (end_of h.entries)) (sym after.shortened.0) (shorten_keepable c.args.forest.now after.sound.0 c.args.at)
 
-pub returns-in-Ok-clause-shortened : goal.returns-in-Ok-clause-shortened
-returns-in-Ok-clause-shortened c =
-    let g = c.args.forest.now in
-    let at = c.args.at in
-    let forest = c.len-entries.ensures.sound in
-    let needs : AreNeeds (length g.entries) (need_left g at) c.deref-4.result.now = subst (AreNeeds (length g.entries) (need_left g at)) (sym c.deref-4.ensures.value) c.in_ok-needs.ensures in
-    let is : c.set_needs.new.forest ≡ shorten g at = c.set_needs.ensures ∙ shortened_set g at c.deref-4.result.now needs in (
-      is,
-      c.in_ok-extend_from_slice.ensures.items ∙ ap (λ xs. xs ++ c.deref-3.result.now) c.in_ok-list.ensures.items
-          ∙ ap (λ xs. c.args.shortened.now ++ xs) (c.deref-3.ensures.value ∙ c.in_ok-pairs.ensures),
-    )
-
-pub set_needs-requires-in-Err : goal.set_needs-requires-in-Err
-set_needs-requires-in-Err c =
-    let g = c.args.forest.now in
-    let at = c.args.at in
-    let forest = c.len-entries.ensures.sound in
-    let needs : AreNeeds (length g.entries) (need_left g at) c.deref-4.result.now = subst (AreNeeds (length g.entries) (need_left g at)) (sym c.deref-4.ensures.value) c.in_ok-needs.ensures in
-    let is : c.set_needs.new.forest ≡ shorten g at = c.set_needs.ensures ∙ shortened_set g at c.deref-4.result.now needs in
-    let before = c.in_ok-before.ensures.count in
-    ap length c.deref-in-Err.ensures.value ∙ before ∙ sym (shorten_count g at) ∙ ap (λ (h : Grove). length h.entries) (sym is)
+pub restore-requires : goal.restore-requires
+restore-requires c =
+    let after = c.in_ok-needs.ensures in
+    ap length c.deref.ensures.value ∙ after.before.count ∙ sym (shorten_count c.args.forest.now c.args.at) ∙ ap (λ (h : Grove). length h.entries) (sym after.shortened.0)
 
 pub returns-clause-refused : goal.returns-clause-refused
 returns-clause-refused c =
-    let g = c.args.forest.now in
-    let at = c.args.at in
-    let forest = c.len-entries.ensures.sound in
-    let needs : AreNeeds (length g.entries) (need_left g at) c.deref-4.result.now = subst (AreNeeds (length g.entries) (need_left g at)) (sym c.deref-4.ensures.value) c.in_ok-needs.ensures in
-    let is : c.set_needs.new.forest ≡ shorten g at = c.set_needs.ensures ∙ shortened_set g at c.deref-4.result.now needs in
-    fails g forest at c.in-Err.fault (subst (λ (h : Grove). PlanRefused h at c.in-Err.fault) is c.in-Err.ensures.refused)
+    let after = c.in_ok-needs.ensures in
+    fails c.args.forest.now after.sound.0 c.args.at c.in-Err.fault (subst (λ (h : Grove). PlanRefused h c.args.at c.in-Err.fault) after.shortened.0 c.in-Err.ensures.refused)
 
 pub returns-clause-unchanged : goal.returns-clause-unchanged
 returns-clause-unchanged c =
-    let g = c.args.forest.now in
-    let at = c.args.at in
-    let forest = c.len-entries.ensures.sound in
-    let needs : AreNeeds (length g.entries) (need_left g at) c.deref-4.result.now = subst (AreNeeds (length g.entries) (need_left g at)) (sym c.deref-4.ensures.value) c.in_ok-needs.ensures in
-    let is : c.set_needs.new.forest ≡ shorten g at = c.set_needs.ensures ∙ shortened_set g at c.deref-4.result.now needs in
-    let before : AreNeeds (length g.entries) (λ i. (entry_at g.entries i).need) c.deref-in-Err.result.now =
-    subst (AreNeeds (length g.entries) (λ i. (entry_at g.entries i).need)) (sym c.deref-in-Err.ensures.value) c.in_ok-before.ensures in
-    c.set_needs-in-Err.ensures ∙ restored g c.set_needs.new.forest at c.deref-in-Err.result.now is before
+    let after = c.in_ok-needs.ensures in
+    let needs : HasNeeds c.args.forest.now c.deref.result.now = subst (HasNeeds c.args.forest.now) (sym c.deref.ensures.value) after.before in
+    let whole = c.args.shortened.now.ok.0 in
+    let noted : c.len-noted.result ≡ length c.args.shortened.now.items = omega (arith, c.len-noted.ensures) in
+    let back = taken_back c.args.forest.now c.shorten.new.forest c.args.at c.args.shortened.now.items c.shorten.new.shortened.items c.deref.result.now c.len-noted.result after.shortened.0 after.shortened.1 noted needs in
+    (c.restore.ensures.forest ∙ back.0, c.restore.ensures.shortened ∙ back.1)

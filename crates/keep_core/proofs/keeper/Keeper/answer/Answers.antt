@@ -8,7 +8,7 @@ use Rattle.keep_core.specs.Refusal.{waits_for}
 use Rattle.keep_core.specs.Replan.{Replan}
 use Rattle.keep_core.specs.State.{Round}
 use Rattle.keep_core.specs.Step.{answered, change, heard, of_entry}
-use Rattle.keep_core.proofs.Heard.{as_answer, fails_turn, nobody, of_some, somebody}
+use Rattle.keep_core.proofs.Heard.{as_answer, nobody, of_some, somebody, wants_turn}
 use Rattle.keep_core.proofs.Hearing.{answer_taken, waits_in}
 use Rattle.keep_core.proofs.keeper.Keeper.answer.Goals as goal
 
@@ -45,11 +45,9 @@ returns-in_err-close c =
     let test : nat_lt 0 (length (others now.round c.args.i)) ≡ false = sym c.waits_for_others.ensures ∙ c.if-waits_for_others.false in
     let none : length (others now.round c.args.i) ≡ 0 = grind (arith, nat_tests) in
     let left = ap (λ o. length (others o c.args.i)) round.1 ∙ ap (λ i. length (others (Some round.0) i)) (sym c.requires.entry) in
-    let fails = of_some now.round round.0 (λ (r : Round). PlanFails (change now.forest c.args.i (answered r.at event)) r.at c.in_err-close.field-0.0) round.1 c.in_err-close.ensures.refused in
     let p = err_from_is_err_and c.from_residual.result c.from_residual.ensures.1 in
-    rw (p.1, p.2)
-    (fails_turn now c.close.new.self event round.0 c.in_err-close.field-0.0 c.requires.answer c.requires.taken round.1 (nobody _ (sym left ∙ none))
-    (subst (λ i. PlanFails (change now.forest i (answered round.0.at event)) round.0.at c.in_err-close.field-0.0) (sym c.requires.entry) fails) c.in_err-close.ensures.unchanged)
+    let memory = p.2 ∙ c.in_err-close.ensures.refused in
+    rw (p.1, memory) (wants_turn now c.close.new.self event round.0 c.requires.answer c.requires.taken round.1 (nobody _ (sym left ∙ none)) c.in_err-close.ensures.unchanged)
 
 pub returns : goal.returns
 returns c =

@@ -1,17 +1,19 @@
 use Rattle.std.proofs.Common.{◌∙◌, ◌++◌, ◌<◌, None, Option, ap, arith, length, refl, subst, sym}
 use Rattle.keep_tree.specs.Forest.{entry_at}
+use Rattle.keep_tree.specs.Push.{IsForest}
 use Rattle.keep_tree.proofs.Carrying.{and_left, and_right}
 use Rattle.keep_rule.specs.Runs.{moments_of}
 use Rattle.keep_plan.specs.Planned.{to_come}
 use Rattle.keep_core.specs.declared.round.OpenRound.{OpenRound}
 use Rattle.keep_core.specs.Hearing.{is_rules}
 use Rattle.keep_core.specs.Keeping.{IsKeeper, seen}
-use Rattle.keep_core.specs.Replan.{Replan}
+use Rattle.keep_core.specs.Replan.{Replan, ReplanTooLong}
 use Rattle.keep_core.specs.Shorten.{pairs, shorten}
 use Rattle.keep_core.specs.State.{State}
 use Rattle.keep_core.specs.Step.{answered, change, heard, of_entry}
-use Rattle.keep_core.proofs.Heard.{Stays, hears, if_some, others_are, state_of, stays, stays_planned}
+use Rattle.keep_core.proofs.Heard.{Stays, answer_fits, answered_keeper, hears, if_some, only_memory, others_are, state_of, stays, stays_planned}
 use Rattle.keep_core.proofs.Made.{made, made_keeper}
+use Rattle.keep_core.proofs.Shortening.{shorten_forest}
 use Rattle.keep_core.proofs.keeper.Keeper.close.Goals as goal
 
 pub is_rules-requires-clause-within : goal.is_rules-requires-clause-within
@@ -117,8 +119,12 @@ invariant_of-self-in-Ok-1 c =
     let is = sym c.take.ensures.value ∙ c.in-Some.is in
     let hears = hears h c.self.inside.last c.self.inside.plan c.self.inside.round c.self.inside.shortened.items c.args.self.now r event c.self.view_is c.self.invariant is c.requires.answer c.requires.taken in
     let k = c.replan_with_answer.new.forest in
-    let p = c.in-Ok.anew.plan in
-    subst (IsKeeper k c.self.inside.last p) (sym c.take.ensures.after) (subst (λ t. IsKeeper k t p None) hears.at (made_keeper k r.at p c.in-Ok.ensures.planned))
+    let p = c.in-Ok.plan in
+    let heard = answered_keeper h c.self.inside.last c.self.inside.plan r event hears.keeper hears.taken in
+    let told = subst (λ i. IsForest (change h i (answered r.at event))) c.requires.entry heard in
+    let forest = subst IsForest (sym c.in-Ok.ensures.shortened.0) (shorten_forest _ told r.at) in
+    let late = c.self.invariant.late in
+    subst (IsKeeper k c.self.inside.last p) (sym c.take.ensures.after) (subst (λ t. IsKeeper k t p None) hears.at (made_keeper k r.at p forest (omega (arith, hears.at)) c.in-Ok.ensures.planned))
 
 pub returns-in-Ok-clause-planned : goal.returns-in-Ok-clause-planned
 returns-in-Ok-clause-planned c =
@@ -128,14 +134,24 @@ returns-in-Ok-clause-planned c =
     let is = sym c.take.ensures.value ∙ c.in-Some.is in
     let hears = hears h c.self.inside.last c.self.inside.plan c.self.inside.round c.self.inside.shortened.items c.args.self.now r event c.self.view_is c.self.invariant is c.requires.answer c.requires.taken in
     let k = c.replan_with_answer.new.forest in
-    let p = c.in-Ok.anew.plan in
-    let list = c.in-Ok.anew.shortened.items in
+    let p = c.in-Ok.plan in
+    let list = c.replan_with_answer.new.shortened.items in
     let old = state_of h c.self.inside.last c.self.inside.plan c.self.inside.round c.self.inside.shortened.items in
     let now_is = sym (ap (λ (s : State). s.round) c.self.view_is) ∙ ap seen is in
     let told = ap (λ i. change h i (answered r.at event)) (sym c.requires.entry) in
     let short = c.in-Ok.ensures.shortened.0 ∙ ap (λ g. shorten g r.at) told in
-    let noted = c.in-Ok.ensures.shortened.1 ∙ ap (λ xs. xs ++ pairs (change h c.args.i (answered r.at event)) r.at) c.deref.ensures.value ∙ ap (λ g. c.self.inside.shortened.items ++ pairs g r.at) told in
+    let noted = c.in-Ok.ensures.shortened.1 ∙ ap (λ g. c.self.inside.shortened.items ++ pairs g r.at) told in
     let there = made (heard old event r.at None) r.at k p list short noted c.in-Ok.ensures.planned in
     let last = subst (λ t. Replan (heard old event r.at None) r.at (record { forest = k; last = t; to_come = moments_of (to_come p); round = None; shortened = list })) hears.at there in
     let closed = subst (λ (o : Option OpenRound). Replan (heard old event r.at None) r.at (state_of k c.self.inside.last p o list)) (sym c.take.ensures.after) last in
     if_some c.args.self.now.round _ _ now_is (subst (λ (s : State). Replan (heard s event r.at None) r.at (state_of k c.self.inside.last p c.take.new.self list)) c.self.view_is closed)
+
+pub returns-in-Err-clause-refused : goal.returns-in-Err-clause-refused
+returns-in-Err-clause-refused c =
+    let h = c.self.inside.forest in
+    let r = c.in-Some.round in
+    let event = c.args.event in
+    let is = sym c.take.ensures.value ∙ c.in-Some.is in
+    let hears = hears h c.self.inside.last c.self.inside.plan c.self.inside.round c.self.inside.shortened.items c.args.self.now r event c.self.view_is c.self.invariant is c.requires.answer c.requires.taken in
+    only_memory _ r.at c.in-Err.fault c.in-Err.ensures.refused
+    (λ long. answer_fits h c.self.inside.last c.self.inside.plan r event hears.keeper hears.taken (subst (λ i. ReplanTooLong (change h i (answered r.at event)) r.at) (sym c.requires.entry) long))

@@ -1,13 +1,15 @@
-use Rattle.std.proofs.Common.{◌≡◌, ◌∙◌, ◌++◌, Option, None, ap, arith, length, subst, sym}
+use Rattle.std.proofs.Common.{◌≡◌, ◌∙◌, ◌<◌, Option, None, ap, arith, length, subst, sym}
+use Rattle.keep_tree.specs.Push.{IsForest}
 use Rattle.keep_rule.specs.Runs.{moments_of}
 use Rattle.keep_plan.specs.Planned.{to_come}
 use Rattle.keep_core.specs.declared.round.OpenRound.{OpenRound}
 use Rattle.keep_core.specs.Keeping.{IsKeeper, seen}
 use Rattle.keep_core.specs.Replan.{Replan}
-use Rattle.keep_core.specs.Shorten.{pairs}
 use Rattle.keep_core.specs.State.{State}
-use Rattle.keep_core.specs.Step.{change, needed}
+use Rattle.keep_core.specs.Step.{needed}
+use Rattle.keep_core.proofs.Changed.{needed_forest}
 use Rattle.keep_core.proofs.Made.{made, made_keeper, none_seen}
+use Rattle.keep_core.proofs.Shortening.{shorten_forest}
 use Rattle.keep_core.proofs.Taken.{moment_is, need_taken}
 use Rattle.keep_core.proofs.keeper.Keeper.need.Goals as goal
 
@@ -22,21 +24,26 @@ replan_with_need-requires c =
 
 pub invariant_of-self-2 : goal.invariant_of-self-2
 invariant_of-self-2 c =
+    let g = c.self.inside.forest in
+    let t = c.self.inside.last in
     let h = c.replan_with_need.new.forest in
-    let p = c.in_ok-anew.anew.plan in
-    let closed = (need_taken c.args.self.now c.args.i c.args.until c.requires).2 in
-    let none : c.self.inside.round ≡ None = none_seen c.self.inside.round (ap (λ (s : State). s.round) c.self.view_is ∙ closed) in
-    subst (λ (r : Option OpenRound). IsKeeper h c.self.inside.last p r) (sym none) (made_keeper h c.self.inside.last p c.in_ok-anew.ensures.planned)
+    let p = c.in_ok-plan.plan in
+    let taken = need_taken c.args.self.now c.args.i c.args.until c.requires in
+    let none : c.self.inside.round ≡ None = none_seen c.self.inside.round (ap (λ (s : State). s.round) c.self.view_is ∙ taken.2) in
+    let within : c.args.i < length g.entries = (let same = ap (λ (s : State). length s.forest.entries) c.self.view_is in omega (arith, taken.1)) in
+    let value : c.unwrap-until.result ≡ c.args.until = moment_is c.new.result c.unwrap-until.result c.args.until c.unwrap-until.ensures c.new.ensures.value in
+    let set = needed_forest g c.self.invariant.forest c.args.i within c.unwrap-until.result (omega (arith, taken.0)) in
+    let forest = subst IsForest (sym c.in_ok-plan.ensures.shortened.0) (shorten_forest _ set t) in
+    subst (λ (r : Option OpenRound). IsKeeper h t p r) (sym none) (made_keeper h t p forest c.self.invariant.late c.in_ok-plan.ensures.planned)
 
 pub returns : goal.returns
 returns c =
     let h = c.replan_with_need.new.forest in
-    let p = c.in_ok-anew.anew.plan in
+    let p = c.in_ok-plan.plan in
     let i = c.args.i in
-    let list = c.in_ok-anew.anew.shortened.items in
+    let list = c.replan_with_need.new.shortened.items in
     let old : State = record { forest = c.self.inside.forest; last = c.self.inside.last; to_come = moments_of (to_come c.self.inside.plan); round = seen c.self.inside.round; shortened = c.self.inside.shortened.items } in
     let new : State = record { forest = h; last = c.self.inside.last; to_come = moments_of (to_come p); round = seen c.self.inside.round; shortened = list } in
     let value : c.unwrap-until.result ≡ c.args.until = moment_is c.new.result c.unwrap-until.result c.args.until c.unwrap-until.ensures c.new.ensures.value in
-    let noted = c.in_ok-anew.ensures.shortened.1 ∙ ap (λ xs. xs ++ pairs (change c.self.inside.forest i (λ e. record e { need = c.unwrap-until.result })) c.self.inside.last) c.deref.ensures.value in
-    let there : Replan (needed old i c.unwrap-until.result) c.self.inside.last new = made (needed old i c.unwrap-until.result) c.self.inside.last h p list c.in_ok-anew.ensures.shortened.0 noted c.in_ok-anew.ensures.planned in
+    let there : Replan (needed old i c.unwrap-until.result) c.self.inside.last new = made (needed old i c.unwrap-until.result) c.self.inside.last h p list c.in_ok-plan.ensures.shortened.0 c.in_ok-plan.ensures.shortened.1 c.in_ok-plan.ensures.planned in
     (c.requires, subst (λ (s : State). Replan (needed s i c.args.until) s.last new) c.self.view_is (subst (λ n. Replan (needed old i n) c.self.inside.last new) value there))

@@ -1,7 +1,0 @@
-use Rattle.std.proofs.Common.{◌∷◌, ◌∙◌, ap, sym}
-use Rattle.keep_cert.specs.Pieces.{two}
-use Rattle.keep_cert.proofs.Cutting.{two_of_more}
-use Rattle.keep_cert.proofs.pieces.two.Goals as goal
-
-pub returns-in-Some : goal.returns-in-Some
-returns-in-Some c = sym (ap two (c.in_ok-first.ensures ∙ ap (λ ws. c.in_ok-first.first.now ∷ ws) c.in-Some.ensures) ∙ two_of_more _ _ _)

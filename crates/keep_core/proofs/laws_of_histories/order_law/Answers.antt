@@ -1,0 +1,5 @@
+use Rattle.keep_core.proofs.Closing.{order}
+use Rattle.keep_core.proofs.laws_of_histories.order_law.Goals as goal
+
+pub returns : goal.returns
+returns c = order

@@ -1,5 +1,0 @@
-use Rattle.keep_core.proofs.Closing.{closes}
-use Rattle.keep_core.proofs.laws_of_runs.closes_law.Goals as goal
-
-pub returns : goal.returns
-returns c = closes

@@ -1,5 +1,0 @@
-use Rattle.keep_core.proofs.Turns.{in_force}
-use Rattle.keep_core.proofs.laws_of_runs.in_force_law.Goals as goal
-
-pub returns : goal.returns
-returns c = in_force

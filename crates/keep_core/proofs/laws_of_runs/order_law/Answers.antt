@@ -1,5 +1,0 @@
-use Rattle.keep_core.proofs.Closing.{order}
-use Rattle.keep_core.proofs.laws_of_runs.order_law.Goals as goal
-
-pub returns : goal.returns
-returns c = order

@@ -1,0 +1,31 @@
+use Rattle.std.proofs.Common.{◌≡◌, ◌∙◌, ap, arith, length, subst, sym}
+use Rattle.keep_tree.specs.Forest.{Grove, end_of}
+use Rattle.keep_rule.specs.Unkeepable.{AllKeepable}
+use Rattle.keep_core.specs.Passes.{HasNeeds, PlanRefused}
+use Rattle.keep_core.proofs.Passing.{fails, taken_back}
+use Rattle.keep_core.proofs.Shortening.{shorten_count, shorten_keepable}
+use Rattle.keep_core.proofs.tick.replan_late.Goals as goal
+
+pub plan_late-requires : goal.plan_late-requires
+plan_late-requires c =
+    let after = c.in_ok-needs.ensures in
+    subst (λ (h : Grove). AllKeepable h c.args.at (end_of h.entries)) (sym after.shortened.0) (shorten_keepable c.args.forest.now after.sound.0 c.args.at)
+
+pub restore-requires : goal.restore-requires
+restore-requires c =
+    let after = c.in_ok-needs.ensures in
+    ap length c.deref.ensures.value ∙ after.before.count ∙ sym (shorten_count c.args.forest.now c.args.at) ∙ ap (λ (h : Grove). length h.entries) (sym after.shortened.0)
+
+pub returns-clause-refused : goal.returns-clause-refused
+returns-clause-refused c =
+    let after = c.in_ok-needs.ensures in
+    fails c.args.forest.now after.sound.0 c.args.at c.in-Err.fault (subst (λ (h : Grove). PlanRefused h c.args.at c.in-Err.fault) after.shortened.0 c.in-Err.ensures.refused)
+
+pub returns-clause-unchanged : goal.returns-clause-unchanged
+returns-clause-unchanged c =
+    let after = c.in_ok-needs.ensures in
+    let needs : HasNeeds c.args.forest.now c.deref.result.now = subst (HasNeeds c.args.forest.now) (sym c.deref.ensures.value) after.before in
+    let whole = c.args.shortened.now.ok.0 in
+    let noted : c.len-noted.result ≡ length c.args.shortened.now.items = omega (arith, c.len-noted.ensures) in
+    let back = taken_back c.args.forest.now c.shorten.new.forest c.args.at c.args.shortened.now.items c.shorten.new.shortened.items c.deref.result.now c.len-noted.result after.shortened.0 after.shortened.1 noted needs in
+    (c.restore.ensures.forest ∙ back.0, c.restore.ensures.shortened ∙ back.1)

@@ -1,0 +1,11 @@
+use Rattle.std.proofs.Common.{ap, sym}
+use Rattle.keep_words.specs.Pieces.{first, keyword}
+use Rattle.keep_words.proofs.words.keyword.Goals as goal
+
+pub returns-in-Some : goal.returns-in-Some
+unfolding keyword
+returns-in-Some c = sym (ap first c.in-Some.ensures)
+
+pub returns-in-None : goal.returns-in-None
+unfolding keyword
+returns-in-None c = sym (ap first c.in-None.ensures)

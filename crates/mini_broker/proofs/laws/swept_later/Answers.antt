@@ -1,0 +1,5 @@
+use Rattle.mini_broker.proofs.Swept as law
+use Rattle.mini_broker.proofs.laws.swept_later.Goals as goal
+
+pub returns : goal.returns
+returns c = law.swept_later

@@ -1,0 +1,132 @@
+"""`leasekeepd inventory`: a whole inventory from a short list and lookups at the broker.
+
+The short list is TOML: the tables of an inventory without what a lookup tells (issued, end, renewable, period,
+explicit_max_ttl). `secret_file` may stand for `secret`, and `lease_id_file` for `lease_id`.
+"""
+
+from __future__ import annotations
+
+import math
+import tomllib
+from dataclasses import replace
+from pathlib import Path
+from typing import Any
+
+from .broker import Broker, Facts, Verdict
+from .clock import Clock, date_text
+from .inventory import Entry, Inventory, Kind, entry_text, toml_string
+from .inventory_file import CREDENTIAL, KEYS, judge, read_tables
+
+_FILES = {"secret_file": "secret", "lease_id_file": "lease_id"}
+_PLACEHOLDER_INCREMENT = 1
+_TOP = ("system_max", "margin", "token", "lease")
+DEFAULT_MARGIN = 60
+
+
+class DiscoverFault(Exception):
+    """A short list that leads to no inventory: its words say why, line by line, and hold no secret."""
+
+
+def read_short_list(path: Path) -> Inventory:
+    """The entries of the short list, with placeholders where a lookup is to tell; DiscoverFault where it is faulty."""
+    try:
+        top = tomllib.loads(path.read_text("utf-8"))
+    except OSError as error:
+        raise DiscoverFault(f"{path}: {error.strerror}") from None
+    except ValueError:
+        raise DiscoverFault(f"{path}: is no TOML document in UTF-8") from None
+    unknown = [key for key in top if key not in _TOP]
+    if unknown:
+        raise DiscoverFault(f"{path}: {unknown[0]} is no key of a short list; the keys are {', '.join(_TOP)}")
+    entries = []
+    for kind in Kind:
+        for place, table in enumerate(top.get(kind.value, []), 1):
+            entries.append(_entry(path, kind, place, table))
+    margin = top.get("margin", DEFAULT_MARGIN)
+    return Inventory(tuple(entries), margin, top.get("system_max", Inventory().system_max))
+
+
+def _entry(path: Path, kind: Kind, place: int, table: dict[str, Any]) -> Entry:
+    label = f"{path}: {kind.value} {place}"
+    table = dict(table)
+    for key, of in _FILES.items():
+        if key in table and of in KEYS[kind]:
+            table[of] = _credential_in(path.parent / str(table.pop(key)), label, key)
+    credential = table.get("secret" if kind is Kind.TOKEN else "lease_id")
+    if credential is None:
+        raise DiscoverFault(f"{label}: a {'secret or secret_file' if kind is Kind.TOKEN else 'lease_id'} is missing")
+    filled = {"issued": 0, "end": 0, **table}
+    filled.setdefault("increment", _PLACEHOLDER_INCREMENT)
+    reading, entries = read_tables(_toml(kind, filled).encode())
+    if reading.faults:
+        words = "; ".join(" ".join((fault.key, fault.problem)) for fault in reading.faults)
+        raise DiscoverFault(f"{label}: {words}")
+    return entries[0]
+
+
+def _credential_in(file: Path, label: str, key: str) -> str:
+    try:
+        text = file.read_text("ascii").strip()
+    except (OSError, UnicodeDecodeError):
+        raise DiscoverFault(f"{label}: {key}: {file} cannot be read") from None
+    if not CREDENTIAL.fullmatch(text):
+        raise DiscoverFault(f"{label}: {key}: {file} holds no secret of 1 to 256 printable characters")
+    return text
+
+
+def _toml(kind: Kind, table: dict[str, Any]) -> str:
+    lines = [f"{toml_string(key)} = {_value(value)}" for key, value in table.items()]
+    return "\n".join([f"[[{kind.value}]]", *lines, ""])
+
+
+def _value(value: Any) -> str:
+    if isinstance(value, str):
+        return toml_string(value)
+    return str(value).lower() if isinstance(value, (bool, int)) else "[]"
+
+
+async def discover(broker: Broker, clock: Clock, wanted: Inventory) -> str:
+    """The text of the inventory, with what each lookup tells; DiscoverFault where one fails."""
+    faults, texts, entries = [], [], []
+    for entry in wanted.entries:
+        heard = await broker.look_up(wanted, entry)
+        if heard.verdict is not Verdict.GOOD or heard.facts is None:
+            faults.append(f"{entry.name}: its lookup: {heard.why}")
+        elif heard.facts.never_ends:
+            faults.append(f"{entry.name}: never ends (ttl 0) and needs no keeping: take it out, and write its"
+                          " children without a parent")
+        else:
+            filled = _filled(wanted, entry, heard.facts, math.floor(clock.wall()))
+            entries.append(filled)
+            texts.append(_noted(entry, filled, heard.facts))
+    if faults:
+        raise DiscoverFault("\n".join(faults))
+    inventory = Inventory(tuple(entries), wanted.margin, wanted.system_max)
+    found = [f"{fault.entry} {fault.key}: {fault.problem}; {fault.mend}" for fault in judge(inventory)]
+    if found:
+        raise DiscoverFault("\n".join(found))
+    head = f"# By leasekeepd inventory, {date_text(clock.wall())}\nsystem_max = {wanted.system_max}\n" \
+           f"margin = {wanted.margin}\n"
+    return "\n".join([head, *texts])
+
+
+def _filled(wanted: Inventory, entry: Entry, facts: Facts, now: int) -> Entry:
+    increment = entry.increment
+    if increment == _PLACEHOLDER_INCREMENT:
+        increment = None if facts.period else max(facts.ttl, wanted.margin + 1)
+    parent = None if facts.orphan and entry.kind is Kind.TOKEN else entry.parent
+    return replace(entry, issued=facts.issued, end=now + facts.ttl, renewable=facts.renewable, increment=increment,
+                   period=facts.period, explicit_max_ttl=facts.explicit_max, parent=parent)
+
+
+def _noted(entry: Entry, filled: Entry, facts: Facts) -> str:
+    notes = []
+    if entry.increment == _PLACEHOLDER_INCREMENT and not facts.period:
+        notes.append("# increment: the TTL that is left; write what a renewal is to ask for")
+    if facts.orphan and entry.parent is not None and entry.kind is Kind.TOKEN:
+        notes.append(f"# the broker says orphan: its parent {entry.parent} is left out")
+    if entry.max_ttl is None and not facts.period:
+        notes.append("# max_ttl: no lookup tells it; absent, it is system_max")
+    if not facts.renewable:
+        notes.append("# it cannot be renewed")
+    return "".join(note + "\n" for note in notes) + entry_text(filled)

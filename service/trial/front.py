@@ -1,0 +1,86 @@
+"""A front that speaks TLS, of the configurations in service/front, before the broker's relay."""
+
+from __future__ import annotations
+
+import asyncio
+import grp
+import os
+import shutil
+import ssl
+import subprocess
+from pathlib import Path
+
+FRONTS = Path(__file__).resolve().parents[1] / "front"
+HOST = "vault.example.com"
+START_SECONDS = 10.0
+
+
+EC = ("-newkey", "ec", "-pkeyopt", "ec_paramgen_curve:P-256", "-nodes")
+
+
+def _openssl(folder: Path, *words: str) -> None:
+    subprocess.run(["openssl", *words], cwd=folder, check=True, capture_output=True, timeout=60)
+
+
+def make_authority(folder: Path) -> None:
+    """An authority of the folder's own: ca.pem and its key."""
+    _openssl(folder, "req", "-x509", *EC, "-days", "2", "-keyout", "ca.key", "-out", "ca.pem", "-subj",
+             "/CN=trial authority")
+
+
+def make_certificate(folder: Path, host: str = HOST) -> ssl.SSLContext:
+    """A server's context with a certificate for that host, signed by the folder's authority."""
+    _openssl(folder, "req", *EC, "-keyout", f"{host}.key", "-out", f"{host}.csr", "-subj", f"/CN={host}")
+    (folder / "names").write_text(f"subjectAltName=DNS:{host}\n")
+    _openssl(folder, "x509", "-req", "-in", f"{host}.csr", "-CA", "ca.pem", "-CAkey", "ca.key", "-CAcreateserial",
+             "-days", "2", "-extfile", "names", "-out", f"{host}.pem")
+    context = ssl.SSLContext(ssl.PROTOCOL_TLS_SERVER)
+    context.load_cert_chain(folder / f"{host}.pem", folder / f"{host}.key")
+    return context
+
+
+class Front:
+    """A HAProxy or nginx with the project's configuration."""
+
+    def __init__(self, name: str, folder: Path, port: int, namespace: str = "team-a") -> None:
+        self.name, self._folder, self._port, self._namespace = name, folder, port, namespace
+        self.socket = folder / "front.sock"
+        self._process: asyncio.subprocess.Process | None = None
+
+    @staticmethod
+    def is_installed(name: str) -> bool:
+        return shutil.which(name) is not None and shutil.which("openssl") is not None
+
+    async def start(self) -> None:
+        self.socket.unlink(missing_ok=True)
+        words, environment = self._haproxy() if self.name == "haproxy" else self._nginx()
+        self._process = await asyncio.create_subprocess_exec(
+            *words, env={**os.environ, **environment}, stdout=asyncio.subprocess.DEVNULL,
+            stderr=asyncio.subprocess.DEVNULL)
+        async with asyncio.timeout(START_SECONDS):
+            while not self.socket.exists():
+                await asyncio.sleep(0.05)
+
+    async def stop(self) -> None:
+        if self._process is not None and self._process.returncode is None:
+            self._process.terminate()
+            await self._process.wait()
+
+    def _haproxy(self) -> tuple[list[str], dict[str, str]]:
+        return ["haproxy", "-db", "-f", str(FRONTS / "haproxy.cfg")], {
+            "FRONT_SOCKET": str(self.socket), "FRONT_GROUP": grp.getgrgid(os.getgid()).gr_name,
+            "VAULT_ADDRESS": f"127.0.0.1:{self._port}", "VAULT_HOST": HOST,
+            "VAULT_CA": str(self._folder / "ca.pem"), "VAULT_NAMESPACE": self._namespace}
+
+    def _nginx(self) -> tuple[list[str], dict[str, str]]:
+        text = (FRONTS / "nginx.conf").read_text()
+        for old, new in (
+            ("/run/vault-front/vault.sock", str(self.socket)), ("https://vault.example.com:8200",
+             f"https://127.0.0.1:{self._port}"), ("/etc/vault-front/ca.pem", str(self._folder / "ca.pem")),
+            ("Namespace admin", f"Namespace {self._namespace}"),
+        ):
+            text = text.replace(old, new)
+        (self._folder / "nginx.conf").write_text(text)
+        (self._folder / "logs").mkdir(exist_ok=True)
+        return ["nginx", "-p", str(self._folder), "-c", str(self._folder / "nginx.conf"), "-g",
+                f"daemon off; pid {self._folder}/nginx.pid;"], {}

@@ -1,0 +1,48 @@
+"""Where the programs for a trial are: given, installed, built, or built now without a proof."""
+
+from __future__ import annotations
+
+import os
+import shutil
+import subprocess
+from pathlib import Path
+
+TOP = Path(__file__).resolve().parents[2]
+BUILD_SECONDS = 600
+
+
+def _has(program: str, words: list[str], shown: str) -> bool:
+    try:
+        helped = subprocess.run([program, *words], capture_output=True, text=True, timeout=10)
+    except (OSError, subprocess.SubprocessError):
+        return False
+    return helped.returncode == 0 and shown in helped.stdout
+
+
+def is_live(name: str, program: str) -> bool:
+    """Whether the program has what a trial needs: `leasekeep run`, and `minibroker` with moments from its input."""
+    if name == "leasekeep":
+        return _has(program, ["run", "--help"], "PORT")
+    return _has(program, ["--help"], "standard input")
+
+
+def find_program(name: str, may_build: bool = False) -> str | None:
+    """A `leasekeep` or `minibroker` that is live: that of the environment (LEASEKEEP, MINIBROKER), the proved build,
+    the installed one, and where asked for a build without a proof; None where there is none."""
+    given = os.environ.get(name.upper())
+    if given:
+        return given if is_live(name, given) else None
+    for program in (str(TOP / "crates" / name / "out" / name), shutil.which(name)):
+        if program and is_live(name, program):
+            return program
+    kept = sorted((TOP / "out" / "unproved").glob(f"{name}-*")) if (TOP / "out" / "unproved").is_dir() else []
+    for build in kept:
+        if is_live(name, str(build)):
+            return str(build)
+    if may_build and shutil.which("rt"):
+        built = subprocess.run([str(TOP / "scripts" / "build-unproved"), name], stdout=subprocess.PIPE, text=True,
+                               timeout=BUILD_SECONDS)
+        program = built.stdout.strip()
+        if built.returncode == 0 and is_live(name, program):
+            return program
+    return None

@@ -1,0 +1,99 @@
+"""A trial: minibroker behind the relay, an inventory with short leases, and leasekeepd on it."""
+
+from __future__ import annotations
+
+import asyncio
+import time
+from dataclasses import replace
+from pathlib import Path
+
+from leasekeepd_lib.broker import Broker, Heard, Verdict
+from leasekeepd_lib.clock import SystemClock
+from leasekeepd_lib.http_client import Address, HttpTransport
+from leasekeepd_lib.inventory import Entry, Inventory, Kind, inventory_text
+
+from .relay import LiveBroker, Relay
+
+LEASEKEEPD = Path(__file__).resolve().parents[1] / "leasekeepd"
+
+
+def short_leases(now: int, seconds: int) -> Inventory:
+    """An inventory in which everything ends within seconds unless it is renewed."""
+    until = now + seconds
+    return Inventory((
+        Entry("app", Kind.TOKEN, None, now, now + 9, increment=12, max_ttl=86400, need=until, credential="s.app"),
+        Entry("pay", Kind.TOKEN, None, now, now + 8, period=10, need=until, credential="s.pay"),
+        Entry("job", Kind.TOKEN, "app", now, now + 8, increment=9, max_ttl=86400, need=until, credential="s.job"),
+        Entry("app-db", Kind.LEASE, "app", now, now + 7, increment=8, max_ttl=86400, need=until,
+              credential="database/creds/app/1"),
+        Entry("pay-cert", Kind.LEASE, "pay", now, now + 8, increment=11, max_ttl=86400, need=until,
+              credential="pki/issue/pay/1"),
+    ), 4)
+
+
+class Trial:
+    """The parts of a trial, in one folder."""
+
+    def __init__(self, folder: Path, leasekeep: str, minibroker: str, inventory: Inventory, timeout: int = 1) -> None:
+        self.folder, self.inventory = folder, inventory
+        self._leasekeep, self._minibroker, self._timeout = leasekeep, minibroker, timeout
+        self.file = folder / "inventory.toml"
+        self.socket = folder / "broker.sock"
+        self.relay = Relay(self.socket)
+        self._own = Relay(folder / "own.sock")
+        self.daemon: asyncio.subprocess.Process | None = None
+
+    async def start_broker(self, inventory: Inventory) -> None:
+        """Starts the broker on these rows, and the relay in front of it."""
+        rows = self.folder / "rows.toml"
+        rows.write_text(inventory_text(inventory))
+        broker = LiveBroker(self._minibroker, rows)
+        await broker.start()
+        self.relay.broker = self._own.broker = broker
+        await self._own.start()
+        await self.relay.start()
+
+    async def stop_broker(self) -> None:
+        await self.relay.stop()
+        await self._own.stop()
+        if self.relay.broker is not None:
+            await self.relay.broker.stop()
+            self.relay.broker = self._own.broker = None
+
+    async def start_daemon(self, log: Path, address: str = "") -> None:
+        """Starts leasekeepd on the inventory; its log is added to the file."""
+        if not self.file.exists():
+            self.file.touch(mode=0o600)
+            self.file.write_text(inventory_text(self.inventory))
+        with open(log, "ab") as output:
+            self.daemon = await asyncio.create_subprocess_exec(
+                str(LEASEKEEPD), "serve", str(self.file), address or str(self.socket), "--timeout",
+                str(self._timeout), "--leasekeep", self._leasekeep, "--state", str(self.folder / "state"),
+                "--runtime", str(self.folder / "run"), stdout=output, stderr=output)
+
+    async def stop_daemon(self, kill: bool = False) -> int:
+        """Ends leasekeepd, as a crash would where `kill` is true; its exit."""
+        if self.daemon is None or self.daemon.returncode is not None:
+            return -1
+        self.daemon.kill() if kill else self.daemon.terminate()
+        return await self.daemon.wait()
+
+    async def look_up_all(self) -> dict[str, Heard]:
+        """What the broker says of each entry, past the relay that the agent uses. A row that has ended is never
+        listed again: so one that is alive now was so throughout."""
+        broker = Broker(HttpTransport(Address(str(self.folder / "own.sock"))), SystemClock(), 5.0)
+        return {entry.name: await broker.look_up(self.inventory, entry) for entry in self.inventory.entries}
+
+    async def dead(self) -> list[str]:
+        """The entries that the broker no longer knows."""
+        return [name for name, heard in (await self.look_up_all()).items() if heard.verdict is not Verdict.GOOD]
+
+    async def rows_now(self) -> Inventory:
+        """The inventory with the ends of the broker's rows, so that a broker can be started on them again."""
+        heard = await self.look_up_all()
+        now = int(time.time())
+
+        def told(entry: Entry) -> Entry | None:
+            facts = heard[entry.name].facts
+            return None if facts is None else replace(entry, end=now + facts.ttl)
+        return self.inventory.mapped(told)
