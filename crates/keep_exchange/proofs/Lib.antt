@@ -3,3 +3,4 @@ pub mod Carried
 pub mod Lengths
 pub mod Answered
 pub mod Sendable
+pub mod Looked

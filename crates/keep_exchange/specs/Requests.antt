@@ -40,11 +40,18 @@ asked_as Lease port cs i e = lease_renewal port (option_map (credential_at cs) e
 unfoldable pub request_of : ℕ → List (List ℕ) → Grove → ℕ → Request
 request_of port cs g i = asked_as (entry_at g.entries i).kind port cs i (entry_at g.entries i)
 
--- and the one that looks it up
-abbrev pub looked_as : Kind → ℕ → List (List ℕ) → ℕ → Entry → Request
-looked_as Token port cs i e = record { method = codes "GET"; path = codes "/v1/auth/token/lookup-self"; token = Some (credential_at cs i); body = []; port = port }
-looked_as Lease port cs i e = record { method = codes "POST"; path = codes "/v1/sys/leases/lookup"; token = option_map (credential_at cs) e.parent; body = lookup_text (credential_at cs i); port = port }
+-- a token is looked up with its own credential, a lease with that of the token it belongs to
+abbrev pub token_looked : ℕ → List ℕ → Request
+token_looked port credential = record { method = codes "GET"; path = codes "/v1/auth/token/lookup-self"; token = Some credential; body = []; port = port }
 
+abbrev pub lease_looked : ℕ → Option (List ℕ) → List ℕ → Request
+lease_looked port owner id = record { method = codes "POST"; path = codes "/v1/sys/leases/lookup"; token = owner; body = lookup_text id; port = port }
+
+abbrev pub looked_as : Kind → ℕ → List (List ℕ) → ℕ → Entry → Request
+looked_as Token port cs i e = token_looked port (credential_at cs i)
+looked_as Lease port cs i e = lease_looked port (option_map (credential_at cs) e.parent) (credential_at cs i)
+
+-- the request that looks the entry i up
 unfoldable pub lookup_of : ℕ → List (List ℕ) → Grove → ℕ → Request
 lookup_of port cs g i = looked_as (entry_at g.entries i).kind port cs i (entry_at g.entries i)
 
