@@ -4,6 +4,7 @@ from __future__ import annotations
 
 import argparse
 import asyncio
+import fcntl
 import os
 import random
 import signal
@@ -88,6 +89,7 @@ def _parser() -> argparse.ArgumentParser:
     dropped = commands.add_parser("drop", parents=[runtime], help="keep an entry no more")
     dropped.add_argument("name", metavar="NAME")
     commands.add_parser("status", parents=[runtime], help="show how each entry stands")
+    commands.add_parser("settle", parents=[runtime], help="write file and journal as one new file")
     linted = commands.add_parser("lint", help="tell every fault and doubt of an inventory, with its line")
     linted.add_argument("file", type=Path, metavar="FILE")
     linted.add_argument("--timeout", type=_timeout, default=5, metavar="SECONDS", help="the time-out of serve")
@@ -95,7 +97,6 @@ def _parser() -> argparse.ArgumentParser:
     found.add_argument("file", type=Path, metavar="LIST")
     found.add_argument("address", type=_address, metavar="PORT|SOCKET")
     found.add_argument("--timeout", type=_timeout, default=5, metavar="SECONDS")
-    commands.add_parser("settle", parents=[runtime], help="write file and journal as one new file")
     return parser
 
 
@@ -141,8 +142,13 @@ def _lint(arguments: argparse.Namespace) -> int:
     for finding in found:
         print(finding.text(str(arguments.file)))
     faults, doubts = kinds_of(found)
-    print(f"{arguments.file}: {faults} faults, {doubts} doubts", file=sys.stderr)
+    sys.stdout.flush()
+    print(f"{arguments.file}: {_count(faults, 'fault')}, {_count(doubts, 'doubt')}", file=sys.stderr)
     return EXIT_FAULT if faults else 0
+
+
+def _count(number: int, word: str) -> str:
+    return f"{number} {word}" if number == 1 else f"{number} {word}s"
 
 
 def _inventory(arguments: argparse.Namespace) -> int:
@@ -187,6 +193,9 @@ def _serve(arguments: argparse.Namespace) -> int:
         print(f"leasekeepd: {error.filename}: {error.strerror}", file=sys.stderr)
         return EXIT_FAULT
     try:
+        if _lock(arguments.state) is None:
+            print(f"leasekeepd: {arguments.state}: another leasekeepd serves with this state", file=sys.stderr)
+            return EXIT_FAULT
         return asyncio.run(_serve_until_told(arguments))
     except SourceFault as fault:
         print("\n".join(f"leasekeepd: {line}" for line in str(fault).splitlines()), file=sys.stderr)
@@ -195,6 +204,17 @@ def _serve(arguments: argparse.Namespace) -> int:
     except KeyError:
         print(f"leasekeepd: --group: no group is named {arguments.group}", file=sys.stderr)
     return EXIT_FAULT
+
+
+def _lock(folder: Path) -> int | None:
+    """Holds the state folder for this process alone, up to its end; None where another one holds it."""
+    handle = os.open(folder / "lock", os.O_RDWR | os.O_CREAT | os.O_CLOEXEC, 0o600)
+    try:
+        fcntl.flock(handle, fcntl.LOCK_EX | fcntl.LOCK_NB)
+    except BlockingIOError:
+        os.close(handle)
+        return None
+    return handle
 
 
 async def _serve_until_told(arguments: argparse.Namespace) -> int:

@@ -208,7 +208,9 @@ class Driver:
         standing = self._book[entry.name]
         if line.word is Word.TOLD:
             seconds = line.number or 0
-            standing.granted(entry, seconds, True, self._handed_at)
+            # One margin before an end, a ceiling there and a step of one margin give the same grant.
+            is_telling = abs(seconds - self._kept.margin) > CLOSE
+            standing.granted(entry, seconds, True, self._handed_at, is_telling)
             standing.last_success, standing.trouble = self._clock.wall(), ""
             self._believed[entry.name] = self._last_moment + seconds
             self._check_margin(entry)

@@ -259,6 +259,37 @@ class Journals(InRoom):
             self.assertEqual(room.state(), settled)
         self.in_room(work)
 
+    def test_a_file_that_changed_unread_is_not_settled_over(self) -> None:
+        async def work(room: Room) -> None:
+            service = room.service()
+            await service.command(["need", "app", "1040000"])
+            room.write(Inventory(INVENTORY.entries[:1], 30))
+            self.assertIn("has changed since it was read", await self.refused(service, "settle"))
+            service.reload()
+            await service.command(["settle"])
+            self.assertEqual(room.state(), {"app": (1_040_000, "s.app")})
+        self.in_room(work)
+
+    def test_a_change_that_no_longer_fits_the_file_leaves_the_others(self) -> None:
+        async def work(room: Room) -> None:
+            service = room.service()
+            await service.command(["add", TABLE.replace('"app"', '"web"')])
+            await service.command(["need", "app", "1040000"])
+            room.write(Inventory(INVENTORY.entries[:1], 30))
+            service.reload()
+            self.assertEqual(meaning(service.engine.inventory), {"app": (1_040_000, "s.app")})
+            self.assertIn("note: add fresh: fresh token: names no earlier token", room.output.getvalue())
+        self.in_room(work)
+
+    def test_a_long_journal_is_made_short(self) -> None:
+        async def work(room: Room) -> None:
+            service = room.service()
+            for place in range(1100):
+                await service.command(["need", "app", str(1_040_000 + place)])
+            self.assertLess(len((room.folder / "journal").read_bytes().splitlines()), 200)
+            self.assertEqual(room.state()["app"][0], 1_041_099)
+        self.in_room(work)
+
     def test_a_full_disk(self) -> None:
         async def work(room: Room) -> None:
             storage = FullStorage()
@@ -340,6 +371,19 @@ class Refused(InRoom):
             self.assertIn("need app 1085000", room.launcher.runs[-1].events)
             task.cancel()
             await asyncio.gather(task, return_exceptions=True)
+        self.in_room(work)
+
+
+class Learned(InRoom):
+    def test_what_was_learned_of_another_credential_is_forgotten(self) -> None:
+        async def work(room: Room) -> None:
+            service = room.service()
+            for name in ("app", "web"):
+                service.engine.book[name].at_ceiling = True
+            room.write(Inventory((INVENTORY.entries[0], token("web", BEGAN + 80_000, "s.newer")), 30))
+            service.reload()
+            self.assertTrue(service.engine.book["app"].at_ceiling)
+            self.assertFalse(service.engine.book["web"].at_ceiling)
         self.in_room(work)
 
 

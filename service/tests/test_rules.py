@@ -165,6 +165,18 @@ class Beginnings(Scenario):
         self.assertEqual(len(last.entries), 5)
         self.assert_kept()
 
+    def test_8_what_nobody_needs_any_more_is_no_alert(self) -> None:
+        async def scene(stage: Stage) -> None:
+            await stage.until(100)
+            stage.engine.inbox.begin("asked")
+            await stage.finish(200)
+        inventory = fleet(3, 600, 60, 400)
+        past = Inventory(tuple(replace(entry, need=0, end=START + 50) if entry.name == "e1" else entry
+                               for entry in inventory.entries), 60)
+        self.play(past, scene)
+        self.assertTrue(any("note: gone e1 status 403" in line for line in self.stage.lines("gone")))
+        self.assertNotIn("alert", self.stage.output.getvalue())
+
     def test_9_what_is_aside_is_renewed_at_a_third_of_each_grant(self) -> None:
         async def scene(stage: Stage) -> None:
             stage.vault.faults.append(fault(0, HOUR, on=both(lookups, about("job"))))

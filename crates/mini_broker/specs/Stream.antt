@@ -9,8 +9,7 @@ use Rattle.vault_http.specs.declared.request.Request.{Request}
 use Rattle.vault_http.specs.declared.writing.SendFault.{SendFault}
 use Rattle.vault_http.specs.declared.writing.SendFault.TheVariants as sends
 use Rattle.keep_device.specs.Failures.{one_more}
-use Rattle.vault_http.specs.Messages.{IsRequest}
-use Rattle.vault_http.specs.Reading.{Settles}
+use Rattle.vault_http.specs.Reading.{SettlesRequest}
 use Rattle.vault_http.specs.RoundTrip.{is_sent}
 use Rattle.vault_http.specs.Written.{reply_text}
 use Rattle.mini_broker.specs.declared.refusal.Refusal.TheVariants.{BadRequest}
@@ -55,7 +54,7 @@ pub record IsHandled (ends : Ends) (l : Ledger) (t : ℕ) (after : Ledger) : Typ
   pub message : Result Request HttpFault
   pub left : ℕ
   pub unread : Option (List ℕ)
-  pub read : IfSome ends.remaining (λ bytes. Settles (IsRequest MOST_REQUEST) bytes unread ends.reads_left left message)
+  pub read : IfSome ends.remaining (λ bytes. SettlesRequest MOST_REQUEST bytes unread ends.reads_left left message)
   pub kept : Keeps unread ends.rest
   pub done : Served
   pub handled : Handles l t message after done
