@@ -4,6 +4,7 @@ from __future__ import annotations
 
 import asyncio
 import errno
+import grp
 import io
 import os
 import random
@@ -17,12 +18,12 @@ from typing import Any, Callable, Coroutine
 from leasekeepd_lib.broker import Broker
 from leasekeepd_lib.changes import ChangeFault
 from leasekeepd_lib.control import CLIENTS_MOST, ControlFault, ControlServer, send_command
-from leasekeepd_lib.engine import Parts
 from leasekeepd_lib.events import Log
 from leasekeepd_lib.inventory import Entry, Inventory, Kind, inventory_text
 from leasekeepd_lib.inventory_file import read_inventory
 from leasekeepd_lib.journal import Journal
 from leasekeepd_lib.notify import Notifier
+from leasekeepd_lib.parts import Parts
 from leasekeepd_lib.service import Service, Surroundings
 from leasekeepd_lib.source import Source, SourceFault
 from leasekeepd_lib.storage import Storage
@@ -433,6 +434,26 @@ class Learned(InRoom):
         self.in_room(work)
 
 
+class Watchdog(InRoom):
+    def test_a_hung_engine_is_not_told_alive(self) -> None:
+        async def work(room: Room) -> None:
+            service = room.service()
+            sent: list[str] = []
+            service._around.notifier.send = lambda *words: sent.extend(words)  # type: ignore[method-assign]
+            tasks = [asyncio.create_task(service.engine.serve()), asyncio.create_task(service._report())]
+            await room.world.until(BEGAN + 400)
+            self.assertGreater(sent.count("WATCHDOG=1"), 20)
+            self.assertTrue(any(words.startswith("STATUS=next wake-up 1970-01-12T") for words in sent))
+            tasks[0].cancel()
+            await room.world.until(BEGAN + 1400)
+            sent.clear()
+            await room.world.until(BEGAN + 1500)
+            self.assertEqual(sent, [])
+            tasks[1].cancel()
+            await asyncio.gather(*tasks, return_exceptions=True)
+        self.in_room(work)
+
+
 class Files(InRoom):
     def test_the_last_good_file_is_kept_and_served(self) -> None:
         async def work(room: Room) -> None:
@@ -488,7 +509,7 @@ class Sockets(unittest.TestCase):
             return answer
 
         async def go() -> None:
-            server = ControlServer(path, None, handle)
+            server = ControlServer(path, grp.getgrgid(os.getgid()).gr_name, handle)
             await server.start()
             self.assertEqual(path.stat().st_mode & 0o777, 0o660)
             silent = [await asyncio.open_unix_connection(str(path)) for _ in range(CLIENTS_MOST - 1)]
@@ -504,6 +525,8 @@ class Sockets(unittest.TestCase):
             await asyncio.sleep(0.1)
             self.assertEqual(await raw(b'["status"]\n'), b"ok\nstatus\n")
             server.stop()
+            with self.assertRaises(KeyError):
+                await ControlServer(path, "no such group", handle).start()
             with self.assertRaises(ControlFault):
                 await asyncio.to_thread(send_command, path, ["status"])
         asyncio.run(go())
