@@ -18,12 +18,12 @@ from .broker import Broker
 from .clock import SystemClock
 from .control import ControlFault, ControlServer, send_command
 from .discover import DiscoverFault, discover, read_short_list
-from .engine import Parts
 from .events import Alerts, Log
 from .http_client import Address, HttpTransport
 from .journal import Journal
 from .lint import kinds_of, lint
 from .notify import Notifier
+from .parts import Parts
 from .run_process import ProcessLauncher
 from .service import Service, Surroundings
 from .source import Source, SourceFault
