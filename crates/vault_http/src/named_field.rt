@@ -1,7 +1,7 @@
 ghost use Rattle.std.specs.Prelude.{◌≡◌, length, map, All};
 ghost use Rattle.httparse.specs.Spans.{IsHeaderWithin, header_bytes};
 ghost use Rattle.vault_http.specs.Fields.{is_named, values_of};
-ghost use Rattle.vault_http.specs.Lone.{IsLone, and_lone};
+ghost use Rattle.vault_http.specs.NamedField.{IsLone, and_lone};
 
 use httparse::spans::{HeaderSpan, Span};
 

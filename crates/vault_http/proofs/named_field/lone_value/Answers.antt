@@ -4,10 +4,10 @@ use Rattle.std.proofs.lemmas.List.Elements.{All-get_or}
 use Rattle.httparse.specs.declared.spans.HeaderSpan.{HeaderSpan}
 use Rattle.httparse.specs.Spans.{header_bytes, span_bytes, IsHeaderWithin}
 use Rattle.vault_http.specs.Fields.{is_named, values_of}
-use Rattle.vault_http.specs.Lone.{IsLone, and_lone}
-use Rattle.vault_http.specs.declared.lone.Lone.{Lone}
+use Rattle.vault_http.specs.NamedField.{IsLone, and_lone}
+use Rattle.vault_http.specs.declared.named_field.Lone.{Lone}
 use Rattle.vault_http.proofs.FieldValues.{IsLone-and, values_of_more, and_value}
-use Rattle.vault_http.proofs.lone.lone_value.Goals as goal
+use Rattle.vault_http.proofs.named_field.lone_value.Goals as goal
 
 open_step : (buf name : List ℕ) (headers : List HeaderSpan) (i : ℕ) (d : HeaderSpan) (found after : Lone) (named : Bool) → i < length headers
     → All (IsHeaderWithin (length buf)) headers

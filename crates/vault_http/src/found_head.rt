@@ -3,9 +3,12 @@ ghost use Rattle.httparse.specs.Spans.{IsHeaderWithin, header_bytes};
 ghost use Rattle.vault_http.specs.Heads.{IsReplyHead, IsRequestHead, IsAt, token_of, token_name};
 
 use crate::framing::{Framing, LengthFault, framing_of, framing_of_reply};
-use crate::lone::{Lone, lone_value};
+use crate::named_field::{Lone, lone_value};
 use httparse::Status;
 use httparse::spans::{EMPTY_HEADER_SPAN, HeaderSpan, Span, parse_request, parse_response};
+
+/// The most fields of a head.
+pub const MOST_FIELDS: usize = 64;
 
 /// What the bytes at the front of a reply are as its head.
 #[derive(Clone, Copy, Debug)]
@@ -41,7 +44,7 @@ pub(crate) struct Start {
 pub(crate) fn reply_head(front: &[u8]) -> ReplyHead
     ensures { IsReplyHead front.now result }
 {
-    let mut headers = [EMPTY_HEADER_SPAN; 64];
+    let mut headers = [EMPTY_HEADER_SPAN; MOST_FIELDS];
     match parse_response(front, &mut headers) {
         Ok(Status::Complete(head)) => {
             let said = framing_of(front, &headers[..head.headers], Framing::ToEnd);
@@ -56,7 +59,7 @@ pub(crate) fn reply_head(front: &[u8]) -> ReplyHead
 pub(crate) fn request_head(front: &[u8]) -> RequestFront
     ensures { IsRequestHead front.now result }
 {
-    let mut headers = [EMPTY_HEADER_SPAN; 64];
+    let mut headers = [EMPTY_HEADER_SPAN; MOST_FIELDS];
     match parse_request(front, &mut headers) {
         Ok(Status::Complete(head)) => {
             let fields = &headers[..head.headers];

@@ -2,8 +2,8 @@
 use Rattle.std.specs.Prelude.{Bool, true, false, ◌≡◌, ℕ, List, [], ◌∷◌, length}
 use Rattle.httparse.specs.declared.spans.Span.{Span}
 use Rattle.httparse.specs.Spans.{span_bytes, IsWithin}
-use Rattle.vault_http.specs.declared.lone.Lone.{Lone}
-use Rattle.vault_http.specs.declared.lone.Lone.TheVariants.{Absent, One, Several}
+use Rattle.vault_http.specs.declared.named_field.Lone.{Lone}
+use Rattle.vault_http.specs.declared.named_field.Lone.TheVariants.{Absent, One, Several}
 
 -- none, the one, or the first of several of these values
 abbrev pub IsLone : List ℕ → List (List ℕ) → Lone → Type 0
