@@ -48,6 +48,7 @@ fn best_runs(
     requires keepable { AllKeepable forest.now start (end_of forest.now.entries) }
     ensures { IfOk result (λ runs. MatchOption runs (IsTooLong forest.now start) (λ v. AreBest forest.now start v.items)) }
 {
+    // Its contract says that the forest is one, which the proof needs here.
     let _entries = forest.len();
     let mut schedule = QueueSchedule::new(alloc, forest, carried, start)?;
     Ok(collect(alloc, &mut schedule)?)
