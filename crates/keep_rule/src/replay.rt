@@ -4,7 +4,7 @@ ghost use Rattle.keep_tree.specs.Push.{IsForest};
 ghost use Rattle.keep_rule.specs.Ends.{after, ends_after, listed};
 ghost use Rattle.keep_rule.specs.Keeps.{Keeps};
 ghost use Rattle.keep_rule.specs.Plans.{asks_past, wake_fault};
-ghost use Rattle.keep_rule.specs.Replay.{KeptBetween, Lasts, renewed_by, shown};
+ghost use Rattle.keep_rule.specs.code.Replay.{KeptBetween, Lasts, renewed_by, shown};
 
 use crate::rule::renewal;
 use crate::wake::{Wake, WakeFault, wake_fault};
