@@ -8,7 +8,7 @@ from dataclasses import dataclass, replace
 from enum import Enum
 
 from .inventory import Entry, Inventory, Kind, entry_text
-from .inventory_file import read_tables
+from .inventory_file import judge, read_tables
 
 ABSENT = "absent"
 
@@ -99,6 +99,31 @@ def apply(inventory: Inventory, change: Change) -> Inventory:
     return inventory.mapped(lambda other: None if other is entry else other)
 
 
+def apply_judged(inventory: Inventory, change: Change) -> Inventory:
+    """The inventory after the change; ChangeFault where it cannot be made, or would leave a faulty inventory."""
+    changed = apply(inventory, change)
+    faults = judge(changed)
+    if faults:
+        raise ChangeFault("; ".join(f"{fault.entry} {fault.key}: {fault.problem}" for fault in faults))
+    return changed
+
+
+def compacted(changes: list[Change]) -> list[Change]:
+    """The changes without those that a later one of the same word replaces."""
+    kept: list[Change] = []
+    replaced: set[tuple[What, str, str]] = set()
+    for change in reversed(changes):
+        word = (change.what, change.name, change.was)
+        if change.what in (What.ADD, What.DROP):
+            replaced = {other for other in replaced if other[1] != change.name}
+        elif word in replaced:
+            continue
+        else:
+            replaced.add(word)
+        kept.append(change)
+    return kept[::-1]
+
+
 def _added(inventory: Inventory, change: Change) -> Inventory:
     entry = only_entry(change.table)
     if inventory.find(entry.name) is not None:
@@ -128,7 +153,7 @@ def replay(inventory: Inventory, changes: list[Change]) -> tuple[Inventory, list
         if change.what is What.SETTLING:
             continue
         try:
-            changed = apply(now, change)
+            changed = apply_judged(now, change)
         except ChangeFault as fault:
             changed = None
             reason = str(fault)

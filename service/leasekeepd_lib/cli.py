@@ -4,6 +4,8 @@ from __future__ import annotations
 
 import argparse
 import asyncio
+import fcntl
+import getpass
 import os
 import random
 import signal
@@ -16,12 +18,12 @@ from .broker import Broker
 from .clock import SystemClock
 from .control import ControlFault, ControlServer, send_command
 from .discover import DiscoverFault, discover, read_short_list
-from .engine import Parts
 from .events import Alerts, Log
 from .http_client import Address, HttpTransport
 from .journal import Journal
 from .lint import kinds_of, lint
 from .notify import Notifier
+from .parts import Parts
 from .run_process import ProcessLauncher
 from .service import Service, Surroundings
 from .source import Source, SourceFault
@@ -88,6 +90,7 @@ def _parser() -> argparse.ArgumentParser:
     dropped = commands.add_parser("drop", parents=[runtime], help="keep an entry no more")
     dropped.add_argument("name", metavar="NAME")
     commands.add_parser("status", parents=[runtime], help="show how each entry stands")
+    commands.add_parser("settle", parents=[runtime], help="write file and journal as one new file")
     linted = commands.add_parser("lint", help="tell every fault and doubt of an inventory, with its line")
     linted.add_argument("file", type=Path, metavar="FILE")
     linted.add_argument("--timeout", type=_timeout, default=5, metavar="SECONDS", help="the time-out of serve")
@@ -95,7 +98,6 @@ def _parser() -> argparse.ArgumentParser:
     found.add_argument("file", type=Path, metavar="LIST")
     found.add_argument("address", type=_address, metavar="PORT|SOCKET")
     found.add_argument("--timeout", type=_timeout, default=5, metavar="SECONDS")
-    commands.add_parser("settle", parents=[runtime], help="write file and journal as one new file")
     return parser
 
 
@@ -141,8 +143,13 @@ def _lint(arguments: argparse.Namespace) -> int:
     for finding in found:
         print(finding.text(str(arguments.file)))
     faults, doubts = kinds_of(found)
-    print(f"{arguments.file}: {faults} faults, {doubts} doubts", file=sys.stderr)
+    sys.stdout.flush()
+    print(f"{arguments.file}: {_count(faults, 'fault')}, {_count(doubts, 'doubt')}", file=sys.stderr)
     return EXIT_FAULT if faults else 0
+
+
+def _count(number: int, word: str) -> str:
+    return f"{number} {word}" if number == 1 else f"{number} {word}s"
 
 
 def _inventory(arguments: argparse.Namespace) -> int:
@@ -167,7 +174,8 @@ def _client(arguments: argparse.Namespace) -> int:
     if arguments.command == "need":
         words.append(arguments.when)
     if arguments.command in ("replace", "add"):
-        text = sys.stdin.read(STDIN_MOST)
+        is_asked = arguments.command == "replace" and sys.stdin.isatty()
+        text = getpass.getpass("secret or lease id: ") if is_asked else sys.stdin.read(STDIN_MOST)
         words.append(text.strip() if arguments.command == "replace" else text)
     try:
         for line in send_command(_socket(arguments), words):
@@ -181,12 +189,15 @@ def _client(arguments: argparse.Namespace) -> int:
 def _serve(arguments: argparse.Namespace) -> int:
     arguments.runtime = arguments.runtime or _runtime_folder()
     try:
-        for folder in (arguments.state, arguments.runtime):
-            folder.mkdir(mode=0o750, parents=True, exist_ok=True)
+        arguments.state.mkdir(mode=0o700, parents=True, exist_ok=True)
+        arguments.runtime.mkdir(mode=0o750, parents=True, exist_ok=True)
     except OSError as error:
         print(f"leasekeepd: {error.filename}: {error.strerror}", file=sys.stderr)
         return EXIT_FAULT
     try:
+        if _lock(arguments.state) is None:
+            print(f"leasekeepd: {arguments.state}: another leasekeepd serves with this state", file=sys.stderr)
+            return EXIT_FAULT
         return asyncio.run(_serve_until_told(arguments))
     except SourceFault as fault:
         print("\n".join(f"leasekeepd: {line}" for line in str(fault).splitlines()), file=sys.stderr)
@@ -195,6 +206,17 @@ def _serve(arguments: argparse.Namespace) -> int:
     except KeyError:
         print(f"leasekeepd: --group: no group is named {arguments.group}", file=sys.stderr)
     return EXIT_FAULT
+
+
+def _lock(folder: Path) -> int | None:
+    """Holds the state folder for this process alone, up to its end; None where another one holds it."""
+    handle = os.open(folder / "lock", os.O_RDWR | os.O_CREAT | os.O_CLOEXEC, 0o600)
+    try:
+        fcntl.flock(handle, fcntl.LOCK_EX | fcntl.LOCK_NB)
+    except BlockingIOError:
+        os.close(handle)
+        return None
+    return handle
 
 
 async def _serve_until_told(arguments: argparse.Namespace) -> int:

@@ -4,8 +4,12 @@ from __future__ import annotations
 
 from pathlib import Path
 
-from .changes import Change, What, fingerprint
+from .changes import Change, What, compacted, fingerprint
 from .storage import Storage
+
+
+COMPACT_AT = 1000
+"""Records from which on those that a later one replaces are taken out."""
 
 
 class Journal:
@@ -38,6 +42,19 @@ class Journal:
         """Writes and syncs the change; OSError where that fails, and the journal is as before."""
         self._storage.append(self._path, change.line())
         self.changes.append(change)
+        if len(self.changes) >= COMPACT_AT:
+            self._compact()
+
+    def _compact(self) -> None:
+        """Writes the journal anew where that halves it; the old one stays where it cannot be."""
+        fewer = compacted(self.changes)
+        if 2 * len(fewer) > len(self.changes):
+            return
+        try:
+            self._storage.replace(self._path, b"".join(change.line() for change in fewer))
+        except OSError:
+            return
+        self.changes = fewer
 
     def settle(self, target: Path, file: bytes, mode: int) -> None:
         """Makes those bytes, which hold every change, the file, and the journal empty. Killed at any point, file and

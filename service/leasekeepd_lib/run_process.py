@@ -13,7 +13,7 @@ from .http_client import Address
 
 LINE_MOST = 1 << 20
 END_SECONDS = 0.5
-FAULTS_MOST = 4096
+FAULT_MOST = 200
 
 
 @dataclass(frozen=True)
@@ -26,7 +26,7 @@ class RunExit:
     @property
     def broker_entry(self) -> str | None:
         """The entry at whose lookup it ended, if that is why."""
-        match = re.search(r"^leasekeep: broker (\S+)$", self.fault, re.MULTILINE) if self.code == 6 else None
+        match = re.fullmatch(r"leasekeep: broker (\S+)", self.fault) if self.code == 6 else None
         return match[1] if match else None
 
 
@@ -91,16 +91,16 @@ class ProcessRun:
             if self._process.returncode is None:
                 self._process.kill()
         code = await self._process.wait()
-        fault = await self._faults
-        return RunExit(code, fault.strip())
+        return RunExit(code, await self._faults)
 
 
 async def _front(stream: asyncio.StreamReader) -> str:
-    """The front of a stream, which is read to its end."""
+    """The first line of a stream, as far as it can be printed; the stream is read to its end."""
     front = b""
     while piece := await stream.read(4096):
-        front = (front + piece)[:FAULTS_MOST]
-    return front.decode("ascii", "replace")
+        front = (front + piece)[:FAULT_MOST]
+    line = front.decode("ascii", "replace").partition("\n")[0]
+    return "".join(letter if " " <= letter <= "~" else "?" for letter in line)
 
 
 @dataclass(frozen=True)

@@ -10,14 +10,15 @@ from pathlib import Path
 from typing import Any, Coroutine
 
 from .broker import Verdict
-from .changes import Change, ChangeFault, What, apply, only_entry, replay, said_by
-from .clock import LAST, Clock, date_text
-from .engine import Engine, Parts
+from .changes import Change, ChangeFault, What, apply_judged, only_entry, replay, said_by
+from .clock import LAST, date_text
+from .engine import Engine
 from .events import Alerts
 from .inventory import Inventory, inventory_text
-from .inventory_file import CREDENTIAL, judge
+from .inventory_file import CREDENTIAL
 from .journal import Journal
 from .notify import Notifier
+from .parts import Parts
 from .rfc3339 import read_rfc3339
 from .source import Loaded, Source, SourceFault
 from .status import status_lines, write_metrics
@@ -26,6 +27,8 @@ from .storage import Storage
 TOGETHER = 5.0
 """Seconds within which changes are one beginning."""
 METRICS_EVERY = 15.0
+ALIVE_WITHIN = 900.0
+"""Seconds without a sign of life from which on the engine counts as hung: its longest pause is 300."""
 _AFTER = re.compile(r"\+(\d{1,12})([smhd]?)", re.ASCII)
 _UNITS = {"": 1, "s": 1, "m": 60, "h": 3600, "d": 86400}
 
@@ -79,7 +82,7 @@ class Service:
             self._tell_fault(fault)
             self._log.alert("file", "is faulty: the last good copy is served")
             self._file = copy
-        self.engine.inventory = self._with_journal()
+        self.engine.take(self._with_journal())
 
     def reload(self) -> None:
         """Reads the file anew, as SIGHUP asks; a faulty one is refused and the old run goes on."""
@@ -90,7 +93,7 @@ class Service:
             self._log.alert("file", "is faulty: it is not taken, the old one is kept to")
             return
         self._keep_copy()
-        self.engine.inventory = self._with_journal()
+        self.engine.take(self._with_journal())
         self.engine.inbox.begin("the file was read anew")
 
     def _tell_fault(self, fault: SourceFault) -> None:
@@ -113,10 +116,7 @@ class Service:
         inventory, more = replay(self._file.inventory, self._around.journal.changes)
         for note in notes + more:
             self._log.note(note)
-        faults = judge(inventory)
-        for fault in faults:
-            self._log.alert("journal", fault.entry, fault.key, fault.problem)
-        return self._file.inventory if faults else inventory
+        return inventory
 
     async def serve(self) -> None:
         """Runs until it is cancelled."""
@@ -140,9 +140,16 @@ class Service:
         every = METRICS_EVERY if seconds is None else min(METRICS_EVERY, seconds / 3)
         while True:
             wake = self.engine.next_wake
-            self._around.notifier.send("WATCHDOG=1", f"STATUS=next wake-up {date_text(wake) if wake else 'none'}")
+            status = f"STATUS=next wake-up {date_text(wake) if wake else 'none'}"
+            if self._is_alive():
+                self._around.notifier.send("WATCHDOG=1", status)
             self._write_metrics()
             await asyncio.sleep(every)
+
+    def _is_alive(self) -> bool:
+        """Whether the engine has given a sign of life of late."""
+        beat = self.engine.inbox.waiter.last_beat
+        return beat is None or asyncio.get_running_loop().time() - beat < ALIVE_WITHIN
 
     def _write_metrics(self) -> None:
         if self._around.metrics is None:
@@ -177,19 +184,11 @@ class Service:
         was = said_by(self._file.inventory, change.what, change.name)
         return Change(change.what, change.name, was, change.until, change.credential, change.table)
 
-    def _tried(self, change: Change) -> Inventory:
-        """The inventory after the change; ChangeFault where it would be faulty."""
-        changed = apply(self.engine.inventory, change)
-        faults = judge(changed)
-        if faults:
-            raise ChangeFault("; ".join(f"{fault.entry} {fault.key}: {fault.problem}" for fault in faults))
-        return changed
-
     def _change(self, change: Change) -> list[str]:
         """Writes a change, and makes it within five seconds."""
-        changed = self._tried(change)
+        changed = apply_judged(self.engine.inventory, change)
         self._around.journal.add(change)
-        self.engine.inventory = changed
+        self.engine.take(changed)
         self._log.info(change.what.value, change.name)
         self._begin_soon(f"{change.what.value} {change.name}")
         return []
@@ -205,11 +204,11 @@ class Service:
     def _need(self, name: str, when: str) -> list[str]:
         until = read_when(when, self._parts.clock.wall())
         change = self._described(Change(What.NEED, name, until=until))
-        changed = self._tried(change)
+        changed = apply_judged(self.engine.inventory, change)
         self._around.journal.add(change)
         self._log.info("need", name, date_text(until))
         if self._soon is not None or not self.engine.change_need(changed, name, until):
-            self.engine.inventory = changed
+            self.engine.take(changed)
             self._begin_soon(f"need {name}")
         return [f"{name} is needed until {date_text(until)}"]
 
@@ -217,7 +216,7 @@ class Service:
         if not CREDENTIAL.fullmatch(credential):
             raise ChangeFault("a secret or lease id is 1 to 256 printable ASCII characters without a space")
         change = self._described(Change(What.REPLACE, name, credential=credential))
-        changed = self._tried(change)
+        changed = apply_judged(self.engine.inventory, change)
         entry = changed.find(name)
         assert entry is not None
         heard = await self._parts.broker.look_up(changed, entry)
@@ -226,7 +225,6 @@ class Service:
         if heard.facts is not None and heard.facts.never_ends:
             raise ChangeFault(f"it never ends (ttl 0) and needs no keeping: {name} keeps the old one")
         self._change(self._described(change))
-        self.engine.book.forget(name)
         return [] if heard.verdict is Verdict.GOOD else [f"it could not be looked up ({heard.why}), and is taken"]
 
     def _add(self, table: str) -> list[str]:
@@ -237,6 +235,8 @@ class Service:
 
     def _settle(self) -> list[str]:
         path = self._around.source.path
+        if path.read_bytes() != self._file.data:
+            raise ChangeFault(f"{path} has changed since it was read: read it anew first (SIGHUP)")
         data = inventory_text(self.engine.inventory).encode()
         mode = stat.S_IMODE(path.stat().st_mode) & 0o770
         self._around.journal.settle(path, data, mode)

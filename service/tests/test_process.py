@@ -70,9 +70,9 @@ class Process(unittest.TestCase):
         self.addCleanup(shutil.rmtree, self.folder, True)
         began = int(time.time())
         self.inventory = Inventory((
-            Entry("app", Kind.TOKEN, None, began, began + 8, increment=10, max_ttl=9000, need=began + 600,
+            Entry("app", Kind.TOKEN, None, began, began + 7, increment=7, max_ttl=9000, need=began + 600,
                   credential="s.app-secret"),
-            Entry("db", Kind.LEASE, "app", began, began + 6, increment=8, max_ttl=9000, need=began + 600,
+            Entry("db", Kind.LEASE, "app", began, began + 6, increment=6, max_ttl=9000, need=began + 600,
                   credential="db/creds/1"),
         ), 4)
         vault = Vault(RealWorld())  # type: ignore[arg-type]
@@ -110,8 +110,8 @@ class Process(unittest.TestCase):
         daemon.wait_for("planned")
         wrong = daemon.command("need", "nobody", "+6h")
         self.assertEqual((wrong.returncode, wrong.stderr), (1, "leasekeepd: need: no entry is named nobody\n"))
-        self.assertIn('leasekeepd_end_seconds{entry="db"}', metrics.read_text())
         time.sleep(2)
+        self.assertIn('leasekeepd_end_seconds{entry="db"}', metrics.read_text())
         self.assert_alive()
         self.assertEqual(daemon.terminate(), 0)
         for secret in ("s.app-secret", "db/creds/1"):
@@ -127,6 +127,9 @@ class Process(unittest.TestCase):
         daemon.write(Inventory(self.inventory.entries[:1], 5))
         daemon.process.send_signal(signal.SIGHUP)
         daemon.wait_for("begin the file was read anew")
+        second = self.daemon()
+        self.assertEqual(second.process.wait(5), 1)
+        self.assertIn("another leasekeepd serves with this state", daemon.text())
         began = time.monotonic()
         self.assertEqual(daemon.terminate(), 0)
         self.assertLess(time.monotonic() - began, 1.0)

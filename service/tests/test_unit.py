@@ -36,9 +36,9 @@ class Unit(unittest.TestCase):
             self.assertIn(line, lines)
 
     def test_the_installed_program(self) -> None:
-        subprocess.run([str(TOP / "scripts" / "install-service"), str(self.folder)], check=True, capture_output=True,
-                       timeout=60)
-        program = str(self.folder / "leasekeepd")
+        subprocess.run([str(TOP / "scripts" / "install"), "--service", str(self.folder)], check=True,
+                       capture_output=True, timeout=60)
+        program = str(self.folder / "bin" / "leasekeepd")
         helped = subprocess.run([program, "serve", "--help"], capture_output=True, text=True, timeout=20)
         self.assertEqual(helped.returncode, 0, helped.stderr)
         self.assertIn("FILE PORT|SOCKET", helped.stdout)

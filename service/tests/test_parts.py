@@ -1,0 +1,312 @@
+"""The parts by themselves: events and alerts, HTTP replies however they are framed, dates, the inventory's text."""
+
+from __future__ import annotations
+
+import asyncio
+import io
+import json
+import os
+import tempfile
+import time
+import unittest
+from pathlib import Path
+from unittest import mock
+
+from leasekeepd_lib import events
+from leasekeepd_lib import link as link_module
+from leasekeepd_lib.book import Standing
+from leasekeepd_lib.broker import Broker, Verdict, read_grant, read_lease_lookup, read_token_lookup
+from leasekeepd_lib.clock import SystemClock
+from leasekeepd_lib.events import Alerts, Level, Log
+from leasekeepd_lib.http_client import (
+    Address, HttpTransport, Request, Response, TransportFault, read_response, request_bytes,
+)
+from leasekeepd_lib.inventory import Entry, Inventory, Kind, inventory_text
+from leasekeepd_lib.inventory_file import read_inventory
+from leasekeepd_lib.link import Link
+from leasekeepd_lib.rfc3339 import read_rfc3339
+from leasekeepd_lib.run_lines import LineFault, Word, read_line
+
+BODY = b'{"auth":{"lease_duration":60,"renewable":true}}'
+TOKEN = Entry("web", Kind.TOKEN, None, 1000, 1060, increment=60, credential="hvs.secret")
+LEASE = Entry("db", Kind.LEASE, "web", 1000, 1060, increment=60, credential="db/creds/app/1")
+
+
+class FixedClock:
+    def __init__(self) -> None:
+        self.now = 1000.0
+
+    def wall(self) -> float:
+        return self.now
+
+    def elapsed(self) -> float:
+        return self.now
+
+
+class Events(unittest.TestCase):
+    def test_forms(self) -> None:
+        for as_json, expected in (
+            (False, "1970-01-01T00:16:40Z told web 60\n1970-01-01T00:16:40Z warning: short web 1060\n"),
+            (True, '{"moment": "1970-01-01T00:16:40Z", "level": "info", "event": "told", "words": ["web", "60"]}\n'
+                   '{"moment": "1970-01-01T00:16:40Z", "level": "warning", "event": "short", "words": ["web", "1060"]}'
+                   "\n"),
+        ):
+            stream = io.StringIO()
+            log = Log(FixedClock(), stream, as_json)
+            log.info("told", "web", 60)
+            log.warn("short", "web", 1060)
+            self.assertEqual(stream.getvalue(), expected)
+
+    def test_a_log_that_nobody_takes_ends_nothing(self) -> None:
+        stream = mock.Mock()
+        stream.write.side_effect = OSError(28, "No space left on device")
+        heard: list[str] = []
+        log = Log(FixedClock(), stream)
+        log.listeners.append(lambda level, text: heard.append(text))
+        log.alert("gone", "web")
+        self.assertEqual(heard, ["gone web"])
+
+    def test_alerts_run_one_at_a_time_and_are_bounded(self) -> None:
+        with tempfile.TemporaryDirectory() as name:
+            folder = Path(name)
+            program = folder / "alert"
+            program.write_text('#!/bin/sh\necho "begin $*" >>"$0.log"\n'
+                               'if [ "$1" = slow ]; then exec sleep 60; fi\nsleep 0.2\necho end >>"$0.log"\n')
+            program.chmod(0o755)
+            clock = FixedClock()
+
+            async def go() -> None:
+                alerts = Alerts(str(program), clock)
+                task = asyncio.create_task(alerts.serve())
+                for level, text in ((Level.ALERT, "slow"), (Level.WARNING, "short web 1060"), (Level.NOTE, "note"),
+                                    (Level.WARNING, "short web 1060"), (Level.INFO, "told web"),
+                                    (Level.ALERT, "gone db")):
+                    alerts.hear(level, text)
+                await asyncio.sleep(1.6)
+                clock.now += 601
+                alerts.hear(Level.WARNING, "short web 1060")
+                await asyncio.sleep(0.6)
+                task.cancel()
+                await asyncio.gather(task, return_exceptions=True)
+            with mock.patch.object(events, "ALERT_SECONDS", 0.5):
+                asyncio.run(go())
+            self.assertEqual((folder / "alert.log").read_text().splitlines(), [
+                "begin slow", "begin short web 1060", "end", "begin gone db", "end", "begin short web 1060", "end"])
+
+    def test_a_program_that_is_not_there(self) -> None:
+        async def go() -> None:
+            alerts = Alerts("/nowhere/alert", FixedClock())
+            task = asyncio.create_task(alerts.serve())
+            alerts.hear(Level.ALERT, "gone web")
+            await asyncio.sleep(0.05)
+            self.assertFalse(task.done())
+            task.cancel()
+        asyncio.run(go())
+
+
+class Http(unittest.TestCase):
+    def read(self, data: bytes) -> tuple[int, bytes] | None:
+        async def go() -> tuple[int, bytes] | None:
+            reader = asyncio.StreamReader()
+            reader.feed_data(data)
+            reader.feed_eof()
+            try:
+                reply = await read_response(reader)
+            except (ValueError, asyncio.IncompleteReadError, asyncio.LimitOverrunError):
+                return None
+            return reply.status, reply.body
+        return asyncio.run(go())
+
+    def test_framings_of_one_reply(self) -> None:
+        head = b"HTTP/1.1 200 OK\r\n"
+        for framed in (b"Content-Length: 47\r\n\r\n" + BODY, b"Transfer-Encoding: chunked\r\n\r\n2f\r\n" + BODY
+                       + b"\r\n0\r\n\r\n", b"\r\n" + BODY, b"content-length: 47\r\nX-Other: 1\r\n\r\n" + BODY + b"more"):
+            self.assertEqual(self.read(head + framed), (200, BODY))
+        for framed in (b"Content-Length: 48\r\n\r\n" + BODY, b"Content-Length: 4x\r\n\r\n" + BODY,
+                       b"Transfer-Encoding: chunked\r\n\r\nzz\r\n", b"Transfer-Encoding: gzip\r\n\r\n" + BODY,
+                       b"Transfer-Encoding: chunked\r\nContent-Length: 47\r\n\r\n" + BODY,
+                       b"Content-Length: 47\r\nContent-Length: 47\r\n\r\n" + BODY,
+                       b"Content-Length: 9999999\r\n\r\n", b"Transfer-Encoding: chunked\r\n\r\n-1\r\n", b"no colon\r\n\r\n"):
+            self.assertIsNone(self.read(head + framed), framed)
+        for garbage in (b"", b"hello\r\n\r\n", b"HTTP/1.1 2000 OK\r\n\r\n", b"SSH-2.0\r\n\r\n", b"x" * 200_000):
+            self.assertIsNone(self.read(garbage), garbage[:20])
+
+    def test_the_date_is_read(self) -> None:
+        async def go() -> int | None:
+            reader = asyncio.StreamReader()
+            reader.feed_data(b"HTTP/1.1 204 No Content\r\nDate: Thu, 01 Jan 1970 00:16:40 GMT\r\n\r\n")
+            reader.feed_eof()
+            return (await read_response(reader)).date
+        self.assertEqual(asyncio.run(go()), 1000)
+
+    def test_requests_as_written(self) -> None:
+        request = Request("POST", "/v1/auth/token/renew-self", "s.web1", b'{"increment":60}')
+        self.assertEqual(request_bytes(request, "127.0.0.1:8200"), (
+            b"POST /v1/auth/token/renew-self HTTP/1.1\r\nHost: 127.0.0.1:8200\r\nX-Vault-Token: s.web1\r\n"
+            b"Content-Type: application/json\r\nContent-Length: 16\r\nConnection: close\r\n\r\n"
+            b'{"increment":60}'))
+        self.assertNotIn("s.web1", repr(request))
+
+    def test_a_time_out_holds_for_a_request_as_a_whole(self) -> None:
+        hung_up = asyncio.Event()
+
+        async def drip(reader: asyncio.StreamReader, writer: asyncio.StreamWriter) -> None:
+            try:
+                for letter in b"HTTP/1.1 200 OK\r\nContent-Length: 40\r\n\r\n" + b"x" * 40:
+                    writer.write(bytes((letter,)))
+                    await writer.drain()
+                    await asyncio.sleep(0.02)
+            except ConnectionError:
+                hung_up.set()
+            finally:
+                writer.close()
+
+        async def go() -> None:
+            with tempfile.TemporaryDirectory() as folder:
+                path = f"{folder}/sock"
+                server = await asyncio.start_unix_server(drip, path)
+                broker = Broker(HttpTransport(Address(path)), SystemClock(), 0.3)
+                began = time.monotonic()
+                heard = await broker.look_up(Inventory((TOKEN,)), TOKEN)
+                self.assertLess(time.monotonic() - began, 0.6)
+                self.assertEqual((heard.verdict, heard.why), (Verdict.FAILED, "no reply within 0.3 s"))
+                await asyncio.wait_for(hung_up.wait(), 2)
+                server.close()
+                os.unlink(path)
+                with self.assertRaises(TransportFault) as caught:
+                    await HttpTransport(Address(path)).request(Request("GET", "/", "hvs.secret", b""))
+                self.assertEqual(str(caught.exception), "connect: No such file or directory")
+        asyncio.run(go())
+
+
+class Bodies(unittest.TestCase):
+    def test_grants(self) -> None:
+        for body, seconds in (
+            (BODY, 60), (b'{"auth":{"lease_duration":"60s"}}', 60), (b'{"auth":{"lease_duration":"0060"}}', 60),
+            (b'{"auth":null}', None), (b'{"auth":{"lease_duration":-1}}', None), (b"[]", None), (b"{", None),
+            (b'{"auth":{"lease_duration":60},"wrap_info":{}}', None), (b'{"auth":{"lease_duration":60.0}}', None),
+            (b'{"auth":{"lease_duration":"s"}}', None), (b'{"auth":{"lease_duration":60,"renewable":1}}', None),
+            (b"[" * 100_000, None), (b'{"auth":{"lease_duration":true}}', None),
+        ):
+            grant = read_grant(body, TOKEN)
+            self.assertEqual(None if grant is None else grant.seconds, seconds, body[:60])
+        own = b'{"lease_id":"db/creds/app/1","lease_duration":60,"renewable":true}'
+        self.assertIsNotNone(read_grant(own, LEASE))
+        self.assertIsNone(read_grant(own.replace(b"app/1", b"app/2"), LEASE))
+
+    def test_lookups(self) -> None:
+        facts = {"creation_time": 900, "explicit_max_ttl": 200, "orphan": True, "period": 60, "renewable": True,
+                 "ttl": 60}
+        read = read_token_lookup(json.dumps({"data": facts}).encode(), "")
+        assert read is not None
+        self.assertEqual((read.ttl, read.issued, read.explicit_max, read.orphan, read.period, read.never_ends),
+                         (60, 900, 200, True, 60, False))
+        root = {**facts, "ttl": 0, "creation_ttl": 0, "expire_time": None}
+        self.assertTrue(read_token_lookup(json.dumps({"data": root}).encode(), "").never_ends)  # type: ignore
+        for ending in ({**facts, "ttl": 0}, {**root, "creation_ttl": 60}, {**root, "expire_time": "2026-11-22T09:00:00Z"}):
+            self.assertFalse(read_token_lookup(json.dumps({"data": ending}).encode(), "").never_ends)  # type: ignore
+        lease = {"id": "db/creds/app/1", "issue_time": "1970-01-01T00:15:00.5Z", "renewable": True, "ttl": 60}
+        for body in ({"data": lease}, lease, {**lease, "data": None}):
+            found = read_lease_lookup(json.dumps(body).encode(), LEASE.secret)
+            self.assertEqual(None if found is None else (found.ttl, found.issued), (60, 900))
+        self.assertIsNone(read_lease_lookup(json.dumps({"data": {**lease, "id": "x"}}).encode(), LEASE.secret))
+
+
+class Verdicts(unittest.TestCase):
+    def heard(self, status: int, entry: Entry, renewal: bool) -> Verdict:
+        async def go() -> Verdict:
+            transport = mock.Mock()
+            transport.request = mock.AsyncMock(return_value=Response(status, b"{}"))
+            broker = Broker(transport, FixedClock(), 5.0)
+            inventory = Inventory((TOKEN, LEASE))
+            if renewal:
+                return (await broker.renew(inventory, entry, 60)).verdict
+            return (await broker.look_up(inventory, entry)).verdict
+        return asyncio.run(go())
+
+    def test_what_a_status_means(self) -> None:
+        refused, failed = Verdict.REFUSED, Verdict.FAILED
+        for status, of_token, of_lease, of_renewal in (
+            (200, failed, failed, failed), (400, failed, refused, refused), (403, refused, refused, refused),
+            (404, refused, refused, refused), (405, failed, failed, refused), (429, failed, failed, failed),
+            (500, failed, failed, failed), (503, failed, failed, failed), (204, failed, failed, failed),
+        ):
+            with self.subTest(status=status):
+                self.assertIs(self.heard(status, TOKEN, False), of_token)
+                self.assertIs(self.heard(status, LEASE, False), of_lease)
+                for entry in (TOKEN, LEASE):
+                    self.assertIs(self.heard(status, entry, True), of_renewal)
+
+
+class Standings(unittest.TestCase):
+    def test_a_step_is_learned_of_two_grants_two_seconds_apart(self) -> None:
+        for apart, seconds, learned in ((1.5, 30, None), (2.5, 30, 30), (2.5, 29, None), (9.0, 60, None)):
+            standing = Standing()
+            standing.granted(TOKEN, 30, True, 100.0)
+            standing.granted(TOKEN, seconds, True, 100.0 + apart)
+            self.assertEqual(standing.learned_step, learned, (apart, seconds))
+        standing = Standing(learned_step=30)
+        standing.granted(TOKEN, 60, True, 100.0)
+        self.assertIsNone(standing.learned_step)
+
+    def test_a_ceiling_and_a_short_grant_are_told_apart(self) -> None:
+        for apart, seconds, leads_on, at_ceiling in (
+            (3.0, 27, False, True), (3.0, 30, True, False), (1.0, 29, None, False), (1.0, 30, None, False),
+            (3.0, 60, True, False), (3.0, 20, None, False), (300.0, 1, True, False),
+        ):
+            standing = Standing()
+            standing.granted(TOKEN, 30, True, 100.0)
+            with self.subTest(apart=apart, seconds=seconds):
+                self.assertEqual(standing.granted(TOKEN, seconds, True, 100.0 + apart), leads_on)
+                self.assertEqual(standing.at_ceiling, at_ceiling)
+
+
+class Links(unittest.TestCase):
+    def test_the_limits_of_event_input(self) -> None:
+        class Run:
+            async def read_line(self) -> str:
+                await asyncio.sleep(0)
+                return "planned"
+
+            async def write_line(self, line: str) -> None:
+                pass
+
+        async def handed(event: str, times: int) -> bool:
+            link = Link(Run(), 5.0, lambda line: None, lambda: None)  # type: ignore[arg-type]
+            for _ in range(times):
+                await link.hand_in(event)
+            link.stop()
+            return link.is_nearly_full
+        with mock.patch.multiple(link_module, LINES_MOST=3, BYTES_MOST=100):
+            self.assertEqual([asyncio.run(handed("tick 1", times)) for times in (2, 3)], [False, True])
+            self.assertEqual([asyncio.run(handed("x" * 49, times)) for times in (1, 2)], [False, True])
+
+
+class Texts(unittest.TestCase):
+    def test_dates(self) -> None:
+        for text, moment in (
+            ("2017-04-30T10:18:11.228946471-04:00", 1493561891), ("2018-04-17T11:35:54-04:00", 1523979354),
+            ("1969-12-31T23:59:59.5Z", None), ("2023-02-29T00:00:00Z", None), ("9999-12-31T23:59:59Z", 253402300799),
+            ("9999-12-31T23:59:59-00:01", None), ("2026-11-22 09:00:00Z", None), ("2026-11-22T09:00:60Z", None),
+            ("2026-11-22T09:00:00", None), ("2026-11-22T09:00:00+24:00", None),
+        ):
+            self.assertEqual(read_rfc3339(text), moment, text)
+
+    def test_an_inventory_is_read_back_from_its_text(self) -> None:
+        inventory = Inventory((
+            TOKEN, Entry("pay", Kind.TOKEN, "web", 900, 1060, False, None, 60, None, 200, 1100, 'a"\\b'),
+            Entry("db", Kind.LEASE, "pay", 1000, 1060, True, 60, 0, 9000, 0, 1200, "db/creds/app/1"),
+        ), 10, 5000)
+        self.assertEqual(read_inventory(inventory_text(inventory).encode()).inventory, inventory)
+        self.assertNotIn("hvs.secret", repr(inventory))
+
+    def test_lines_of_a_run(self) -> None:
+        self.assertEqual(read_line("wake 1059 T L").names, ("T", "L"))
+        self.assertEqual((read_line("next none").word, read_line("next none").number), (Word.NEXT, None))
+        for text in ("", "told web", "told web x", "wake", "hello", "lost a b", "sleep"):
+            with self.assertRaises(LineFault):
+                read_line(text)
+
+
+if __name__ == "__main__":
+    unittest.main()
