@@ -8,7 +8,6 @@ use Rattle.keep_tree.specs.Forest.{Grove, end_of, entry_at}
 use Rattle.keep_tree.specs.Over.{Over}
 use Rattle.keep_tree.specs.Push.{IsForest}
 use Rattle.keep_tree.specs.Renewal.{renewal}
-use Rattle.keep_tree.proofs.Carrying.{and_left}
 use Rattle.keep_rule.specs.Asks.{asking, first_of, is_wanted}
 use Rattle.keep_rule.specs.Ends.{after}
 use Rattle.keep_rule.specs.Forced.{bound, latest_end}
