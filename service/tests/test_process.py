@@ -18,6 +18,9 @@ from trial.programs import find_program
 from .model.server import RealWorld, VaultServer
 from .model.vault import Vault
 
+BUSY = 1.0
+"""Seconds that a busy machine may add."""
+
 SERVICE = Path(__file__).resolve().parents[1]
 
 
@@ -42,7 +45,7 @@ class Daemon:
     def text(self) -> str:
         return (self.folder / "log").read_text()
 
-    def wait_for(self, words: str, seconds: float = 8.0, times: int = 1) -> None:
+    def wait_for(self, words: str, seconds: float = 20.0, times: int = 1) -> None:
         end = time.monotonic() + seconds
         while self.text().count(words) < times:
             if time.monotonic() > end or self.process.poll() is not None:
@@ -55,12 +58,12 @@ class Daemon:
 
     def terminate(self) -> int:
         self.process.terminate()
-        return self.process.wait(5)
+        return self.process.wait(15)
 
     def kill(self) -> None:
         """Ends it as a crash would."""
         self.process.kill()
-        self.process.wait(5)
+        self.process.wait(15)
         self.log.close()
 
 
@@ -128,11 +131,11 @@ class Process(unittest.TestCase):
         daemon.process.send_signal(signal.SIGHUP)
         daemon.wait_for("begin the file was read anew")
         second = self.daemon()
-        self.assertEqual(second.process.wait(5), 1)
+        self.assertEqual(second.process.wait(15), 1)
         self.assertIn("another leasekeepd serves with this state", daemon.text())
         began = time.monotonic()
         self.assertEqual(daemon.terminate(), 0)
-        self.assertLess(time.monotonic() - began, 1.0)
+        self.assertLess(time.monotonic() - began, 1.0 + BUSY)
         self.assertFalse((self.folder / "run" / "run.toml").exists())
 
     def test_a_killed_run_and_a_killed_service(self) -> None:
@@ -154,7 +157,7 @@ class Process(unittest.TestCase):
         path.write_text(inventory_text(refused))
         path.chmod(0o644)
         daemon = self.daemon()
-        self.assertEqual(daemon.process.wait(5), 1)
+        self.assertEqual(daemon.process.wait(15), 1)
         self.assertIn("others may read or write this file (mode 0644)", daemon.text())
         self.assertIn("is 3 s, under four times the time-out of 1 s", daemon.text())
 
