@@ -11,13 +11,14 @@ from typing import Any, Coroutine
 
 from .broker import Verdict
 from .changes import Change, ChangeFault, What, apply_judged, only_entry, replay, said_by
-from .clock import LAST, Clock, date_text
-from .engine import Engine, Parts
+from .clock import LAST, date_text
+from .engine import Engine
 from .events import Alerts
 from .inventory import Inventory, inventory_text
 from .inventory_file import CREDENTIAL
 from .journal import Journal
 from .notify import Notifier
+from .parts import Parts
 from .rfc3339 import read_rfc3339
 from .source import Loaded, Source, SourceFault
 from .status import status_lines, write_metrics
@@ -26,6 +27,8 @@ from .storage import Storage
 TOGETHER = 5.0
 """Seconds within which changes are one beginning."""
 METRICS_EVERY = 15.0
+ALIVE_WITHIN = 900.0
+"""Seconds without a sign of life from which on the engine counts as hung: its longest pause is 300."""
 _AFTER = re.compile(r"\+(\d{1,12})([smhd]?)", re.ASCII)
 _UNITS = {"": 1, "s": 1, "m": 60, "h": 3600, "d": 86400}
 
@@ -137,9 +140,16 @@ class Service:
         every = METRICS_EVERY if seconds is None else min(METRICS_EVERY, seconds / 3)
         while True:
             wake = self.engine.next_wake
-            self._around.notifier.send("WATCHDOG=1", f"STATUS=next wake-up {date_text(wake) if wake else 'none'}")
+            status = f"STATUS=next wake-up {date_text(wake) if wake else 'none'}"
+            if self._is_alive():
+                self._around.notifier.send("WATCHDOG=1", status)
             self._write_metrics()
             await asyncio.sleep(every)
+
+    def _is_alive(self) -> bool:
+        """Whether the engine has given a sign of life of late."""
+        beat = self.engine.inbox.waiter.last_beat
+        return beat is None or asyncio.get_running_loop().time() - beat < ALIVE_WITHIN
 
     def _write_metrics(self) -> None:
         if self._around.metrics is None:

@@ -4,15 +4,16 @@ from __future__ import annotations
 
 import unittest
 from dataclasses import replace
+from unittest import mock
 
+from leasekeepd_lib import link as link_module
 from leasekeepd_lib.clock import RunClock
 from leasekeepd_lib.inventory import Entry, Inventory, Kind
 from leasekeepd_lib.inventory_file import read_inventory
 from leasekeepd_lib.pauses import pause_length, time_left
 
 from .model.stage import Stage, fleet
-from .model.vault import Act, Fault, about, both, lookups, renewals
-from .model.world import World
+from .model.vault import Act, about, both, lookups, renewals
 from .test_scenarios import BEGAN, HOUR, Scenario, fault
 
 START = int(BEGAN)
@@ -95,6 +96,16 @@ class Time(Scenario):
                 self.play(fleet(2, 3000, 200, 2000), scene, wall_ahead=ahead)
                 self.assertEqual(self.stage.launcher.starts, [int(BEGAN + start)])
                 self.assertEqual("warning: clock is 40 seconds" in self.stage.output.getvalue(), warned)
+
+
+    def test_a_run_is_begun_anew_before_the_limits_of_its_event_input(self) -> None:
+        async def scene(stage: Stage) -> None:
+            await stage.finish(1000)
+        with mock.patch.object(link_module, "LINES_MOST", 4):
+            self.play(fleet(1, 300, 20, 100), scene)
+        self.assertEqual([len(run.events) for run in self.stage.launcher.runs][:1], [4])
+        self.assertIn("begin the event input is nearly full", self.stage.output.getvalue())
+        self.assert_kept()
 
 
 class Beginnings(Scenario):
