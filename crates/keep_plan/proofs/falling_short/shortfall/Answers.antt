@@ -10,7 +10,7 @@ use Rattle.keep_schedule.proofs.Bridge.{carried_past}
 use Rattle.keep_plan.specs.Shortfall.{falls_short}
 use Rattle.keep_plan.proofs.Deciding.{none_keeps, some_keeps}
 use Rattle.keep_plan.proofs.Unkeepables.{not_unkeepable, unkeepable_from}
-use Rattle.keep_plan.proofs.short.shortfall.Goals as goal
+use Rattle.keep_plan.proofs.falling_short.shortfall.Goals as goal
 
 pub returns-then-falls_short-clause-pair : goal.returns-then-falls_short-clause-pair
 returns-then-falls_short-clause-pair c =

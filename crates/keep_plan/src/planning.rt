@@ -7,8 +7,8 @@ ghost use Rattle.keep_plan.specs.Decides.{AreBest, Decides, IsTooLong};
 use crate::collect::collect;
 use crate::decision::Decision;
 use crate::fault::PlanFault;
-use crate::planned::Plan;
-use crate::short::shortfall;
+use crate::plans::Plan;
+use crate::falling_short::shortfall;
 use keep_moment::Moment;
 use keep_needs::{Carried, carry};
 use keep_schedule::{QueueSchedule, Run};
@@ -48,6 +48,7 @@ fn best_runs(
     requires keepable { AllKeepable forest.now start (end_of forest.now.entries) }
     ensures { IfOk result (λ runs. MatchOption runs (IsTooLong forest.now start) (λ v. AreBest forest.now start v.items)) }
 {
+    // Its contract says that the forest is one, which the proof needs here.
     let _entries = forest.len();
     let mut schedule = QueueSchedule::new(alloc, forest, carried, start)?;
     Ok(collect(alloc, &mut schedule)?)

@@ -1,6 +1,6 @@
 use Rattle.std.proofs.Common.{◌≡◌, ◌+◌, drop, length}
 use Rattle.keep_rule.specs.Runs.{all_wakes}
-use Rattle.keep_plan.proofs.planned.Plan.len.Given as goal
+use Rattle.keep_plan.proofs.plans.Plan.len.Given as goal
 
 -- those counted, and those of the runs that are left, are all
 abbrev pub invariant-loop-run : goal.invariant-loop-run

@@ -7,7 +7,7 @@ use Rattle.keep_schedule.specs.declared.groups.Next.{Next}
 use Rattle.keep_schedule.specs.declared.groups.Next.TheVariants.{Done, Joined, Waiting}
 use Rattle.keep_schedule.specs.declared.groups.Turn.{Turn}
 use Rattle.keep_schedule.specs.declared.groups.Turn.TheVariants.{Comes, Empty, Leaves, Steady}
-use Rattle.keep_schedule.specs.Line.{IsFirst, Spot, spot}
+use Rattle.keep_schedule.specs.code.Line.{IsFirst, Spot, spot}
 use Rattle.keep_schedule.specs.Terms.{Ahead, Terms, deadline}
 
 -- a wake-up at prev reaches the end that the entry has now

@@ -1,7 +1,7 @@
 use Rattle.std.proofs.Common.{ap, arith, length}
 use Rattle.keep_rule.specs.Runs.{all_wakes}
 use Rattle.keep_plan.proofs.Walking.{count_from}
-use Rattle.keep_plan.proofs.planned.Plan.len.Goals as goal
+use Rattle.keep_plan.proofs.plans.Plan.len.Goals as goal
 
 pub overflow_add-count : goal.overflow_add-count
 overflow_add-count c =

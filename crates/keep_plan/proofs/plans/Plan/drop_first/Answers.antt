@@ -4,7 +4,7 @@ use Rattle.keep_rule.specs.declared.run.Run.{Run}
 use Rattle.keep_rule.specs.Runs.{all_wakes}
 use Rattle.keep_plan.specs.Planned.{IsPlanned, Planned, to_come}
 use Rattle.keep_plan.proofs.Walking.{loses_head, passed_over, shortened_in_place, stands, still_planned}
-use Rattle.keep_plan.proofs.planned.Plan.drop_first.Goals as goal
+use Rattle.keep_plan.proofs.plans.Plan.drop_first.Goals as goal
 
 pub invariant_of-self : goal.invariant_of-self
 invariant_of-self c =

@@ -5,7 +5,7 @@ use Rattle.keep_moment.specs.declared.moment.TheConstants.{LAST}
 use Rattle.keep_schedule.specs.declared.groups.Groups.{Groups}
 use Rattle.keep_schedule.specs.declared.groups.Next.{Next}
 use Rattle.keep_schedule.specs.declared.groups.Next.TheVariants.{Done, Joined, Waiting}
-use Rattle.keep_schedule.specs.Groups.{Settles}
+use Rattle.keep_schedule.specs.code.Groups.{Settles}
 use Rattle.keep_schedule.specs.Terms.{Leads, Terms}
 
 -- f leads after each of n wake-ups, the first at w, d apart

@@ -1,8 +1,8 @@
 use Rattle.keep_schedule.specs.Courses.{IsToCome}
-use Rattle.keep_plan.specs.Collecting.{IsOverlong, IsWhole}
+use Rattle.keep_plan.specs.code.Collecting.{IsOverlong, IsWhole}
 use Rattle.keep_plan.specs.Decides.{AreBest, IsTooLong}
 use Rattle.keep_plan.proofs.Deciding.{best_of, each_case, too_long}
-use Rattle.keep_plan.proofs.decide.best_runs.Goals as goal
+use Rattle.keep_plan.proofs.planning.best_runs.Goals as goal
 
 pub returns : goal.returns
 returns c =
