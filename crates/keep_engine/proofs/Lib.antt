@@ -6,4 +6,5 @@ pub mod OneText
 mod Sizes
 mod OwnText
 pub mod Obeying
+pub mod Reaching
 mod SameRun

@@ -2,6 +2,8 @@ pub mod Running
 pub mod EndsText
 pub mod EndsRun
 pub mod PlanRun
+pub mod ReachText
+pub mod ReachRun
 pub mod CheckText
 pub mod CheckRun
 pub mod CheckAnswers

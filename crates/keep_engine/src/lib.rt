@@ -5,6 +5,7 @@
 //! `specs/Running`, which says for all commands how a run ends.
 #![tactic(auto)]
 
+mod bound;
 mod check;
 mod check_lines;
 mod check_text;
@@ -18,6 +19,8 @@ mod limits;
 mod outcome;
 mod plan;
 mod plan_text;
+mod reach;
+mod reach_text;
 #[cfg(test)]
 mod tests;
 
@@ -30,3 +33,4 @@ pub use keep_report::{Exit, Stop, tell};
 pub use laws::{no_secret_shows, own_certificates_are_accepted, secrets_change_no_run};
 pub use limits::{MOST_CERTIFICATE, MOST_INVENTORY};
 pub use plan::run_plan;
+pub use reach::run_reach;

@@ -94,6 +94,11 @@ fn command_of(alloc: Global, matches: &ArgMatches<'_>) -> Result<Command, Unread
             file: word(alloc, matches, "FILE")?,
             start: start(matches)?,
         }),
+        Some(("reach", matches)) => Ok(Command::Reach {
+            file: word(alloc, matches, "FILE")?,
+            start: start(matches)?,
+            dates: matches.get_flag("dates"),
+        }),
         Some(("check", matches)) => Ok(Command::Check {
             file: word(alloc, matches, "FILE")?,
             certificate: word(alloc, matches, "CERT")?,
