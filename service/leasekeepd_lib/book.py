@@ -19,7 +19,7 @@ TELLING_APART = 2.5
 
 @dataclass(frozen=True)
 class Anchor:
-    """An end, and when it was first known, by which later grants are judged."""
+    """The end of a grant, and when that was, by which later grants are judged."""
 
     end: float
     at: float
@@ -70,15 +70,18 @@ class Standing:
         self.facts = facts
         self.renewable = facts.renewable
         self.end = sent + facts.ttl
-        if self.anchor is None or abs(self.end - self.anchor.end) > CLOSE:
-            self.anchor = Anchor(self.end, sent)
 
-    def granted(self, entry: Entry, seconds: int, renewable: bool, asked_at: float) -> bool | None:
-        """A renewal was granted; whether it led any further, None where it is too early to tell."""
+    def granted(
+        self, entry: Entry, seconds: int, renewable: bool, asked_at: float, is_telling: bool = True,
+    ) -> bool | None:
+        """A renewal was granted; whether it led any further than the grants before, None where it is too early to
+        tell, or where the grant tells nothing by itself."""
         self.end = asked_at + seconds
         self.renewable = renewable
         self.renewals += 1
         self._learn(entry, seconds, asked_at)
+        if not is_telling:
+            return None
         leads_on = self._leads_on(self.end, asked_at)
         if leads_on is not None:
             self.at_ceiling = not leads_on and seconds < self.step(entry)

@@ -5,6 +5,7 @@ from __future__ import annotations
 import argparse
 import asyncio
 import fcntl
+import getpass
 import os
 import random
 import signal
@@ -17,12 +18,12 @@ from .broker import Broker
 from .clock import SystemClock
 from .control import ControlFault, ControlServer, send_command
 from .discover import DiscoverFault, discover, read_short_list
-from .engine import Parts
 from .events import Alerts, Log
 from .http_client import Address, HttpTransport
 from .journal import Journal
 from .lint import kinds_of, lint
 from .notify import Notifier
+from .parts import Parts
 from .run_process import ProcessLauncher
 from .service import Service, Surroundings
 from .source import Source, SourceFault
@@ -57,6 +58,12 @@ def _state_folder() -> Path:
     return _folder("STATE_DIRECTORY", f"{own}/leasekeepd")
 
 
+def _program() -> str:
+    """The `leasekeep` beside this program, else the one that PATH finds."""
+    beside = Path(sys.argv[0]).absolute().parent / "leasekeep"
+    return str(beside) if os.access(beside, os.X_OK) and beside.is_file() else "leasekeep"
+
+
 def _timeout(word: str) -> int:
     seconds = int(word)
     if not 1 <= seconds <= 60:
@@ -72,12 +79,13 @@ def _address(word: str) -> Address:
 
 def _parser() -> argparse.ArgumentParser:
     parser = argparse.ArgumentParser(
-        prog="leasekeepd", description="Keeps Vault tokens and leases alive: drives `leasekeep run` in real time.")
+        prog="leasekeepd", description="Keeps Vault tokens and leases alive: drives `leasekeep run` in real time.",
+        epilog="Exits: 0; 1 what may not be served, or went wrong; 2 the command line.")
     commands = parser.add_subparsers(dest="command", required=True, metavar="COMMAND")
     runtime = argparse.ArgumentParser(add_help=False)
     runtime.add_argument("--runtime", type=Path, metavar="FOLDER",
-                         help=f"folder of the control socket (default: {_runtime_folder()}, and for commands"
-                         f" {SYSTEM_RUNTIME} where that has a socket and the other has none)")
+                         help=f"folder of the control socket (default: $RUNTIME_DIRECTORY, else"
+                         f" $XDG_RUNTIME_DIR/leasekeepd; for commands {SYSTEM_RUNTIME} where that has none)")
     _add_serve(commands, runtime)
     need = commands.add_parser("need", parents=[runtime], help="change until when an entry is needed")
     need.add_argument("name", metavar="NAME")
@@ -89,6 +97,7 @@ def _parser() -> argparse.ArgumentParser:
     dropped = commands.add_parser("drop", parents=[runtime], help="keep an entry no more")
     dropped.add_argument("name", metavar="NAME")
     commands.add_parser("status", parents=[runtime], help="show how each entry stands")
+    commands.add_parser("settle", parents=[runtime], help="write file and journal as one new file")
     linted = commands.add_parser("lint", help="tell every fault and doubt of an inventory, with its line")
     linted.add_argument("file", type=Path, metavar="FILE")
     linted.add_argument("--timeout", type=_timeout, default=5, metavar="SECONDS", help="the time-out of serve")
@@ -96,24 +105,30 @@ def _parser() -> argparse.ArgumentParser:
     found.add_argument("file", type=Path, metavar="LIST")
     found.add_argument("address", type=_address, metavar="PORT|SOCKET")
     found.add_argument("--timeout", type=_timeout, default=5, metavar="SECONDS")
-    commands.add_parser("settle", parents=[runtime], help="write file and journal as one new file")
     return parser
 
 
 def _add_serve(commands: "argparse._SubParsersAction[argparse.ArgumentParser]", runtime: argparse.ArgumentParser,
                ) -> None:
-    serve = commands.add_parser("serve", parents=[runtime], help="keep what FILE says alive")
+    serve = commands.add_parser(
+        "serve", parents=[runtime], help="keep what FILE says alive",
+        description="Keeps what FILE says alive: starts `leasekeep run`, sleeps until each wake-up, and logs what it"
+        " prints. SIGTERM ends it, SIGHUP reads FILE anew.",
+        epilog="It refuses a FILE that is faulty, that others may read, with a token without secret or a lease without"
+        " lease_id, or with a margin under four times the time-out: exit 1.")
     serve.add_argument("file", type=Path, metavar="FILE", help="the inventory")
     serve.add_argument("address", type=_address, metavar="PORT|SOCKET",
                        help="the broker: a port of 127.0.0.1, or the path of a UNIX socket")
     serve.add_argument("--timeout", type=_timeout, default=5, metavar="SECONDS",
                        help="the longest that a connect, read or write may take (1 to 60, default: 5)")
-    serve.add_argument("--leasekeep", default="leasekeep", metavar="PROGRAM", help="the program (default: %(default)s)")
+    serve.add_argument("--leasekeep", default=_program(), metavar="PROGRAM",
+                       help="the program (default: that beside leasekeepd, else that in PATH)")
     serve.add_argument("--log", choices=("text", "json"), default="text", help="the form of log lines")
     serve.add_argument("--alert", metavar="PROGRAM", help="run PROGRAM with the words of each warning")
     serve.add_argument("--group", metavar="GROUP", help="the group that may use the control socket")
     serve.add_argument("--state", type=Path, metavar="FOLDER", default=_state_folder(),
-                       help="folder of the journal and the last good file (default: %(default)s)")
+                       help="folder of the journal and the last good file (default: $STATE_DIRECTORY, else"
+                       " $XDG_STATE_HOME/leasekeepd or ~/.local/state/leasekeepd)")
     serve.add_argument("--metrics", type=Path, metavar="FILE", help="write metrics for Prometheus' node exporter")
     serve.add_argument("--names-are-secrets", action="store_true",
                        help="serve entries without a secret or lease_id, for trials")
@@ -142,8 +157,13 @@ def _lint(arguments: argparse.Namespace) -> int:
     for finding in found:
         print(finding.text(str(arguments.file)))
     faults, doubts = kinds_of(found)
-    print(f"{arguments.file}: {faults} faults, {doubts} doubts", file=sys.stderr)
+    sys.stdout.flush()
+    print(f"{arguments.file}: {_count(faults, 'fault')}, {_count(doubts, 'doubt')}", file=sys.stderr)
     return EXIT_FAULT if faults else 0
+
+
+def _count(number: int, word: str) -> str:
+    return f"{number} {word}" if number == 1 else f"{number} {word}s"
 
 
 def _inventory(arguments: argparse.Namespace) -> int:
@@ -168,7 +188,8 @@ def _client(arguments: argparse.Namespace) -> int:
     if arguments.command == "need":
         words.append(arguments.when)
     if arguments.command in ("replace", "add"):
-        text = sys.stdin.read(STDIN_MOST)
+        is_asked = arguments.command == "replace" and sys.stdin.isatty()
+        text = getpass.getpass("secret or lease id: ") if is_asked else sys.stdin.read(STDIN_MOST)
         words.append(text.strip() if arguments.command == "replace" else text)
     try:
         for line in send_command(_socket(arguments), words):
@@ -182,8 +203,8 @@ def _client(arguments: argparse.Namespace) -> int:
 def _serve(arguments: argparse.Namespace) -> int:
     arguments.runtime = arguments.runtime or _runtime_folder()
     try:
-        for folder in (arguments.state, arguments.runtime):
-            folder.mkdir(mode=0o750, parents=True, exist_ok=True)
+        arguments.state.mkdir(mode=0o700, parents=True, exist_ok=True)
+        arguments.runtime.mkdir(mode=0o750, parents=True, exist_ok=True)
     except OSError as error:
         print(f"leasekeepd: {error.filename}: {error.strerror}", file=sys.stderr)
         return EXIT_FAULT

@@ -2,22 +2,24 @@
 
 from __future__ import annotations
 
-import random
 from dataclasses import dataclass, replace
 from enum import Enum
 
 from .book import CLOSE, Book
-from .broker import Broker, Verdict
-from .clock import DAY, Clock, RunClock
-from .events import Log
+from .broker import Verdict
+from .clock import DAY, RunClock
 from .inbox import Inbox
 from .inventory import Entry, Inventory
 from .link import Link
 from .own import OwnWork
+from .parts import Parts
 from .pauses import Pauses
 from .run_lines import Answer, Line, Word
+from .run_process import Run
 
 LOOK_AT_CLOCKS = 30.0
+LONGEST_ANSWER = 5.0
+"""Seconds beyond twice the time-out that one line of the run may take."""
 TRIES_BEFORE_PROBE = 3
 AGAIN_AFTER_REFUSAL = 1.0
 AGAIN_AFTER_SHORT_GRANT = 3.0
@@ -54,15 +56,15 @@ class Driver:
     """One run under way."""
 
     def __init__(
-        self, kept: Inventory, wanted: Inventory, refused: set[str], broker: Broker, clock: Clock, run_clock: RunClock,
-        link: Link, book: Book, own: OwnWork, inbox: Inbox, log: Log, chance: random.Random,
+        self, kept: Inventory, wanted: Inventory, refused: set[str], parts: Parts, run_clock: RunClock, run: Run,
+        book: Book, own: OwnWork, inbox: Inbox,
     ) -> None:
         self._kept, self._wanted, self._refused = kept, wanted, refused
-        self._broker, self._clock, self._run_clock, self._link = broker, clock, run_clock, link
-        self._book, self._own, self._inbox, self._log, self._chance = book, own, inbox, log, chance
+        self._broker, self._clock, self._log, self._chance = parts.broker, parts.clock, parts.log, parts.chance
+        self._run_clock, self._book, self._own, self._inbox = run_clock, book, own, inbox
+        self._link = Link(run, 2 * parts.broker.timeout + LONGEST_ANSWER, self._hear, inbox.waiter.ring)
         self._believed: dict[str, int] = {}
         self._deferred: dict[str, int] = {}
-        self._lost: set[str] = set()
         self._last_moment = run_clock.start
         self._handed_at = run_clock.elapsed_then
         self._retries: Pauses | None = None
@@ -70,6 +72,10 @@ class Driver:
         self._gives_up_next = False
         self._last_word = Word.IDLE
         self.next_wake: int | None = None
+
+    def stop(self) -> None:
+        """Reads no more of the run."""
+        self._link.stop()
 
     async def open(self, may_begin_again: bool) -> Ending | None:
         """Reads the entries; an ending where one is too near its end although the broker would renew it (rule 6)."""
@@ -158,7 +164,6 @@ class Driver:
         self._last_moment = moment
         self._handed_at = self._clock.elapsed()
         answer = await self._link.hand_in(f"tick {moment}")
-        self._lost = set(answer.lost) if answer.asked else self._lost
         self._take_shorts(answer)
         self._last_word = answer.last.word
         if answer.last.word is Word.NEXT and answer.next_wake == moment:
@@ -194,8 +199,9 @@ class Driver:
         heard = await self._broker.look_up(self._wanted, entry)
         return heard.verdict is not Verdict.FAILED
 
-    def hear(self, line: Line) -> None:
+    def _hear(self, line: Line) -> None:
         """A line of the run: written to the log, and into the book."""
+        self._inbox.waiter.beat()
         entry = self._kept.find(line.name) if line.word in (Word.TOLD, Word.REFUSED, Word.LOST) else None
         if line.word is Word.SHORT:
             return  # It is told once it is known what it means.
@@ -208,7 +214,9 @@ class Driver:
         standing = self._book[entry.name]
         if line.word is Word.TOLD:
             seconds = line.number or 0
-            standing.granted(entry, seconds, True, self._handed_at)
+            # One margin before an end, a ceiling there and a step of one margin give the same grant.
+            is_telling = abs(seconds - self._kept.margin) > CLOSE
+            standing.granted(entry, seconds, True, self._handed_at, is_telling)
             standing.last_success, standing.trouble = self._clock.wall(), ""
             self._believed[entry.name] = self._last_moment + seconds
             self._check_margin(entry)

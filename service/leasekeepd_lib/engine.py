@@ -2,22 +2,17 @@
 
 from __future__ import annotations
 
-import random
-from dataclasses import dataclass
-
 from .assignment import Assignment, assign
 from .book import Book
-from .broker import Broker
-from .clock import Clock, RunClock
+from .clock import RunClock
 from .driver import DAY, LOOK_AT_CLOCKS, Driver, Ending
-from .events import Log
 from .inbox import Inbox
 from .inventory import Inventory, inventory_text
-from .link import Link, RunEnded, RunStuck
+from .link import RunEnded, RunStuck
 from .own import OwnWork
+from .parts import Parts
 from .pauses import pause_length
-from .run_lines import Line
-from .run_process import Launcher, LaunchFault, RunExit
+from .run_process import LaunchFault, RunExit
 from .survey import Survey, Surveyor
 
 GOOD_STRETCH = 60.0
@@ -27,17 +22,6 @@ MOST_EXITS = 2
 HELD = 3600.0
 BEHIND_QUOTA = 1.1
 """Seconds between the lookups and the run's, where the broker limits requests by the second."""
-
-
-@dataclass
-class Parts:
-    """What the engine is handed."""
-
-    clock: Clock
-    broker: Broker
-    launcher: Launcher
-    log: Log
-    chance: random.Random
 
 
 class Engine:
@@ -52,15 +36,23 @@ class Engine:
         self.driver: Driver | None = None
         self.assignment = Assignment()
         self._parts = parts
-        self._own = OwnWork(parts.broker, parts.clock, self.book, parts.log, parts.chance, self.inbox.begin,
-                            self.moment)
-        self._surveyor = Surveyor(parts.broker, parts.clock, self.book, parts.log, self.inbox, parts.chance)
+        self._own = OwnWork(parts, self.book, self.inbox.begin, self.moment)
+        self._surveyor = Surveyor(parts, self.book, self.inbox)
         self._near = 0
         self._quick = 0
 
     def moment(self) -> float:
         """The present moment, by the broker's clock where that differs."""
         return self._parts.clock.wall() + self.offset
+
+    def take(self, inventory: Inventory) -> None:
+        """Keeps another inventory from the next beginning on. What was learned of another credential is forgotten,
+        and of all under it."""
+        changed = [entry.name for entry in inventory.entries
+                   if (old := self.inventory.find(entry.name)) is None or old.secret != entry.secret]
+        for name in inventory.with_all_under(changed):
+            self.book.forget(name)
+        self.inventory = inventory
 
     def change_need(self, inventory: Inventory, name: str, until: int) -> bool:
         """Takes an inventory in which only that need is another, and hands the need to the run; False where the
@@ -112,7 +104,8 @@ class Engine:
         if survey is None:
             return self.inbox.take_reason() or "asked"
         self._take_offset(survey)
-        self.assignment = assign(inventory, survey, self.book, self._parts.clock.elapsed(), self._parts.log)
+        self.assignment = assign(inventory, survey, self.book, self._parts.clock.elapsed(), self.moment(),
+                                 self._parts.log)
         self._own.inventory = inventory
         for standing in self.book.standings.values():
             standing.cut_to = None
@@ -152,21 +145,12 @@ class Engine:
         except LaunchFault as fault:
             parts.log.alert("run", str(fault))
             return str(fault)
-        drivers: list[Driver] = []
-
-        def heard(line: Line) -> None:
-            if drivers:
-                drivers[0].hear(line)
-        link = Link(run, 2 * parts.broker.timeout + 5, heard, self.inbox.waiter.ring)
-        driver = Driver(kept, self.inventory, survey.refused, parts.broker, parts.clock, run_clock, link, self.book,
-                        self._own, self.inbox, parts.log, parts.chance)
-        drivers.append(driver)
-        run_exit: RunExit | None = None
+        driver = Driver(kept, self.inventory, survey.refused, parts, run_clock, run, self.book, self._own, self.inbox)
         try:
             ending = await self._drive(driver)
         finally:
             self.driver = None
-            link.stop()
+            driver.stop()
             run_exit = await run.end()
         return self._reason(ending, run_exit)
 

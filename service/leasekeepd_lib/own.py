@@ -3,14 +3,12 @@
 from __future__ import annotations
 
 import asyncio
-import random
 from typing import Callable, Coroutine
 
 from .book import Book
-from .broker import Broker, Heard, Verdict
-from .clock import Clock
-from .events import Log
+from .broker import Heard, Verdict
 from .inventory import Entry, Inventory
+from .parts import Parts
 from .pauses import Pauses, time_left
 
 MOST_BETWEEN = 300.0
@@ -24,11 +22,10 @@ class OwnWork:
     `moment` is the present moment by the broker's clock."""
 
     def __init__(
-        self, broker: Broker, clock: Clock, book: Book, log: Log, chance: random.Random,
-        begin: Callable[[str], None], moment: Callable[[], float],
+        self, parts: Parts, book: Book, begin: Callable[[str], None], moment: Callable[[], float],
     ) -> None:
-        self._broker, self._clock, self._book, self._log = broker, clock, book, log
-        self._chance, self._begin, self._moment = chance, begin, moment
+        self._broker, self._clock, self._log, self._chance = parts.broker, parts.clock, parts.log, parts.chance
+        self._book, self._begin, self._moment = book, begin, moment
         self._tasks: dict[tuple[str, str], asyncio.Task[None]] = {}
         self.inventory = Inventory()
 
@@ -93,10 +90,10 @@ class OwnWork:
         standing = self._book[entry.name]
         pauses = Pauses(self._chance)
         since = self._clock.elapsed()
-        if standing.end is not None and standing.renewable:
-            left = standing.end - self._clock.elapsed()
-            await asyncio.sleep(min(max(left - self.inventory.margin, 0.0), left / PART_OF_GRANT, MOST_BETWEEN)
-                                if left > 0 else 0.0)
+        if not (entry.renewable if standing.facts is None else standing.renewable):
+            return
+        if standing.end is not None:
+            await asyncio.sleep(self._before_first(standing.end - self._clock.elapsed(), standing.real_step(entry)))
         while self._needed(entry):
             heard, _ = await self._renew(entry)
             if heard.grant is not None:
@@ -110,6 +107,13 @@ class OwnWork:
                 self._log.note("not-renewed", entry.name, heard.why)
                 left = time_left(standing.end, self._clock.elapsed(), since, self.inventory.margin)
                 await asyncio.sleep(pauses.next(left))
+
+    def _before_first(self, left: float, step: int) -> float:
+        """Seconds before the first renewal of an entry that has so long left: a third of that, but within the margin
+        at once, and where it has longer than its step not before a renewal leads further."""
+        if left > step:
+            return left - step + step / PART_OF_GRANT
+        return max(min(left - self.inventory.margin, left / PART_OF_GRANT, MOST_BETWEEN), 0.0)
 
     async def _look(self, entry: Entry) -> None:
         standing = self._book[entry.name]

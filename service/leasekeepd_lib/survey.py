@@ -4,15 +4,14 @@ from __future__ import annotations
 
 import asyncio
 import math
-import random
 from dataclasses import dataclass, field
 
 from .book import Book
-from .broker import AT_ONCE, Broker, Heard, Verdict
-from .clock import PARTED, Clock
-from .events import Log
+from .broker import AT_ONCE, Heard, Verdict
+from .clock import PARTED
 from .inbox import Inbox
 from .inventory import Entry, Inventory
+from .parts import Parts
 from .pauses import Pauses, time_left
 
 SPARE = 5.0
@@ -60,11 +59,9 @@ class Survey:
 class Surveyor:
     """Looks entries up until the broker answers."""
 
-    def __init__(
-        self, broker: Broker, clock: Clock, book: Book, log: Log, inbox: Inbox, chance: random.Random,
-    ) -> None:
-        self._broker, self._clock, self._book, self._log = broker, clock, book, log
-        self._inbox, self._chance = inbox, chance
+    def __init__(self, parts: Parts, book: Book, inbox: Inbox) -> None:
+        self._broker, self._clock, self._log, self._chance = parts.broker, parts.clock, parts.log, parts.chance
+        self._book, self._inbox = book, inbox
 
     async def survey(self, inventory: Inventory, offset: float) -> Survey | None:
         """Tries until an entry is answered; None where another beginning is asked for meanwhile."""
@@ -103,6 +100,7 @@ class Surveyor:
 
     async def _entry(self, inventory: Inventory, entry: Entry, survey: Survey, passes: _Passes) -> None:
         heard = await self._broker.look_up(inventory, entry)
+        self._inbox.waiter.beat()
         survey.note_date(heard)
         name, standing = entry.name, self._book[entry.name]
         survey.failed.pop(name, None)
@@ -130,7 +128,9 @@ class Surveyor:
         ceiling = self._book.ceiling(inventory, entry)
         if ceiling is not None and self._clock.wall() + survey.offset + standing.end - now >= ceiling - 1:
             return False
-        return standing.end - now <= inventory.margin + SPARE + 2 * passes.both
+        left = standing.end - now
+        # A renewal counts from now: of an entry that has longer than its step, it would make the life shorter.
+        return left < standing.real_step(entry) and left <= inventory.margin + SPARE + 2 * passes.both
 
     async def _renew(self, inventory: Inventory, entry: Entry, survey: Survey) -> None:
         name, standing = entry.name, self._book[entry.name]

@@ -8,7 +8,7 @@ from __future__ import annotations
 import os
 import random
 import unittest
-from dataclasses import dataclass
+from dataclasses import dataclass, replace
 from typing import Awaitable, Callable
 
 from leasekeepd_lib.inventory import Entry, Inventory, Kind
@@ -18,7 +18,7 @@ from .model.vault import Act, Fault, about, both, lookups, renewals
 from .model.world import simulate
 
 BEGAN = 1_000_000
-SCENARIOS = int(os.environ.get("SCENARIOS", "60"))
+SCENARIOS = int(os.environ.get("SCENARIOS", "40"))
 FIRST = int(os.environ.get("FIRST", "0"))
 
 
@@ -86,6 +86,21 @@ def happening(plot: Plot, stage: Stage) -> tuple[str, Callable[[float], Awaitabl
         await stage.stop()
         await stage.world.until(BEGAN + now + length)
         await stage.restart()
+    async def need_changed(_now: float) -> None:
+        """A need is given to an entry that lives long enough for it, or another one to an entry that has one. (Jumps of
+        the wall clock make a near need another one, for a broker that tells no `Date`.)"""
+        names = [entry.name for entry in stage.inventory.entries if all(
+            stage.vault.named(above.name).end > stage.world.now() + plot.margin + 20
+            for above in stage.inventory.over(entry.name))]
+        if not names:
+            return
+        name, until = chance.choice(names), int(stage.world.now()) + chance.randint(25_000, 30_000)
+        changed = stage.inventory.mapped(
+            lambda entry: replace(entry, need=until) if entry.name == name else entry)
+        stage.inventory = changed
+        if not stage.engine.change_need(changed, name, until):
+            stage.engine.take(changed)
+            stage.engine.inbox.begin("need")
     one = about(chance.choice([entry.name for entry in plot.inventory.entries]))
     return chance.choice((
         ("refuse", during(Act.REFUSE, 0, lambda request, name: True)),
@@ -100,7 +115,7 @@ def happening(plot: Plot, stage: Stage) -> tuple[str, Callable[[float], Awaitabl
         ("hang renewals of one", during(Act.HANG, 0, both(one, renewals))),
         ("drops renewals", during(Act.DROP, 0, renewals)),
         ("killed", killed), ("run killed", run_killed), ("suspended", suspended), ("jumped", jumped),
-        ("dead for a while", dead_for_a_while),
+        ("dead for a while", dead_for_a_while), ("need changed", need_changed), ("need changed", need_changed),
     ))
 
 
@@ -135,6 +150,91 @@ class RandomScenarios(unittest.TestCase):
                 stage, happened = simulate(act_out(seed))
                 lost = [name for name in stage.lost() if name in needed(stage)]
                 self.assertEqual(lost, [], f"{happened}\n{stage.output.getvalue()[-3000:]}")
+
+
+def real_terms(plotted: Plot) -> dict[str, dict[str, object]]:
+    """What the broker really does with some entries: nearer ceilings, shorter grants, another tree."""
+    chance = plotted.chance
+    real: dict[str, dict[str, object]] = {}
+    for entry in plotted.inventory.entries:
+        what = chance.random()
+        if what < 0.25:
+            real[entry.name] = {"ceiling": entry.end + chance.uniform(0, 12 * plotted.margin)}
+        elif what < 0.4:
+            real[entry.name] = {"grants": int(chance.uniform(0.6, 3) * plotted.margin)}
+        elif what < 0.5 and entry.kind is Kind.TOKEN:
+            real[entry.name] = {"parent": None}
+        elif what < 0.55:
+            real[entry.name] = {"renewable": False}
+    return real
+
+
+async def act_out_real(seed: int) -> tuple[Stage, list[str]]:
+    """A broker whose terms are not those of the file, one revocation and perhaps one fault."""
+    plotted = plot(seed)
+    stage = Stage(plotted.inventory)
+    real = real_terms(plotted)
+    stage.vault.load(plotted.inventory, **real)  # type: ignore[arg-type]
+    shortest = min([int(terms["grants"]) for terms in real.values() if "grants" in terms], default=1 << 30)
+    stage.vault.latency = plotted.chance.choice((0.0, 0.01))
+    happened = []
+    now = plotted.chance.uniform(3, 8) * plotted.margin
+    await stage.until(now)
+    if plotted.chance.random() < 0.5:
+        revoked = plotted.chance.choice(plotted.inventory.entries).name
+        happened.append(f"{now:.1f} revoked {revoked}")
+        stage.vault.revoke(revoked)
+    # The margin that is served, and with it what is survived, goes by the shortest step.
+    served = replace(plotted, margin=min(plotted.margin, shortest * 3 // 4))
+    if served.bearable > 1 and plotted.chance.random() < 0.5:
+        words, act = happening(served, stage)
+        happened.append(f"{now:.1f} {words}")
+        await act(now)
+    await stage.finish(max(now, stage.world.now() - BEGAN) + 20 * plotted.margin)
+    return stage, happened
+
+
+def untold(stage: Stage) -> list[str]:
+    """The needed entries that have ended, of which no warning says so."""
+    told = stage.output.getvalue()
+    found = []
+    for entry in stage.inventory.entries:
+        over = {above.name for above in stage.inventory.over(entry.name)}
+        ended = stage.vault.named(entry.name).ended
+        if ended is not None and ended < entry.need and not any(
+                f"warning: short {name} " in told or f"alert: gone {name} " in told for name in over):
+            found.append(entry.name)
+    return found
+
+
+def wrongly_lost(stage: Stage, happened: list[str]) -> list[str]:
+    """The entries with a need that ended although they, and all over them, could be renewed."""
+    revoked = {words.split(" ")[2] for words in happened if " revoked " in words}
+    lost = []
+    rows = {row.name: row for row in stage.vault.rows.values()}
+    for name in stage.lost():
+        row, excused = rows[name], False
+        entry = stage.inventory.find(name)
+        if entry is None or not entry.need:
+            continue
+        while row is not None:
+            ceiling = row.ceiling is not None and row.ended is not None and row.ceiling <= row.ended + 1
+            excused |= ceiling or not row.renewable or row.name in revoked
+            row = rows.get(row.parent or "")  # type: ignore[assignment]
+        if not excused:
+            lost.append(name)
+    return lost
+
+
+class RandomTerms(unittest.TestCase):
+    def test_what_ends_is_told_and_nothing_ends_that_could_be_kept(self) -> None:
+        for seed in range(FIRST, FIRST + SCENARIOS):
+            with self.subTest(seed=seed):
+                stage, happened = simulate(act_out_real(seed))
+                log = f"{happened}\n{stage.output.getvalue()[-4000:]}"
+                self.assertEqual(wrongly_lost(stage, happened), [], log)
+                self.assertEqual(untold(stage), [], log)
+                self.assertLess(stage.beginnings, 100, log)
 
 
 if __name__ == "__main__":

@@ -8,6 +8,7 @@ from typing import Any, Callable, Coroutine
 from leasekeepd_lib.clock import date_text
 from leasekeepd_lib.inventory import Inventory
 
+from .model.keeper import Keeper, rows_of
 from .model.stage import Stage, fleet
 from .model.vault import Act, Fault, about, both, lookups, renewals
 from .model.world import simulate
@@ -45,7 +46,6 @@ class Scenario(unittest.TestCase):
 
 class Quiet(Scenario):
     def test_without_faults_three_weeks_take_the_rehearsed_renewals(self) -> None:
-        from .test_keeper_model import rehearse
         self.play(fleet(3, 50_000, 60, 40_000, need=21 * 86400 - 20_000), lambda stage: stage.finish(21 * 86400))
         self.assert_kept()
         self.assert_quiet()
@@ -55,25 +55,41 @@ class Quiet(Scenario):
         self.assertEqual(self.stage.vault.count("lookup"), 2 * 3 * self.stage.beginnings)
 
     def test_start_at_the_end_of_a_second(self) -> None:
-        began = BEGAN + 0.999
-        self.play(fleet(2, 100, 10, 60, need=1000), lambda stage: stage.finish(1100), began=began)
-        self.assert_kept()
+        """No end that is believed lies past the real one, and nothing is asked before its moment, however the two
+        clocks' seconds lie."""
+        for began in (BEGAN, BEGAN + 0.001, BEGAN + 0.5, BEGAN + 0.999):
+            for whole in (False, True):
+                async def scene(stage: Stage) -> None:
+                    stage.vault.has_whole_seconds = whole
+                    stage.vault.latency = 0.0005
+                    await stage.finish(1100)
+                with self.subTest(began=began, whole=whole):
+                    self.play(fleet(2, 100, 10, 60, need=1000), scene, began=began)
+                    self.assert_kept()
+                    self.assert_believed_no_longer()
+
+    def assert_believed_no_longer(self) -> None:
+        run, vault = self.stage.launcher.runs[0], self.stage.vault
         self.assertEqual(self.stage.launcher.starts[0], int(BEGAN))
-        for moment, path, _, _ in self.stage.vault.log:
-            if "renew" in path:
-                self.assertGreaterEqual(moment % 1.0, 0.0)
-        first = next(moment for moment, path, _, _ in self.stage.vault.log if "renew" in path)
-        told = next(int(line.split(" ")[1]) for line in self.stage.launcher.runs[0].printed if line.startswith("wake"))
-        self.assertGreaterEqual(first, told)
-        for line in self.stage.launcher.runs[0].printed:
-            if line.startswith("entry"):
-                self.assertLessEqual(int(line.split(" ")[2]), BEGAN + 60)
+        real = {entry.name: float(entry.end) for entry in self.stage.inventory.entries}
+        asked = [(moment, name) for moment, path, name, _ in vault.log if "renew" in path]
+        opened = 0
+        for words in (line.split(" ") for line in run.printed):
+            if words[0] == "entry":
+                self.assertLessEqual(int(words[2]), real[words[1]])
+            elif words[0] == "wake":
+                opened = int(words[1])
+            elif words[0] == "told":
+                moment, name = asked.pop(0)
+                self.assertEqual(name, words[1])
+                self.assertGreaterEqual(moment, opened)
+                granted = int(moment) if vault.has_whole_seconds else moment
+                self.assertLessEqual(opened + int(words[2]), granted + 100)
+        self.assertGreater(opened, BEGAN + 900)
 
 
 def rehearse_from(inventory: Inventory) -> list[str]:
     """What `rehearse` prints of the inventory, by the model."""
-    import asyncio
-    from .model.keeper import Keeper, rows_of
     keeper = Keeper(rows_of(inventory), inventory.margin, int(BEGAN))
     lines: list[str] = []
     moment = keeper.next_wake
@@ -237,6 +253,20 @@ class Restarts(Scenario):
         self.assert_kept()
 
 
+    def test_a_run_that_never_gets_going(self) -> None:
+        for fault_of_it in ("is_missing", "ends_at_once"):
+            async def scene(stage: Stage) -> None:
+                setattr(stage.launcher, fault_of_it, True)
+                await stage.until(2 * HOUR)
+                setattr(stage.launcher, fault_of_it, False)
+                await stage.finish(3 * HOUR)
+            with self.subTest(fault=fault_of_it):
+                self.play(fleet(20, 300, 40, 200), scene)
+                self.assert_kept()
+                self.assertLess(self.stage.beginnings, 2 * HOUR / 10)
+                self.assertTrue(self.stage.launcher.runs[-1].events)
+
+
 class Clocks(Scenario):
     def test_suspended(self) -> None:
         async def before(stage: Stage) -> None:
@@ -278,11 +308,14 @@ class Clocks(Scenario):
         self.assertEqual(self.stage.launcher.starts[0], int(BEGAN))
 
     def test_a_slow_clock_for_weeks(self) -> None:
-        async def scene(stage: Stage) -> None:
-            stage.vault.tells_date = True
-            await stage.finish(39 * 86400)
-        self.play(fleet(3, 14 * 86400, 120, 10 * 86400, need=40 * 86400), scene, drift=30e-6)
-        self.assert_kept()
+        for tells, days in ((False, 8), (True, 39)):
+            async def scene(stage: Stage) -> None:
+                stage.vault.tells_date = tells
+                await stage.finish(days * 86400)
+            with self.subTest(tells=tells):
+                self.play(fleet(3, 14 * 86400, 120, 10 * 86400, need=40 * 86400), scene, drift=30e-6)
+                self.assert_kept()
+                self.assert_quiet()
 
 
 class Ceilings(Scenario):

@@ -5,6 +5,7 @@ from __future__ import annotations
 import os
 import shutil
 import subprocess
+import sys
 from pathlib import Path
 
 TOP = Path(__file__).resolve().parents[2]
@@ -26,6 +27,16 @@ def is_live(name: str, program: str) -> bool:
     return _has(program, ["--help"], "standard input")
 
 
+def find_or_model(name: str) -> str:
+    """A live program, built where there is none yet; else the model of the tests, which is said on standard error."""
+    program = find_program(name, may_build=True)
+    if program is not None:
+        return program
+    print(f"no {name} that can serve a trial is built, installed or named by {name.upper()}:"
+          f" the model that the tests have of it runs in its place", file=sys.stderr)
+    return str(TOP / "service" / "tests" / f"scripted_{name}")
+
+
 def find_program(name: str, may_build: bool = False) -> str | None:
     """A `leasekeep` or `minibroker` that is live: that of the environment (LEASEKEEP, MINIBROKER), the proved build,
     the installed one, and where asked for a build without a proof; None where there is none."""
@@ -35,8 +46,7 @@ def find_program(name: str, may_build: bool = False) -> str | None:
     for program in (str(TOP / "crates" / name / "out" / name), shutil.which(name)):
         if program and is_live(name, program):
             return program
-    kept = sorted((TOP / "out" / "unproved").glob(f"{name}-*")) if (TOP / "out" / "unproved").is_dir() else []
-    for build in kept:
+    for build in sorted((TOP / "out" / "unproved").glob(f"{name}-*/{name}")):
         if is_live(name, str(build)):
             return str(build)
     if may_build and shutil.which("rt"):

@@ -2,7 +2,7 @@ pub mod Written
 pub mod Sending
 pub mod Fields
 pub mod Framing
-pub mod Lone
+pub mod NamedField
 pub mod Chunks
 pub mod Body
 pub mod Heads
@@ -10,7 +10,8 @@ pub mod Messages
 pub mod Verdicts
 pub mod Steps
 pub mod Holding
-pub mod Judging
+pub mod EmptyLine
+pub mod Known
 pub mod Starts
 pub mod Reading
 pub mod RoundTrip

@@ -9,6 +9,7 @@ from dataclasses import dataclass, field
 from enum import Enum
 from typing import Any, Callable
 
+from leasekeepd_lib.clock import date_text
 from leasekeepd_lib.http_client import Request, Response, TransportFault
 from leasekeepd_lib.inventory import Inventory, Kind
 
@@ -82,6 +83,7 @@ class Vault:
     latency: float = 0.0
     quota: int | None = None
     tells_date: bool = False
+    has_whole_seconds: bool = False
     log: list[tuple[float, str, str, int | None]] = field(default_factory=list)
     _recent: list[float] = field(default_factory=list)
 
@@ -95,12 +97,17 @@ class Vault:
             for key, value in real.get(entry.name, {}).items():
                 setattr(row, key, value)
 
+    def now(self) -> float:
+        """The moment by the broker's own clock."""
+        now = self.world.now()
+        return math.floor(now) if self.has_whole_seconds else now
+
     def named(self, name: str) -> Secret:
         return next(row for row in self.rows.values() if row.name == name)
 
     def sweep(self) -> None:
         """Ends each row whose end, or the end of one over it, has come."""
-        now = self.world.now()
+        now = self.now()
         by_name = {row.name: row for row in self.rows.values()}
         for row in self.rows.values():
             if row.ended is None and row.end <= now:
@@ -188,14 +195,13 @@ class Vault:
         return status, {"lease_id": body["lease_id"], "lease_duration": seconds, "renewable": lease.renewable}
 
     def _left(self, row: Secret) -> int:
-        return max(math.floor(row.end - self.world.now()), 0)
+        return max(math.floor(row.end - self.now()), 0)
 
     def _token_facts(self, row: Secret) -> dict[str, Any]:
         return {"ttl": self._left(row), "creation_time": math.floor(row.issued), "renewable": row.renewable,
                 "explicit_max_ttl": row.explicit_max, "orphan": row.parent is None, "period": row.period}
 
     def _lease_facts(self, row: Secret, lease_id: str) -> dict[str, Any]:
-        from leasekeepd_lib.clock import date_text
         return {"id": lease_id, "issue_time": date_text(row.issued), "renewable": row.renewable,
                 "ttl": self._left(row)}
 
@@ -203,7 +209,7 @@ class Vault:
         if not row.renewable:
             return 400, 0
         row.renewals += 1
-        now = self.world.now()
+        now = self.now()
         step = row.period or increment
         if row.grants is not None:
             step = min(step, row.grants)
