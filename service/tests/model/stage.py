@@ -48,12 +48,14 @@ class RunTransport:
 class ScriptedRun:
     """`leasekeep run` within the test's own process."""
 
-    def __init__(self, text: str, start: int, transport: RunTransport) -> None:
+    def __init__(self, text: str, start: int, transport: RunTransport, prints_at_once: bool = False) -> None:
+        self._prints_at_once = prints_at_once
         self._lines: asyncio.Queue[str | None] = asyncio.Queue()
         self.events: list[str] = []
         self._events: asyncio.Queue[str | None] = asyncio.Queue()
         self._exit = RunExit(-9)
         self.printed: list[str] = []
+        self._held: list[str] = []
         self._task = asyncio.create_task(self._run(text, start, transport))
 
     async def _run(self, text: str, start: int, transport: RunTransport) -> None:
@@ -67,11 +69,20 @@ class ScriptedRun:
 
     def _print(self, line: str) -> None:
         self.printed.append(line)
-        self._lines.put_nowait(line)
+        if not self._prints_at_once:
+            self._lines.put_nowait(line)
+        else:
+            self._held.append(line)
 
     async def _fed(self) -> AsyncIterator[str]:
+        for line in self._held:
+            self._lines.put_nowait(line)
+        self._held.clear()
         while (event := await self._events.get()) is not None:
             yield event
+            for line in self._held:
+                self._lines.put_nowait(line)
+            self._held.clear()
 
     async def read_line(self) -> str | None:
         return await self._lines.get()
@@ -100,7 +111,7 @@ class ScriptedLauncher:
         self.starts: list[int] = []
         self.began: list[float] = []
         self.refuses: Callable[[Request, str], bool] | None = None
-        self.is_missing = self.ends_at_once = False
+        self.is_missing = self.ends_at_once = self.prints_at_once = False
 
     async def launch(self, inventory: str, start: int) -> ScriptedRun:
         self.texts.append(inventory)
@@ -108,7 +119,8 @@ class ScriptedLauncher:
         self.began.append(self._vault.world.now())
         if self.is_missing:
             raise LaunchFault("cannot start leasekeep: No such file or directory")
-        run = ScriptedRun(inventory, start, RunTransport(self._vault, self.refuses))
+        run = ScriptedRun(inventory, start, RunTransport(self._vault, self.refuses),
+                          self.prints_at_once)
         self.runs.append(run)
         if self.ends_at_once:
             run.kill()
