@@ -278,7 +278,8 @@ class Links(unittest.TestCase):
                 pass
 
         async def handed(event: str, times: int) -> bool:
-            link = Link(Run(), 5.0, lambda line: None, lambda: None)  # type: ignore[arg-type]
+            more_time = mock.AsyncMock(return_value=0.0)
+            link = Link(Run(), 5.0, lambda line: None, lambda: None, more_time)  # type: ignore[arg-type]
             for _ in range(times):
                 await link.hand_in(event)
             link.stop()

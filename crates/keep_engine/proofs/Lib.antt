@@ -7,4 +7,5 @@ mod Sizes
 mod OwnText
 pub mod Obeying
 pub mod Reaching
+mod Until
 mod SameRun

@@ -2,7 +2,8 @@
 use Rattle.std.proofs.Common.{◌≡◌, ℕ, Bool, List, Option, Ok, String, Vec, Global, string_bytes, subst, sym, inl}
 use Rattle.keep_engine.specs.declared.command.Command.{Command}
 use Rattle.keep_engine.specs.declared.command.Command.TheVariants as commands
-use Rattle.keep_engine.specs.declared.limits.TheConstants.{MOST_CERTIFICATE, MOST_INVENTORY}
+use Rattle.keep_inventory.specs.declared.limits.TheConstants.{MOST_INVENTORY}
+use Rattle.keep_engine.specs.declared.limits.TheConstants.{MOST_CERTIFICATE}
 use Rattle.keep_report.specs.declared.exit.Exit.{Exit}
 use Rattle.keep_report.specs.Sent.{Sent}
 use Rattle.keep_engine.specs.CheckRun.{CheckRun}
@@ -41,6 +42,9 @@ module _ (files : Files) (exit : Exit) (out errors : Sent) where
 pub check_rest : (exit : Exit) (out errors : Sent) (known before now : Option (List ℕ)) (read bytes : List ℕ) → IsRead known MOST_INVENTORY (Ok read) → bytes ≡ read → now ≡ before →
     RunFrom now MOST_CERTIFICATE (λ text. CheckRun bytes text) exit out errors → RunFrom known MOST_INVENTORY (λ bytes. RunFrom before MOST_CERTIFICATE (λ text. CheckRun bytes text)) exit out errors
 check_rest exit out errors known before now read bytes is same unchanged run =
-    inl (read, is,
+    inl (
+      read,
+      is,
       subst (λ (b : List ℕ). RunFrom before MOST_CERTIFICATE (λ text. CheckRun b text) exit out errors) same
-      (subst (λ (k : Option (List ℕ)). RunFrom k MOST_CERTIFICATE (λ text. CheckRun bytes text) exit out errors) unchanged run))
+          (subst (λ (k : Option (List ℕ)). RunFrom k MOST_CERTIFICATE (λ text. CheckRun bytes text) exit out errors) unchanged run),
+    )

@@ -4,6 +4,7 @@ pub mod EndsRun
 pub mod PlanRun
 pub mod ReachText
 pub mod ReachRun
+pub mod ReachLaws
 pub mod CheckText
 pub mod CheckRun
 pub mod CheckAnswers

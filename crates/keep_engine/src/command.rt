@@ -13,10 +13,11 @@ use crate::check::run_check;
 use crate::deliver::PROGRAM;
 use crate::ends::run_ends;
 use crate::inputs::Inputs;
-use crate::limits::{MOST_CERTIFICATE, MOST_INVENTORY};
+use crate::limits::MOST_CERTIFICATE;
 use crate::plan::run_plan;
 use crate::reach::run_reach;
 use keep_device::{InputFault, Sink};
+use keep_inventory::MOST_INVENTORY;
 use keep_moment::Moment;
 use keep_report::{Exit, Stop, Watched};
 use std::alloc::Global;
@@ -31,7 +32,10 @@ pub enum Command {
         moments: Vec<Moment>,
     },
     /// The plan of an inventory from a start on.
-    Plan { file: String, start: Moment },
+    Plan {
+        file: String,
+        start: Moment,
+    },
     /// Until when each entry can live, from a start on; moments as dates, or as numbers.
     Reach {
         file: String,
@@ -39,7 +43,10 @@ pub enum Command {
         dates: bool,
     },
     /// The judgement of a certificate by an inventory.
-    Check { file: String, certificate: String },
+    Check {
+        file: String,
+        certificate: String,
+    },
 }
 
 /// Does what a command asks: [`run_ends`], [`run_plan`], [`run_reach`] or [`run_check`] over the bytes of its files.

@@ -1,6 +1,9 @@
+ghost use Rattle.std.specs.Prelude.{◌≡◌};
 ghost use Rattle.keep_engine.specs.EndsText.{OneEndsText};
 ghost use Rattle.keep_engine.specs.Laws.{OneCheckText, OnePlanText, OwnCertificateLaw, OwnTextLaw};
+ghost use Rattle.keep_engine.specs.ReachLaws.{UntilLaw, WhateverIsNeeded};
 ghost use Rattle.keep_engine.specs.ReachText.{OneReachText};
+ghost use Rattle.keep_engine.specs.declared.limits.TheConstants.{MOST_CERTIFICATE};
 ghost use Rattle.keep_engine.specs.Secrecy.{CheckSecrecy, EndsSecrecy, PlanSecrecy, ReachSecrecy};
 
 /// The law that own certificates are accepted. What `print` writes of a decision as `plan` gave it, with the start it was
@@ -32,4 +35,16 @@ pub fn secrets_change_no_run()
     ensures plan { PlanSecrecy }
     ensures reach { ReachSecrecy }
     ensures check { CheckSecrecy }
+{}
+
+/// The limit of a certificate's file as a number. It does nothing.
+pub fn limits_law()
+    ensures { MOST_CERTIFICATE ≡ 16777216 }
+{}
+
+/// The law of what `reach` shows: an entry that alone is needed is kept by some plan until the moment that the line names,
+/// and by none a second longer; and no need changes that moment, so it is the same where others are needed too.
+pub fn until_law()
+    ensures until { UntilLaw }
+    ensures whatever { WhateverIsNeeded }
 {}

@@ -26,11 +26,13 @@ mod tests;
 
 pub use check::run_check;
 pub use command::{Command, obey};
+pub use deliver::PROGRAM;
 pub use ends::run_ends;
 pub use inputs::Inputs;
-pub use deliver::PROGRAM;
 pub use keep_report::{Exit, Stop, tell};
-pub use laws::{no_secret_shows, own_certificates_are_accepted, secrets_change_no_run};
-pub use limits::{MOST_CERTIFICATE, MOST_INVENTORY};
+pub use laws::{
+    limits_law, no_secret_shows, own_certificates_are_accepted, secrets_change_no_run, until_law,
+};
+pub use limits::MOST_CERTIFICATE;
 pub use plan::run_plan;
 pub use reach::run_reach;

@@ -31,12 +31,7 @@ pub(crate) fn reach_text(
 }
 
 /// The text of a forest, from its names and numbers alone.
-fn reaches_text(
-    alloc: Global,
-    forest: &Forest,
-    start: Moment,
-    dates: bool,
-) -> Result<Outcome, Stop>
+fn reaches_text(alloc: Global, forest: &Forest, start: Moment, dates: bool) -> Result<Outcome, Stop>
     ensures { MakesOf (ReachTexts start dates) NoHalts forest.now result }
 {
     let mut text = Vec::new(alloc);
@@ -96,7 +91,13 @@ fn reach_line(
     let until = until_word(alloc, dates, bound.most)?;
     let need = need_word(alloc, dates, forest.get(index).need)?;
     let by = forest.get(bound.by).name.list();
-    let line = spell(alloc, forest.get(index).name.list(), until.list(), by, need.list())?;
+    let line = spell(
+        alloc,
+        forest.get(index).name.list(),
+        until.list(),
+        by,
+        need.list(),
+    )?;
     Ok(line)
 }
 

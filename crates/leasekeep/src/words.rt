@@ -9,6 +9,7 @@ use std::rt::Env;
 use std::{env, io};
 
 const NOT_UTF8: &[u8] = b"error: a word of the command line is not UTF-8\n";
+
 const UNREADABLE: &[u8] = b"error: a value of the command line is unreadable\n";
 
 /// Why the matches of a command line give no command.

@@ -32,11 +32,7 @@ const REACHES: [(&str, bool, &str); 10] = [
         true,
         "T 1970-01-01T00:19:10Z T 0\nL 1970-01-01T00:19:10Z T 1970-01-01T00:20:00Z\nkeeps no\n",
     ),
-    (
-        CHILD,
-        false,
-        "A 1060 A 0\nB 1060 A 1200\nkeeps no\n",
-    ),
+    (CHILD, false, "A 1060 A 0\nB 1060 A 1200\nkeeps no\n"),
     (PAY, false, "pay 1100 pay 1100\nkeeps yes\n"),
     (PAY_LONGER, false, "pay 1100 pay 1101\nkeeps no\n"),
     (
