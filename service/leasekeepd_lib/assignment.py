@@ -22,8 +22,8 @@ class Assignment:
     looked_again: set[str] = field(default_factory=set)
 
 
-def assign(inventory: Inventory, survey: Survey, book: Book, now: float, log: Log) -> Assignment:
-    """Parts the entries by what the survey found. `now` is the elapsed clock's."""
+def assign(inventory: Inventory, survey: Survey, book: Book, now: float, moment: float, log: Log) -> Assignment:
+    """Parts the entries by what the survey found. `now` is the elapsed clock's, `moment` the present one."""
     endless = {name for name in survey.good if _never_ends(book, name)}
     for name in sorted(endless):
         log.alert("never-ends", name, "has no TTL and needs no keeping: take it out of the inventory")
@@ -34,7 +34,8 @@ def assign(inventory: Inventory, survey: Survey, book: Book, now: float, log: Lo
     failed = set(survey.failed) | held
     out = tree.with_all_under(gone | failed)
     for entry in tree.entries:
-        _note_trouble(entry.name, survey, book, held, out, log)
+        is_needed = inventory.carried[entry.name] > moment
+        _note_trouble(entry.name, survey, book, held, out, log if is_needed else log.quiet())
     aside = {name for name in out if name not in gone}
     kept = _with_needs_of(tree, aside).mapped(lambda entry: None if entry.name in out else entry)
     looked_again = (gone | set(survey.failed)) & {entry.name for entry in tree.entries}

@@ -5,6 +5,7 @@ from __future__ import annotations
 import argparse
 import asyncio
 import fcntl
+import getpass
 import os
 import random
 import signal
@@ -173,7 +174,8 @@ def _client(arguments: argparse.Namespace) -> int:
     if arguments.command == "need":
         words.append(arguments.when)
     if arguments.command in ("replace", "add"):
-        text = sys.stdin.read(STDIN_MOST)
+        is_asked = arguments.command == "replace" and sys.stdin.isatty()
+        text = getpass.getpass("secret or lease id: ") if is_asked else sys.stdin.read(STDIN_MOST)
         words.append(text.strip() if arguments.command == "replace" else text)
     try:
         for line in send_command(_socket(arguments), words):
@@ -187,8 +189,8 @@ def _client(arguments: argparse.Namespace) -> int:
 def _serve(arguments: argparse.Namespace) -> int:
     arguments.runtime = arguments.runtime or _runtime_folder()
     try:
-        for folder in (arguments.state, arguments.runtime):
-            folder.mkdir(mode=0o750, parents=True, exist_ok=True)
+        arguments.state.mkdir(mode=0o700, parents=True, exist_ok=True)
+        arguments.runtime.mkdir(mode=0o750, parents=True, exist_ok=True)
     except OSError as error:
         print(f"leasekeepd: {error.filename}: {error.strerror}", file=sys.stderr)
         return EXIT_FAULT

@@ -3,6 +3,7 @@
 from __future__ import annotations
 
 import asyncio
+import contextlib
 import grp
 import json
 import os
@@ -31,6 +32,7 @@ class ControlServer:
 
     async def start(self) -> None:
         """Listens; OSError or KeyError (no such group) where that fails."""
+        number = None if self._group is None else grp.getgrnam(self._group).gr_gid
         self._path.unlink(missing_ok=True)
         listener = socket.socket(socket.AF_UNIX, socket.SOCK_STREAM)
         before = os.umask(0o177)
@@ -38,8 +40,10 @@ class ControlServer:
             listener.bind(str(self._path))
         finally:
             os.umask(before)
-        if self._group is not None:
-            os.chown(self._path, -1, grp.getgrnam(self._group).gr_gid)
+        if number is not None:
+            os.chown(self._path, -1, number)
+            with contextlib.suppress(PermissionError):  # A folder of another's is as its owner wants it.
+                os.chown(self._path.parent, -1, number)
         os.chmod(self._path, MODE)
         self._server = await asyncio.start_unix_server(self._talk, sock=listener, limit=LINE_MOST)
 

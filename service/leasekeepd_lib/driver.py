@@ -196,6 +196,7 @@ class Driver:
 
     def hear(self, line: Line) -> None:
         """A line of the run: written to the log, and into the book."""
+        self._inbox.waiter.beat()
         entry = self._kept.find(line.name) if line.word in (Word.TOLD, Word.REFUSED, Word.LOST) else None
         if line.word is Word.SHORT:
             return  # It is told once it is known what it means.

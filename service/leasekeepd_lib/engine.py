@@ -62,6 +62,15 @@ class Engine:
         """The present moment, by the broker's clock where that differs."""
         return self._parts.clock.wall() + self.offset
 
+    def take(self, inventory: Inventory) -> None:
+        """Keeps another inventory from the next beginning on. What was learned of another credential is forgotten,
+        and of all under it."""
+        changed = [entry.name for entry in inventory.entries
+                   if (old := self.inventory.find(entry.name)) is None or old.secret != entry.secret]
+        for name in inventory.with_all_under(changed):
+            self.book.forget(name)
+        self.inventory = inventory
+
     def change_need(self, inventory: Inventory, name: str, until: int) -> bool:
         """Takes an inventory in which only that need is another, and hands the need to the run; False where the
         change calls for a beginning."""
@@ -112,7 +121,8 @@ class Engine:
         if survey is None:
             return self.inbox.take_reason() or "asked"
         self._take_offset(survey)
-        self.assignment = assign(inventory, survey, self.book, self._parts.clock.elapsed(), self._parts.log)
+        self.assignment = assign(inventory, survey, self.book, self._parts.clock.elapsed(), self.moment(),
+                                 self._parts.log)
         self._own.inventory = inventory
         for standing in self.book.standings.values():
             standing.cut_to = None

@@ -46,6 +46,10 @@ class Log:
         for listener in self.listeners:
             listener(level, text)
 
+    def quiet(self) -> Log:
+        """The same log for what nobody needs: nothing there is more than a note."""
+        return _QuietLog(self)
+
     def info(self, word: str, *words: object) -> None:
         self.say(Level.INFO, word, *words)
 
@@ -57,6 +61,16 @@ class Log:
 
     def alert(self, word: str, *words: object) -> None:
         self.say(Level.ALERT, word, *words)
+
+
+class _QuietLog(Log):
+    """A log that passes on, and warns of nothing."""
+
+    def __init__(self, log: Log) -> None:
+        self._log = log
+
+    def say(self, level: Level, word: str, *words: object) -> None:
+        self._log.say(Level.NOTE if level.is_alerted else level, word, *words)
 
 
 ALERT_SECONDS = 30.0

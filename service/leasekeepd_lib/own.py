@@ -93,7 +93,9 @@ class OwnWork:
         standing = self._book[entry.name]
         pauses = Pauses(self._chance)
         since = self._clock.elapsed()
-        if standing.end is not None and standing.renewable:
+        if not (entry.renewable if standing.facts is None else standing.renewable):
+            return
+        if standing.end is not None:
             left = standing.end - self._clock.elapsed()
             await asyncio.sleep(min(max(left - self.inventory.margin, 0.0), left / PART_OF_GRANT, MOST_BETWEEN)
                                 if left > 0 else 0.0)

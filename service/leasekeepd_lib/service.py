@@ -26,6 +26,8 @@ from .storage import Storage
 TOGETHER = 5.0
 """Seconds within which changes are one beginning."""
 METRICS_EVERY = 15.0
+ALIVE_WITHIN = 900.0
+"""Seconds without a sign of life from which on the engine counts as hung: its longest pause is 300."""
 _AFTER = re.compile(r"\+(\d{1,12})([smhd]?)", re.ASCII)
 _UNITS = {"": 1, "s": 1, "m": 60, "h": 3600, "d": 86400}
 
@@ -79,7 +81,7 @@ class Service:
             self._tell_fault(fault)
             self._log.alert("file", "is faulty: the last good copy is served")
             self._file = copy
-        self.engine.inventory = self._with_journal()
+        self.engine.take(self._with_journal())
 
     def reload(self) -> None:
         """Reads the file anew, as SIGHUP asks; a faulty one is refused and the old run goes on."""
@@ -90,7 +92,7 @@ class Service:
             self._log.alert("file", "is faulty: it is not taken, the old one is kept to")
             return
         self._keep_copy()
-        self.engine.inventory = self._with_journal()
+        self.engine.take(self._with_journal())
         self.engine.inbox.begin("the file was read anew")
 
     def _tell_fault(self, fault: SourceFault) -> None:
@@ -137,9 +139,16 @@ class Service:
         every = METRICS_EVERY if seconds is None else min(METRICS_EVERY, seconds / 3)
         while True:
             wake = self.engine.next_wake
-            self._around.notifier.send("WATCHDOG=1", f"STATUS=next wake-up {date_text(wake) if wake else 'none'}")
+            status = f"STATUS=next wake-up {date_text(wake) if wake else 'none'}"
+            if self._is_alive():
+                self._around.notifier.send("WATCHDOG=1", status)
             self._write_metrics()
             await asyncio.sleep(every)
+
+    def _is_alive(self) -> bool:
+        """Whether the engine has given a sign of life of late."""
+        beat = self.engine.inbox.waiter.last_beat
+        return beat is None or asyncio.get_running_loop().time() - beat < ALIVE_WITHIN
 
     def _write_metrics(self) -> None:
         if self._around.metrics is None:
@@ -178,7 +187,7 @@ class Service:
         """Writes a change, and makes it within five seconds."""
         changed = apply_judged(self.engine.inventory, change)
         self._around.journal.add(change)
-        self.engine.inventory = changed
+        self.engine.take(changed)
         self._log.info(change.what.value, change.name)
         self._begin_soon(f"{change.what.value} {change.name}")
         return []
@@ -198,7 +207,7 @@ class Service:
         self._around.journal.add(change)
         self._log.info("need", name, date_text(until))
         if self._soon is not None or not self.engine.change_need(changed, name, until):
-            self.engine.inventory = changed
+            self.engine.take(changed)
             self._begin_soon(f"need {name}")
         return [f"{name} is needed until {date_text(until)}"]
 
@@ -215,7 +224,6 @@ class Service:
         if heard.facts is not None and heard.facts.never_ends:
             raise ChangeFault(f"it never ends (ttl 0) and needs no keeping: {name} keeps the old one")
         self._change(self._described(change))
-        self.engine.book.forget(name)
         return [] if heard.verdict is Verdict.GOOD else [f"it could not be looked up ({heard.why}), and is taken"]
 
     def _add(self, table: str) -> list[str]:

@@ -103,6 +103,7 @@ class Surveyor:
 
     async def _entry(self, inventory: Inventory, entry: Entry, survey: Survey, passes: _Passes) -> None:
         heard = await self._broker.look_up(inventory, entry)
+        self._inbox.waiter.beat()
         survey.note_date(heard)
         name, standing = entry.name, self._book[entry.name]
         survey.failed.pop(name, None)

@@ -13,12 +13,17 @@ from pathlib import Path
 from unittest import mock
 
 from leasekeepd_lib import events
+from leasekeepd_lib import link as link_module
+from leasekeepd_lib.book import Standing
 from leasekeepd_lib.broker import Broker, Verdict, read_grant, read_lease_lookup, read_token_lookup
 from leasekeepd_lib.clock import SystemClock
 from leasekeepd_lib.events import Alerts, Level, Log
-from leasekeepd_lib.http_client import Address, HttpTransport, Request, TransportFault, read_response, request_bytes
+from leasekeepd_lib.http_client import (
+    Address, HttpTransport, Request, Response, TransportFault, read_response, request_bytes,
+)
 from leasekeepd_lib.inventory import Entry, Inventory, Kind, inventory_text
 from leasekeepd_lib.inventory_file import read_inventory
+from leasekeepd_lib.link import Link
 from leasekeepd_lib.rfc3339 import read_rfc3339
 from leasekeepd_lib.run_lines import LineFault, Word, read_line
 
@@ -205,6 +210,76 @@ class Bodies(unittest.TestCase):
             found = read_lease_lookup(json.dumps(body).encode(), LEASE.secret)
             self.assertEqual(None if found is None else (found.ttl, found.issued), (60, 900))
         self.assertIsNone(read_lease_lookup(json.dumps({"data": {**lease, "id": "x"}}).encode(), LEASE.secret))
+
+
+class Verdicts(unittest.TestCase):
+    def heard(self, status: int, entry: Entry, renewal: bool) -> Verdict:
+        async def go() -> Verdict:
+            transport = mock.Mock()
+            transport.request = mock.AsyncMock(return_value=Response(status, b"{}"))
+            broker = Broker(transport, FixedClock(), 5.0)
+            inventory = Inventory((TOKEN, LEASE))
+            if renewal:
+                return (await broker.renew(inventory, entry, 60)).verdict
+            return (await broker.look_up(inventory, entry)).verdict
+        return asyncio.run(go())
+
+    def test_what_a_status_means(self) -> None:
+        refused, failed = Verdict.REFUSED, Verdict.FAILED
+        for status, of_token, of_lease, of_renewal in (
+            (200, failed, failed, failed), (400, failed, refused, refused), (403, refused, refused, refused),
+            (404, refused, refused, refused), (405, failed, failed, refused), (429, failed, failed, failed),
+            (500, failed, failed, failed), (503, failed, failed, failed), (204, failed, failed, failed),
+        ):
+            with self.subTest(status=status):
+                self.assertIs(self.heard(status, TOKEN, False), of_token)
+                self.assertIs(self.heard(status, LEASE, False), of_lease)
+                for entry in (TOKEN, LEASE):
+                    self.assertIs(self.heard(status, entry, True), of_renewal)
+
+
+class Standings(unittest.TestCase):
+    def test_a_step_is_learned_of_two_grants_two_seconds_apart(self) -> None:
+        for apart, seconds, learned in ((1.5, 30, None), (2.5, 30, 30), (2.5, 29, None), (9.0, 60, None)):
+            standing = Standing()
+            standing.granted(TOKEN, 30, True, 100.0)
+            standing.granted(TOKEN, seconds, True, 100.0 + apart)
+            self.assertEqual(standing.learned_step, learned, (apart, seconds))
+        standing = Standing(learned_step=30)
+        standing.granted(TOKEN, 60, True, 100.0)
+        self.assertIsNone(standing.learned_step)
+
+    def test_a_ceiling_and_a_short_grant_are_told_apart(self) -> None:
+        for apart, seconds, leads_on, at_ceiling in (
+            (3.0, 27, False, True), (3.0, 30, True, False), (1.0, 29, None, False), (1.0, 30, None, False),
+            (3.0, 60, True, False), (3.0, 20, None, False), (300.0, 1, True, False),
+        ):
+            standing = Standing()
+            standing.granted(TOKEN, 30, True, 100.0)
+            with self.subTest(apart=apart, seconds=seconds):
+                self.assertEqual(standing.granted(TOKEN, seconds, True, 100.0 + apart), leads_on)
+                self.assertEqual(standing.at_ceiling, at_ceiling)
+
+
+class Links(unittest.TestCase):
+    def test_the_limits_of_event_input(self) -> None:
+        class Run:
+            async def read_line(self) -> str:
+                await asyncio.sleep(0)
+                return "planned"
+
+            async def write_line(self, line: str) -> None:
+                pass
+
+        async def handed(event: str, times: int) -> bool:
+            link = Link(Run(), 5.0, lambda line: None, lambda: None)  # type: ignore[arg-type]
+            for _ in range(times):
+                await link.hand_in(event)
+            link.stop()
+            return link.is_nearly_full
+        with mock.patch.multiple(link_module, LINES_MOST=3, BYTES_MOST=100):
+            self.assertEqual([asyncio.run(handed("tick 1", times)) for times in (2, 3)], [False, True])
+            self.assertEqual([asyncio.run(handed("x" * 49, times)) for times in (1, 2)], [False, True])
 
 
 class Texts(unittest.TestCase):

@@ -110,8 +110,8 @@ class Process(unittest.TestCase):
         daemon.wait_for("planned")
         wrong = daemon.command("need", "nobody", "+6h")
         self.assertEqual((wrong.returncode, wrong.stderr), (1, "leasekeepd: need: no entry is named nobody\n"))
-        self.assertIn('leasekeepd_end_seconds{entry="db"}', metrics.read_text())
         time.sleep(2)
+        self.assertIn('leasekeepd_end_seconds{entry="db"}', metrics.read_text())
         self.assert_alive()
         self.assertEqual(daemon.terminate(), 0)
         for secret in ("s.app-secret", "db/creds/1"):

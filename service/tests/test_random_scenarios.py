@@ -18,7 +18,7 @@ from .model.vault import Act, Fault, about, both, lookups, renewals
 from .model.world import simulate
 
 BEGAN = 1_000_000
-SCENARIOS = int(os.environ.get("SCENARIOS", "60"))
+SCENARIOS = int(os.environ.get("SCENARIOS", "40"))
 FIRST = int(os.environ.get("FIRST", "0"))
 
 
@@ -86,6 +86,21 @@ def happening(plot: Plot, stage: Stage) -> tuple[str, Callable[[float], Awaitabl
         await stage.stop()
         await stage.world.until(BEGAN + now + length)
         await stage.restart()
+    async def need_changed(_now: float) -> None:
+        """A need is given to an entry that lives long enough for it, or another one to an entry that has one. (Jumps of
+        the wall clock make a near need another one, for a broker that tells no `Date`.)"""
+        names = [entry.name for entry in stage.inventory.entries if all(
+            stage.vault.named(above.name).end > stage.world.now() + plot.margin + 20
+            for above in stage.inventory.over(entry.name))]
+        if not names:
+            return
+        name, until = chance.choice(names), int(stage.world.now()) + chance.randint(25_000, 30_000)
+        changed = stage.inventory.mapped(
+            lambda entry: replace(entry, need=until) if entry.name == name else entry)
+        stage.inventory = changed
+        if not stage.engine.change_need(changed, name, until):
+            stage.engine.take(changed)
+            stage.engine.inbox.begin("need")
     one = about(chance.choice([entry.name for entry in plot.inventory.entries]))
     return chance.choice((
         ("refuse", during(Act.REFUSE, 0, lambda request, name: True)),
@@ -100,7 +115,7 @@ def happening(plot: Plot, stage: Stage) -> tuple[str, Callable[[float], Awaitabl
         ("hang renewals of one", during(Act.HANG, 0, both(one, renewals))),
         ("drops renewals", during(Act.DROP, 0, renewals)),
         ("killed", killed), ("run killed", run_killed), ("suspended", suspended), ("jumped", jumped),
-        ("dead for a while", dead_for_a_while),
+        ("dead for a while", dead_for_a_while), ("need changed", need_changed), ("need changed", need_changed),
     ))
 
 

@@ -4,7 +4,9 @@ from __future__ import annotations
 
 import unittest
 from dataclasses import replace
+from unittest import mock
 
+from leasekeepd_lib import link as link_module
 from leasekeepd_lib.clock import RunClock
 from leasekeepd_lib.inventory import Entry, Inventory, Kind
 from leasekeepd_lib.inventory_file import read_inventory
@@ -97,6 +99,16 @@ class Time(Scenario):
                 self.assertEqual("warning: clock is 40 seconds" in self.stage.output.getvalue(), warned)
 
 
+    def test_a_run_is_begun_anew_before_the_limits_of_its_event_input(self) -> None:
+        async def scene(stage: Stage) -> None:
+            await stage.finish(1000)
+        with mock.patch.object(link_module, "LINES_MOST", 4):
+            self.play(fleet(1, 300, 20, 100), scene)
+        self.assertEqual([len(run.events) for run in self.stage.launcher.runs][:1], [4])
+        self.assertIn("begin the event input is nearly full", self.stage.output.getvalue())
+        self.assert_kept()
+
+
 class Beginnings(Scenario):
     def test_5_entries_near_their_end_are_renewed_right_behind_their_lookup(self) -> None:
         async def scene(stage: Stage) -> None:
@@ -164,6 +176,18 @@ class Beginnings(Scenario):
         assert last is not None
         self.assertEqual(len(last.entries), 5)
         self.assert_kept()
+
+    def test_8_what_nobody_needs_any_more_is_no_alert(self) -> None:
+        async def scene(stage: Stage) -> None:
+            await stage.until(100)
+            stage.engine.inbox.begin("asked")
+            await stage.finish(200)
+        inventory = fleet(3, 600, 60, 400)
+        past = Inventory(tuple(replace(entry, need=0, end=START + 50) if entry.name == "e1" else entry
+                               for entry in inventory.entries), 60)
+        self.play(past, scene)
+        self.assertTrue(any("note: gone e1 status 403" in line for line in self.stage.lines("gone")))
+        self.assertNotIn("alert", self.stage.output.getvalue())
 
     def test_9_what_is_aside_is_renewed_at_a_third_of_each_grant(self) -> None:
         async def scene(stage: Stage) -> None:

@@ -35,8 +35,7 @@ def find_program(name: str, may_build: bool = False) -> str | None:
     for program in (str(TOP / "crates" / name / "out" / name), shutil.which(name)):
         if program and is_live(name, program):
             return program
-    kept = sorted((TOP / "out" / "unproved").glob(f"{name}-*")) if (TOP / "out" / "unproved").is_dir() else []
-    for build in kept:
+    for build in sorted((TOP / "out" / "unproved").glob(f"{name}-*/{name}")):
         if is_live(name, str(build)):
             return str(build)
     if may_build and shutil.which("rt"):

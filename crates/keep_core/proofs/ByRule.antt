@@ -27,7 +27,7 @@ use Rattle.keep_core.specs.Replan.{IsPlanOf}
 use Rattle.keep_core.specs.Shorten.{pairs, shorten}
 use Rattle.keep_core.proofs.Forces.{still_forced}
 use Rattle.keep_core.proofs.Standing.{best_keepable, tail_kept}
-use Rattle.keep_core.proofs.Waiting.{kept_there, kept_test}
+use Rattle.keep_core.proofs.Waiting.{waits_flag}
 
 -- the moments of a least and latest plan rise strictly
 pub rises_strictly : (g : Grove) → IsForest g → (s : ℕ) (ts : List ℕ) → IsPlanOf g s ts → RisesStrictly s ts
@@ -46,18 +46,6 @@ next_is t x (y ∷ ys) at rises =
     let later : x.at + 1 ≤ y.at = rises.0 in
     let there : nat_lt t y.at ≡ true = grind (arith, nat_tests) in
     ap (λ b. cond b (Some x.at) (cond (nat_lt t y.at) (Some y.at) (next_after t ys))) here ∙ ap (λ b. cond b (Some y.at) (next_after t ys)) there
-
-asked_flag : (flags : List Bool) (i : ℕ) → list_any (λ j. j == i) (waited_for flags) ≡ true → flag flags i ≡ true
-unfolding waited_for
-asked_flag flags i asked = kept_test (flag flags) (length flags) 0 i asked
-
-flag_asked : (flags : List Bool) (i : ℕ) → flag flags i ≡ true → list_any (λ j. j == i) (waited_for flags) ≡ true
-unfolding waited_for
-flag_asked flags i yes' =
-    elim (cases_lt i (length flags)) [
-      | inl within ↦ kept_there (flag flags) (length flags) 0 i (omega arith) (omega arith) yes'
-      | inr past ↦ absurd (let no' : flag flags i ≡ false = get_or_past flags i false past in cc)
-    ]
 
 neither : (a b : Bool) → (a ≡ true → b ≡ true) → a && not b ≡ false
 neither true true f = refl
@@ -81,9 +69,9 @@ opens_by_rule h forest t x p at best forced flags same =
       forced = forced;
       margin = refl;
       count = refl;
-      asked = λ i yes'. ap (list_any (λ j. j == i)) (sym same) ∙ flag_asked flags i yes';
+      asked = λ i yes'. ap (list_any (λ j. j == i)) (sym same) ∙ waits_flag flags i ∙ yes';
       each = λ i.
-          let none = neither (asked i) (flag flags i) (λ yes'. asked_flag flags i (ap (list_any (λ j. j == i)) same ∙ yes')) in
+          let none = neither (asked i) (flag flags i) (λ yes'. sym (waits_flag flags i) ∙ ap (list_any (λ j. j == i)) same ∙ yes') in
           ap (λ b. record (entry_at h.entries i) { end = cond b (renewal (entry_at h.entries i) t) (entry_at h.entries i).end }) (sym none);
     }
 
@@ -144,7 +132,7 @@ more_by_rule h t p flags rule i end there within yes' is =
 no_flag : (flags : List Bool) (i : ℕ) → waited_for flags ≡ [] → flag flags i ≡ false
 no_flag flags i none = elim (cases_Bool (flag flags i)) [
   | inr no' ↦ no'
-  | inl yes' ↦ absurd (let bad : true ≡ false = sym (flag_asked flags i yes') ∙ ap (list_any (λ j. j == i)) none in cc)
+  | inl yes' ↦ absurd (let bad : true ≡ false = sym (waits_flag flags i ∙ yes') ∙ ap (list_any (λ j. j == i)) none in cc)
 ]
 
 and_true : (b : Bool) → b && true ≡ b

@@ -44,7 +44,7 @@ pub record Takes (h : Grove) (r : OpenRound) (event : Event) : Type 0 where
   pub waits : flag r.waiting.items (of_entry event) ≡ true
 
 pub flag_waits : (flags : List Bool) (round : Option Round) (at i : ℕ) → i < length flags → round ≡ Some (record { at = at; unanswered = waited_for flags }) → waits_for round i ≡ true → flag flags i ≡ true
-flag_waits flags round at i within is waits = sym (waits_flag flags i within) ∙ sym (ap (λ o. waits_for o i) is) ∙ waits
+flag_waits flags round at i within is waits = sym (waits_flag flags i) ∙ sym (ap (λ o. waits_for o i) is) ∙ waits
 
 pub takes : (s : State) (p : Planned) (r : OpenRound) (event : Event) → s.round ≡ seen (Some r) → IsOpen s.forest s.last p r → IsAnswer event → refusal s event ≡ None → Takes s.forest r event
 takes s p r event is round_is answer none =
@@ -80,7 +80,7 @@ some_is r n is = ap (λ (o : Option OpenRound). elim o [ None ↦ r | Some x ↦
 
 -- its entry is waited for
 waits_in_round : (r : OpenRound) (event : Event) {h : Grove} → Takes h r event → waits_for (Some (shown r)) (of_entry event) ≡ true
-waits_in_round r event taken = waits_flag r.waiting.items (of_entry event) taken.there ∙ taken.waits
+waits_in_round r event taken = waits_flag r.waiting.items (of_entry event) ∙ taken.waits
 
 -- and it leaves a forest
 pub answered_keeper : (h : Grove) (last : ℕ) (p : Planned) (r : OpenRound) (event : Event) → IsKeeper h last p (Some r) → Takes h r event → IsForest (change h (of_entry event) (answered r.at event))

@@ -1,5 +1,5 @@
 -- What planning anew made: a state that is planned anew, and parts of a keeper that belong together.
-use Rattle.std.proofs.Common.{◌≡◌, ◌∙◌, ℕ, suc, ◌<◌, ◌≤◌, ◌++◌, List, [], ◌∷◌, Option, Some, None, length, refl, ap, subst, arith}
+use Rattle.std.proofs.Common.{◌≡◌, ◌∙◌, ℕ, suc, ◌<◌, ◌≤◌, ◌++◌, List, [], ◌∷◌, Option, Some, None, length, refl, sym, ap, subst, arith}
 use Rattle.keep_moment.specs.declared.moment.TheConstants.{LAST}
 use Rattle.keep_tree.specs.declared.entry.Entry.{Entry}
 use Rattle.keep_tree.specs.Carried.{carried}
@@ -15,10 +15,11 @@ use Rattle.keep_plan.specs.Planned.{Planned, to_come}
 use Rattle.keep_core.specs.declared.round.OpenRound.{OpenRound}
 use Rattle.keep_core.specs.declared.shortened.ShortNeed.{ShortNeed}
 use Rattle.keep_core.specs.InForce.{AllForcedAs}
-use Rattle.keep_core.specs.Keeping.{IsKeeper, seen}
+use Rattle.keep_core.specs.Keeping.{IsKeeper, seen, shown, waited_for}
 use Rattle.keep_core.specs.Replan.{IsPlanOf, Replan}
 use Rattle.keep_core.specs.Shorten.{pairs, shorten}
-use Rattle.keep_core.specs.State.{State}
+use Rattle.keep_core.specs.State.{Round, State}
+use Rattle.keep_core.specs.States.{IsOpened, IsState}
 
 pub count_moments : (xs : List Force) → length (moments_of xs) ≡ length xs
 count_moments [] = refl
@@ -70,3 +71,30 @@ made_keeper h t p forest late kept = record {
 pub none_seen : (round : Option OpenRound) → seen round ≡ None → round ≡ None
 none_seen None e = refl
 none_seen (Some r) e = absurd cc
+
+-- what callers see of the parts of a keeper is a state
+pub keeper_state : (h : Grove) (last : ℕ) (p : Planned) (round : Option OpenRound) (list : List ShortNeed) → IsKeeper h last p round →
+    IsState (record { forest = h; last = last; to_come = moments_of (to_come p); round = seen round; shortened = list })
+keeper_state h last p None list k = record {
+  forest = k.forest;
+  last = k.late;
+  open_since = λ round is. absurd cc;
+  waits = λ round is nobody. absurd cc;
+  opened = λ round is. absurd cc;
+  sound = λ _. (k.best refl, (let l = count_moments (to_come p) in let n = k.few in omega arith));
+}
+keeper_state h last p (Some r) list k =
+    let o = k.open_round r refl in
+    record {
+      forest = k.forest;
+      last = k.late;
+      open_since = λ round is. (let same : shown r ≡ round = cc in ap (λ (x : Round). x.at) (sym same) ∙ o.at);
+      waits = λ round is nobody.
+          let same : shown r ≡ round = cc in
+          let none : length (waited_for r.waiting.items) ≡ 0 = ap (λ (x : Round). length x.unanswered) same ∙ ap length nobody in
+          let left = o.left in
+          let some = o.some in
+          absurd (omega arith);
+      opened = λ round is. (let same : shown r ≡ round = cc in subst (IsOpened h (moments_of (to_come p))) same o.opened);
+      sound = λ closed. absurd cc;
+    }

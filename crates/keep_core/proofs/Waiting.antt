@@ -1,7 +1,8 @@
 -- The flags of an open round: who is waited for, and one answer more.
 use Rattle.std.proofs.Common.{◌≡◌, ◌==◌, ◌∙◌, ℕ, zero, suc, ◌+◌, ◌<◌, ◌≤◌, Bool, true, false, cond, List, ◌∷◌, filter, length, refl, sym, ap, subst, arith, inl, inr}
-use Rattle.std.proofs.lemmas.Bool.{cases_Bool, cases_eq}
+use Rattle.std.proofs.lemmas.Bool.{cases_Bool, cases_eq, cases_lt}
 use Rattle.std.proofs.lemmas.Bool.Decides.{nat_tests}
+use Rattle.std.proofs.lemmas.List.{get_or_past}
 use Rattle.std.specs.List.{list_any, range_with_len}
 use Rattle.keep_tree.proofs.Carrying.{or_left, or_parts, or_right}
 use Rattle.keep_core.specs.Keeping.{flag, waited_for}
@@ -32,11 +33,14 @@ kept_there p (suc n) a i low high e =
           ]
     ]
 
--- whether an entry is among those that are waited for: its flag
-pub waits_flag : (flags : List Bool) (i : ℕ) → i < length flags → list_any (λ j. j == i) (waited_for flags) ≡ flag flags i
+-- whether an entry is among those that are waited for: its flag, and none past the flags
+pub waits_flag : (flags : List Bool) (i : ℕ) → list_any (λ j. j == i) (waited_for flags) ≡ flag flags i
 unfolding waited_for
-waits_flag flags i within = elim (cases_Bool (flag flags i)) [
-  | inl yes' ↦ kept_there (flag flags) (length flags) 0 i (omega arith) (omega arith) yes' ∙ sym yes'
+waits_flag flags i = elim (cases_Bool (flag flags i)) [
+  | inl yes' ↦ elim (cases_lt i (length flags)) [
+    | inl within ↦ kept_there (flag flags) (length flags) 0 i (omega arith) (omega arith) yes' ∙ sym yes'
+    | inr past ↦ absurd (let no' : flag flags i ≡ false = get_or_past flags i false past in cc)
+  ]
   | inr no' ↦ not_kept (list_any (λ j. j == i) (filter (flag flags) (range_with_len 0 (length flags)))) (kept_test (flag flags) (length flags) 0 i) no'
 ] where
   not_kept : (b : Bool) → (b ≡ true → flag flags i ≡ true) → flag flags i ≡ false → b ≡ flag flags i

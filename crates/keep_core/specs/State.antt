@@ -1,6 +1,6 @@
 -- State: what an executor holds between two events.
 -- Source: this project's own.
-use Rattle.std.specs.Prelude.{ℕ, List, [], Option, None}
+use Rattle.std.specs.Prelude.{ℕ, List, [], Option, Some, None}
 use Rattle.keep_tree.specs.Forest.{Grove}
 use Rattle.keep_core.specs.declared.shortened.ShortNeed.{ShortNeed}
 
@@ -8,6 +8,11 @@ use Rattle.keep_core.specs.declared.shortened.ShortNeed.{ShortNeed}
 pub record Round : Type 0 where
   pub at : ℕ
   pub unanswered : List ℕ
+
+-- the moment of a round, where one is open
+abbrev pub moment_of : Option Round → Option ℕ
+moment_of None = None
+moment_of (Some round) = Some round.at
 
 -- the forest, with ends as told and needs in force; the last moment; the moments to come; the round that is open, if any;
 -- and the needs that were shortened

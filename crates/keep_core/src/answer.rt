@@ -100,7 +100,14 @@ impl Keeper {
             return Ok(());
         }
         let alloc = *self.shortened.allocator();
-        match replan_with_answer(alloc, &mut self.forest, &mut self.shortened, i, event, round.at) {
+        match replan_with_answer(
+            alloc,
+            &mut self.forest,
+            &mut self.shortened,
+            i,
+            event,
+            round.at,
+        ) {
             Ok(plan) => {
                 self.plan = plan;
                 Ok(())

@@ -6,8 +6,10 @@ ghost use Rattle.keep_rule.specs.Runs.{moments_of};
 ghost use Rattle.keep_plan.specs.Planned.{to_come};
 ghost use Rattle.keep_core.specs.InForce.{AllForcedAs, InForce};
 ghost use Rattle.keep_core.specs.Passes.{PlanFails};
+ghost use Rattle.keep_core.specs.Refusal.{waits_for};
 ghost use Rattle.keep_core.specs.Replan.{Replan};
-ghost use Rattle.keep_core.specs.State.{unplanned};
+ghost use Rattle.keep_core.specs.State.{moment_of, unplanned};
+ghost use Rattle.keep_core.specs.States.{IsState};
 
 use crate::fault::StepFault;
 use crate::replan::replan;
@@ -78,6 +80,35 @@ impl Keeper {
         ensures { result.now ≡ self.now.forest }
     {
         &self.forest
+    }
+
+    /// The forest as `forest` lends it, where the keeper is needed no more.
+    pub fn into_forest(self) -> Forest
+        ensures { result ≡ self.forest }
+    {
+        self.forest
+    }
+
+    /// The moment of the open round, `None` where no round is open. The contract says beside it what every keeper is: a round is
+    /// open since the last moment and waits for somebody, and the plan is in force whenever no round is open.
+    pub fn open_round(&self) -> Option<Moment>
+        ensures value { result ≡ moment_of self.now.round }
+        ensures state { IsState self.now }
+    {
+        match &self.round {
+            None => None,
+            Some(round) => Some(round.at),
+        }
+    }
+
+    /// Whether a round is open that waits for the answer of this entry. An index past the entries is waited for by none.
+    pub fn waits_for(&self, i: u32) -> bool
+        ensures { result ≡ waits_for self.now.round i }
+    {
+        match &self.round {
+            None => false,
+            Some(round) => i < self.forest.len() && round.waiting[i as usize],
+        }
     }
 
     /// The first moment of the plan in force, `None` where it is empty.

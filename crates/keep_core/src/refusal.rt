@@ -1,5 +1,5 @@
-ghost use Rattle.std.specs.Prelude.{◌≡◌, ◌<◌, length};
-ghost use Rattle.keep_core.specs.Refusal.{refusal, unless_asked, unless_closed, waits_for};
+ghost use Rattle.std.specs.Prelude.{◌≡◌};
+ghost use Rattle.keep_core.specs.Refusal.{refusal, unless_asked, unless_closed};
 
 use crate::event::Event;
 use crate::fault::StepFault;
@@ -66,17 +66,6 @@ impl Keeper {
             None
         } else {
             Some(StepFault::NotAsked)
-        }
-    }
-
-    /// Whether the open round, if there is one, waits for the answer of this entry.
-    fn waits_for(&self, i: u32) -> bool
-        requires { i < length self.now.forest.entries }
-        ensures { result ≡ waits_for self.now.round i }
-    {
-        match &self.round {
-            None => false,
-            Some(round) => round.waiting[i as usize],
         }
     }
 }

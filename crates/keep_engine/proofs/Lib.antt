@@ -1,11 +1,9 @@
 pub mod Lines
-pub mod Counting
-pub mod Outcomes
+pub mod Delivered
 pub mod Judgements
 pub mod Own
 pub mod OneText
 mod Sizes
 mod OwnText
-mod OneRun
-pub mod Tellings
+pub mod Obeying
 mod SameRun

@@ -1,10 +1,11 @@
--- One text: what `plan` and `check` write is a function of the forest, the start and the certificate.
-use Rattle.std.proofs.Common.{◌≡◌, ◌∙◌, ℕ, zero, suc, ◌+◌, ◌-◌, ◌<◌, ◌≤◌, ◌++◌, List, [], ◌∷◌, Some, None, length, refl, sym, ap, subst, arith, inl, inr}
+-- One text: what `ends`, `plan` and `check` write is a function of the forest, the start, the moments and the certificate.
+use Rattle.std.proofs.Common.{◌≡◌, ◌∙◌, ◌↔◌, Bool, true, false, IsTrue, ℕ, zero, suc, ◌+◌, ◌-◌, ◌<◌, ◌≤◌, ◌++◌, List, [], ◌∷◌, Some, None, length, refl, sym, ap, subst, arith, inl, inr}
 use Rattle.std.proofs.lemmas.Bool.{cases_lt}
 use Rattle.std.proofs.lemmas.List.{append_cancel_left}
 use Rattle.keep_tree.specs.Carried.{IsFrom}
 use Rattle.keep_tree.specs.Forest.{Grove, end_of}
 use Rattle.keep_tree.specs.Push.{IsForest}
+use Rattle.keep_rule.specs.Ends.{ends_after}
 use Rattle.keep_rule.specs.declared.force.Force.{Force}
 use Rattle.keep_rule.specs.declared.run.Run.{Run}
 use Rattle.keep_rule.specs.Runs.{AreRuns, IsRun, all_wakes, wakes, wakes_of}
@@ -20,9 +21,10 @@ use Rattle.keep_cert.proofs.ReadBackAll.{written_is_read}
 use Rattle.keep_check.specs.declared.answer.Answer.TheVariants.{No, Yes}
 use Rattle.keep_check.specs.Answer.{IsAnswer}
 use Rattle.keep_check.proofs.Answers.{one_answer}
-use Rattle.keep_engine.specs.declared.exit.Exit.TheVariants as exits
+use Rattle.keep_report.specs.declared.exit.Exit.TheVariants as exits
 use Rattle.keep_engine.specs.CheckRun.{IsAccepted, IsJudged, IsRefused, IsUnreadable}
 use Rattle.keep_engine.specs.CheckText.{no_line, unreadable_line}
+use Rattle.keep_engine.specs.EndsText.{IsEndsText, all_asked, end_lines, keeps_line}
 use Rattle.keep_engine.specs.Laws.{OneCheckText, OnePlanText}
 use Rattle.keep_engine.specs.PlanRun.{IsPairText, IsPlanText}
 
@@ -201,3 +203,16 @@ one_check_text g text exits.Unkeepable exit line other forest a b = absurd a
 one_check_text g text exits.TooLong exit line other forest a b = absurd a
 one_check_text g text exits.Device exit line other forest a b = absurd a
 one_check_text g text exits.Memory exit line other forest a b = absurd a
+
+-- ---- ends
+
+same_truth : (a b : Bool) (P : Type 0) → (IsTrue a ↔ P) → (IsTrue b ↔ P) → a ≡ b
+same_truth true true P f g = refl
+same_truth false false P f g = refl
+same_truth true false P f g = absurd (let both : IsTrue false = g.1 (f.0 refl) in cc)
+same_truth false true P f g = absurd (let both : IsTrue false = f.1 (g.0 refl) in cc)
+
+pub one_ends_text : (g : Grove) (s : ℕ) (at text other : List ℕ) → IsEndsText g s at text → IsEndsText g s at other → text ≡ other
+one_ends_text g s at text other a b =
+    a.spelled ∙ ap (λ k. end_lines g.entries (ends_after g.entries g.margin (end_of g.entries) (all_asked (length g.entries) at)) (length g.entries) ++ keeps_line k) (same_truth a.kept b.kept _ a.judged b.judged)
+    ∙ sym b.spelled

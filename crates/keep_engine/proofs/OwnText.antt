@@ -17,8 +17,8 @@ use Rattle.keep_check.specs.Answer.{IsAnswer}
 use Rattle.keep_check.proofs.Answers.{yes_holds}
 use Rattle.keep_check.proofs.Written.{body_fits}
 use Rattle.keep_inventory.proofs.Inventoried.{inventory_law}
-use Rattle.keep_engine.specs.declared.exit.Exit.{Exit}
-use Rattle.keep_engine.specs.declared.exit.Exit.TheVariants as exits
+use Rattle.keep_report.specs.declared.exit.Exit.{Exit}
+use Rattle.keep_report.specs.declared.exit.Exit.TheVariants as exits
 use Rattle.keep_engine.specs.declared.limits.TheConstants.{MOST_CERTIFICATE}
 use Rattle.keep_engine.specs.CheckRun.{IsAccepted}
 use Rattle.keep_engine.specs.Laws.{IsOwnText, OwnTextLaw}

@@ -14,13 +14,11 @@ use Rattle.keep_check.specs.Answer.{IsAnswer}
 use Rattle.keep_check.specs.Fit.{CanBeJudged}
 use Rattle.keep_inventory.specs.Stock.{Stock}
 use Rattle.keep_inventory.specs.Inventory.{inventory}
-use Rattle.keep_engine.specs.declared.exit.Exit.{Exit}
-use Rattle.keep_engine.specs.declared.exit.Exit.TheVariants as exits
+use Rattle.keep_report.specs.declared.exit.Exit.{Exit}
+use Rattle.keep_report.specs.declared.exit.Exit.TheVariants as exits
 use Rattle.keep_engine.specs.declared.limits.TheConstants.{MOST_CERTIFICATE}
 use Rattle.keep_engine.specs.CheckRun.{IsAccepted, IsJudged}
-use Rattle.keep_engine.specs.PlanRun.{IsCertified, WritesCertified}
-use Rattle.keep_engine.specs.Output.{Output}
-use Rattle.std.specs.Io.KnownBytes.{Appends}
+use Rattle.keep_engine.specs.PlanRun.{IsCertified}
 
 -- what is printed of a decision for a forest is read back over it as a certificate that can be judged, and each right
 -- answer to that is Yes
@@ -49,9 +47,3 @@ OnePlanText = (g : Grove) (s : ℕ) (exit exit' : Exit) (text other : List ℕ) 
 abbrev pub OneCheckText : Type 0
 OneCheckText =
     (g : Grove) (text : List ℕ) (exit exit' : Exit) (line other : List ℕ) → IsForest g → IsJudged g text exit line → IsJudged g text exit' other → (exit ≡ exit') × (line ≡ other)
-
--- two inventories with one forest, as those that differ in credentials alone: what `plan` writes of them is one text, and the exits are one
-abbrev pub OnePlanRun : Type 0
-OnePlanRun =
-    (bytes bytes' : List ℕ) (stock stock' : Stock) (s : ℕ) (exit exit' : Exit) (out out' : Output) → inventory bytes ≡ Ok stock → inventory bytes' ≡ Ok stock' → stock.grove ≡ stock'.grove →
-    WritesCertified bytes s exit out → WritesCertified bytes' s exit' out' → (exit ≡ exit') × ((text : List ℕ) × (Appends out.old out.new text × Appends out'.old out'.new text))

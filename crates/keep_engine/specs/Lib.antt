@@ -1,13 +1,12 @@
-pub mod Exits
-pub mod Output
+pub mod Running
 pub mod EndsText
 pub mod EndsRun
-pub mod Answers
 pub mod PlanRun
-pub mod PlanAnswers
 pub mod CheckText
 pub mod CheckRun
 pub mod CheckAnswers
-pub mod FaultLine
+pub mod From
+pub mod Obeys
+pub mod Making
 pub mod Laws
 pub mod Secrecy

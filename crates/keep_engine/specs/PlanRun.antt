@@ -1,7 +1,6 @@
--- The run `plan`: what it has written, and when it gives which exit.
+-- The run `plan`: which text goes with which exit, and when there is none.
 -- Source: this project's own, over Vault, "Lease, renew, and revoke", and Vault, "Tokens".
-use Rattle.std.specs.Prelude.{◌≡◌, ℕ, IsTrue, ◌⊎◌, List, Ok, Err}
-use Rattle.std.specs.Io.KnownBytes.{Keeps}
+use Rattle.std.specs.Prelude.{◌≡◌, ℕ, List}
 use Rattle.keep_tree.specs.Forest.{Grove}
 use Rattle.keep_rule.specs.declared.run.Run.{Run}
 use Rattle.keep_plan.specs.declared.decision.Decision.{Decision}
@@ -11,14 +10,11 @@ use Rattle.keep_plan.specs.Shortfall.{IsShortfall}
 use Rattle.keep_cert.specs.declared.cert.Body.TheVariants as body
 use Rattle.keep_cert.specs.CertificateText.{certificate_text}
 use Rattle.keep_cert.specs.Printing.{certified}
-use Rattle.keep_inventory.specs.declared.fault.InvFault.{InvFault}
-use Rattle.keep_inventory.specs.Stock.{Stock}
-use Rattle.keep_inventory.specs.Inventory.{inventory}
-use Rattle.keep_device.specs.Failures.{HasFailed}
-use Rattle.keep_device.specs.Front.{AppendsFront}
-use Rattle.keep_engine.specs.declared.exit.Exit.{Exit}
-use Rattle.keep_engine.specs.declared.exit.Exit.TheVariants as exits
-use Rattle.keep_engine.specs.Output.{Output, Sent}
+use Rattle.keep_report.specs.declared.exit.Exit.{Exit}
+use Rattle.keep_report.specs.declared.exit.Exit.TheVariants as exits
+use Rattle.keep_report.specs.declared.stop.Stop.TheVariants as stops
+use Rattle.keep_report.specs.Sent.{Sent}
+use Rattle.keep_engine.specs.Running.{Halts, RunOf, Texts}
 
 -- the certificate of runs whose wake-ups are the forces from s on: their moments are least and latest, and with their Asks
 -- they keep
@@ -41,25 +37,19 @@ IsCertified g s exits.Done text = IsPlanText g s text
 IsCertified g s exits.Unkeepable text = IsPairText g s text
 IsCertified g s exit text = ⊥
 
+-- no plan that keeps is short enough
+abbrev pub PlanHalts : ℕ → Halts
+PlanHalts s g stop = (stop ≡ stops.TooLong) × IsTooLong g s
+
+abbrev pub PlanTexts : ℕ → Texts
+PlanTexts s g exit text = IsCertified g s exit text
+
+-- `plan` over the bytes of an inventory
+abbrev pub PlanRun : List ℕ → ℕ → Exit → Sent → Sent → Type 0
+PlanRun bytes s exit out errors = RunOf (PlanTexts s) (PlanHalts s) bytes exit out errors
+
+-- the exit that goes with a decision
 abbrev pub decided_exit : Decision → Exit
 decided_exit (decision.Keep p) = exits.Done
 decided_exit (decision.Unkeepable entry needed) = exits.Unkeepable
 decided_exit decision.TooLong = exits.TooLong
-
--- the text of this exit for the inventory's forest was written
-abbrev pub WritesCertified : List ℕ → ℕ → Exit → Output → Type 0
-WritesCertified bytes s exit out = (stock : Stock) × (inventory bytes ≡ Ok stock) × (text : List ℕ) × IsCertified stock.grove s exit text × Sent text out
-
--- no more than a front of the text for the inventory's forest was written
-abbrev pub WritesFront : List ℕ → ℕ → Output → Type 0
-WritesFront bytes s out = (stock : Stock) × (inventory bytes ≡ Ok stock) × (exit : Exit) × (text : List ℕ) × IsCertified stock.grove s exit text × AppendsFront out.old out.new text
-
--- `plan` over the bytes of an inventory, by exit
-abbrev pub PlanRun : List ℕ → ℕ → Exit → Output → Type 0
-PlanRun bytes s exits.Done out = WritesCertified bytes s exits.Done out
-PlanRun bytes s exits.Unkeepable out = WritesCertified bytes s exits.Unkeepable out
-PlanRun bytes s exits.TooLong out = (stock : Stock) × (inventory bytes ≡ Ok stock) × IsTooLong stock.grove s × Keeps out.old out.new
-PlanRun bytes s exits.Inventory out = (fault : InvFault) × (inventory bytes ≡ Err fault) × Keeps out.old out.new
-PlanRun bytes s exits.Device out = HasFailed out.failed_before out.failed_after × WritesFront bytes s out
-PlanRun bytes s exits.Memory out = Keeps out.old out.new ⊎ (IsTrue out.is_in_memory × WritesFront bytes s out)
-PlanRun bytes s exit out = ⊥

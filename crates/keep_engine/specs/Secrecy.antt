@@ -5,12 +5,12 @@ use Rattle.keep_device.specs.Front.{AppendsFront}
 use Rattle.keep_inventory.specs.Bare.{AreAlike}
 use Rattle.keep_inventory.specs.Stock.{Stock}
 use Rattle.keep_inventory.specs.Inventory.{inventory}
-use Rattle.keep_engine.specs.declared.exit.Exit.{Exit}
-use Rattle.keep_engine.specs.declared.exit.Exit.TheVariants as exits
+use Rattle.keep_report.specs.declared.exit.Exit.{Exit}
+use Rattle.keep_report.specs.declared.exit.Exit.TheVariants as exits
 use Rattle.keep_engine.specs.CheckRun.{CheckRun}
 use Rattle.keep_engine.specs.EndsRun.{EndsRun}
-use Rattle.keep_engine.specs.FaultLine.{EndsTold, Reports, Told}
-use Rattle.keep_engine.specs.Output.{Output}
+use Rattle.keep_report.specs.Told.{Reports}
+use Rattle.keep_report.specs.Sent.{Sent}
 use Rattle.keep_engine.specs.PlanRun.{PlanRun}
 
 -- two good inventories whose documents differ in the keys `secret` and `lease_id` and their values alone
@@ -28,35 +28,34 @@ IsWhole exits.Memory = ⊥
 IsWhole exit = Unit {0}
 
 -- two runs wrote the same
-abbrev pub WriteSame : Output → Output → Type 0
+abbrev pub WriteSame : Sent → Sent → Type 0
 WriteSame out other = (text : List ℕ) × Appends out.old out.new text × Appends other.old other.new text
 
 -- of one text each of two runs wrote a front, and nothing else
-abbrev pub WriteFronts : Output → Output → Type 0
+abbrev pub WriteFronts : Sent → Sent → Type 0
 WriteFronts out other = (text : List ℕ) × AppendsFront out.old out.new text × AppendsFront other.old other.new text
 
 -- two runs reported by one fault line, or both by none
-abbrev pub TellSame : Output → Output → Type 0
-TellSame faults other = (line : List ℕ) × Reports line faults × Reports line other
+abbrev pub TellSame : Sent → Sent → Type 0
+TellSame errors other = (line : List ℕ) × Reports line errors × Reports line other
 
 -- two runs: on `out` they write fronts of one text; and where both come to their end they have one exit, write one text,
 -- and report by one line
-abbrev pub RunAlike : Exit → Exit → Output → Output → Output → Output → Type 0
-RunAlike exit exit' out out' faults faults' =
-    WriteFronts out out' × (IsWhole exit → IsWhole exit' → (exit ≡ exit') × WriteSame out out' × TellSame faults faults')
+abbrev pub RunAlike : Exit → Exit → Sent → Sent → Sent → Sent → Type 0
+RunAlike exit exit' out out' errors errors' =
+    WriteFronts out out' × (IsWhole exit → IsWhole exit' → (exit ≡ exit') × WriteSame out out' × TellSame errors errors')
 
 abbrev pub EndsSecrecy : Type 0
 EndsSecrecy =
-    (bytes other : List ℕ) (s : ℕ) (moments : List ℕ) (exit exit' : Exit) (out out' faults faults' : Output) → DifferInSecrets bytes other →
-    EndsRun bytes s moments exit out → EndsTold bytes s moments exit faults → EndsRun other s moments exit' out' → EndsTold other s moments exit' faults' →
-    RunAlike exit exit' out out' faults faults'
+    (bytes other : List ℕ) (s : ℕ) (moments : List ℕ) (exit exit' : Exit) (out out' errors errors' : Sent) → DifferInSecrets bytes other →
+    EndsRun bytes s moments exit out errors → EndsRun other s moments exit' out' errors' → RunAlike exit exit' out out' errors errors'
 
 abbrev pub PlanSecrecy : Type 0
 PlanSecrecy =
-    (bytes other : List ℕ) (s : ℕ) (exit exit' : Exit) (out out' faults faults' : Output) → DifferInSecrets bytes other →
-    PlanRun bytes s exit out → Told bytes exit faults → PlanRun other s exit' out' → Told other exit' faults' → RunAlike exit exit' out out' faults faults'
+    (bytes other : List ℕ) (s : ℕ) (exit exit' : Exit) (out out' errors errors' : Sent) → DifferInSecrets bytes other →
+    PlanRun bytes s exit out errors → PlanRun other s exit' out' errors' → RunAlike exit exit' out out' errors errors'
 
 abbrev pub CheckSecrecy : Type 0
 CheckSecrecy =
-    (bytes other text : List ℕ) (exit exit' : Exit) (out out' faults faults' : Output) → DifferInSecrets bytes other →
-    CheckRun bytes text exit out → Told bytes exit faults → CheckRun other text exit' out' → Told other exit' faults' → RunAlike exit exit' out out' faults faults'
+    (bytes other text : List ℕ) (exit exit' : Exit) (out out' errors errors' : Sent) → DifferInSecrets bytes other →
+    CheckRun bytes text exit out errors → CheckRun other text exit' out' errors' → RunAlike exit exit' out out' errors errors'

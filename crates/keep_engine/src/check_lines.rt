@@ -2,12 +2,12 @@ ghost use Rattle.std.specs.Prelude.{◌≡◌, IfOk, Some, length};
 ghost use Rattle.std.specs.Result.{IfErr};
 ghost use Rattle.keep_engine.specs.CheckText.{no_line, not_kept, numbered, unreadable_line};
 ghost use Rattle.keep_engine.specs.CheckAnswers.{IsNamed};
-ghost use Rattle.keep_engine.specs.declared.stop.Stop.TheVariants.{Memory};
+ghost use Rattle.keep_report.specs.declared.stop.Stop.TheVariants.{Memory};
 
-use crate::stop::Stop;
 use keep_cert::CertFault;
 use keep_check::Cause;
 use keep_moment::{Name, Text};
+use keep_report::Stop;
 use keep_tree::Forest;
 use std::alloc::{AllocError, Global};
 

@@ -1,15 +1,16 @@
 ghost use Rattle.std.specs.Prelude.{IfOk};
 ghost use Rattle.keep_check.specs.Fit.{CanBeJudged};
-ghost use Rattle.keep_engine.specs.CheckAnswers.{Checks, ChecksForest, Judges};
+ghost use Rattle.keep_engine.specs.CheckAnswers.{VerdictTexts};
+ghost use Rattle.keep_engine.specs.CheckRun.{CheckHalts, CheckTexts};
+ghost use Rattle.keep_engine.specs.Making.{Makes, MakesOf};
 
 use crate::check_lines::{no_line, unreadable_line};
-use crate::exit::Exit;
 use crate::outcome::Outcome;
-use crate::stop::Stop;
 use keep_cert::Cert;
-use keep_check::{Answer, check};
+use keep_check::{Answer, CheckFault, check};
 use keep_inventory::read;
 use keep_moment::Text;
+use keep_report::{Exit, Stop};
 use keep_tree::Forest;
 use std::alloc::Global;
 
@@ -19,7 +20,7 @@ pub(crate) fn check_text(
     inventory: &[u8],
     certificate: &[u8],
 ) -> Result<Outcome, Stop>
-    ensures { Checks inventory.now certificate.now result }
+    ensures { Makes (CheckTexts certificate.now) CheckHalts inventory.now result }
 {
     let inventory = read(alloc, inventory)?;
     judge_text(alloc, inventory.forest(), certificate)
@@ -28,7 +29,7 @@ pub(crate) fn check_text(
 /// The line about a text over a forest, from its names and numbers alone.
 #[tactic(auto, using(crate::proofs::Judgements::text_judged, crate::proofs::Judgements::text_unreadable, keep_check::proofs::Written::written_fits))]
 fn judge_text(alloc: Global, forest: &Forest, certificate: &[u8]) -> Result<Outcome, Stop>
-    ensures { ChecksForest forest.now certificate.now result }
+    ensures { MakesOf (CheckTexts certificate.now) CheckHalts forest.now result }
 {
     match keep_cert::read(alloc, forest, certificate) {
         Ok(cert) => judge(alloc, forest, &cert),
@@ -43,14 +44,15 @@ fn judge_text(alloc: Global, forest: &Forest, certificate: &[u8]) -> Result<Outc
 #[tactic(auto, using(crate::proofs::Judgements::cause_named))]
 fn judge(alloc: Global, forest: &Forest, cert: &Cert) -> Result<Outcome, Stop>
     requires { CanBeJudged forest.now cert.now.body }
-    ensures { Judges forest.now cert.now result }
+    ensures { MakesOf (VerdictTexts cert.now) CheckHalts forest.now result }
 {
-    match check(alloc, forest, cert)? {
-        Answer::Yes => Ok(Outcome {
+    match check(alloc, forest, cert) {
+        Err(CheckFault::OutOfMemory) => Err(Stop::Memory),
+        Ok(Answer::Yes) => Ok(Outcome {
             exit: Exit::Done,
             text: Text::of(alloc, b"yes\n")?,
         }),
-        Answer::No(cause) => Ok(Outcome {
+        Ok(Answer::No(cause)) => Ok(Outcome {
             exit: Exit::No,
             text: no_line(alloc, forest, cause)?,
         }),

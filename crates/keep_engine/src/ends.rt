@@ -1,10 +1,8 @@
 ghost use Rattle.keep_engine.specs.EndsRun.{EndsRun};
-ghost use Rattle.keep_engine.specs.FaultLine.{EndsTold};
-ghost use Rattle.keep_engine.specs.EndsText.{OneEndsText};
 
 use crate::ends_text::ends_text;
-use crate::exit::Exit;
-use crate::output::send;
+use keep_report::{Exit, Watched};
+use crate::deliver::deliver;
 use keep_moment::Moment;
 use std::alloc::Global;
 use keep_device::Sink;
@@ -16,43 +14,15 @@ use keep_device::Sink;
 /// it (exit 2). The whole text is made before the first write, so these exits leave `out` untouched; so does 7, but for
 /// a sink in memory that itself wants memory. Exit 6 comes only where a write of `out` failed. The exits 3, 4 and 5 never
 /// come.
-#[tactic(auto, using(crate::proofs::Outcomes::ends_unsent, crate::proofs::Tellings::ends_stopped_told, crate::proofs::Tellings::unsent_ends_told))]
-pub fn run_ends<W: Sink, F: Sink>(
+pub fn run_ends<W: Sink, E: Sink>(
     alloc: Global,
     inventory: &[u8],
     start: Moment,
     moments: &[Moment],
     out: &mut W,
-    faults: &mut F,
+    errors: &mut E,
 ) -> Exit
-    ensures run { EndsRun inventory.now start moments.now result (record {
-      old = W.written out.old;
-      new = W.written out.new;
-      failed_before = W.failed_calls out.old;
-      failed_after = W.failed_calls out.new;
-      flushed = W.is_flushed out.new;
-      is_in_memory = W.is_in_memory;
-    }) }
-    ensures told { EndsTold inventory.now start moments.now result (record {
-      old = F.written faults.old;
-      new = F.written faults.new;
-      failed_before = F.failed_calls faults.old;
-      failed_after = F.failed_calls faults.new;
-      flushed = F.is_flushed faults.new;
-      is_in_memory = F.is_in_memory;
-    }) }
+    ensures { EndsRun inventory.now start moments.now result (⟦<W as Watched>⟧.sent out.old out.new) (⟦<E as Watched>⟧.sent errors.old errors.new) }
 {
-    match ends_text(alloc, inventory, start, moments) {
-        Err(stop) => stop.report(alloc, faults),
-        Ok(text) => match send(out, &text) {
-            Ok(()) => Exit::Done,
-            Err(stop) => stop.report(alloc, faults),
-        },
-    }
+    deliver(alloc, ends_text(alloc, inventory, start, moments), out, errors)
 }
-
-/// The law that what `ends` writes tells nothing but names, numbers and moments: of two inventories with one forest, as
-/// those that differ in the tokens' values and the lease ids alone, it writes the same.
-pub fn no_secret_shows_in_ends()
-    ensures { OneEndsText }
-{}

@@ -1,12 +1,14 @@
 ghost use Rattle.std.specs.Prelude.{◌≡◌, ◌++◌, ◌<◌, ℕ, IfOk, OnOk, length};
 ghost use Rattle.std.specs.List.{range_with_len};
 ghost use Rattle.keep_tree.specs.Forest.{entry_at};
-ghost use Rattle.keep_engine.specs.Answers.{Answers, ReplayAnswers, at_index};
+ghost use Rattle.keep_engine.specs.EndsRun.{EndsHalts, EndsTexts};
+ghost use Rattle.keep_engine.specs.Making.{Makes, MakesOf, at_index};
 ghost use Rattle.keep_engine.specs.EndsText.{all_asked, end_line, end_lines, keeps_line};
 
-use crate::stop::Stop;
+use crate::outcome::Outcome;
 use keep_inventory::read;
 use keep_moment::{Moment, Text};
+use keep_report::{Exit, Stop};
 use keep_rule::{Wake, ends_after, keeps};
 use keep_tree::{Entry, Forest, Indices};
 use std::alloc::{AllocError, Global};
@@ -17,8 +19,8 @@ pub(crate) fn ends_text(
     inventory: &[u8],
     start: Moment,
     moments: &[Moment],
-) -> Result<Text, Stop>
-    ensures { Answers inventory.now start moments.now result }
+) -> Result<Outcome, Stop>
+    ensures { Makes (EndsTexts start moments.now) (EndsHalts start moments.now) inventory.now result }
 {
     let inventory = read(alloc, inventory)?;
     replay_text(alloc, inventory.forest(), start, moments)
@@ -30,8 +32,8 @@ fn replay_text(
     forest: &Forest,
     start: Moment,
     moments: &[Moment],
-) -> Result<Text, Stop>
-    ensures { ReplayAnswers forest.now start moments.now result }
+) -> Result<Outcome, Stop>
+    ensures { MakesOf (EndsTexts start moments.now) (EndsHalts start moments.now) forest.now result }
 {
     let wakes = all_asked(alloc, forest, moments)?;
     let ends = ends_after(alloc, forest, start, &wakes)?;
@@ -39,7 +41,10 @@ fn replay_text(
     let mut text = Vec::new(alloc);
     push_lines(alloc, forest, ends.list(), &mut text)?;
     text.extend_from_slice(keeps_line(kept))?;
-    Ok(Text::from_vec(text))
+    Ok(Outcome {
+        exit: Exit::Done,
+        text: Text::from_vec(text),
+    })
 }
 
 /// A wake-up at each of the moments, which asks every entry.

@@ -1,4 +1,5 @@
-ghost use Rattle.keep_engine.specs.Laws.{OneCheckText, OnePlanRun, OnePlanText, OwnCertificateLaw, OwnTextLaw};
+ghost use Rattle.keep_engine.specs.EndsText.{OneEndsText};
+ghost use Rattle.keep_engine.specs.Laws.{OneCheckText, OnePlanText, OwnCertificateLaw, OwnTextLaw};
 ghost use Rattle.keep_engine.specs.Secrecy.{CheckSecrecy, EndsSecrecy, PlanSecrecy};
 
 /// The law that own certificates are accepted. What `print` writes of a decision as `plan` gave it, with the start it was
@@ -11,21 +12,14 @@ pub fn own_certificates_are_accepted()
     ensures written { OwnTextLaw }
 {}
 
-/// The law that what `plan` writes tells nothing but names, numbers and moments: of two inventories with one forest, as
-/// those that differ in the tokens' values and the lease ids alone, it writes the same and ends alike.
-pub fn no_secret_shows_in_plan()
-    ensures { OnePlanText }
-{}
-
-/// The same law of `check`. So it says `yes` exactly where the text is a certificate that gets Yes: for no text is there a
-/// right `yes` and a right other line.
-pub fn no_secret_shows_in_check()
-    ensures { OneCheckText }
-{}
-
-/// Of two inventories with one forest `plan` writes one text, with one exit.
-pub fn credentials_change_no_plan()
-    ensures { OnePlanRun }
+/// The law that what is written tells nothing but names, numbers and moments: of two inventories with one forest, as those
+/// that differ in the tokens' values and the lease ids alone, `ends`, `plan` and `check` each write one text with one exit.
+/// So `check` says `yes` exactly where the text is a certificate that gets Yes: for no text is there a right `yes` and a
+/// right other line.
+pub fn no_secret_shows()
+    ensures ends { OneEndsText }
+    ensures plan { OnePlanText }
+    ensures check { OneCheckText }
 {}
 
 /// The law of secrecy over bytes. Of two good inventories whose documents differ in the keys `secret` and `lease_id` and

@@ -1,34 +1,32 @@
 //! The runs of the program, over bytes and devices: what each command writes, and with which exit it ends.
 //!
 //! The contract for the program above: a run's output is the text of its definition in `specs/`, from the bytes of an
-//! inventory alone. Begin with `exit`, then `plan` and `check`: the headline stands in their contracts (`PlanRun`,
-//! `CheckRun`).
+//! inventory alone. Begin with `plan` and `check`: the headline stands in their contracts (`PlanRun`, `CheckRun`), over
+//! `specs/Running`, which says for all commands how a run ends.
 #![tactic(auto)]
 
 mod check;
 mod check_lines;
 mod check_text;
+mod command;
+mod deliver;
 mod ends;
 mod ends_text;
-mod exit;
-mod fault_line;
+mod inputs;
 mod laws;
 mod limits;
 mod outcome;
-mod output;
 mod plan;
 mod plan_text;
-mod stop;
 #[cfg(test)]
 mod tests;
 
 pub use check::run_check;
-pub use ends::{no_secret_shows_in_ends, run_ends};
-pub use exit::Exit;
-pub use laws::{
-    credentials_change_no_plan, no_secret_shows_in_check, no_secret_shows_in_plan,
-    own_certificates_are_accepted, secrets_change_no_run,
-};
+pub use command::{Command, obey};
+pub use ends::run_ends;
+pub use inputs::Inputs;
+pub use deliver::PROGRAM;
+pub use keep_report::{Exit, Stop, tell};
+pub use laws::{no_secret_shows, own_certificates_are_accepted, secrets_change_no_run};
 pub use limits::{MOST_CERTIFICATE, MOST_INVENTORY};
 pub use plan::run_plan;
-pub use stop::report_input;

@@ -1,5 +1,5 @@
-use crate::exit::Exit;
 use keep_moment::Text;
+use keep_report::Exit;
 
 /// The whole text that a run writes, and its exit once it is written.
 #[derive(Debug, Drop)]

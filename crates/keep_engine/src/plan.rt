@@ -1,8 +1,7 @@
 ghost use Rattle.keep_engine.specs.PlanRun.{PlanRun};
-ghost use Rattle.keep_engine.specs.FaultLine.{Told};
 
-use crate::exit::Exit;
-use crate::output::send;
+use keep_report::{Exit, Watched};
+use crate::deliver::deliver;
 use crate::plan_text::plan_text;
 use keep_moment::Moment;
 use std::alloc::Global;
@@ -18,36 +17,14 @@ use keep_device::Sink;
 /// failed. The exits 2 and 4 never come.
 ///
 /// Source: Vault, "Lease, renew, and revoke"; Vault, "Tokens".
-#[tactic(auto, using(crate::proofs::Outcomes::plan_done, crate::proofs::Outcomes::plan_stopped, crate::proofs::Outcomes::plan_unsent, crate::proofs::Tellings::plan_done_told, crate::proofs::Tellings::plan_stopped_told, crate::proofs::Tellings::unsent_told))]
-pub fn run_plan<W: Sink, F: Sink>(
+pub fn run_plan<W: Sink, E: Sink>(
     alloc: Global,
     inventory: &[u8],
     start: Moment,
     out: &mut W,
-    faults: &mut F,
+    errors: &mut E,
 ) -> Exit
-    ensures run { PlanRun inventory.now start result (record {
-      old = W.written out.old;
-      new = W.written out.new;
-      failed_before = W.failed_calls out.old;
-      failed_after = W.failed_calls out.new;
-      flushed = W.is_flushed out.new;
-      is_in_memory = W.is_in_memory;
-    }) }
-    ensures told { Told inventory.now result (record {
-      old = F.written faults.old;
-      new = F.written faults.new;
-      failed_before = F.failed_calls faults.old;
-      failed_after = F.failed_calls faults.new;
-      flushed = F.is_flushed faults.new;
-      is_in_memory = F.is_in_memory;
-    }) }
+    ensures { PlanRun inventory.now start result (⟦<W as Watched>⟧.sent out.old out.new) (⟦<E as Watched>⟧.sent errors.old errors.new) }
 {
-    match plan_text(alloc, inventory, start) {
-        Err(stop) => stop.report(alloc, faults),
-        Ok(outcome) => match send(out, &outcome.text) {
-            Ok(()) => outcome.exit,
-            Err(stop) => stop.report(alloc, faults),
-        },
-    }
+    deliver(alloc, plan_text(alloc, inventory, start), out, errors)
 }

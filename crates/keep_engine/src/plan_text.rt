@@ -1,41 +1,46 @@
 ghost use Rattle.std.specs.Prelude.{◌≡◌};
-ghost use Rattle.keep_engine.specs.PlanRun.{decided_exit};
-ghost use Rattle.keep_engine.specs.PlanAnswers.{Plans, PlansForest};
+ghost use Rattle.keep_engine.specs.Making.{Makes, MakesOf};
+ghost use Rattle.keep_engine.specs.PlanRun.{PlanHalts, PlanTexts, decided_exit};
 
-use crate::exit::Exit;
 use crate::outcome::Outcome;
-use crate::stop::Stop;
-use keep_cert::print;
+use keep_cert::{PrintFault, print};
 use keep_inventory::read;
 use keep_moment::Moment;
-use keep_plan::{Decision, plan};
+use keep_plan::{Decision, PlanFault, plan};
+use keep_report::{Exit, Stop};
 use keep_tree::Forest;
 use std::alloc::Global;
 
 /// The certificate of an inventory's decision with its exit, or why there is none.
 pub(crate) fn plan_text(alloc: Global, inventory: &[u8], start: Moment) -> Result<Outcome, Stop>
-    ensures { Plans inventory.now start result }
+    ensures { Makes (PlanTexts start) (PlanHalts start) inventory.now result }
 {
     let inventory = read(alloc, inventory)?;
     certificate(alloc, inventory.forest(), start)
 }
 
 /// The certificate of a forest's decision, from its names and numbers alone.
-#[tactic(auto, using(keep_cert::proofs::Printing::decided_is_of, crate::proofs::Outcomes::decided_text, crate::proofs::Outcomes::decided_stop))]
+#[tactic(auto, using(keep_cert::proofs::Printing::decided_is_of, crate::proofs::Delivered::decided_text, crate::proofs::Delivered::decided_long))]
 fn certificate(alloc: Global, forest: &Forest, start: Moment) -> Result<Outcome, Stop>
-    ensures { PlansForest forest.now start result }
+    ensures { MakesOf (PlanTexts start) (PlanHalts start) forest.now result }
 {
     let _entries = forest.len();
-    let decision = plan(alloc, forest, start)?;
-    let text = print(alloc, forest, start, &decision)?;
-    Ok(Outcome {
-        exit: exit_of(&decision),
-        text,
-    })
+    let decision = match plan(alloc, forest, start) {
+        Ok(decision) => decision,
+        Err(PlanFault::OutOfMemory) => return Err(Stop::Memory),
+    };
+    match print(alloc, forest, start, &decision) {
+        Ok(text) => Ok(Outcome {
+            exit: decided_exit(&decision),
+            text,
+        }),
+        Err(PrintFault::NoCertificate) => Err(Stop::TooLong),
+        Err(PrintFault::OutOfMemory) => Err(Stop::Memory),
+    }
 }
 
 /// The exit that goes with a decision.
-fn exit_of(decision: &Decision) -> Exit
+fn decided_exit(decision: &Decision) -> Exit
     ensures { result ≡ decided_exit decision.now }
 {
     match decision {

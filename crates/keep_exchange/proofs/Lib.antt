@@ -1,2 +1,6 @@
 pub mod ReadBack
 pub mod Carried
+pub mod Lengths
+pub mod Answered
+pub mod Sendable
+pub mod Looked

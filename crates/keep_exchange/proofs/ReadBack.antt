@@ -6,7 +6,7 @@ use Rattle.keep_exchange.specs.Exchanges.{exchange_fault}
 use Rattle.vault_http.specs.declared.http_fault.HttpFault.{HttpFault}
 use Rattle.vault_http.specs.declared.http_fault.HttpFault.TheVariants as https
 use Rattle.keep_device.specs.Memory.{Supply, reads_needed, reads_of}
-use Rattle.vault_http.specs.Reading.{CountsMessage, Settles}
+use Rattle.vault_http.specs.Reading.{CountsMessage, Settles, SettlesReply, SettlesRequest}
 use Rattle.keep_device.specs.declared.limits.TheConstants.{MOST_READS}
 use Rattle.vault_http.specs.declared.reply.Reply.{Reply}
 use Rattle.vault_http.specs.declared.request.Request.{Request}
@@ -24,19 +24,19 @@ no_message : {A : Type 0} (message : A) (fault : HttpFault) → ◌≡◌ {A = R
 no_message message fault e = cc
 
 pub read_back :
-    {A : Type 0} (IsAnswer : List ℕ → Result A HttpFault → Type 0) (bytes : List ℕ) (left : Option (List ℕ)) (before now : ℕ) (message : A) →
+    {A : Type 0} (HasNoHead : List ℕ → Type 0) (IsAnswer : List ℕ → Result A HttpFault → Type 0) (bytes : List ℕ) (left : Option (List ℕ)) (before now : ℕ) (message : A) →
     before ≤ MOST_READS → ((answer : Result A HttpFault) → IsAnswer bytes answer → answer ≡ Ok message) →
-    (result : Result A HttpFault) → CountsMessage result 0 0 → Settles IsAnswer bytes left before now result → Reads message result
-read_back IsAnswer bytes left before now message few one (Ok x) count said = let same : Ok x ≡ Ok message = one (Ok x) said in cc
-read_back IsAnswer bytes left before now message few one (Err https.ReadFailed) count said = let wrong : 0 ≡ 1 = count in let no' : ⊥ = omega (arith, wrong) in absurd no'
-read_back IsAnswer bytes left before now message few one (Err https.OutOfMemory) count said = refl
-read_back IsAnswer bytes left before now message few one (Err https.BadHead) count said = absurd (no_message message https.BadHead (one (Err https.BadHead) said))
-read_back IsAnswer bytes left before now message few one (Err https.BadLength) count said = absurd (no_message message https.BadLength (one (Err https.BadLength) said))
-read_back IsAnswer bytes left before now message few one (Err https.BadChunk) count said = absurd (no_message message https.BadChunk (one (Err https.BadChunk) said))
-read_back IsAnswer bytes left before now message few one (Err https.Truncated) count said = absurd (no_message message https.Truncated (one (Err https.Truncated) said))
-read_back IsAnswer bytes left before now message few one (Err https.TwoLengths) count said = absurd (no_message message https.TwoLengths (one (Err https.TwoLengths) said))
-read_back IsAnswer bytes left before now message few one (Err https.TooLong) count (inl said) = absurd (no_message message https.TooLong (one (Err https.TooLong) said))
-read_back IsAnswer bytes left before now message few one (Err https.TooLong) count (inr late) = absurd (never_passes few late.passes.0 late.passes.1)
+    (result : Result A HttpFault) → CountsMessage result 0 0 → Settles HasNoHead IsAnswer bytes left before now result → Reads message result
+read_back HasNoHead IsAnswer bytes left before now message few one (Ok x) count said = let same : Ok x ≡ Ok message = one (Ok x) said in cc
+read_back HasNoHead IsAnswer bytes left before now message few one (Err https.ReadFailed) count said = let wrong : 0 ≡ 1 = count in let no' : ⊥ = omega (arith, wrong) in absurd no'
+read_back HasNoHead IsAnswer bytes left before now message few one (Err https.OutOfMemory) count said = refl
+read_back HasNoHead IsAnswer bytes left before now message few one (Err https.BadHead) count said = absurd (no_message message https.BadHead (one (Err https.BadHead) said))
+read_back HasNoHead IsAnswer bytes left before now message few one (Err https.BadLength) count said = absurd (no_message message https.BadLength (one (Err https.BadLength) said))
+read_back HasNoHead IsAnswer bytes left before now message few one (Err https.BadChunk) count said = absurd (no_message message https.BadChunk (one (Err https.BadChunk) said))
+read_back HasNoHead IsAnswer bytes left before now message few one (Err https.Truncated) count said = absurd (no_message message https.Truncated (one (Err https.Truncated) said))
+read_back HasNoHead IsAnswer bytes left before now message few one (Err https.TwoLengths) count said = absurd (no_message message https.TwoLengths (one (Err https.TwoLengths) said))
+read_back HasNoHead IsAnswer bytes left before now message few one (Err https.TooLong) count (inl said) = absurd (no_message message https.TooLong (one (Err https.TooLong) said))
+read_back HasNoHead IsAnswer bytes left before now message few one (Err https.TooLong) count (inr late) = absurd (never_passes few late.passes.0 late.passes.1)
   where
     never_passes : {before now : ℕ} → before ≤ MOST_READS → MOST_READS + now ≤ before → 0 < now → ⊥
     never_passes few over more = omega (arith, few, over, more)
@@ -66,25 +66,25 @@ body_in_reply r = behind (length r.body) _ r.body (le_refl (length r.body))
 
 pub request_read :
     (source now : Supply) (r : Request) → ReadsBackRequest r → IsWritable r → r.port < 2 ^ 16 → length (request_text r) ≤ 1048576 → source.bytes ≡ request_text r → source.pieces ≡ [] →
-    (result : Result Request HttpFault) → CountsMessage result 0 0 → Settles (IsRequest 1048576) source.bytes (Some now.bytes) (reads_needed source) (reads_needed now) result →
+    (result : Result Request HttpFault) → CountsMessage result 0 0 → SettlesRequest 1048576 source.bytes (Some now.bytes) (reads_needed source) (reads_needed now) result →
     Reads (without_port r) result
 request_read source now r law writable port short is none result count said =
     let within = body_in_request r in
     let sendable : IsSendable r = record { writable = writable; short = omega (arith, within, short); port = port } in
     let one : (answer : Result Request HttpFault) → IsRequest 1048576 source.bytes answer → answer ≡ Ok (without_port r) =
         λ answer h. law sendable [] 1048576 short answer (subst (λ bs. IsRequest 1048576 bs answer) (is ∙ sym (append-nil (request_text r))) h) in
-    read_back (IsRequest 1048576) source.bytes (Some now.bytes) (reads_needed source) (reads_needed now) (without_port r)
+    read_back _ (IsRequest 1048576) source.bytes (Some now.bytes) (reads_needed source) (reads_needed now) (without_port r)
       (few_reads source.bytes (request_text r) source.pieces is none short) one result count said
 
 pub reply_read :
     (source now : Supply) (r : Reply) → ReadsBackReply r → IsTrue (is_sent r.status) → length (reply_text r) ≤ 1048576 → source.bytes ≡ reply_text r → source.pieces ≡ [] →
-    (result : Result Reply HttpFault) → CountsMessage result 0 0 → Settles (IsReply 1048576) source.bytes (Some now.bytes) (reads_needed source) (reads_needed now) result →
+    (result : Result Reply HttpFault) → CountsMessage result 0 0 → SettlesReply 1048576 source.bytes (Some now.bytes) (reads_needed source) (reads_needed now) result →
     Reads r result
 reply_read source now r law sent short is none result count said =
     let within = body_in_reply r in
     let one : (answer : Result Reply HttpFault) → IsReply 1048576 source.bytes answer → answer ≡ Ok r =
         λ answer h. law sent (omega (arith, within, short)) [] 1048576 short answer (subst (λ bs. IsReply 1048576 bs answer) (is ∙ sym (append-nil (reply_text r))) h) in
-    read_back (IsReply 1048576) source.bytes (Some now.bytes) (reads_needed source) (reads_needed now) r
+    read_back _ (IsReply 1048576) source.bytes (Some now.bytes) (reads_needed source) (reads_needed now) r
       (few_reads source.bytes (reply_text r) source.pieces is none short) one result count said
 
 -- want of memory, as the fault of an exchange

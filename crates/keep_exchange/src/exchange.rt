@@ -1,4 +1,4 @@
-ghost use Rattle.std.specs.Prelude.{◌≤◌, Option, IfSome, length};
+ghost use Rattle.std.specs.Prelude.{◌≡◌, ◌≤◌, ℕ, Option, IfSome, length};
 ghost use Rattle.mini_broker.specs.declared.stream.TheConstants.{MOST_REQUEST};
 ghost use Rattle.vault_http.specs.RoundTripRequest.{IsWritable};
 ghost use Rattle.vault_http.specs.Written.{request_text};
@@ -19,6 +19,13 @@ pub const MOST_REPLY: usize = 1048576;
 pub trait Exchange: Device {
     /// The table behind it, and the messages of its last exchange, where they are known.
     ghost behind: { Self → Option Behind };
+
+    /// The port that its requests name.
+    ghost host_port: { Self → ℕ } = { λ _. 8200 };
+
+    /// The port that requests to its broker name in `Host`: the broker's own, and 8200 where it has none.
+    fn port(&self) -> u16
+        ensures { result ≡ host_port self.now };
 
     /// Sends a request of at most 1 MiB, which is served at `t`, and reads the reply.
     ///

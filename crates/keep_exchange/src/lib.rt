@@ -1,15 +1,31 @@
 //! Requests and their replies, over memory or over sockets.
 //!
 //! The contract for the layers above: an [`Exchange`] whose table is known gives the reply that the Broker step gives to the
-//! request, through the texts of both messages (`specs/Exchanges.antt`). Begin with `exchange`, then `memory`.
+//! request, through the texts of both messages (`specs/Exchanges.antt`); [`ask`] does so for an entry, whose request
+//! (`specs/Requests.antt`) can be sent and whose replies can be read. Begin with `exchange`, then `memory` and `asking`.
 #![tactic(auto)]
 
+mod asking;
 mod exchange;
 mod fault;
+mod looking;
 mod memory;
+mod over;
+mod patience;
+mod requests;
+mod self_served;
 mod sure;
+mod tcp;
 mod texts;
+mod unix;
 
+pub use asking::ask;
 pub use exchange::{Exchange, MOST_REPLY};
 pub use fault::ExchangeFault;
+pub use looking::look_up;
 pub use memory::MemoryExchange;
+pub use patience::PATIENCE;
+pub use requests::request_for;
+pub use self_served::SelfServed;
+pub use tcp::TcpExchange;
+pub use unix::UnixExchange;

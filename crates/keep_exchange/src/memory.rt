@@ -72,6 +72,10 @@ impl Device for MemoryExchange {
 impl Exchange for MemoryExchange {
     ghost behind = { λ e. Some e };
 
+    fn port(&self) -> u16 {
+        8200
+    }
+
     fn exchange(
         &mut self,
         alloc: Global,

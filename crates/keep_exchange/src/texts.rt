@@ -49,7 +49,7 @@ pub(crate) fn request_of_text(
 }
 
 /// The law that a port is one of 65,536 numbers.
-fn is_port(port: u16)
+pub(crate) fn is_port(port: u16)
     ensures { port < 2 ^ 16 }
 {
     let _ = port;

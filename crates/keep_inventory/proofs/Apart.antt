@@ -12,7 +12,7 @@ use Rattle.keep_tree.specs.Forest.{Grove, entry_at}
 use Rattle.keep_tree.proofs.Entries.{entry_at_push_old, entry_at_push_new}
 use Rattle.keep_inventory.specs.declared.key.Key.TheVariants.{SystemMax, Margin, Token, Lease}
 use Rattle.keep_inventory.specs.declared.row.Row.{Row}
-use Rattle.keep_inventory.specs.Keys.{is_top_key}
+use Rattle.keep_inventory.specs.Keys.{top_keys}
 use Rattle.keep_inventory.specs.Values.{only, whole, text, tables, value_at}
 use Rattle.keep_inventory.specs.Stock.{AreApart, IsStock, credential_at}
 use Rattle.keep_inventory.specs.Intake.{Intake, nothing, stock_of, holds}

@@ -15,7 +15,7 @@ use Rattle.keep_inventory.specs.declared.key.Key.TheVariants.{SystemMax, Margin,
 use Rattle.keep_inventory.specs.declared.row.Life.{Life}
 use Rattle.keep_inventory.specs.declared.row.Row.{Row}
 use Rattle.keep_inventory.specs.declared.terms.Terms.{Terms}
-use Rattle.keep_inventory.specs.Keys.{is_top_key, key_text}
+use Rattle.keep_inventory.specs.Keys.{top_keys, key_text}
 use Rattle.keep_inventory.specs.Answers.{◌>>=◌}
 use Rattle.keep_inventory.specs.Values.{only, read_if, whole, moment, ending, flag, text, tables, value_at, needed}
 use Rattle.keep_inventory.specs.Terms.{max_ttl_of}
@@ -332,7 +332,7 @@ plain_intake ms = do
 bare_intake : (ms : Members) (t : Intake) → intake_of ms ≡ Ok t → plain_intake (bare_members ms) ≡ Ok (shorn t)
 unfolding intake_of is_secret_key
 bare_intake ms t e =
-    bind_ok (only is_top_key None ms) _ t e (λ known k e1.
+    bind_ok (only top_keys None ms) _ t e (λ known k e1.
     bind_ok (value_at (whole 1 SPAN_MAX) None SystemMax ms) _ t e1 (λ system_max a e2.
     bind_ok (value_at (whole 1 MARGIN_MAX) None Margin ms) _ t e2 (λ margin b e3.
     bind_ok (value_at tables None Token ms) _ t e3 (λ tokens c e4.

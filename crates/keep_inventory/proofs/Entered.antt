@@ -10,7 +10,7 @@ use Rattle.keep_inventory.specs.declared.fault.InvFault.{InvFault}
 use Rattle.keep_inventory.specs.declared.fault.InvFault.TheVariants.{BadValue}
 use Rattle.keep_inventory.specs.declared.key.Key.{Key}
 use Rattle.keep_inventory.specs.declared.key.Key.TheVariants.{SystemMax, Margin, Token, Lease}
-use Rattle.keep_inventory.specs.Keys.{is_top_key, key_text}
+use Rattle.keep_inventory.specs.Keys.{top_keys, key_text}
 use Rattle.keep_inventory.specs.Values.{only, read_if, whole, tables, value_at}
 use Rattle.keep_inventory.specs.Intake.{Intake, nothing}
 use Rattle.keep_inventory.specs.Inventory.{token_entered, lease_entered, entered_by, intake_of}
@@ -65,7 +65,7 @@ pub intake_keeps : (First Rest : Intake → Type 0) → ((margin : ℕ) → With
     (ms : Members) (t : Intake) → intake_of ms ≡ Ok t → Rest t
 unfolding intake_of
 intake_keeps First Rest begins passes tokens_keep leases_keep ms t e =
-    bind_ok (only is_top_key None ms) _ t e (λ known k e1.
+    bind_ok (only top_keys None ms) _ t e (λ known k e1.
     bind_ok (value_at (whole 1 SPAN_MAX) None SystemMax ms) _ t e1 (λ system_max a e2.
     bind_ok (value_at (whole 1 MARGIN_MAX) None Margin ms) _ t e2 (λ margin b e3.
     bind_ok (value_at tables None Token ms) _ t e3 (λ tokens c e4.

@@ -7,7 +7,7 @@ use Rattle.keep_inventory.specs.declared.key.Key.TheVariants.{Token, Name, Paren
 use Rattle.keep_inventory.specs.declared.row.Life.{Life}
 use Rattle.keep_inventory.specs.declared.row.Row.{Row}
 use Rattle.keep_inventory.specs.declared.terms.Terms.{Terms}
-use Rattle.keep_inventory.specs.Keys.{is_token_key, is_lease_key}
+use Rattle.keep_inventory.specs.Keys.{token_keys, lease_keys}
 use Rattle.keep_inventory.specs.Values.{only, moment, text, credential, value_at, needed}
 use Rattle.keep_inventory.specs.Terms.{step_of, ceiling_of}
 use Rattle.keep_inventory.specs.Rows.{index_or_none, life_of, lease_row, lease_terms, token_row, token_terms}
@@ -66,7 +66,7 @@ pub record LeaseParts (system_max : ℕ) (g : Grove) (ms : Members) (row : Row) 
 pub token_parts : (system_max : ℕ) (g : Grove) (ms : Members) (row : Row) → token_row system_max g ms ≡ Ok row → TokenParts system_max g ms row
 unfolding token_row
 token_parts system_max g ms row e =
-    bind_ok (only is_token_key (Some (length g.entries)) ms) _ row e (λ known a0 e0.
+    bind_ok (only token_keys (Some (length g.entries)) ms) _ row e (λ known a0 e0.
     bind_ok (value_at text (Some (length g.entries)) Name ms) _ row e0 (λ name_if a1 e1.
     bind_ok (needed (length g.entries) Name name_if) _ row e1 (λ name a2 e2.
     bind_ok (value_at text (Some (length g.entries)) Parent ms) _ row e2 (λ parent a3 e3.
@@ -95,7 +95,7 @@ token_parts system_max g ms row e =
 pub lease_parts : (system_max : ℕ) (g : Grove) (ms : Members) (row : Row) → lease_row system_max g ms ≡ Ok row → LeaseParts system_max g ms row
 unfolding lease_row
 lease_parts system_max g ms row e =
-    bind_ok (only is_lease_key (Some (length g.entries)) ms) _ row e (λ known a0 e0.
+    bind_ok (only lease_keys (Some (length g.entries)) ms) _ row e (λ known a0 e0.
     bind_ok (value_at text (Some (length g.entries)) Name ms) _ row e0 (λ name_if a1 e1.
     bind_ok (needed (length g.entries) Name name_if) _ row e1 (λ name a2 e2.
     bind_ok (value_at text (Some (length g.entries)) Token ms) _ row e2 (λ token_if a3 e3.

@@ -17,7 +17,7 @@ use Rattle.keep_inventory.specs.declared.fault.InvFault.TheVariants.{BadValue}
 use Rattle.keep_inventory.specs.declared.key.Key.{Key}
 use Rattle.keep_inventory.specs.declared.key.Key.TheVariants.{SystemMax, Margin, Token, Lease, Secret, LeaseId}
 use Rattle.keep_inventory.specs.declared.row.Row.{Row}
-use Rattle.keep_inventory.specs.Keys.{is_top_key, key_text}
+use Rattle.keep_inventory.specs.Keys.{top_keys, key_text}
 use Rattle.keep_inventory.specs.Values.{only, read_if, whole, tables, credential, is_credential, value_at}
 use Rattle.keep_inventory.specs.Stock.{IsSendable}
 use Rattle.keep_inventory.specs.Intake.{Intake, nothing, stock_of}

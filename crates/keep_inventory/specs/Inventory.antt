@@ -10,7 +10,7 @@ use Rattle.keep_inventory.specs.declared.fault.InvFault.{InvFault}
 use Rattle.keep_inventory.specs.declared.fault.InvFault.TheVariants.{NotToml, BadValue}
 use Rattle.keep_inventory.specs.declared.key.Key.{Key}
 use Rattle.keep_inventory.specs.declared.key.Key.TheVariants.{SystemMax, Margin, Token, Lease}
-use Rattle.keep_inventory.specs.Keys.{is_top_key}
+use Rattle.keep_inventory.specs.Keys.{top_keys}
 use Rattle.keep_inventory.specs.Answers.{◌>>=◌}
 use Rattle.keep_inventory.specs.Values.{only, whole, tables, value_at}
 use Rattle.keep_inventory.specs.Stock.{Stock}
@@ -33,7 +33,7 @@ entered_by step key s (item _ ds) = Err (BadValue None key)
 -- the entries of a document's tree
 unfoldable pub intake_of : Members → Result Intake InvFault
 intake_of ms = do
-  known ← only is_top_key None ms
+  known ← only top_keys None ms
   system_max ← value_at (whole 1 SPAN_MAX) None SystemMax ms
   margin ← value_at (whole 1 MARGIN_MAX) None Margin ms
   tokens ← value_at tables None Token ms

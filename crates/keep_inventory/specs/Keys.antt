@@ -1,6 +1,7 @@
 -- The keys of an inventory, and the tables that have no other.
 -- Source: TOML 1.1, "Keys" and "Table"; which keys there are is this project's own.
-use Rattle.std.specs.Prelude.{ℕ, Bool, true, ◌&&◌, ◌||◌, List, codes, bytes_eq}
+use Rattle.std.specs.Prelude.{ℕ, Bool, true, ◌&&◌, List, [], ◌∷◌, codes, bytes_eq}
+use Rattle.std.specs.List.{list_any}
 use Rattle.toml.specs.Data.{Members, no_members, member}
 use Rattle.keep_inventory.specs.declared.key.Key.{Key}
 use Rattle.keep_inventory.specs.declared.key.Key.TheVariants.{SystemMax, Margin, Token, Lease, Name, Parent, Issued, End, Renewable, Increment, Period, MaxTtl, ExplicitMaxTtl, Need, Secret, LeaseId}
@@ -24,25 +25,21 @@ key_text Need = codes "need"
 key_text Secret = codes "secret"
 key_text LeaseId = codes "lease_id"
 
+-- the text of one of these keys
+abbrev pub is_one_of : List Key → List ℕ → Bool
+is_one_of keys text = list_any (λ key. bytes_eq (key_text key) text) keys
+
 -- the keys of a document outside its tables of entries
-abbrev pub is_top_key : List ℕ → Bool
-is_top_key k =
-    bytes_eq k (codes "system_max") || bytes_eq k (codes "margin") || bytes_eq k (codes "token") || bytes_eq k (codes "lease")
+abbrev pub top_keys : List Key
+top_keys = SystemMax ∷ Margin ∷ Token ∷ Lease ∷ []
 
 -- the keys of a table `[[token]]`
-abbrev pub is_token_key : List ℕ → Bool
-is_token_key k =
-    bytes_eq k (codes "name") || bytes_eq k (codes "parent") || bytes_eq k (codes "issued") || bytes_eq k (codes "end")
-    || bytes_eq k (codes "renewable") || bytes_eq k (codes "increment") || bytes_eq k (codes "period")
-    || bytes_eq k (codes "max_ttl") || bytes_eq k (codes "explicit_max_ttl") || bytes_eq k (codes "need")
-    || bytes_eq k (codes "secret")
+abbrev pub token_keys : List Key
+token_keys = Name ∷ Parent ∷ Issued ∷ End ∷ Renewable ∷ Increment ∷ Period ∷ MaxTtl ∷ ExplicitMaxTtl ∷ Need ∷ Secret ∷ []
 
 -- the keys of a table `[[lease]]`
-abbrev pub is_lease_key : List ℕ → Bool
-is_lease_key k =
-    bytes_eq k (codes "name") || bytes_eq k (codes "token") || bytes_eq k (codes "issued") || bytes_eq k (codes "end")
-    || bytes_eq k (codes "renewable") || bytes_eq k (codes "increment") || bytes_eq k (codes "max_ttl")
-    || bytes_eq k (codes "need") || bytes_eq k (codes "lease_id")
+abbrev pub lease_keys : List Key
+lease_keys = Name ∷ Token ∷ Issued ∷ End ∷ Renewable ∷ Increment ∷ MaxTtl ∷ Need ∷ LeaseId ∷ []
 
 -- each key passes the test
 abbrev pub all_keys : (List ℕ → Bool) → Members → Bool

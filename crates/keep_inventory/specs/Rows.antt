@@ -10,7 +10,7 @@ use Rattle.keep_inventory.specs.declared.limits.TheConstants.{SPAN_MAX}
 use Rattle.keep_inventory.specs.declared.row.Life.{Life}
 use Rattle.keep_inventory.specs.declared.row.Row.{Row}
 use Rattle.keep_inventory.specs.declared.terms.Terms.{Terms}
-use Rattle.keep_inventory.specs.Keys.{is_token_key, is_lease_key}
+use Rattle.keep_inventory.specs.Keys.{token_keys, lease_keys}
 use Rattle.keep_inventory.specs.Answers.{◌>>=◌}
 use Rattle.keep_inventory.specs.Values.{only, whole, moment, ending, flag, text, credential, value_at, needed}
 use Rattle.keep_inventory.specs.Terms.{step_of, ceiling_of, max_ttl_of}
@@ -52,7 +52,7 @@ lease_terms system_max index issued ms = do
 -- the entry, the credential and the terms that the table of the next token writes, or its first fault
 unfoldable pub token_row : ℕ → Grove → Members → Result Row InvFault
 token_row system_max g ms = do
-  known ← only is_token_key (Some (length g.entries)) ms
+  known ← only token_keys (Some (length g.entries)) ms
   name_if ← value_at text (Some (length g.entries)) Name ms
   name ← needed (length g.entries) Name name_if
   parent ← value_at text (Some (length g.entries)) Parent ms
@@ -65,7 +65,7 @@ token_row system_max g ms = do
 -- the same of the next lease
 unfoldable pub lease_row : ℕ → Grove → Members → Result Row InvFault
 lease_row system_max g ms = do
-  known ← only is_lease_key (Some (length g.entries)) ms
+  known ← only lease_keys (Some (length g.entries)) ms
   name_if ← value_at text (Some (length g.entries)) Name ms
   name ← needed (length g.entries) Name name_if
   token_if ← value_at text (Some (length g.entries)) Token ms

@@ -13,11 +13,11 @@ use Rattle.keep_inventory.specs.declared.limits.TheConstants.{CREDENTIAL_MAX}
 use Rattle.keep_inventory.specs.declared.key.Key.{Key}
 use Rattle.keep_inventory.specs.declared.fault.InvFault.{InvFault}
 use Rattle.keep_inventory.specs.declared.fault.InvFault.TheVariants.{MissingKey, UnknownKey, BadValue}
-use Rattle.keep_inventory.specs.Keys.{key_text, all_keys}
+use Rattle.keep_inventory.specs.Keys.{key_text, all_keys, is_one_of}
 
 -- a table has no key but these
-abbrev pub only : (List ℕ → Bool) → Option ℕ → Members → Result (Unit {0}) InvFault
-only test place ms = if all_keys test ms then Ok tt else Err (UnknownKey place)
+abbrev pub only : List Key → Option ℕ → Members → Result (Unit {0}) InvFault
+only keys place ms = if all_keys (is_one_of keys) ms then Ok tt else Err (UnknownKey place)
 
 -- a whole number of this range
 abbrev pub whole : ℕ → ℕ → Data → Option ℕ

@@ -1,13 +1,18 @@
-ghost use Rattle.std.specs.Prelude.{◌≡◌};
+ghost use Rattle.std.specs.Prelude.{◌≡◌, ◌+◌};
+ghost use Rattle.keep_moment.specs.declared.moment.TheConstants.{LAST};
+ghost use Rattle.keep_tree.specs.declared.forest.TheConstants.{END_MAX, MARGIN_MAX};
 ghost use Rattle.keep_inventory.specs.declared.limits.TheConstants.{CREDENTIAL_MAX, MOST_INVENTORY, SPAN_MAX, SYSTEM_MAX};
 ghost use Rattle.keep_inventory.specs.Laws.{InventoryLaw, SecrecyLaw, SendableLaw, TextLaw};
 
-/// The limits of inventories, each by its number.
+/// The limits of inventories, each by its number; those of moments and margins are cited from the crates below.
 pub fn limits_of_inventories()
     ensures text { MOST_INVENTORY ≡ 1048576 }
     ensures span { SPAN_MAX ≡ 4294967295 }
     ensures system { SYSTEM_MAX ≡ 2764800 }
     ensures credential { CREDENTIAL_MAX ≡ 256 }
+    ensures margin { MARGIN_MAX ≡ 3600 }
+    ensures last { LAST ≡ 253402300799 }
+    ensures end { END_MAX ≡ LAST + SPAN_MAX }
 {}
 
 /// The law that the inventory of a text is a forest, as one that grew entry by entry, with one credential and one set of

@@ -97,14 +97,7 @@ pub(crate) fn tell(forest: &mut Forest, index: u32, lookup: &Lookup, terms: &Ter
 }
 
 /// Sets the four fields of an entry that a lookup tells.
-fn set(
-    forest: &mut Forest,
-    index: u32,
-    end: u64,
-    renewable: bool,
-    step: Span,
-    ceiling: Option<u64>,
-)
+fn set(forest: &mut Forest, index: u32, end: u64, renewable: bool, step: Span, ceiling: Option<u64>)
     requires within { index < length forest.old.entries }
     requires end { end ≤ END_MAX }
     requires step { forest.old.margin + 1 ≤ step }

@@ -5,10 +5,11 @@ ghost use Rattle.keep_inventory.specs.Stock.{credential_at};
 use keep_moment::Text;
 use std::alloc::{AllocError, Global};
 use std::collections::BTreeSet;
+use std::fmt;
 use std::marker::Model;
 
 /// Texts in the order in which they came, with a look-up that tells whether a text came before.
-#[derive(Debug, Drop)]
+#[derive(Drop)]
 pub struct Register {
     texts: Vec<Text>,
     found: BTreeSet<Vec<u8>>,
@@ -24,6 +25,15 @@ impl Model for Register {
     ghost view = { λ r. r.texts.items };
 
     ghost invariant = { λ r. (q : List ℕ) → has r.found q ≡ holds r.texts.items q };
+}
+
+impl fmt::Debug for Register {
+    /// Shows how many texts there are, and none of them: they are secret.
+    fn fmt<W: fmt::Write>(&self, f: &mut fmt::Formatter<W>) -> fmt::Result {
+        f.debug_struct("Register")
+            .field("len", &self.len())
+            .finish_non_exhaustive()
+    }
 }
 
 impl Register {

@@ -12,14 +12,25 @@ use crate::value::{credential_at, end_at, flag_at, moment_at, span_at, text_at};
 use keep_moment::{Moment, Name, Span, Text};
 use keep_tree::{Entry, Forest, Kind};
 use std::alloc::Global;
+use std::fmt;
 use toml::Table;
 
 /// What one table of an inventory writes: an entry, the credential that is sent for it, and its terms.
-#[derive(Debug, Drop)]
+#[derive(Drop)]
 pub struct Row {
     pub entry: Entry,
     pub credential: Text,
     pub terms: Terms,
+}
+
+impl fmt::Debug for Row {
+    /// Shows all but the credential, which is secret.
+    fn fmt<W: fmt::Write>(&self, f: &mut fmt::Formatter<W>) -> fmt::Result {
+        f.debug_struct("Row")
+            .field("entry", &self.entry)
+            .field("terms", &self.terms)
+            .finish_non_exhaustive()
+    }
 }
 
 /// The issue and the end of an entry, and whether it can be renewed.

@@ -274,3 +274,22 @@ fn fronts_of_the_web_example(rt: HostRuntime) -> Result<(), Fail> {
     }
     Ok(())
 }
+
+// What an inventory shows of itself holds no credential, neither as a text nor as the numbers of its bytes.
+#[test]
+fn no_credential_is_shown(rt: HostRuntime) -> Result<(), Fail> {
+    let alloc = rt.alloc();
+    let inventory = read(alloc, TOKEN_AND_LEASE.as_bytes())?;
+    let shown = format!(in alloc; "{inventory:?}")?;
+    assert!(rt; shown.contains("1150"));
+    for secret in ["s.1234", "115, 46, 49, 50", "db/creds", "100, 98, 47, 99"] {
+        assert!(rt; !shown.contains(secret), "{secret}");
+    }
+    let (_forest, credentials) = inventory.into_parts();
+    let shown = format!(in alloc; "{credentials:?}")?;
+    assert!(rt; shown.contains("Credentials"));
+    for secret in ["s.1234", "115, 46, 49, 50", "db/creds", "100, 98, 47, 99"] {
+        assert!(rt; !shown.contains(secret), "{secret}");
+    }
+    Ok(())
+}

@@ -11,8 +11,10 @@ mod fault_line;
 mod sending;
 mod sent;
 mod stop;
+mod telling;
 
 pub use exit::Exit;
 pub use sending::send;
 pub use sent::Watched;
 pub use stop::Stop;
+pub use telling::tell;

@@ -7,11 +7,12 @@ ghost use Rattle.keep_report.specs.declared.stop.Stop.TheVariants.{Memory};
 use crate::exit::Exit;
 use crate::fault_line::fault_line;
 use crate::sent::Watched;
+use crate::telling::tell;
 use keep_inventory::InvFault;
 use keep_moment::Name;
 use keep_rule::WakeFault;
 use std::alloc::{AllocError, AllocFailed, Global};
-use keep_device::{InputFault, Sink, SinkFault, write_all};
+use keep_device::{InputFault, Sink, SinkFault};
 
 /// Why a run stopped before its end.
 #[derive(Debug, Drop)]
@@ -117,8 +118,7 @@ impl Stop {
         ensures told { Reports (fault_line program.now self.now) (⟦<F as Watched>⟧.sent errors.old errors.new) }
     {
         if let Ok(line) = fault_line(alloc, program, self) {
-            let _ = write_all(errors, line.list());
-            let _ = errors.flush();
+            tell(errors, line.list());
         }
         self.exit()
     }

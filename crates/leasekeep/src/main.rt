@@ -4,8 +4,10 @@
 
 use std::process::ExitCode;
 
-mod command;
+mod files;
+mod parser;
 mod run;
+mod words;
 
 fn main(rt: HostRuntime) -> ExitCode {
     ExitCode::from(run::run(&rt, rt.stderr()).code())

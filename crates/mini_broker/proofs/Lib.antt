@@ -9,3 +9,4 @@ pub mod Swept
 pub mod Ranges
 pub mod Sweeping
 pub mod Granting
+pub mod MomentLines

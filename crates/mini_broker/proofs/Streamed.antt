@@ -1,5 +1,5 @@
 -- What was sent behind what was read: for `serve_stream`.
-use Rattle.std.proofs.Common.{◌≡◌, ℕ, List, ◌++◌, IsTrue, refl, sym, subst, Option, Some, None, Result, Ok, Err, IfErr, OnOk, inl, inr, ap, ◌∙◌}
+use Rattle.std.proofs.Common.{◌≡◌, ℕ, List, ◌++◌, IsTrue, refl, sym, subst, Option, Some, None, Result, Ok, Err, IfErr, IfSome, OnOk, inl, inr, ap, ◌∙◌}
 use Rattle.std.specs.Io.KnownBytes.{Appends, Keeps}
 use Rattle.mini_broker.specs.declared.stream.StreamFault.{StreamFault}
 use Rattle.mini_broker.specs.declared.stream.StreamFault.TheVariants as streams
@@ -7,14 +7,16 @@ use Rattle.mini_broker.specs.Ledger.{Ledger}
 use Rattle.vault_http.specs.declared.http_fault.HttpFault.{HttpFault}
 use Rattle.vault_http.specs.declared.http_fault.HttpFault.TheVariants as https
 use Rattle.vault_http.specs.declared.request.Request.{Request}
+use Rattle.vault_http.specs.Reading.{SettlesRequest}
 use Rattle.vault_http.specs.RoundTrip.{is_sent}
+use Rattle.mini_broker.specs.declared.stream.TheConstants.{MOST_REQUEST}
 use Rattle.mini_broker.specs.declared.refusal.Refusal.{Refusal}
 use Rattle.mini_broker.specs.declared.refusal.Refusal.TheVariants as refusals
 use Rattle.mini_broker.specs.declared.served.Served.{Served}
 use Rattle.mini_broker.specs.declared.served.Served.TheVariants as served
 use Rattle.mini_broker.specs.Request.{status_of}
 use Rattle.mini_broker.specs.Step.{Answer, refuses, tells, drops, Refuses, Says, step}
-use Rattle.mini_broker.specs.Stream.{CountsSending, Ends, Handles, IsHandled, Leaves, MaySend}
+use Rattle.mini_broker.specs.Stream.{CountsSending, Ends, Fails, Handles, IsHandled, IsUnserved, Leaves, MaySend, WantsMemory}
 
 pub kept_appends : (a b c : Option (List ℕ)) (bs : List ℕ) → Keeps a b → Appends b c bs → Appends a c bs
 kept_appends None b c bs kept more = tt
@@ -33,7 +35,28 @@ pub left_by_sending :
 left_by_sending ends l after t (Ok x) before now count done = tt
 left_by_sending ends l after t (Err streams.ReadFailed) before now count done = elim count [ ]
 left_by_sending ends l after t (Err streams.WriteFailed) before now count done = done
-left_by_sending ends l after t (Err streams.OutOfMemory) before now count done = inr (inl done)
+left_by_sending ends l after t (Err streams.OutOfMemory) before now count done = inr done
+
+keeps_same : (o : Option (List ℕ)) → Keeps o o
+keeps_same None = tt
+keeps_same (Some xs) = refl
+
+leaves_unserved : (ends : Ends) (l after : Ledger) (t : ℕ) (message : Result Request HttpFault) → (WantsMemory l t message after → IsUnserved ends l t after) → (fault : StreamFault) → Fails l t message fault after → Leaves ends l t fault after
+leaves_unserved ends l after t message wants streams.ReadFailed fails = fails.1
+leaves_unserved ends l after t message wants streams.WriteFailed fails = absurd fails
+leaves_unserved ends l after t message wants streams.OutOfMemory fails = inl (wants fails)
+
+-- a message that was not handled leaves what handling it says
+pub left_unserved :
+    {X : Type 0} (ends : Ends) (l after : Ledger) (t : ℕ) (message : Result Request HttpFault) (left : ℕ) (unread : Option (List ℕ)) →
+    IfSome ends.remaining (λ bytes. SettlesRequest MOST_REQUEST bytes unread ends.reads_left left message) → unread ≡ ends.rest → Keeps ends.old ends.new →
+    (fault : StreamFault) → Fails l t message fault after → (r : Result X StreamFault) → (y : StreamFault) → r ≡ Err y → y ≡ fault → IfErr r (λ f. Leaves ends l t f after)
+left_unserved ends l after t message left unread read rest unwritten fault fails r y is same =
+    subst (λ x. IfErr x (λ f. Leaves ends l t f after)) (sym is)
+    (subst (λ f. Leaves ends l t f after) (sym same)
+    (leaves_unserved ends l after t message
+    (λ wants. record { message = message; left = left; unread = unread; read = read; kept = subst (λ o. Keeps unread o) rest (keeps_same unread); unwritten = unwritten; wants = wants })
+    fault fails))
 
 -- ---- what is sent may be sent
 

@@ -11,5 +11,6 @@ pub mod Renewing
 pub mod Step
 pub mod Found
 pub mod Stream
+pub mod MomentLine
 pub mod Granted
 pub mod Laws

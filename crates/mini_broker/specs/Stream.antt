@@ -9,8 +9,7 @@ use Rattle.vault_http.specs.declared.request.Request.{Request}
 use Rattle.vault_http.specs.declared.writing.SendFault.{SendFault}
 use Rattle.vault_http.specs.declared.writing.SendFault.TheVariants as sends
 use Rattle.keep_device.specs.Failures.{one_more}
-use Rattle.vault_http.specs.Messages.{IsRequest}
-use Rattle.vault_http.specs.Reading.{Settles}
+use Rattle.vault_http.specs.Reading.{SettlesRequest}
 use Rattle.vault_http.specs.RoundTrip.{is_sent}
 use Rattle.vault_http.specs.Written.{reply_text}
 use Rattle.mini_broker.specs.declared.refusal.Refusal.TheVariants.{BadRequest}
@@ -55,7 +54,7 @@ pub record IsHandled (ends : Ends) (l : Ledger) (t : ℕ) (after : Ledger) : Typ
   pub message : Result Request HttpFault
   pub left : ℕ
   pub unread : Option (List ℕ)
-  pub read : IfSome ends.remaining (λ bytes. Settles (IsRequest MOST_REQUEST) bytes unread ends.reads_left left message)
+  pub read : IfSome ends.remaining (λ bytes. SettlesRequest MOST_REQUEST bytes unread ends.reads_left left message)
   pub kept : Keeps unread ends.rest
   pub done : Served
   pub handled : Handles l t message after done
@@ -76,12 +75,35 @@ pub record IsStreamed (ends : Ends) (l : Ledger) (t : ℕ) (after : Ledger) : Ty
   pub sent : Appends ends.old ends.new (sent_of done.done)
   pub flushed : IsFlushed done.done ends.flushed
 
+-- what want of memory leaves of the table: what it was where the message was not read or is refused, and what a sweep leaves
+-- where it is a request. No reply to a message that ends too soon is made, so none wants memory
+abbrev pub WantsMemory : Ledger → ℕ → Result Request HttpFault → Ledger → Type 0
+WantsMemory l t (Ok r) after = after ≡ after_sweep l t
+WantsMemory l t (Err https.Truncated) after = ⊥
+WantsMemory l t (Err https.ReadFailed) after = ⊥
+WantsMemory l t (Err https.OutOfMemory) after = after ≡ l
+WantsMemory l t (Err https.BadHead) after = after ≡ l
+WantsMemory l t (Err https.BadLength) after = after ≡ l
+WantsMemory l t (Err https.BadChunk) after = after ≡ l
+WantsMemory l t (Err https.TooLong) after = after ≡ l
+WantsMemory l t (Err https.TwoLengths) after = after ≡ l
+
+-- one message is read by its bytes, where the stream tells them, or was refused memory, and nothing is sent
+pub record IsUnserved (ends : Ends) (l : Ledger) (t : ℕ) (after : Ledger) : Type 0 where
+  pub message : Result Request HttpFault
+  pub left : ℕ
+  pub unread : Option (List ℕ)
+  pub read : IfSome ends.remaining (λ bytes. SettlesRequest MOST_REQUEST bytes unread ends.reads_left left message)
+  pub kept : Keeps unread ends.rest
+  pub unwritten : Keeps ends.old ends.new
+  pub wants : WantsMemory l t message after
+
 -- what a fault leaves of the table: what it was where a read failed, and what handling the message has left where a write
--- failed. Memory may be wanting before, while and after a request is served
+-- failed. Memory may be wanting while a message is read, while a request is served, and while the reply is sent
 abbrev pub Leaves : Ends → Ledger → ℕ → StreamFault → Ledger → Type 0
 Leaves ends l t streams.ReadFailed after = after ≡ l
 Leaves ends l t streams.WriteFailed after = IsHandled ends l t after
-Leaves ends l t streams.OutOfMemory after = (after ≡ l) ⊎ IsHandled ends l t after ⊎ (after ≡ after_sweep l t)
+Leaves ends l t streams.OutOfMemory after = IsUnserved ends l t after ⊎ IsHandled ends l t after
 
 -- one failure more where a read or a write failed, and else none
 abbrev pub CountsStream : {X : Type 0} → Result X StreamFault → ℕ → ℕ → Type 0
@@ -94,7 +116,7 @@ CountsStream (Err streams.OutOfMemory) before now = now ≡ before
 abbrev pub Fails : Ledger → ℕ → Result Request HttpFault → StreamFault → Ledger → Type 0
 Fails l t message streams.ReadFailed after = (message ≡ Err https.ReadFailed) × (after ≡ l)
 Fails l t message streams.WriteFailed after = ⊥
-Fails l t message streams.OutOfMemory after = (message ≡ Err https.ReadFailed → ⊥) × ((after ≡ l) ⊎ (after ≡ after_sweep l t))
+Fails l t message streams.OutOfMemory after = WantsMemory l t message after
 
 -- a fault of sending
 abbrev pub stream_fault : SendFault → StreamFault

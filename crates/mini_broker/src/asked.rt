@@ -5,15 +5,25 @@ ghost use Rattle.mini_broker.specs.Request.{increment_in, lease_id_in, asked};
 use crate::call::Call;
 use keep_moment::{Span, Text};
 use std::alloc::{AllocError, Global};
+use std::fmt;
 use vault_json::{ReplyFault, read_increment, read_lease_id};
 
 /// What the body of a request asks.
-#[derive(Debug, Drop)]
+#[derive(Drop)]
 pub struct Asked {
     /// The id of the lease that it names.
     pub lease_id: Option<Text>,
     /// The increment that it asks for, in seconds.
     pub increment: Option<Span>,
+}
+
+impl fmt::Debug for Asked {
+    /// Shows all but the lease id, which is secret.
+    fn fmt<W: fmt::Write>(&self, f: &mut fmt::Formatter<W>) -> fmt::Result {
+        f.debug_struct("Asked")
+            .field("increment", &self.increment)
+            .finish_non_exhaustive()
+    }
 }
 
 /// What the body of a call asks, `None` where it is not as the call wants it. The only error is want of memory.

@@ -7,13 +7,21 @@ use crate::slot::{Slot, slot_in};
 use keep_tree::Kind;
 use std::alloc::{AllocError, Global};
 use std::collections::BTreeMap;
+use std::fmt;
 
 /// Where the row with a credential stands: that of a token by its own value, that of a lease by its id. A row that has
 /// ended is still found.
-#[derive(Debug, Drop)]
+#[derive(Drop)]
 pub struct Index {
     tokens: BTreeMap<Vec<u8>, u32>,
     leases: BTreeMap<Vec<u8>, u32>,
+}
+
+impl fmt::Debug for Index {
+    /// Shows nothing of the credentials, which are secret.
+    fn fmt<W: fmt::Write>(&self, f: &mut fmt::Formatter<W>) -> fmt::Result {
+        f.debug_struct("Index").finish_non_exhaustive()
+    }
 }
 
 /// The index of these slots, of which no two tokens and no two leases have the same credential. The only error is want of

@@ -13,6 +13,7 @@ mod fault;
 mod grant;
 mod index;
 pub mod laws;
+mod moment_line;
 mod refusal;
 mod row;
 mod serve;
@@ -25,6 +26,7 @@ mod table;
 mod tests;
 
 pub use fault::{Fault, NumberedFault, SetFault};
+pub use moment_line::{LineFault, MOST_LINE, Moments, next_moment};
 pub use row::Row;
 pub use served::{ServeFault, Served};
 pub use stream::{MOST_REQUEST, StreamFault};

@@ -1,10 +1,11 @@
 use keep_moment::{Moment, Name, Span, Text};
 use keep_tree::Kind;
+use std::fmt;
 
 /// A token or a lease, as a broker lists it. Moments are seconds since 1970-01-01T00:00:00Z, durations seconds.
 ///
 /// Source: Vault, "Tokens"; Vault, "Lease, renew, and revoke".
-#[derive(Debug, Drop)]
+#[derive(Drop)]
 pub struct Row {
     /// The name, which no other row has.
     pub name: Name,
@@ -27,4 +28,22 @@ pub struct Row {
     pub explicit_max: Span,
     /// A token's own value, or a lease's id.
     pub credential: Text,
+}
+
+impl fmt::Debug for Row {
+    /// Shows all but the credential, which is secret.
+    fn fmt<W: fmt::Write>(&self, f: &mut fmt::Formatter<W>) -> fmt::Result {
+        f.debug_struct("Row")
+            .field("name", &self.name)
+            .field("kind", &self.kind)
+            .field("parent", &self.parent)
+            .field("end", &self.end)
+            .field("renewable", &self.renewable)
+            .field("step", &self.step)
+            .field("ceiling", &self.ceiling)
+            .field("issued", &self.issued)
+            .field("period", &self.period)
+            .field("explicit_max", &self.explicit_max)
+            .finish_non_exhaustive()
+    }
 }

@@ -1,7 +1,6 @@
 ghost use Rattle.std.specs.Prelude.{◌≡◌, ◌++◌, ◌∷◌, [], None, Err, IfErr, IfOk, IfSome, IsErrOf, OnErr, OnOk, IsOkUnless, is_some, option_map};
 ghost use Rattle.std.specs.Io.KnownBytes.{Keeps};
-ghost use Rattle.vault_http.specs.Holding.{HandedNone};
-ghost use Rattle.vault_http.specs.Messages.{IsRequest};
+ghost use Rattle.vault_http.specs.Reading.{HandedNoRequest};
 ghost use Rattle.keep_device.specs.declared.limits.TheConstants.{MOST_READS};
 ghost use Rattle.keep_device.specs.Whole.{MakesAtMost};
 ghost use Rattle.mini_broker.specs.Rows.{rows_of, row_named};
@@ -126,8 +125,9 @@ impl Table {
     /// be read is refused with status 400, and is not counted; one that ends too soon gets no reply.
     ///
     /// `ReadFailed`: a read failed before the bytes held a whole request; the table is as it was, and nothing was written.
-    /// `WriteFailed`: a write failed; the table is as serving the request has left it. `OutOfMemory`: the table is as it
-    /// was, or as serving has left it.
+    /// `WriteFailed`: a write failed; the table is as serving the request has left it. `OutOfMemory`: where the message was
+    /// not read or is refused, the table is as it was; where it is a request, as after `sweep`; where the reply was made and
+    /// not sent, as serving the request has left it.
     pub fn serve_stream<S: Source + Sink>(
         &mut self,
         t: Moment,
@@ -137,7 +137,7 @@ impl Table {
         ensures left { IfErr result (λ fault. Leaves (record { remaining = S.remaining stream.old; rest = S.remaining stream.new; reads_left = S.reads_left stream.old; old = S.written stream.old; new = S.written stream.new; flushed = S.is_flushed stream.new }) self.old t fault self.new) }
         ensures reads { MakesAtMost MOST_READS (S.remaining stream.old) (S.reads_made stream.old) (S.reads_made stream.new) }
         ensures count { CountsStream result (S.failed_calls stream.old) (S.failed_calls stream.new) }
-        ensures unread { IsErrOf result StreamFault.ReadFailed → HandedNone (IsRequest MOST_REQUEST) (S.remaining stream.old) (S.remaining stream.new) }
+        ensures unread { IsErrOf result StreamFault.ReadFailed → HandedNoRequest MOST_REQUEST (S.remaining stream.old) (S.remaining stream.new) }
         ensures unwritten { IsErrOf result StreamFault.ReadFailed → Keeps (S.written stream.old) (S.written stream.new) }
     {
         let alloc = *self.slots.allocator();

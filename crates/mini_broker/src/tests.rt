@@ -1,3 +1,4 @@
+mod moments;
 mod streams;
 
 use crate::{Fault, Served, SetFault, Table};

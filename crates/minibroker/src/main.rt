@@ -1,13 +1,14 @@
-//! `minibroker`: a small broker on 127.0.0.1 for tests and rehearsals. The program over `mini_broker`: words, a file, a
-//! socket, standard streams and the exit status.
+//! `minibroker`: a small broker on 127.0.0.1 or a UNIX socket for tests and rehearsals. The program over `mini_broker`:
+//! words, a file, sockets, standard streams and the exit status.
 #![tactic(auto)]
 
 use std::process::ExitCode;
 
-mod command;
+mod parser;
 mod run;
-mod stop;
+mod sockets;
+mod words;
 
 fn main(rt: HostRuntime) -> ExitCode {
-    ExitCode::from(run::run(&rt, rt.stderr()))
+    ExitCode::from(run::run(&rt, rt.stdin(), rt.stderr()).code())
 }

@@ -7,17 +7,10 @@ use Rattle.vault_http.specs.declared.body.BodyFault.{BodyFault}
 use Rattle.vault_http.specs.declared.body.BodyFault.TheVariants.{TooLong, Truncated, BadChunk, OutOfMemory}
 use Rattle.vault_http.specs.Messages.{UnlessBodyMemory}
 use Rattle.vault_http.specs.declared.chunk.Step.TheVariants as step
-use Rattle.vault_http.specs.Chunks.{line_end, Chunk, IsChunk, print_chunk, print_chunks, content, joined, StopsAt, IsChunked}
+use Rattle.vault_http.specs.Chunks.{line_end, Chunk, IsChunk, print_chunk, print_chunks, content, joined, StopsAt, IsChunked, HasChunks}
 use Rattle.vault_http.specs.Steps.{IsStep}
 
--- the first bytes of the text are whole chunks, which hold the body so far
-pub record SoFar (text : List ℕ) (at : ℕ) (body : List ℕ) : Type 0 where
-  pub chunks : List Chunk
-  pub are_chunks : AllByRecursion IsChunk chunks
-  pub text_is : take at text ≡ print_chunks chunks
-  pub body_is : body ≡ content chunks
-
-pub at_first : (text body : List ℕ) → body ≡ [] → SoFar text 0 body
+pub at_first : (text body : List ℕ) → body ≡ [] → HasChunks text 0 body
 at_first text body e = record { chunks = []; are_chunks = tt; text_is = refl; body_is = e }
 
 all_push : (chunks : List Chunk) (c : Chunk) → AllByRecursion IsChunk chunks → IsChunk c → AllByRecursion IsChunk (chunks ++ c ∷ [])
@@ -28,12 +21,12 @@ flat_push : (f : Chunk → List ℕ) (chunks : List Chunk) (c : Chunk) → flat_
 flat_push f chunks c = flat_map-append f chunks (c ∷ []) ∙ ap (λ t. flat_map f chunks ++ t) (append-nil (f c))
 
 -- the first bytes are as many as they are
-so_long : (text : List ℕ) (at : ℕ) (body : List ℕ) (s : SoFar text at body) → at ≤ length text → length (print_chunks s.chunks) ≡ at
+so_long : (text : List ℕ) (at : ℕ) (body : List ℕ) (s : HasChunks text at body) → at ≤ length text → length (print_chunks s.chunks) ≡ at
 so_long text at body s within = sym (ap length s.text_is) ∙ length-take-le at text within
 
-pub one_chunk : (text : List ℕ) (at : ℕ) (body : List ℕ) (room start n : ℕ) → SoFar text at body → at ≤ length text → at ≤ room
+pub one_chunk : (text : List ℕ) (at : ℕ) (body : List ℕ) (room start n : ℕ) → HasChunks text at body → at ≤ length text → at ≤ room
     → IsStep (drop at text) (room - at) (step.Chunk start n)
-    → SoFar text (at + start + n + 2) (body ++ take n (drop (at + start) text)) × (at + start + n + 2 ≤ length text) × (at + start + n + 2 ≤ room)
+    → HasChunks text (at + start + n + 2) (body ++ take n (drop (at + start) text)) × (at + start + n + 2 ≤ length text) × (at + start + n + 2 ≤ room)
 one_chunk text at body room start n s within fits h =
     let c = h.0 in
     let rest = h.1 in
@@ -65,7 +58,7 @@ one_chunk text at body room start n s within fits h =
       omega (arith, h.4, printed, fits),
     )
 
-pub chunks_end : (text : List ℕ) (at : ℕ) (body : List ℕ) (room : ℕ) (stop answer : Result (List ℕ) BodyFault) (more : List ℕ) → SoFar text at body → at ≤ length text → at ≤ room
+pub chunks_end : (text : List ℕ) (at : ℕ) (body : List ℕ) (room : ℕ) (stop answer : Result (List ℕ) BodyFault) (more : List ℕ) → HasChunks text at body → at ≤ length text → at ≤ room
     → StopsAt (room - at) (drop at text ++ more) stop → answer ≡ joined body stop → IsChunked room (text ++ more) answer
 chunks_end text at body room stop answer more s within fits stops is =
     let long = so_long text at body s within in

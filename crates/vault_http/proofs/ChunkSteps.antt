@@ -75,7 +75,7 @@ may_have_short rest n short =
     let some : 0 < length (gap ++ line_end) = omega (arith, length-append gap line_end) in
     (gap ++ line_end, some, (rest ++ gap, (all, sym (append_assoc rest gap line_end))))
 
-pub short : (text : List ℕ) (room d v : ℕ) → HasSize text d v → d + 2 + v + 2 ≤ room → length text < d + 2 + v → IsStep text room (step.Open (d + 2 + v + 2))
+pub short : (text : List ℕ) (room d v : ℕ) → HasSize text d v → d + 2 + v + 2 ≤ room → length text < d + 2 + v → IsStep text room step.Open
 short text room d v h fits few =
     let long : length text ≡ length h.part + length (line_end ++ h.rest) = ap length h.text_is ∙ length-append h.part (line_end ++ h.rest) in
     let less : length h.rest < v = omega (arith, long, few, h.many) in
@@ -128,7 +128,7 @@ few_left rest v (inl e) = omega (arith, sym (length-drop v rest) ∙ ap length e
 few_left rest v (inr e) = omega (arith, sym (length-drop v rest) ∙ ap length e)
 
 pub open_end : (text : List ℕ) (room d v : ℕ) → HasSize text d v → d + 2 + v + 2 ≤ room → d + 2 + v ≤ length text → IsEnding (drop (d + 2 + v) text) ending.Open
-    → IsStep text room (step.Open (d + 2 + v + 2))
+    → IsStep text room step.Open
 open_end text room d v h fits all open_rest =
     let here = subst (λ t. IsEnding t ending.Open) (data_end text d v h) open_rest in
     let long : length text ≡ length h.part + length (line_end ++ h.rest) = ap length h.text_is ∙ length-append h.part (line_end ++ h.rest) in (
@@ -179,7 +179,7 @@ open_line_long text room long may more =
     let same : take room (text ++ more) ≡ take room text = take-append-le room text more (omega (arith, long)) in
     inr (omega (arith, long, length-append text more), subst (MayHave IsSize) (sym same) may)
 
-pub open_line_short : (text : List ℕ) (room n : ℕ) → length text ≤ room → MayHave IsSize (take room text) → IsStep text room (step.Open n)
+pub open_line_short : (text : List ℕ) (room n : ℕ) → length text ≤ room → MayHave IsSize (take room text) → IsStep text room step.Open
 open_line_short text room n short may = (short, inl (short, subst (MayHave IsSize) (take_all room text short) may))
 
 -- a front that never begins with a line, in a text that goes on

@@ -1,12 +1,14 @@
 -- Empty lines: a head and a body in chunks end with one.
-use Rattle.std.proofs.Common.{◌≡◌, ℕ, ◌+◌, ◌-◌, ◌<◌, ◌≤◌, ◌⊎◌, inl, inr, Bool, true, false, cond, ◌&&◌, nat_eq, List, [], ◌∷◌, ◌++◌, length, take, drop, refl, sym, ap, ◌∙◌, arith, append_assoc, length-append, take-append-drop, append-nil}
-use Rattle.std.proofs.lemmas.Bool.{cases_lt}
-use Rattle.std.proofs.lemmas.List.{take_at, take-append-le, drop-append-le}
+use Rattle.std.proofs.Common.{◌≡◌, ℕ, ◌+◌, ◌-◌, ◌<◌, ◌≤◌, ◌⊎◌, inl, inr, Bool, true, false, cond, nat_eq, List, [], ◌∷◌, ◌++◌, length, take, drop, refl, sym, ap, ◌∙◌, arith, append_assoc, length-append, take-append-drop, append-nil, take_while, IsTrue, ◌&&◌}
+use Rattle.std.proofs.lemmas.Bool.{cases_lt, and_from}
+use Rattle.std.proofs.lemmas.List.{take_at, take-append-le, drop-append-le, length-take-le}
+use Rattle.std.proofs.lemmas.List.Folds.{list_all-append}
 use Rattle.httparse.specs.Grammar.{LineEnd, crlf, lf, print_end, Field, print_field, print_section, ResponseHead, print_response, RequestHead, print_request, print_blank, print_version, print_reason}
 use Rattle.httparse.proofs.GrammarLemmas.{print_response-append, print_request-append}
 use Rattle.httparse.proofs.PieceLemmas.{print_field-append}
-use Rattle.vault_http.specs.Holding.{HasLineBehind}
-use Rattle.std.specs.List.{flat_map}
+use Rattle.vault_http.proofs.Runs.{front, run_of, take_while-front}
+use Rattle.vault_http.specs.EmptyLine.{HasLineBehind, is_blank}
+use Rattle.std.specs.List.{flat_map, list_all}
 
 -- ---- the front of a text
 
@@ -157,3 +159,31 @@ line_after bytes n from low h =
     end_short : (end : LineEnd) → length (print_end end) ≤ 2
     end_short crlf = omega arith
     end_short lf = omega arith
+
+-- ---- bytes of line ends alone
+
+and_right : (b c : Bool) → (b && c) ≡ true → c ≡ true
+and_right true c e = e
+and_right false c e = absurd (cc e)
+
+-- a space is none
+pub not_blank : (a b t : List ℕ) → list_all is_blank (a ++ (b ++ (32 ∷ t))) ≡ true → ⊥
+not_blank [] [] t e = cc
+not_blank [] (x ∷ b) t e = not_blank [] b t (and_right (is_blank x) (list_all is_blank (b ++ (32 ∷ t))) e)
+not_blank (x ∷ a) b t e = not_blank a b t (and_right (is_blank x) (list_all is_blank (a ++ (b ++ (32 ∷ t)))) e)
+
+-- more of them behind others
+pub blank_more : (bytes : List ℕ) (blank more : ℕ) → blank ≤ length bytes → IsTrue (list_all is_blank (take blank bytes)) → more ≡ length (take_while is_blank (drop blank bytes))
+    → (blank + more ≤ length bytes) × IsTrue (list_all is_blank (take (blank + more) bytes))
+blank_more bytes blank more within e m =
+    let here = take blank bytes in
+    let run = front is_blank (drop blank bytes) in
+    let r = run_of is_blank (drop blank bytes) in
+    let many : more ≡ length run = m ∙ ap length (take_while-front is_blank (drop blank bytes)) in
+    let whole : bytes ≡ here ++ (run ++ r.0) = sym (take-append-drop blank bytes) ∙ ap (λ t. here ++ t) r.1.split in
+    let long : length here ≡ blank = length-take-le blank bytes within in
+    let first : take (blank + more) bytes ≡ here ++ run =
+    ap (take (blank + more)) (whole ∙ sym (append_assoc here run r.0)) ∙ take_at (here ++ run) r.0 (blank + more) (omega (arith, length-append here run, long, many)) in (
+      omega (arith, ap length whole, length-append here (run ++ r.0), length-append run r.0, long, many),
+      ap (list_all is_blank) first ∙ list_all-append is_blank here run ∙ and_from (list_all is_blank here) (list_all is_blank run) e r.1.all,
+    )

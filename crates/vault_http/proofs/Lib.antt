@@ -13,4 +13,5 @@ pub mod RequestRoundTrip
 pub mod EmptyLines
 pub mod WholeChunks
 pub mod Waiting
-pub mod WaitingMessages
+pub mod ReplyLaws
+pub mod RequestLaws

@@ -13,40 +13,16 @@ use Rattle.vault_http.specs.declared.http_fault.HttpFault.{HttpFault}
 use Rattle.vault_http.specs.declared.http_fault.HttpFault.TheVariants.{ReadFailed, BadHead, BadLength, BadChunk, Truncated, TooLong, TwoLengths, OutOfMemory}
 use Rattle.vault_http.specs.declared.reply.Reply.{Reply}
 use Rattle.vault_http.specs.Heads.{most_fields, FoundReply, framing_of_response}
-use Rattle.vault_http.specs.Judging.{IsUnread}
 use Rattle.vault_http.specs.Messages.{IsHeadless, IsOpenReply, IsBehind, is_informational, reply_of, IsReply, UnlessMemory, body_fault, length_fault}
 use Rattle.vault_http.specs.Reading.{Settles, CountsMessage}
-use Rattle.vault_http.specs.declared.verdict.Verdict.{Verdict}
-use Rattle.vault_http.specs.declared.verdict.Verdict.TheVariants.{More, Done}
-use Rattle.vault_http.specs.Verdicts.{IfDone}
 use Rattle.vault_http.proofs.Fronts.{take-grows}
 
 -- ---- no head
-
--- no head is complete yet, in an input that goes on
-pub open_answer : (IsOpen Overflows : List ℕ → Type 0) (max : ℕ) (bytes more : List ℕ) (ended : Bool) (fault : HttpFault)
-    → IsUnread (length bytes) max ended (Some fault) → IsOpen (take max bytes) → (IsTrue ended → more ≡ []) → IsHeadless IsOpen Overflows max (bytes ++ more) fault
-open_answer IsOpen Overflows max bytes more ended ReadFailed u o end = absurd u
-open_answer IsOpen Overflows max bytes more ended BadHead u o end = absurd u
-open_answer IsOpen Overflows max bytes more ended BadLength u o end = absurd u
-open_answer IsOpen Overflows max bytes more ended BadChunk u o end = absurd u
-open_answer IsOpen Overflows max bytes more ended Truncated u o end =
-    let all : bytes ++ more ≡ bytes = ap (λ m. bytes ++ m) (end u.1) ∙ append-nil bytes in
-    (omega (arith, u.0, ap length all), subst IsOpen (take_all max bytes (omega (arith, u.0)) ∙ sym all) o)
-open_answer IsOpen Overflows max bytes more ended TooLong u o end =
-    (omega (arith, u, length-append bytes more), subst IsOpen (sym (take-append-le max bytes more u)) o)
-open_answer IsOpen Overflows max bytes more ended TwoLengths u o end = absurd u
-open_answer IsOpen Overflows max bytes more ended OutOfMemory u o end = absurd u
 
 pub unless : {A : Type 0} (a : Result A HttpFault) (P : Type 0) → P → UnlessMemory a P
 unless (Ok x) P p = p
 unless (Err OutOfMemory) P p = tt
 unless (Err fault) P p = p
-
-pub open_reply : (max : ℕ) (bytes more : List ℕ) (ended : Bool) (fault : HttpFault) → IsUnread (length bytes) max ended (Some fault) → IsOpenReply (take max bytes)
-    → (IsTrue ended → more ≡ []) → UnlessMemory {A = Reply} (Err fault) (IsReply max (bytes ++ more) (Err fault))
-open_reply max bytes more ended fault u o end =
-    unless {A = Reply} (Err fault) (IsReply max (bytes ++ more) (Err fault)) (inl (fault, open_answer IsOpenReply (ResponseOverflows most_fields) max bytes more ended fault u o end, refl))
 
 overflows_on : (front more : List ℕ) → ResponseOverflows most_fields front → ResponseOverflows most_fields (front ++ more)
 overflows_on front more over after h rest reads = over (more ++ after) h rest (subst (λ b. ReadsResponse b h rest) (append_assoc front more after) reads)
@@ -83,16 +59,6 @@ pub unless_map : {A : Type 0} (a : Result A HttpFault) (P Q : Type 0) → (P →
 unless_map (Ok x) P Q f p = f p
 unless_map (Err OutOfMemory) P Q f p = tt
 unless_map (Err fault) P Q f p = f p
-
-pub found_answer : (max : ℕ) (bytes : List ℕ) (len status : ℕ) (framed : Result Framing LengthFault) (ended : Bool) (v : Verdict (Result Reply HttpFault)) → FoundReply (take max bytes) len status framed
-    → IfDone v (λ a. (more : List ℕ) → (IsTrue ended → more ≡ [])
-    → UnlessMemory a (IsBehind (is_informational status) status framed (max - len) (take (length bytes - len) (drop len bytes) ++ more) a))
-    → IfDone v (λ a. (more : List ℕ) → (IsTrue ended → more ≡ []) → UnlessMemory a (IsReply max (bytes ++ more) a))
-found_answer max bytes len status framed ended (More n) f h = tt
-found_answer max bytes len status framed ended (Done a) f h = λ more end.
-    unless_map a (IsBehind (is_informational status) status framed (max - len) (take (length bytes - len) (drop len bytes) ++ more) a) (IsReply max (bytes ++ more) a)
-    (λ b. headed_reply max bytes more len status framed a f
-    (subst (λ t. IsBehind (is_informational status) status framed (max - len) (t ++ more) a) (take_rest bytes len) b)) (h more end)
 
 -- more than may be read leaves more than may be read behind the head
 pub over_rest : (max : ℕ) (bytes : List ℕ) (len : ℕ) → len ≤ max → max < length bytes → max - len < length (take (length bytes - len) (drop len bytes))
@@ -135,8 +101,8 @@ not_read_failed max bytes (inr h) = not_behind (is_informational (status_code h.
 
 -- ---- reading
 
-module _ {A : Type 0} (IsAnswer : List ℕ → Result A HttpFault → Type 0) where
-  settle : (whole : List ℕ) (left : Option (List ℕ)) (a : Result A HttpFault) (before now : ℕ) → UnlessMemory a (IsAnswer whole a) → Settles IsAnswer whole left before now a
+module _ {A : Type 0} (HasNoHead : List ℕ → Type 0) (IsAnswer : List ℕ → Result A HttpFault → Type 0) where
+  settle : (whole : List ℕ) (left : Option (List ℕ)) (a : Result A HttpFault) (before now : ℕ) → UnlessMemory a (IsAnswer whole a) → Settles HasNoHead IsAnswer whole left before now a
   settle whole left (Ok x) before now h = h
   settle whole left (Err OutOfMemory) before now h = tt
   settle whole left (Err ReadFailed) before now h = tt
@@ -151,7 +117,7 @@ module _ {A : Type 0} (IsAnswer : List ℕ → Result A HttpFault → Type 0) wh
   pub settled : (whole left : Option (List ℕ)) (bytes : List ℕ) (ended : Bool) (a : Result A HttpFault) (before now : ℕ)
       → Consumes whole left bytes → (ended ≡ true → IsAtEnd left)
       → ((more : List ℕ) → (IsTrue ended → more ≡ []) → UnlessMemory a (IsAnswer (bytes ++ more) a))
-      → IfSome whole (λ w. Settles IsAnswer w left before now a)
+      → IfSome whole (λ w. Settles HasNoHead IsAnswer w left before now a)
   settled None left bytes ended a before now given end judged = tt
   settled (Some w) None bytes ended a before now given end judged = absurd given
   settled (Some w) (Some l) bytes ended a before now given end judged =
@@ -168,3 +134,6 @@ module _ {A : Type 0} (IsAnswer : List ℕ → Result A HttpFault → Type 0) wh
   counted (Err TooLong) bytes before now not_failed h e = e
   counted (Err TwoLengths) bytes before now not_failed h e = e
   counted (Err OutOfMemory) bytes before now not_failed h e = e
+
+  pub not_failed : (a : Result A HttpFault) (bytes : List ℕ) → (IsAnswer bytes (Err ReadFailed) → ⊥) → UnlessMemory a (IsAnswer bytes a) → a ≡ Err ReadFailed → ⊥
+  not_failed a bytes never h e = never (subst (λ x. UnlessMemory x (IsAnswer bytes x)) e h)

@@ -13,20 +13,11 @@ use Rattle.vault_http.specs.declared.heads.Start.{Start}
 use Rattle.vault_http.specs.declared.http_fault.HttpFault.{HttpFault}
 use Rattle.vault_http.specs.declared.http_fault.HttpFault.TheVariants.{ReadFailed, BadHead}
 use Rattle.vault_http.specs.declared.request.Request.{Request}
-use Rattle.vault_http.specs.declared.verdict.Verdict.{Verdict}
-use Rattle.vault_http.specs.declared.verdict.Verdict.TheVariants.{More, Done}
 use Rattle.vault_http.specs.Heads.{most_fields, FoundRequest, framing_of_request, token_of, IsAt}
-use Rattle.vault_http.specs.Judging.{IsUnread}
 use Rattle.vault_http.specs.Messages.{IsOpenRequest, IsFramed, request_of, IsRequest, UnlessMemory}
 use Rattle.vault_http.specs.Starts.{IsStart, IsTokenWithin, request_at}
-use Rattle.vault_http.specs.Verdicts.{IfDone}
 use Rattle.vault_http.proofs.Fronts.{take-grows}
-use Rattle.vault_http.proofs.MessageLemmas.{open_answer, unless, unless_map, head_on, not_headless, not_length, not_body}
-
-pub open_request : (max : ℕ) (bytes more : List ℕ) (ended : Bool) (fault : HttpFault) → IsUnread (length bytes) max ended (Some fault) → IsOpenRequest (take max bytes)
-    → (IsTrue ended → more ≡ []) → UnlessMemory {A = Request} (Err fault) (IsRequest max (bytes ++ more) (Err fault))
-open_request max bytes more ended fault u o end =
-    unless {A = Request} (Err fault) (IsRequest max (bytes ++ more) (Err fault)) (inl (fault, open_answer IsOpenRequest (RequestOverflows most_fields) max bytes more ended fault u o end, refl))
+use Rattle.vault_http.proofs.MessageLemmas.{ head_on, not_headless, not_length, not_body}
 
 overflows_on : (front more : List ℕ) → RequestOverflows most_fields front → RequestOverflows most_fields (front ++ more)
 overflows_on front more over after h rest reads = over (more ++ after) h rest (subst (λ b. ReadsRequest b h rest) (append_assoc front more after) reads)
@@ -71,16 +62,6 @@ headed_request max bytes more len start framed a f behind =
     let by_framing = subst (λ g. IsFramed (request_of f.head.method f.head.target carried) g (max - len) rest a) f.framing_is by_token in
     let by_len = subst (λ k. IsFramed (request_of f.head.method f.head.target carried) (framing_of_request f.head) (max - k) rest a) f.len_is by_framing in
     inr (record { head = f.head; rest = rest; reads = (f.reads.0, on.0); few = f.few; within = on.1; behind = by_len })
-
-pub found_answer : (max : ℕ) (bytes : List ℕ) (len : ℕ) (start : Start) (framed : Result Framing LengthFault) (ended : Bool) (v : Verdict (Result Request HttpFault)) → FoundRequest (take max bytes) len start framed
-    → IfDone v (λ a. (more : List ℕ) → (IsTrue ended → more ≡ [])
-    → UnlessMemory a (IsFramed (request_at (take max bytes) start) framed (max - len) (take (length bytes - len) (drop len bytes) ++ more) a))
-    → IfDone v (λ a. (more : List ℕ) → (IsTrue ended → more ≡ []) → UnlessMemory a (IsRequest max (bytes ++ more) a))
-found_answer max bytes len start framed ended (More n) f h = tt
-found_answer max bytes len start framed ended (Done a) f h = λ more end.
-    unless_map a (IsFramed (request_at (take max bytes) start) framed (max - len) (take (length bytes - len) (drop len bytes) ++ more) a) (IsRequest max (bytes ++ more) a)
-    (λ b. headed_request max bytes more len start framed a f
-    (subst (λ t. IsFramed (request_at (take max bytes) start) framed (max - len) (t ++ more) a) (take_rest bytes len) b)) (h more end)
 
 not_request_of : (method path : List ℕ) (token : Option (List ℕ)) (body : Result (List ℕ) BodyFault) → request_of method path token body ≡ Err ReadFailed → ⊥
 not_request_of method path token (Ok b) e = cc

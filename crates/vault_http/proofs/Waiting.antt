@@ -1,40 +1,31 @@
--- What a message that is not whole lacks: for the judges and the reading loops.
-use Rattle.std.proofs.Common.{◌≡◌, ℕ, ◌+◌, ◌<◌, ◌≤◌, ◌⊎◌, inl, inr, cond, nat_lt, Bool, true, false, not, IsTrue, List, [], ◌++◌, length, take, drop, replicate, refl, sym, ap, ◌∙◌, arith, append_assoc, append-nil, subst, length-append, take-append-drop, Option, None, Some, IfSome, Result, Ok, Err}
-use Rattle.std.proofs.lemmas.Bool.{cases_lt, lt-ltb}
-use Rattle.std.proofs.lemmas.List.{length-replicate}
+-- Where more of a message is rightly waited for: for the judges and the reading loop.
+use Rattle.std.proofs.Common.{◌≡◌, ℕ, ◌+◌, ◌-◌, ◌*◌, ◌<◌, ◌≤◌, ◌⊎◌, inl, inr, cond, nat_lt, Bool, true, false, not, IsTrue, List, [], ◌++◌, length, take, drop, replicate, refl, sym, ap, ◌∙◌, arith, append_assoc, append-nil, subst, length-append, take-append-drop, Option, None, Some, IfSome, Result, Ok, Err}
+use Rattle.std.proofs.lemmas.Bool.{lt-ltb, le-ltb}
+use Rattle.std.proofs.lemmas.List.{length-replicate, take-append-le, drop-append-le, take_all, length-take-le}
+use Rattle.std.specs.List.{list_all}
 use Rattle.std.specs.Io.KnownBytes.{Consumes, Keeps, IsAtEnd}
 use Rattle.std.proofs.KnownBytes.{Consumes-kept}
-use Rattle.vault_http.specs.declared.body.BodyFault.TheVariants.{TooLong, Truncated}
-use Rattle.vault_http.specs.declared.framing.Framing.{Framing}
-use Rattle.vault_http.specs.declared.framing.Framing.TheVariants.{Empty, Counted, Chunked, ToEnd}
-use Rattle.vault_http.specs.declared.framing.LengthFault.{LengthFault}
-use Rattle.vault_http.specs.declared.http_fault.HttpFault.{HttpFault}
-use Rattle.vault_http.specs.declared.http_fault.HttpFault.TheVariants as faults
-use Rattle.vault_http.specs.Body.{IsBody, counted_body, open_body}
-use Rattle.vault_http.specs.Holding.{Holds, HandedNone, HasLineBehind, Lacks}
-use Rattle.vault_http.specs.Judging.{IsWaiting}
-use Rattle.vault_http.specs.Reading.{HeldIsRead, IsLate, Settles}
 use Rattle.keep_device.specs.declared.limits.TheConstants.{MOST_READS}
 use Rattle.keep_device.specs.Whole.{MakesAtMost}
-use Rattle.vault_http.proofs.EmptyLines.{line_in_rest, line_where, line_within}
-use Rattle.vault_http.proofs.WholeChunks.{never_both, whole_where}
+use Rattle.vault_http.specs.declared.body.BodyFault.{BodyFault}
+use Rattle.vault_http.specs.declared.body.BodyFault.TheVariants.{TooLong, Truncated}
+use Rattle.vault_http.specs.declared.body.Partial.{Partial}
+use Rattle.vault_http.specs.declared.body.Partial.TheVariants as partial
+use Rattle.vault_http.specs.declared.framing.Framing.{Framing}
+use Rattle.vault_http.specs.declared.framing.Framing.TheVariants.{Empty, Counted, Chunked, ToEnd}
+use Rattle.vault_http.specs.declared.http_fault.HttpFault.{HttpFault}
+use Rattle.vault_http.specs.declared.http_fault.HttpFault.TheVariants as faults
+use Rattle.vault_http.specs.declared.known.Known.{Known}
+use Rattle.vault_http.specs.declared.known.Known.TheVariants as known
+use Rattle.vault_http.specs.Body.{IsBody, HasBody, IsCutOff, IsPartOf, counted_body, framing_of, open_body}
+use Rattle.vault_http.specs.Chunks.{HasChunks}
+use Rattle.vault_http.specs.EmptyLine.{HasLineBehind, is_blank}
+use Rattle.vault_http.specs.Holding.{Holds, HandedNone, IsLongHead, IsPending, IsWaitedFor}
+use Rattle.vault_http.specs.Known.{IsCurrent, IsHeaded, IsKnown, whole_of}
+use Rattle.vault_http.specs.Reading.{HeldIsRead, IsLate, Settles}
+use Rattle.vault_http.proofs.WholeChunks.{never_both}
 
 -- ---- a body
-
--- a whole body stands behind a head
-abbrev pub HasBody : Result Framing LengthFault → ℕ → List ℕ → Type 0
-HasBody (Ok framed) room rest = (body : List ℕ) × IsBody framed room rest (Ok body)
-HasBody (Err fault) room rest = ⊥
-
-counted_whole : (b c : Bool) (bytes body : List ℕ) → Ok body ≡ cond b (Err TooLong) (cond c (Err Truncated) (Ok bytes)) → (b ≡ false) × (c ≡ false)
-counted_whole true c bytes body e = absurd (cc (e))
-counted_whole false true bytes body e = absurd (cc (e))
-counted_whole false false bytes body e = (refl, refl)
-
-counted_long : (n room : ℕ) (rest body : List ℕ) → Ok body ≡ counted_body n room rest → n ≤ length rest
-counted_long n room rest body e =
-    let fits = counted_whole (nat_lt room n) (nat_lt (length rest) n) (take n rest) body e in
-    elim (cases_lt (length rest) n) [ inl short ↦ absurd (cc (fits.1, lt-ltb (length rest) n short)) | inr long ↦ long ]
 
 counted_cut : (b c : Bool) (bytes body : List ℕ) → cond b (Err TooLong) (cond c (Err Truncated) (Ok bytes)) ≡ Err Truncated → Ok body ≡ cond b (Err TooLong) (cond c (Err Truncated) (Ok bytes)) → ⊥
 counted_cut b c bytes body cut e = let both = e ∙ cut in cc
@@ -48,121 +39,152 @@ open_never room rest body long e = given (nat_lt room (length rest)) (lt-ltb roo
     given false t f = cc
 
 -- a body that is waited for is not whole
-waits_none : (framed : Result Framing LengthFault) (room wanted : ℕ) (rest : List ℕ) → IsWaiting framed room rest wanted → ((after : List ℕ) → HasBody framed room (rest ++ after)) → ⊥
-waits_none (Err fault) room wanted rest w h = absurd w
-waits_none (Ok Empty) room wanted rest w h = absurd w.0
-waits_none (Ok (Counted n)) room wanted rest w h =
+waits_none : (framed : Framing) (room : ℕ) (rest : List ℕ) → IsCutOff framed room rest → ((after : List ℕ) → HasBody framed room (rest ++ after)) → ⊥
+waits_none Empty room rest w h = w
+waits_none (Counted n) room rest w h =
     let b = h [] in
-    counted_cut (nat_lt room n) (nat_lt (length rest) n) (take n rest) b.0 w.0 (subst (λ t. Ok b.0 ≡ counted_body n room t) (append-nil rest) b.1)
-waits_none (Ok Chunked) room wanted rest w h = let b = h [] in never_both room rest b.0 w.0 (subst (λ t. IsBody Chunked room t (Ok b.0)) (append-nil rest) b.1)
-waits_none (Ok ToEnd) room wanted rest w h =
+    counted_cut (nat_lt room n) (nat_lt (length rest) n) (take n rest) b.0 w (subst (λ t. Ok b.0 ≡ counted_body n room t) (append-nil rest) b.1)
+waits_none Chunked room rest w h = let b = h [] in never_both room rest b.0 w (subst (λ t. IsBody Chunked room t (Ok b.0)) (append-nil rest) b.1)
+waits_none ToEnd room rest w h =
     let pad = replicate (room + 1) 0 in
     let b = h pad in
     open_never room (rest ++ pad) b.0 (omega (arith, length-append rest pad, length-replicate {A = ℕ} (room + 1) 0)) b.1
 
--- one that is whole later has so many bytes more, or an empty line
-waits_later : (framed : Result Framing LengthFault) (room wanted : ℕ) (rest more : List ℕ) → IsWaiting framed room rest wanted → ((after : List ℕ) → HasBody framed room ((rest ++ more) ++ after))
-    → (length rest + wanted ≤ length (rest ++ more)) ⊎ HasLineBehind (length rest) (rest ++ more)
-waits_later (Err fault) room wanted rest more w h = absurd w
-waits_later (Ok Empty) room wanted rest more w h = absurd w.0
-waits_later (Ok (Counted n)) room wanted rest more w h =
-    let b = h [] in
-    let long = counted_long n room (rest ++ more) b.0 (subst (λ t. Ok b.0 ≡ counted_body n room t) (append-nil (rest ++ more)) b.1) in
-    inl (omega (arith, long, w.1))
-waits_later (Ok Chunked) room wanted rest more w h =
-    let b = h [] in
-    elim (whole_where room rest more b.0 (subst (λ t. IsBody Chunked room t (Ok b.0)) (append-nil (rest ++ more)) b.1)) [
-      | inl whole ↦ absurd (never_both room rest b.0 w.0 whole)
-      | inr line ↦ inr line
-    ]
-waits_later (Ok ToEnd) room wanted rest more w h =
-    let pad = replicate (room + 1) 0 in
-    let b = h pad in
-    absurd (open_never room ((rest ++ more) ++ pad) b.0 (omega (arith, length-append (rest ++ more) pad, length-replicate {A = ℕ} (room + 1) 0)) b.1)
+open_whole : (room : ℕ) (rest : List ℕ) → length rest ≤ room → Ok rest ≡ open_body room rest
+open_whole room rest w = given (nat_lt room (length rest)) (le-ltb room (length rest) w)
+  where
+    given : (b : Bool) → b ≡ false → Ok rest ≡ cond b (Err TooLong) (Ok rest)
+    given true f = absurd (cc f)
+    given false f = refl
+
+-- whole chunks at the front stay there
+chunks_on : (rest more : List ℕ) (at : ℕ) (body : List ℕ) → at ≤ length rest → HasChunks rest at body → HasChunks (rest ++ more) at body
+chunks_on rest more at body within h = record {
+  chunks = h.chunks;
+  are_chunks = h.are_chunks;
+  text_is = take-append-le at rest more within ∙ h.text_is;
+  body_is = h.body_is;
+}
+
+part_on : (p : Partial) (room : ℕ) (rest more : List ℕ) → IsPartOf p room rest → IsPartOf p room (rest ++ more)
+part_on partial.Empty room rest more h = tt
+part_on (partial.Counted n) room rest more h = tt
+part_on (partial.Chunked at body) room rest more h = (omega (arith, h.0, length-append rest more), h.1, chunks_on rest more at body.items h.0 h.2)
+part_on partial.ToEnd room rest more h = tt
 
 -- ---- a message
 
-module _ {A : Type 0} (IsAnswer : List ℕ → Result A HttpFault → Type 0) where
-  -- behind a head of so many bytes
-  pub lacks_behind : (bytes : List ℕ) (len : ℕ) (framed : Result Framing LengthFault) (room wanted : ℕ) → len ≤ length bytes → IsWaiting framed room (drop len bytes) wanted
-      → ((more : List ℕ) (message : A) → IsAnswer (bytes ++ more) (Ok message) → HasBody framed room (drop len bytes ++ more)) → Lacks IsAnswer bytes (length bytes + wanted)
-  lacks_behind bytes len framed room wanted there w behind =
+module _ {A : Type 0} (HasNoHead : List ℕ → Type 0) (IsAnswer : List ℕ → Result A HttpFault → Type 0) (with_body : A → List ℕ → A) where
+  -- a head stays one however the bytes go on
+  headed_on : (max : ℕ) (bytes more : List ℕ) (len : ℕ) (message : A) (framed : Framing) → IsHeaded IsAnswer with_body max bytes len message framed
+      → IsHeaded IsAnswer with_body max (bytes ++ more) len message framed
+  headed_on max bytes more len message framed h =
+      let behind : (after : List ℕ) → drop len (bytes ++ more) ++ after ≡ drop len bytes ++ (more ++ after) =
+      λ after. ap (λ t. t ++ after) (drop-append-le len bytes more h.there) ∙ append_assoc (drop len bytes) more after in record {
+        within = h.within;
+        there = omega (arith, h.there, length-append bytes more);
+        answers = λ after body is. subst (λ t. IsAnswer t (whole_of with_body message body)) (sym (append_assoc bytes more after))
+        (h.answers (more ++ after) body (subst (λ t. IsBody framed (max - len) t body) (behind after) is));
+        has_body = λ after m is. subst (λ t. HasBody framed (max - len) t) (sym (behind after))
+        (h.has_body (more ++ after) m (subst (λ t. IsAnswer t (Ok m)) (append_assoc bytes more after) is));
+      }
+
+  pub known_on : (max : ℕ) (bytes more : List ℕ) (k : Known A) → IsKnown HasNoHead IsAnswer with_body max bytes k → IsKnown HasNoHead IsAnswer with_body max (bytes ++ more) k
+  known_on max bytes more (known.Head looked seen blank) (less, there, within, cut, none, all) =
+      let long = length-append bytes more in (
+        less,
+        omega (arith, there, long),
+        omega (arith, within, long),
+        subst (λ t. IsAnswer t (Err faults.Truncated)) (sym (take-append-le looked bytes more (omega (arith, less, there)))) cut,
+        subst HasNoHead (sym (take-append-le seen bytes more there)) none,
+        ap (list_all is_blank) (take-append-le blank bytes more within) ∙ all,
+      )
+  known_on max bytes more (known.Body len message p) (headed, part) = (
+    headed_on max bytes more len message (framing_of p) headed,
+    subst (IsPartOf p (max - len)) (sym (drop-append-le len bytes more headed.there)) (part_on p (max - len) (drop len bytes) more part),
+  )
+
+  -- no head is whole in more bytes that are all of line ends, or bring no empty line
+  pub unlooked : (max : ℕ) (bytes : List ℕ) (looked seen old blank : ℕ) → ((t : List ℕ) → IsTrue (list_all is_blank t) → HasNoHead t)
+      → ((t more : List ℕ) → HasNoHead t → (HasLineBehind (length t) (t ++ more) → ⊥) → HasNoHead (t ++ more))
+      → IsKnown HasNoHead IsAnswer with_body max bytes (known.Head looked seen old) → blank ≤ length bytes → IsTrue (list_all is_blank (take blank bytes))
+      → (blank ≡ length bytes) ⊎ (HasLineBehind seen bytes → ⊥) → IsKnown HasNoHead IsAnswer with_body max bytes (known.Head looked (length bytes) blank)
+  unlooked max bytes looked seen old blank by_blank by_line (less, there, within, cut, none, all) here blanks (inl same) =
+      (omega (arith, less, there), omega arith, here, cut, by_blank (take (length bytes) bytes) (subst (λ n. IsTrue (list_all is_blank (take n bytes))) same blanks), blanks)
+  unlooked max bytes looked seen old blank by_blank by_line (less, there, within, cut, none, all) here blanks (inr quiet) =
+      let front = take seen bytes in
+      let whole : front ++ drop seen bytes ≡ bytes = take-append-drop seen bytes in
+      let long : length front ≡ seen = length-take-le seen bytes there in
+      let gone = by_line front (drop seen bytes) none (λ line. quiet (subst (λ n. HasLineBehind n bytes) long (subst (λ t. HasLineBehind (length front) t) whole line))) in
+      (omega (arith, less, there), omega arith, here, cut, subst HasNoHead (whole ∙ sym (take_all (length bytes) bytes (omega arith))) gone, blanks)
+
+  -- behind a head
+  body_none : (max : ℕ) (bytes : List ℕ) (len : ℕ) (message : A) (framed : Framing) → IsHeaded IsAnswer with_body max bytes len message framed → IsCutOff framed (max - len) (drop len bytes)
+      → (m : A) → Holds IsAnswer bytes m → ⊥
+  body_none max bytes len message framed h cut m holds = waits_none framed (max - len) (drop len bytes) cut (λ after. h.has_body after m (holds after))
+
+  at_end : (max : ℕ) (bytes : List ℕ) (len : ℕ) (message : A) (framed : Framing) (body : Result (List ℕ) BodyFault) → IsHeaded IsAnswer with_body max bytes len message framed
+      → IsBody framed (max - len) (drop len bytes) body → IsAnswer bytes (whole_of with_body message body)
+  at_end max bytes len message framed body h is =
+      subst (λ t. IsAnswer t (whole_of with_body message body)) (append-nil bytes)
+      (h.answers [] body (subst (λ t. IsBody framed (max - len) t body) (sym (append-nil (drop len bytes))) is))
+
+  cut_answer : (max : ℕ) (bytes : List ℕ) (len : ℕ) (message : A) (framed : Framing) → IsHeaded IsAnswer with_body max bytes len message framed → IsBody framed (max - len) (drop len bytes) (Err Truncated)
+      → IsAnswer bytes (Err faults.Truncated)
+  cut_answer max bytes len message framed h is = at_end max bytes len message framed (Err Truncated) h is
+
+  body_pending : (max : ℕ) (bytes : List ℕ) (len : ℕ) (message : A) (framed : Framing) → IsHeaded IsAnswer with_body max bytes len message framed → IsCutOff framed (max - len) (drop len bytes)
+      → IsPending IsAnswer bytes
+  body_pending max bytes len message Empty h cut = absurd cut
+  body_pending max bytes len message (Counted n) h cut = inl (cut_answer max bytes len message (Counted n) h (sym cut))
+  body_pending max bytes len message Chunked h cut = inl (cut_answer max bytes len message Chunked h cut)
+  body_pending max bytes len message ToEnd h cut =
       let rest = drop len bytes in
-      let front = take len bytes in
-      let count : length front + length rest ≡ length bytes = sym (length-append front rest) ∙ ap length (take-append-drop len bytes) in record {
-        none = λ message holds. waits_none framed room wanted rest w (λ after. behind after message (holds after));
-        later = λ more message holds.
-            let whole : front ++ (rest ++ more) ≡ bytes ++ more = sym (append_assoc front rest more) ∙ ap (λ t. t ++ more) (take-append-drop len bytes) in
-            elim (waits_later framed room wanted rest more w
-            (λ after. subst (λ t. HasBody framed room t) (sym (append_assoc rest more after))
-            (behind (more ++ after) message (subst (λ t. IsAnswer t (Ok message)) (append_assoc bytes more after) (holds after))))) [
-              | inl many ↦ inl (omega (arith, many, length-append rest more, length-append bytes more))
-              | inr line ↦ inr (subst (λ t. HasLineBehind (length bytes) t) whole (subst (λ n. HasLineBehind n (front ++ (rest ++ more))) count (line_in_rest front (rest ++ more) (length rest) line)))
-            ];
-      }
+      inr (with_body message rest, at_end max bytes len message ToEnd (Ok rest) h (open_whole (max - len) rest cut), body_none max bytes len message ToEnd h cut (with_body message rest))
 
-  -- before the end of a head
-  pub lacks_head : (bytes : List ℕ) (due : ℕ) → ((more : List ℕ) (message : A) → IsAnswer (bytes ++ more) (Ok message) → HasLineBehind (length bytes) (bytes ++ more)) → Lacks IsAnswer bytes due
-  lacks_head bytes due line = record {
-    none = λ message holds. let within = line_within (length bytes) (bytes ++ []) (line [] message (holds [])) in omega (arith, within, ap length (append-nil bytes));
-    later = λ more message holds. inr (line more message (subst (λ t. IsAnswer t (Ok message)) (append-nil (bytes ++ more)) (holds [])));
+  pub waited : (max : ℕ) (bytes : List ℕ) (k : Known A) → ((m : A) → IsAnswer bytes (Ok m) → HasNoHead bytes → ⊥) → IsKnown HasNoHead IsAnswer with_body max bytes k → IsCurrent max bytes k
+      → IsWaitedFor HasNoHead IsAnswer bytes
+  waited max bytes (known.Head looked seen blank) heads (less, there, within, cut, none, all) (now, soon) =
+      let gone : HasNoHead bytes = subst HasNoHead (take_all seen bytes (omega (arith, now))) none in record {
+        none = λ m holds. heads m (subst (λ t. IsAnswer t (Ok m)) (append-nil bytes) (holds [])) gone;
+        pending = elim soon [
+          | inl same ↦ inl (inl (subst (λ t. IsAnswer t (Err faults.Truncated)) (take_all looked bytes (omega (arith, now, same))) cut))
+          | inr long ↦ inr (record { none = gone; looked = looked; many = long.0; half = long.1; within = omega (arith, less, there); cut = cut })
+        ];
+      }
+  waited max bytes (known.Body len message p) heads (headed, part) cut = record {
+    none = body_none max bytes len message (framing_of p) headed cut;
+    pending = inl (body_pending max bytes len message (framing_of p) headed cut);
   }
 
-  -- more bytes, without an empty line and fewer than were waited for
-  pub lacks_still : (was piece bytes : List ℕ) (before due : ℕ) → bytes ≡ was ++ piece → length was ≡ before → Lacks IsAnswer was due
-      → (length bytes < due) × (HasLineBehind before bytes → ⊥) → Lacks IsAnswer bytes due
-  lacks_still was piece bytes before due e count l quiet =
-      let gone : HasLineBehind (length was) bytes → ⊥ = λ line. quiet.1 (subst (λ n. HasLineBehind n bytes) count line) in record {
-        none = λ message holds.
-            let short : length (was ++ piece) < due = omega (arith, quiet.0, ap length e) in
-            elim (l.later piece message (subst (λ t. Holds IsAnswer t message) e holds)) [
-              | inl many ↦ omega (arith, many, short)
-              | inr line ↦ gone (subst (λ t. HasLineBehind (length was) t) (sym e) line)
-            ];
-        later = λ more message holds.
-            let on : bytes ++ more ≡ was ++ (piece ++ more) = ap (λ t. t ++ more) e ∙ append_assoc was piece more in
-            elim (l.later (piece ++ more) message (subst (λ t. Holds IsAnswer t message) on holds)) [
-              | inl many ↦ inl (omega (arith, many, ap length on))
-              | inr line ↦ elim (line_where (length was) bytes more (subst (λ t. HasLineBehind (length was) t) (sym on) line)) [
-                | inl within ↦ absurd (gone within)
-                | inr behind ↦ inr behind
-              ]
-            ];
-      }
-
-  pub lacks_less : (bytes : List ℕ) (due next : ℕ) → next ≤ due → Lacks IsAnswer bytes due → Lacks IsAnswer bytes next
-  lacks_less bytes due next less l = record {
-    none = l.none;
-    later = λ more message holds. elim (l.later more message holds) [ inl many ↦ inl (omega (arith, many, less)) | inr line ↦ inr line ];
-  }
-
+module _ {A : Type 0} (HasNoHead : List ℕ → Type 0) (IsAnswer : List ℕ → Result A HttpFault → Type 0) where
   -- as many reads as are allowed did not do
-  pub late : (before now : Option (List ℕ)) (bytes : List ℕ) (due counter first left : ℕ) → MOST_READS ≤ counter → Consumes before now bytes → Lacks IsAnswer bytes due
+  pub late : (before now : Option (List ℕ)) (bytes : List ℕ) (counter first left : ℕ) → MOST_READS ≤ counter → Consumes before now bytes → IsWaitedFor HasNoHead IsAnswer bytes
       → IfSome before (λ _. (counter + left ≤ first) × ((counter ≡ 0) ⊎ (0 < left))) → (counter ≡ 0) ⊎ (left ≤ 1 → IsAtEnd now)
-      → IfSome before (λ w. Settles IsAnswer w now first left (Err faults.TooLong))
-  late None now bytes due counter first left many given l pace last = tt
-  late (Some w) now bytes due counter first left many given l pace last = inr (record {
+      → IfSome before (λ w. Settles HasNoHead IsAnswer w now first left (Err faults.TooLong))
+  late None now bytes counter first left many given l pace last = tt
+  late (Some w) now bytes counter first left many given l pace last = inr (record {
     passes = (omega (arith, pace.0, many), elim pace.1 [ inl none ↦ omega (arith, none, many) | inr some ↦ some ]);
-    none = (bytes, given, l.none);
+    none = (bytes, given, l);
     last = elim last [ inl none ↦ absurd (omega (arith, none, many)) | inr end ↦ end ];
   })
 
-  never_late : (bytes : List ℕ) (left : Option (List ℕ)) (before now : ℕ) (message : A) → Holds IsAnswer bytes message → before ≤ MOST_READS + 1 → IsLate IsAnswer bytes left before now → ⊥
+  never_late : (bytes : List ℕ) (left : Option (List ℕ)) (before now : ℕ) (message : A) → Holds IsAnswer bytes message → before ≤ MOST_READS + 1 → IsLate HasNoHead IsAnswer bytes left before now → ⊥
   never_late bytes None before now message holds few l = l.none.1
   never_late bytes (Some rest) before now message holds few l =
       let end : rest ≡ [] = l.last (omega (arith, few, l.passes.0)) in
       let all : bytes ≡ l.none.0 = l.none.1 ∙ ap (λ t. l.none.0 ++ t) end ∙ append-nil l.none.0 in
-      l.none.2 message (subst (λ t. Holds IsAnswer t message) all holds)
+      l.none.2.none message (subst (λ t. Holds IsAnswer t message) all holds)
 
   -- a message that was handed out is not passed over
-  pub held_is_read : HeldIsRead IsAnswer
+  pub held_is_read : HeldIsRead HasNoHead IsAnswer
   held_is_read bytes left before now message holds few (inl answer) = answer
   held_is_read bytes left before now message holds few (inr l) = absurd (never_late bytes left before now message holds few l)
 
   -- a read that failed took nothing
-  pub handed_none : (before now after : Option (List ℕ)) (bytes : List ℕ) (due : ℕ) → Consumes before now bytes → Keeps now after → Lacks IsAnswer bytes due → HandedNone IsAnswer before after
-  handed_none None now after bytes due given kept l = tt
-  handed_none (Some w) now after bytes due given kept l = (bytes, Consumes-kept (Some w) now after bytes given kept, l.none)
+  pub handed_none : (before now after : Option (List ℕ)) (bytes : List ℕ) → Consumes before now bytes → Keeps now after → IsWaitedFor HasNoHead IsAnswer bytes → HandedNone HasNoHead IsAnswer before after
+  handed_none None now after bytes given kept l = tt
+  handed_none (Some w) now after bytes given kept l = (bytes, Consumes-kept (Some w) now after bytes given kept, l)
 
 -- ---- the loops
 

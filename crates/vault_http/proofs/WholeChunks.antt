@@ -8,7 +8,7 @@ use Rattle.vault_http.specs.declared.body.BodyFault.{BodyFault}
 use Rattle.vault_http.specs.declared.body.BodyFault.TheVariants.{TooLong, Truncated, BadChunk, OutOfMemory}
 use Rattle.vault_http.specs.Chunks.{line_end, IsSize, IsData, size, HasPart, MayHave, Chunk, IsChunk, print_chunk, print_chunks, content, joined, StopsAt, IsChunked}
 use Rattle.vault_http.specs.Framing.{is_digit}
-use Rattle.vault_http.specs.Holding.{HasLineBehind}
+use Rattle.vault_http.specs.EmptyLine.{HasLineBehind}
 use Rattle.vault_http.proofs.EmptyLines.{empty_line, ends_more, front_split, line_behind}
 use Rattle.vault_http.proofs.Runs.{same_run}
 
@@ -102,35 +102,3 @@ never_both room text body a b =
     apart a.chunks b.chunks a.rest b.rest a.are_chunks b.are_chunks (sym a.text_is ∙ b.text_is)
     (cut_open (room - length (print_chunks a.chunks)) (content a.chunks) a.rest a.stop a.body_is a.stops)
     (s.0, s.1, s.2, s.3, s.4, s.6)
-
--- ---- the end of a whole body
-
--- a whole body of a text that goes on: within the text, or it ends behind it with an empty line
-pub whole_where : (room : ℕ) (xs more body : List ℕ) → IsChunked room (xs ++ more) (Ok body) → IsChunked room xs (Ok body) ⊎ HasLineBehind (length xs) (xs ++ more)
-whole_where room xs more body h =
-    let l = whole_last (room - length (print_chunks h.chunks)) (content h.chunks) body h.rest h.stop h.body_is h.stops in
-    let digits = l.2.0 in
-    let after = l.2.2 in
-    let none = l.0 in
-    let last = digits ++ (line_end ++ line_end) in
-    let p = print_chunks h.chunks ++ last in
-    let tail_text : (t : List ℕ) → print_chunks h.chunks ++ (digits ++ (line_end ++ (line_end ++ t))) ≡ p ++ t =
-    λ t. ap (λ u. print_chunks h.chunks ++ u) (sym (append_assoc digits (line_end ++ line_end) t)) ∙ sym (append_assoc (print_chunks h.chunks) last t) in
-    let whole : xs ++ more ≡ p ++ after =
-    h.text_is ∙ ap (λ t. print_chunks h.chunks ++ t) (l.2.3.1 ∙ ap (λ t. digits ++ (line_end ++ t)) l.2.6.1) ∙ tail_text after in
-    let ends = ends_more (empty_line crlf) (print_chunks h.chunks) last (ends_more (empty_line crlf) digits (line_end ++ line_end) (13 ∷ [], refl)) in
-    elim (cases_lt (length xs) (length p)) [
-      | inl short ↦ inr (line_behind crlf xs more p after whole ends short)
-      | inr within ↦
-          let left = drop (length p) xs in
-          inl (record {
-            chunks = h.chunks;
-            rest = digits ++ (line_end ++ (line_end ++ left));
-            stop = Ok none;
-            are_chunks = h.are_chunks;
-            text_is = front_split xs more p after whole within ∙ sym (tail_text left);
-            fits = h.fits;
-            stops = (digits, line_end ++ left, left, (l.2.3.0, refl), l.2.4, l.2.5, (refl, refl));
-            body_is = h.body_is ∙ ap (joined (content h.chunks)) l.1;
-          })
-    ]

@@ -2,9 +2,11 @@
 use Rattle.std.specs.Prelude.{◌≡◌, ℕ, ◌+◌, ◌≤◌, List, [], length, take, nat_lt, if◌then◌else◌, Result, Ok, Err}
 use Rattle.vault_http.specs.declared.body.BodyFault.{BodyFault}
 use Rattle.vault_http.specs.declared.body.BodyFault.TheVariants.{TooLong, Truncated}
+use Rattle.vault_http.specs.declared.body.Partial.{Partial}
+use Rattle.vault_http.specs.declared.body.Partial.TheVariants as partial
 use Rattle.vault_http.specs.declared.framing.Framing.{Framing}
 use Rattle.vault_http.specs.declared.framing.Framing.TheVariants.{Empty, Counted, Chunked, ToEnd}
-use Rattle.vault_http.specs.Chunks.{IsChunked}
+use Rattle.vault_http.specs.Chunks.{IsChunked, HasChunks}
 
 -- a body of n bytes: whether they fit is judged before whether they are there
 abbrev pub counted_body : ℕ → ℕ → List ℕ → Result (List ℕ) BodyFault
@@ -21,16 +23,27 @@ IsBody (Counted n) room rest body = body ≡ counted_body n room rest
 IsBody Chunked room rest body = IsChunked room rest body
 IsBody ToEnd room rest body = body ≡ open_body room rest
 
+-- a whole body stands behind the head
+abbrev pub HasBody : Framing → ℕ → List ℕ → Type 0
+HasBody framed room rest = (body : List ℕ) × IsBody framed room rest (Ok body)
+
 -- the body is not all there: it would be cut off, were these bytes the last; one to the end of the input never is before it
 abbrev pub IsCutOff : Framing → ℕ → List ℕ → Type 0
 IsCutOff Empty room rest = ⊥
 IsCutOff (Counted n) room rest = counted_body n room rest ≡ Err Truncated
 IsCutOff Chunked room rest = IsChunked room rest (Err Truncated)
-IsCutOff ToEnd room rest = Unit {0}
+IsCutOff ToEnd room rest = length rest ≤ room
 
--- the body lacks so many bytes at least, where its head says how many it has
-abbrev pub IsWanting : Framing → List ℕ → ℕ → Type 0
-IsWanting Empty rest wanted = Unit {0}
-IsWanting (Counted n) rest wanted = length rest + wanted ≤ n
-IsWanting Chunked rest wanted = Unit {0}
-IsWanting ToEnd rest wanted = Unit {0}
+-- how the body is framed that is known in part
+abbrev pub framing_of : Partial → Framing
+framing_of partial.Empty = Empty
+framing_of (partial.Counted n) = Counted n
+framing_of (partial.Chunked at body) = Chunked
+framing_of partial.ToEnd = ToEnd
+
+-- what is known of the body is so of these bytes
+abbrev pub IsPartOf : Partial → ℕ → List ℕ → Type 0
+IsPartOf partial.Empty room rest = Unit {0}
+IsPartOf (partial.Counted n) room rest = Unit {0}
+IsPartOf (partial.Chunked at body) room rest = (at ≤ length rest) × (at ≤ room) × HasChunks rest at body.items
+IsPartOf partial.ToEnd room rest = Unit {0}

@@ -90,3 +90,10 @@ pub record IsChunked (room : ℕ) (text : List ℕ) (body : Result (List ℕ) Bo
   pub fits : length (print_chunks chunks) ≤ room
   pub stops : StopsAt (room - length (print_chunks chunks)) rest stop
   pub body_is : body ≡ joined (content chunks) stop
+
+-- the first bytes of the text are whole chunks, which hold these bytes
+pub record HasChunks (text : List ℕ) (at : ℕ) (body : List ℕ) : Type 0 where
+  pub chunks : List Chunk
+  pub are_chunks : AllByRecursion IsChunk chunks
+  pub text_is : take at text ≡ print_chunks chunks
+  pub body_is : body ≡ content chunks

@@ -10,7 +10,8 @@ pub mod Messages
 pub mod Verdicts
 pub mod Steps
 pub mod Holding
-pub mod Judging
+pub mod EmptyLine
+pub mod Known
 pub mod Starts
 pub mod Reading
 pub mod RoundTrip

@@ -50,6 +50,13 @@ abbrev pub request_of : List ℕ → List ℕ → Option (List ℕ) → Result (
 request_of method path token (Ok body) = Ok (record { method = method; path = path; token = token; body = body; port = 0 })
 request_of method path token (Err fault) = Err (body_fault fault)
 
+-- the reply or the request with another body
+abbrev pub reply_with : Reply → List ℕ → Reply
+reply_with m body = record { status = m.status; body = body }
+
+abbrev pub request_with : Request → List ℕ → Request
+request_with m body = record { method = m.method; path = m.path; token = m.token; body = body; port = m.port }
+
 -- what stands behind a head with that framing, of which so many bytes may be read
 abbrev pub IsFramed : {A : Type 0} → (Result (List ℕ) BodyFault → Result A HttpFault) → Result Framing LengthFault → ℕ → List ℕ → Result A HttpFault → Type 0
 IsFramed whole (Err fault) room rest answer = answer ≡ Err (length_fault fault)

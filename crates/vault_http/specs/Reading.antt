@@ -6,7 +6,11 @@ use Rattle.keep_device.specs.declared.one_read.MoreFault.TheVariants as more
 use Rattle.vault_http.specs.declared.http_fault.HttpFault.{HttpFault}
 use Rattle.vault_http.specs.declared.http_fault.HttpFault.TheVariants.{ReadFailed, TooLong, OutOfMemory}
 use Rattle.keep_device.specs.Failures.{one_more}
+use Rattle.httparse.specs.Grammar.{HasNoRequest, HasNoResponse}
+use Rattle.vault_http.specs.declared.reply.Reply.{Reply}
+use Rattle.vault_http.specs.declared.request.Request.{Request}
 use Rattle.vault_http.specs.Holding.{Holds, HandedNone}
+use Rattle.vault_http.specs.Messages.{IsReply, IsRequest}
 use Rattle.keep_device.specs.declared.limits.TheConstants.{MOST_READS}
 use Rattle.keep_device.specs.Whole.{PassesReads}
 
@@ -15,27 +19,40 @@ abbrev pub more_fault : MoreFault → HttpFault
 more_fault more.ReadFailed = ReadFailed
 more_fault more.OutOfMemory = OutOfMemory
 
--- as many reads were made as are allowed, and more are needed: what they handed out holds no message, and where one read
--- more is needed at most, that is for the end alone
-pub record IsLate {A : Type 0} (IsAnswer : List ℕ → Result A HttpFault → Type 0) (bytes : List ℕ) (left : Option (List ℕ)) (before now : ℕ) : Type 0 where
+-- as many reads were made as are allowed, and more are needed: more was rightly waited for behind what they handed out, and
+-- where one read more is needed at most, that is for the end alone
+pub record IsLate {A : Type 0} (HasNoHead : List ℕ → Type 0) (IsAnswer : List ℕ → Result A HttpFault → Type 0) (bytes : List ℕ) (left : Option (List ℕ)) (before now : ℕ) : Type 0 where
   pub passes : PassesReads before now
-  pub none : HandedNone IsAnswer (Some bytes) left
+  pub none : HandedNone HasNoHead IsAnswer (Some bytes) left
   pub last : now ≤ 1 → IsAtEnd left
 
 -- reading an input answers what the message's relation says of its bytes, unless a read failed, memory was wanting, or
 -- more reads were needed than are allowed; `left` is what was not read
-abbrev pub Settles : {A : Type 0} → (List ℕ → Result A HttpFault → Type 0) → List ℕ → Option (List ℕ) → ℕ → ℕ → Result A HttpFault → Type 0
-Settles IsAnswer bytes left before now (Err OutOfMemory) = Unit {0}
-Settles IsAnswer bytes left before now (Err ReadFailed) = Unit {0}
-Settles IsAnswer bytes left before now (Err TooLong) = IsAnswer bytes (Err TooLong) ⊎ IsLate IsAnswer bytes left before now
-Settles IsAnswer bytes left before now answer = IsAnswer bytes answer
+abbrev pub Settles : {A : Type 0} → (List ℕ → Type 0) → (List ℕ → Result A HttpFault → Type 0) → List ℕ → Option (List ℕ) → ℕ → ℕ → Result A HttpFault → Type 0
+Settles HasNoHead IsAnswer bytes left before now (Err OutOfMemory) = Unit {0}
+Settles HasNoHead IsAnswer bytes left before now (Err ReadFailed) = Unit {0}
+Settles HasNoHead IsAnswer bytes left before now (Err TooLong) = IsAnswer bytes (Err TooLong) ⊎ IsLate HasNoHead IsAnswer bytes left before now
+Settles HasNoHead IsAnswer bytes left before now answer = IsAnswer bytes answer
+
+-- the same of a reply and of a request, of at most so many bytes
+abbrev pub SettlesReply : ℕ → List ℕ → Option (List ℕ) → ℕ → ℕ → Result Reply HttpFault → Type 0
+SettlesReply max bytes left before now answer = Settles HasNoResponse (IsReply max) bytes left before now answer
+
+abbrev pub SettlesRequest : ℕ → List ℕ → Option (List ℕ) → ℕ → ℕ → Result Request HttpFault → Type 0
+SettlesRequest max bytes left before now answer = Settles HasNoRequest (IsRequest max) bytes left before now answer
+
+abbrev pub HandedNoReply : ℕ → Option (List ℕ) → Option (List ℕ) → Type 0
+HandedNoReply max before now = HandedNone HasNoResponse (IsReply max) before now
+
+abbrev pub HandedNoRequest : ℕ → Option (List ℕ) → Option (List ℕ) → Type 0
+HandedNoRequest max before now = HandedNone HasNoRequest (IsRequest max) before now
 
 -- where the input is handed out in as many reads as are allowed, and one more for its end, and holds a message, `TooLong`
 -- is told of its bytes alone
-abbrev pub HeldIsRead : {A : Type 0} → (List ℕ → Result A HttpFault → Type 0) → Type 0
-HeldIsRead {A} IsAnswer =
+abbrev pub HeldIsRead : {A : Type 0} → (List ℕ → Type 0) → (List ℕ → Result A HttpFault → Type 0) → Type 0
+HeldIsRead {A} HasNoHead IsAnswer =
     (bytes : List ℕ) (left : Option (List ℕ)) (before now : ℕ) (message : A) → Holds IsAnswer bytes message → before ≤ MOST_READS + 1
-    → Settles IsAnswer bytes left before now (Err TooLong) → IsAnswer bytes (Err TooLong)
+    → Settles HasNoHead IsAnswer bytes left before now (Err TooLong) → IsAnswer bytes (Err TooLong)
 
 -- one failure more where a read failed, and else none
 abbrev pub CountsMessage : {A : Type 0} → Result A HttpFault → ℕ → ℕ → Type 0

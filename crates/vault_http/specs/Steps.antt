@@ -23,7 +23,7 @@ IsLine text (line.Size n value) = HasPart IsSize text (take n text) (drop (n + 2
 
 -- a chunk: a front of it, a whole one, the last one, or none whatever follows
 abbrev pub IsStep : List ℕ → ℕ → Step → Type 0
-IsStep text room (step.Open needed) = (length text ≤ room) × StopsAt room text (Err Truncated)
+IsStep text room step.Open = (length text ≤ room) × StopsAt room text (Err Truncated)
 IsStep text room (step.Chunk start n) = (c : Chunk) × (rest : List ℕ) × IsChunk c × (text ≡ print_chunk c ++ rest) × (length (print_chunk c) ≤ room)
     × (length c.digits + 2 ≡ start) × (length c.payload ≡ n)
 IsStep text room step.Last = (more : List ℕ) → StopsAt room (text ++ more) (Ok [])

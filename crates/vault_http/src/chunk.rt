@@ -1,17 +1,18 @@
 ghost use Rattle.std.specs.Prelude.{◌≡◌, ℕ, ◌+◌, ◌-◌, ◌<◌, ◌≤◌, ◌⊎◌, List, [], ◌++◌, length, take, drop, take_while, IsTrue, Err};
 ghost use Rattle.vault_http.specs.declared.body.BodyFault.TheVariants.{Truncated};
-ghost use Rattle.vault_http.specs.Chunks.{IsChunked};
+ghost use Rattle.vault_http.specs.declared.framing.Framing.TheVariants as Framing;
+ghost use Rattle.vault_http.specs.Body.{framing_of, IsPartOf};
+ghost use Rattle.vault_http.specs.Chunks.{IsChunked, HasChunks};
 ghost use Rattle.vault_http.specs.Framing.{is_digit};
 ghost use Rattle.vault_http.specs.Messages.{UnlessBodyMemory};
 ghost use Rattle.vault_http.specs.Verdicts.{IsDone, IfDone, IfMore};
 ghost use Rattle.vault_http.specs.Steps.{IsEnding, IsLine, IsStep};
 
-use crate::body::BodyFault;
+use crate::body::{BodyFault, Partial};
 use crate::framing::number_of;
 use crate::front::front_of;
 use crate::verdict::Verdict;
 use keep_moment::Text;
-use std::alloc::Global;
 
 /// The most digits of a size.
 const MOST_DIGITS: usize = 8;
@@ -41,8 +42,8 @@ pub(crate) enum Line {
 /// What stands at the front of a text as a chunk.
 #[derive(Clone, Copy, Debug, PartialEq, Eq)]
 pub(crate) enum Step {
-    /// The text stops within it. It is no use to ask again before so many bytes are there.
-    Open(usize),
+    /// The text stops within it.
+    Open,
     /// A chunk, whose bytes begin here and are so many.
     Chunk(usize, usize),
     /// The chunk of size 0, which ends the body.
@@ -51,20 +52,27 @@ pub(crate) enum Step {
     Fault(BodyFault),
 }
 
-/// Judges a body in chunks, of which `room` bytes may be read; `ended` says that the input ends behind them.
+/// Judges a body in chunks, of which `room` bytes may be read; `ended` says that the input ends behind them. The first `at`
+/// bytes are whole chunks, which hold `body`: where more is waited for, the answer is how far the whole chunks now go.
 pub(crate) fn judge_chunks(
-    alloc: Global,
+    at: usize,
+    body: Vec<u8>,
     text: &[u8],
     room: usize,
     ended: bool,
-) -> Verdict<Result<Text, BodyFault>>
+) -> Verdict<Partial, Result<Text, BodyFault>>
+    requires within { at ≤ length text.now }
+    requires fits { at ≤ room }
+    requires so_far { HasChunks text.now at body.items }
     ensures answer { IfDone result (λ a. (more : List ℕ) → (IsTrue ended → more ≡ [])
         → UnlessBodyMemory a (IsChunked room (text.now ++ more) a)) }
     ensures decides { (IsTrue ended ⊎ (room < length text.now)) → IsDone result }
-    ensures waits { IfMore result (IsChunked room text.now (Err Truncated)) }
+    ensures waits { IfMore result (λ _. IsChunked room text.now (Err Truncated)) }
+    ensures framed { IfMore result (λ p. framing_of p ≡ Framing.Chunked) }
+    ensures part { IfMore result (λ p. IsPartOf p room text.now) }
 {
-    let mut body = Vec::new(alloc);
-    let mut at = 0;
+    let mut body = body;
+    let mut at = at;
     loop {
         match next_step(&text[at..], room - at) {
             Step::Chunk(start, size) => {
@@ -77,11 +85,12 @@ pub(crate) fn judge_chunks(
             }
             Step::Last => return Verdict::Done(Ok(Text::from_vec(body))),
             Step::Fault(fault) => return Verdict::Done(Err(fault)),
-            Step::Open(needed) => {
-                if ended {
-                    return Verdict::Done(Err(BodyFault::Truncated));
-                }
-                return Verdict::More(at.saturating_add(needed).saturating_sub(text.len()));
+            Step::Open => {
+                return if ended {
+                    Verdict::Done(Err(BodyFault::Truncated))
+                } else {
+                    Verdict::More(Partial::Chunked(at, body))
+                };
             }
         }
     }
@@ -101,7 +110,7 @@ pub(crate) fn next_step(text: &[u8], room: usize) -> Step
     match size_line(front_of(text, room)) {
         Line::Bad => Step::Fault(BodyFault::BadChunk),
         Line::Open if text.len() > room => Step::Fault(BodyFault::TooLong),
-        Line::Open => Step::Open(0),
+        Line::Open => Step::Open,
         Line::Size(digits, size) => sized_step(text, room, digits, size),
     }
 }
@@ -119,11 +128,11 @@ fn sized_step(text: &[u8], room: usize, digits: usize, size: u64) -> Step
     }
     let size = size as usize;
     if text.len() - start < size {
-        return Step::Open(start + size + 2);
+        return Step::Open;
     }
     match line_end_at(&text[start + size..]) {
         Ending::Bad => Step::Fault(BodyFault::BadChunk),
-        Ending::Open => Step::Open(start + size + 2),
+        Ending::Open => Step::Open,
         Ending::Whole if size == 0 => Step::Last,
         Ending::Whole => Step::Chunk(start, size),
     }

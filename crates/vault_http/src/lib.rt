@@ -7,17 +7,19 @@
 
 mod body;
 mod chunk;
+mod empty_line;
 mod framing;
 mod front;
 mod heads;
 mod http_fault;
-mod judging;
-mod judging_request;
+mod known;
 mod lone;
-mod reading;
-mod reading_request;
+mod message;
+mod receive;
 mod reply;
+mod reply_message;
 mod request;
+mod request_message;
 mod round_trip;
 mod verdict;
 mod writing;
@@ -27,8 +29,8 @@ pub use keep_device::{
     Counted, Device, Failed, InputFault, MemoryPair, MemorySink, MemorySource, Sink, SinkFault,
     Source, read_all, write_all,
 };
-pub use reading::read_reply;
-pub use reading_request::read_request;
+pub use known::SMALL_HEAD;
+pub use receive::{read_reply, read_request};
 pub use reply::Reply;
 pub use request::Request;
 pub use round_trip::{held_is_read, reply_reads_back, request_reads_back};

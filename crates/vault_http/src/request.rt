@@ -4,9 +4,10 @@ ghost use Rattle.vault_http.specs.RoundTripRequest.{IsSentToken, IsWritable, is_
 
 use http::Method;
 use keep_moment::Text;
+use std::fmt;
 
 /// A request to the broker.
-#[derive(Debug, Drop)]
+#[derive(Drop)]
 pub struct Request {
     /// The method, as `GET` or `POST`.
     pub method: Method,
@@ -18,6 +19,17 @@ pub struct Request {
     pub body: Text,
     /// The broker's port, which is written into the field `Host` alone: a request that was read has port 0.
     pub port: u16,
+}
+
+impl fmt::Debug for Request {
+    /// Shows all but the token and the body, in which ids of leases stand: they are secret.
+    fn fmt<W: fmt::Write>(&self, f: &mut fmt::Formatter<W>) -> fmt::Result {
+        f.debug_struct("Request")
+            .field("method", &self.method)
+            .field("path", &self.path)
+            .field("port", &self.port)
+            .finish_non_exhaustive()
+    }
 }
 
 impl Request {

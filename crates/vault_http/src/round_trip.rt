@@ -1,3 +1,4 @@
+ghost use Rattle.httparse.specs.Grammar.{HasNoRequest, HasNoResponse};
 ghost use Rattle.vault_http.specs.Messages.{IsReply, IsRequest};
 ghost use Rattle.vault_http.specs.Reading.{HeldIsRead};
 ghost use Rattle.vault_http.specs.RoundTrip.{ReadsBackReply};
@@ -28,8 +29,8 @@ pub fn request_reads_back(request: &Request)
 /// in at most 4,096 reads (and answers its end to one more), and they hold a message, `TooLong` is told of the bytes alone.
 /// It does nothing.
 pub fn held_is_read(max: usize)
-    ensures reply { HeldIsRead (IsReply max) }
-    ensures request { HeldIsRead (IsRequest max) }
+    ensures reply { HeldIsRead HasNoResponse (IsReply max) }
+    ensures request { HeldIsRead HasNoRequest (IsRequest max) }
 {
     let _ = max;
 }

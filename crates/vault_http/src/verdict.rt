@@ -1,8 +1,8 @@
 /// A verdict on the bytes that were read so far.
 #[derive(Debug, Drop)]
-pub(crate) enum Verdict<T> {
-    /// No answer yet. It is no use to ask again before so many more bytes have come, unless an empty line is among them.
-    More(usize),
+pub(crate) enum Verdict<K, T> {
+    /// No answer yet, but what is known of the bytes, so that no work on them is done again.
+    More(K),
     /// An answer, whatever follows.
     Done(T),
 }

@@ -22,13 +22,13 @@ pub fn judges<R: AllocGlobal + Abort>(
 ) -> Result<(), Fail> {
     let alloc = rt.alloc();
     let mut out = MemorySink::new(alloc, None);
-    let mut faults = MemorySink::new(alloc, None);
+    let mut errors = MemorySink::new(alloc, None);
     let got = run_check(
         alloc,
         inventory.as_bytes(),
         certificate,
         &mut out,
-        &mut faults,
+        &mut errors,
     );
     let want = if line == "yes\n" {
         Exit::Done
@@ -37,7 +37,7 @@ pub fn judges<R: AllocGlobal + Abort>(
     };
     assert_eq!(rt; got, want, "{line}");
     assert!(rt; out.bytes() == line.as_bytes(), "{line}");
-    assert!(rt; faults.bytes().is_empty(), "{line}");
+    assert!(rt; errors.bytes().is_empty(), "{line}");
     Ok(())
 }
 
@@ -45,14 +45,14 @@ pub fn judges<R: AllocGlobal + Abort>(
 fn accepts_own<R: AllocGlobal + Abort>(rt: &R, inventory: &str) -> Result<(), Fail> {
     let alloc = rt.alloc();
     let mut certificate = MemorySink::new(alloc, None);
-    let mut faults = MemorySink::new(alloc, None);
+    let mut errors = MemorySink::new(alloc, None);
     let start = moment(1000)?;
     let exit = run_plan(
         alloc,
         inventory.as_bytes(),
         start,
         &mut certificate,
-        &mut faults,
+        &mut errors,
     );
     assert!(rt; matches!(exit, Exit::Done | Exit::Unkeepable));
     judges(rt, inventory, certificate.bytes(), "yes\n")
@@ -253,17 +253,17 @@ fn a_failed_write_of_an_answer_is_exit_6(rt: HostRuntime) -> Result<(), Fail> {
     let alloc = rt.alloc();
     for call in 0..2u64 {
         let mut out = MemorySink::new(alloc, Some(call));
-        let mut faults = MemorySink::new(alloc, None);
+        let mut errors = MemorySink::new(alloc, None);
         let exit = run_check(
             alloc,
             WEB.as_bytes(),
             IN_RUNS.as_bytes(),
             &mut out,
-            &mut faults,
+            &mut errors,
         );
         assert_eq!(rt; exit, Exit::Device, "call {call}");
         assert!(rt;
-            faults.bytes() == b"leasekeep: write\n".as_slice(),
+            errors.bytes() == b"leasekeep: write\n".as_slice(),
             "call {call}"
         );
     }

@@ -88,7 +88,7 @@ fn ends<R: AllocGlobal + Abort>(
 ) -> Result<(), Fail> {
     let alloc = rt.alloc();
     let mut out = MemorySink::new(alloc, None);
-    let mut faults = MemorySink::new(alloc, None);
+    let mut errors = MemorySink::new(alloc, None);
     let start = moment(1000)?;
     let moments = moments_of(alloc, moments)?;
     let got = run_ends(
@@ -97,11 +97,11 @@ fn ends<R: AllocGlobal + Abort>(
         start,
         &moments,
         &mut out,
-        &mut faults,
+        &mut errors,
     );
     assert_eq!(rt; got, exit, "{text}{fault}");
     assert!(rt; out.bytes() == text.as_bytes(), "{text}{fault}");
-    assert!(rt; faults.bytes() == fault.as_bytes(), "{text}{fault}");
+    assert!(rt; errors.bytes() == fault.as_bytes(), "{text}{fault}");
     Ok(())
 }
 
@@ -127,30 +127,30 @@ fn a_failed_write_is_exit_6(rt: HostRuntime) -> Result<(), Fail> {
     let alloc = rt.alloc();
     for call in 0..2u64 {
         let mut out = MemorySink::new(alloc, Some(call));
-        let mut faults = MemorySink::new(alloc, None);
+        let mut errors = MemorySink::new(alloc, None);
         let exit = run_ends(
             alloc,
             WEB.as_bytes(),
             moment(1000)?,
             &[],
             &mut out,
-            &mut faults,
+            &mut errors,
         );
         assert_eq!(rt; exit, Exit::Device, "call {call}");
         assert!(rt;
-            faults.bytes() == b"leasekeep: write\n".as_slice(),
+            errors.bytes() == b"leasekeep: write\n".as_slice(),
             "call {call}"
         );
     }
     let mut out = MemorySink::new(alloc, None);
-    let mut faults = MemorySink::new(alloc, Some(0));
+    let mut errors = MemorySink::new(alloc, Some(0));
     let exit = run_ends(
         alloc,
         b"x".as_slice(),
         moment(1000)?,
         &[],
         &mut out,
-        &mut faults,
+        &mut errors,
     );
     assert_eq!(rt; exit, Exit::Inventory);
     Ok(())

@@ -1,4 +1,4 @@
-use crate::{Exit, report_input};
+use crate::{Exit, PROGRAM, Stop};
 use std::test::Fail;
 use keep_device::{InputFault, MemorySink};
 
@@ -31,9 +31,9 @@ const INPUTS: [(InputFault, Exit, &str); 3] = [
 fn an_input_that_is_not_read_is_reported(rt: HostRuntime) -> Result<(), Fail> {
     let alloc = rt.alloc();
     for (fault, exit, line) in INPUTS {
-        let mut faults = MemorySink::new(alloc, None);
-        assert_eq!(rt; report_input(alloc, fault, &mut faults), exit, "{line}");
-        assert!(rt; faults.bytes() == line.as_bytes(), "{line}");
+        let mut errors = MemorySink::new(alloc, None);
+        assert_eq!(rt; Stop::from(fault).report(alloc, PROGRAM, &mut errors), exit, "{line}");
+        assert!(rt; errors.bytes() == line.as_bytes(), "{line}");
     }
     Ok(())
 }

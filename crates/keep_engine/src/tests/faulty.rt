@@ -58,13 +58,13 @@ fn is_refused<R: AllocGlobal + Abort>(
     rt: &R,
     got: Exit,
     out: &MemorySink,
-    faults: &MemorySink,
+    errors: &MemorySink,
     fault: &str,
 ) -> Result<(), Fail> {
     let line = format!(in rt.alloc(); "leasekeep: inventory: {fault}\n")?;
     assert_eq!(rt; got, Exit::Inventory, "{fault}");
     assert!(rt; out.bytes().is_empty(), "{fault}");
-    assert!(rt; faults.bytes() == line.as_bytes(), "{fault}");
+    assert!(rt; errors.bytes() == line.as_bytes(), "{fault}");
     Ok(())
 }
 
@@ -74,10 +74,10 @@ fn ends_names_the_fault_of_an_inventory(rt: HostRuntime) -> Result<(), Fail> {
     let start = moment(1000)?;
     for (inventory, fault) in FAULTY {
         let mut out = MemorySink::new(alloc, None);
-        let mut faults = MemorySink::new(alloc, None);
+        let mut errors = MemorySink::new(alloc, None);
         let inventory = inventory.as_bytes();
-        let got = run_ends(alloc, inventory, start, &[], &mut out, &mut faults);
-        is_refused(&rt, got, &out, &faults, fault)?;
+        let got = run_ends(alloc, inventory, start, &[], &mut out, &mut errors);
+        is_refused(&rt, got, &out, &errors, fault)?;
     }
     Ok(())
 }
@@ -88,9 +88,9 @@ fn plan_names_the_fault_of_an_inventory(rt: HostRuntime) -> Result<(), Fail> {
     let start = moment(1000)?;
     for (inventory, fault) in FAULTY {
         let mut out = MemorySink::new(alloc, None);
-        let mut faults = MemorySink::new(alloc, None);
-        let got = run_plan(alloc, inventory.as_bytes(), start, &mut out, &mut faults);
-        is_refused(&rt, got, &out, &faults, fault)?;
+        let mut errors = MemorySink::new(alloc, None);
+        let got = run_plan(alloc, inventory.as_bytes(), start, &mut out, &mut errors);
+        is_refused(&rt, got, &out, &errors, fault)?;
     }
     Ok(())
 }
@@ -101,16 +101,16 @@ fn check_names_the_fault_of_an_inventory(rt: HostRuntime) -> Result<(), Fail> {
     let alloc = rt.alloc();
     for (inventory, fault) in FAULTY {
         let mut out = MemorySink::new(alloc, None);
-        let mut faults = MemorySink::new(alloc, None);
+        let mut errors = MemorySink::new(alloc, None);
         let certificate = b"x".as_slice();
         let got = run_check(
             alloc,
             inventory.as_bytes(),
             certificate,
             &mut out,
-            &mut faults,
+            &mut errors,
         );
-        is_refused(&rt, got, &out, &faults, fault)?;
+        is_refused(&rt, got, &out, &errors, fault)?;
     }
     Ok(())
 }

@@ -107,12 +107,12 @@ fn plans<R: AllocGlobal + Abort>(
 ) -> Result<(), Fail> {
     let alloc = rt.alloc();
     let mut out = MemorySink::new(alloc, None);
-    let mut faults = MemorySink::new(alloc, None);
+    let mut errors = MemorySink::new(alloc, None);
     let start = moment(1000)?;
-    let got = run_plan(alloc, inventory.as_bytes(), start, &mut out, &mut faults);
+    let got = run_plan(alloc, inventory.as_bytes(), start, &mut out, &mut errors);
     assert_eq!(rt; got, exit, "{text}{fault}");
     assert!(rt; out.bytes() == text.as_bytes(), "{text}{fault}");
-    assert!(rt; faults.bytes() == fault.as_bytes(), "{text}{fault}");
+    assert!(rt; errors.bytes() == fault.as_bytes(), "{text}{fault}");
     Ok(())
 }
 
@@ -151,11 +151,11 @@ fn a_failed_write_of_a_plan_is_exit_6(rt: HostRuntime) -> Result<(), Fail> {
     let alloc = rt.alloc();
     for call in 0..2u64 {
         let mut out = MemorySink::new(alloc, Some(call));
-        let mut faults = MemorySink::new(alloc, None);
-        let exit = run_plan(alloc, WEB.as_bytes(), moment(1000)?, &mut out, &mut faults);
+        let mut errors = MemorySink::new(alloc, None);
+        let exit = run_plan(alloc, WEB.as_bytes(), moment(1000)?, &mut out, &mut errors);
         assert_eq!(rt; exit, Exit::Device, "call {call}");
         assert!(rt;
-            faults.bytes() == b"leasekeep: write\n".as_slice(),
+            errors.bytes() == b"leasekeep: write\n".as_slice(),
             "call {call}"
         );
     }

@@ -81,13 +81,55 @@ fn a_lookup_refused(rt: HostRuntime) -> Result<(), Fail> {
     let aperiodic = token_lookup(&rt, true, "")?;
     let lease = lease_lookup(&rt, "db/creds/app/2")?;
     let rows = [
-        (WEB, 0, &short, LookupFault::NoStep, (1060, 60, Some(10000), 1000)),
-        (PAY, 0, &aperiodic, LookupFault::NoStep, (1060, 60, Some(1100), 900)),
-        (CHILD, 1, &short, LookupFault::OtherTree, (1100, 100, Some(2765800), 1000)),
-        (TOKEN_AND_LEASE, 1, &short, LookupFault::OtherKind, (1060, 60, Some(10000), 1000)),
-        (TOKEN_AND_LEASE, 0, &lease, LookupFault::OtherKind, (1100, 100, Some(1150), 1000)),
-        (TOKEN_AND_LEASE, 1, &lease, LookupFault::OtherEntry, (1060, 60, Some(10000), 1000)),
-        (CHILD, 1, &token, LookupFault::OtherTree, (1100, 100, Some(2765800), 1000)),
+        (
+            WEB,
+            0,
+            &short,
+            LookupFault::NoStep,
+            (1060, 60, Some(10000), 1000),
+        ),
+        (
+            PAY,
+            0,
+            &aperiodic,
+            LookupFault::NoStep,
+            (1060, 60, Some(1100), 900),
+        ),
+        (
+            CHILD,
+            1,
+            &short,
+            LookupFault::OtherTree,
+            (1100, 100, Some(2765800), 1000),
+        ),
+        (
+            TOKEN_AND_LEASE,
+            1,
+            &short,
+            LookupFault::OtherKind,
+            (1060, 60, Some(10000), 1000),
+        ),
+        (
+            TOKEN_AND_LEASE,
+            0,
+            &lease,
+            LookupFault::OtherKind,
+            (1100, 100, Some(1150), 1000),
+        ),
+        (
+            TOKEN_AND_LEASE,
+            1,
+            &lease,
+            LookupFault::OtherEntry,
+            (1060, 60, Some(10000), 1000),
+        ),
+        (
+            CHILD,
+            1,
+            &token,
+            LookupFault::OtherTree,
+            (1100, 100, Some(2765800), 1000),
+        ),
     ];
     for (text, index, lookup, fault, same) in rows {
         let (answer, inventory) = apply(&rt, text, index, lookup, 2000)?;

@@ -1,5 +1,5 @@
 use Rattle.std.proofs.Common.{◌≡◌, ◌++◌}
-use Rattle.keep_engine.specs.Answers.{at_index}
+use Rattle.keep_engine.specs.Making.{at_index}
 use Rattle.keep_engine.specs.EndsText.{end_lines}
 use Rattle.keep_engine.proofs.ends_text.push_lines.Given as goal
 

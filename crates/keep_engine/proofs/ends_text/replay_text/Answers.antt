@@ -1,9 +1,9 @@
-use Rattle.std.proofs.Common.{◌≡◌, ◌∙◌, ◌++◌, ◌↔◌, IsTrue, None, ap, length, subst}
+use Rattle.std.proofs.Common.{◌≡◌, ◌∙◌, ◌++◌, ◌↔◌, IsTrue, None, ap, refl, length, subst}
 use Rattle.keep_tree.specs.Forest.{end_of}
 use Rattle.keep_rule.specs.Ends.{ends_after, listed}
 use Rattle.keep_rule.specs.Keeps.{Keeps}
 use Rattle.keep_rule.specs.Plans.{wake_fault}
-use Rattle.keep_engine.specs.Answers.{at_index}
+use Rattle.keep_engine.specs.Making.{at_index}
 use Rattle.keep_engine.specs.EndsText.{all_asked, end_lines, keeps_line}
 use Rattle.keep_engine.proofs.Lines.{at_index_listed, end_lines_same, length_listed}
 use Rattle.keep_engine.proofs.ends_text.replay_text.Goals as goal
@@ -25,11 +25,11 @@ returns c =
     subst (λ ws. IsTrue c.in_ok-kept.kept ↔ Keeps es g.margin s (end_of es) ws) wakes' c.in_ok-kept.ensures.kept.1 in
     let lines : end_lines es (at_index c.list.result.now) (length es) ≡ end_lines es (ends_after es g.margin (end_of es) asked) (length es) =
     end_lines_same es (at_index c.list.result.now) (ends_after es g.margin (end_of es) asked) (length es) (at_index_listed es c.list.result.now (ends_after es g.margin (end_of es) asked) ends) in
-    record {
+    (refl, record {
       in_order = subst (λ ws. wake_fault es s ws ≡ None) wakes c.in_ok-ends.ensures.ends.0;
       kept = c.in_ok-kept.kept;
       judged = judged;
       spelled = c.from_vec.ensures ∙ c.in_ok-extend_from_slice.ensures.items
           ∙ ap (λ xs. c.push_lines.new.text.items ++ xs) c.keeps_line.ensures
           ∙ ap (λ xs. xs ++ keeps_line c.in_ok-kept.kept) (c.in_ok-push_lines.ensures ∙ ap (λ xs. xs ++ end_lines es (at_index c.list.result.now) (length es)) c.new-text.ensures.items ∙ lines);
-    }
+    })

@@ -3,9 +3,9 @@ use Rattle.std.proofs.Common.{◌≡◌, ◌+◌, ◌-◌, [], ◌++◌, take, d
 use Rattle.std.proofs.lemmas.List.{take_rest}
 use Rattle.vault_http.specs.declared.body.BodyFault.TheVariants.{Truncated}
 use Rattle.vault_http.specs.declared.chunk.Step.TheVariants as step
-use Rattle.vault_http.specs.Chunks.{StopsAt, IsChunked}
+use Rattle.vault_http.specs.Chunks.{StopsAt, IsChunked, HasChunks}
 use Rattle.vault_http.specs.Steps.{IsStep}
-use Rattle.vault_http.proofs.ChunkLoop.{SoFar, one_chunk, chunks_end, unless_fault}
+use Rattle.vault_http.proofs.ChunkLoop.{one_chunk, chunks_end, unless_fault}
 use Rattle.vault_http.proofs.chunk.judge_chunks.Goals as goal
 
 pub loop-start-preserved : goal.loop-start-preserved
@@ -21,7 +21,7 @@ loop-start-preserved c =
     record {
       within = next.1;
       fits = next.2;
-      so_far = subst (SoFar text (at + c.in-Chunk.start + c.in-Chunk.size + 2)) (sym grown) next.0;
+      so_far = subst (HasChunks text (at + c.in-Chunk.start + c.in-Chunk.size + 2)) (sym grown) next.0;
     }
 
 pub returns-in-Last-clause-answer : goal.returns-in-Last-clause-answer
@@ -52,8 +52,8 @@ returns-then-ended-clause-answer c =
     chunks_end text at c.loop-start.body.items c.args.room (Err Truncated) (Err Truncated) more i.so_far i.within i.fits
     (subst (λ t. StopsAt (c.args.room - at) t (Err Truncated)) (sym all) here) refl
 
-pub returns-in-Open-clause-waits : goal.returns-in-Open-clause-waits
-returns-in-Open-clause-waits c =
+pub returns-else-ended-clause-waits : goal.returns-else-ended-clause-waits
+returns-else-ended-clause-waits c =
     let i = c.loop-start.invariant in
     let at = c.loop-start.at in
     let text = c.args.text.now in

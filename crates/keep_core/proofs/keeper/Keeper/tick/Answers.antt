@@ -51,7 +51,7 @@ returns-in_err-late c =
     let wants : MayWant c.args.self.now (Tick c.args.at) = subst (λ n. IsDueBy n (first_of c.args.self.now.to_come)) value (subst (λ (s : State). IsDueBy t (first_of s.to_come)) c.self.view_is due) in
     let unchanged = c.in_err-late.ensures.unchanged in
     let same = ap (λ h. record { forest = h; last = s; to_come = ts; round = seen c.self.inside.round; shortened = c.replan_late.new.shortened.items }) unchanged.0
-        ∙ ap (λ xs. record { forest = g; last = s; to_come = ts; round = seen c.self.inside.round; shortened = xs }) unchanged.1 ∙ c.self.view_is in
+    ∙ ap (λ xs. record { forest = g; last = s; to_come = ts; round = seen c.self.inside.round; shortened = xs }) unchanged.1 ∙ c.self.view_is in
     let p = err_from_is_err_and c.from_residual.result c.from_residual.ensures.1 in
     let fault = p.2 ∙ memory in
     rw (p.1, fault) (c.requires, (wants, same))

@@ -1,9 +1,10 @@
-use Rattle.std.proofs.Common.{subst, sym}
+use Rattle.std.proofs.Common.{refl, subst, sym}
+use Rattle.std.proofs.lemmas.Result.{err_from_is_err_and}
 use Rattle.std.specs.Io.KnownBytes.{Appends}
 use Rattle.keep_device.specs.declared.limits.TheConstants.{MOST_READS}
 use Rattle.keep_device.specs.Whole.{MakesAtMost}
 use Rattle.mini_broker.specs.Stream.{Ends, IsFlushed, IsHandled, sent_of}
-use Rattle.mini_broker.proofs.Streamed.{kept_appends, handled_sent, left_by_sending, of_both}
+use Rattle.mini_broker.proofs.Streamed.{kept_appends, handled_sent, left_by_sending, left_unserved, of_both}
 use Rattle.mini_broker.proofs.table.Table.serve_stream.Goals as goal
 
 pub returns-clause-streamed : goal.returns-clause-streamed
@@ -38,6 +39,12 @@ returns-clause-left g c =
       handled = c.in_ok-served.ensures.handled;
     } in
     left_by_sending ends c.args.self.now c.handle.new.self c.args.t c.send.result _ _ c.send.ensures.count done
+
+pub returns-in_err-served-clause-left : goal.returns-in_err-served-clause-left
+returns-in_err-served-clause-left g c =
+    let p = err_from_is_err_and c.from_residual.result c.from_residual.ensures.1 in
+    left_unserved _ c.args.self.now _ c.args.t c.read_request-message.result (g.S.Device.reads_left c.read_request-message.new.reader) (g.S.Device.remaining c.read_request-message.new.reader)
+    c.read_request-message.ensures.answer refl c.read_request-message.ensures.written c.in_err-served.field-0.0 c.in_err-served.ensures.failed c.from_residual.result p.0 p.1 p.2
 
 pub returns-clause-reads : goal.returns-clause-reads
 returns-clause-reads g c =

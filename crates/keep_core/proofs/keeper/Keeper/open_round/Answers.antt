@@ -1,0 +1,14 @@
+use Rattle.std.proofs.Common.{subst}
+use Rattle.keep_core.specs.States.{IsState}
+use Rattle.keep_core.proofs.Made.{keeper_state}
+use Rattle.keep_core.proofs.keeper.Keeper.open_round.Goals as goal
+
+pub returns-in-None-clause-state : goal.returns-in-None-clause-state
+returns-in-None-clause-state c =
+    let k = c.self.inside in
+    subst IsState c.self.view_is (keeper_state k.forest k.last k.plan k.round k.shortened.items c.self.invariant)
+
+pub returns-in-Some-clause-state : goal.returns-in-Some-clause-state
+returns-in-Some-clause-state c =
+    let k = c.self.inside in
+    subst IsState c.self.view_is (keeper_state k.forest k.last k.plan k.round k.shortened.items c.self.invariant)

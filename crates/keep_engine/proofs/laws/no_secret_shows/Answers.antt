@@ -1,0 +1,11 @@
+use Rattle.keep_engine.proofs.OneText.{one_check_text, one_ends_text, one_plan_text}
+use Rattle.keep_engine.proofs.laws.no_secret_shows.Goals as goal
+
+pub returns-clause-ends : goal.returns-clause-ends
+returns-clause-ends c = one_ends_text
+
+pub returns-clause-plan : goal.returns-clause-plan
+returns-clause-plan c = one_plan_text
+
+pub returns-clause-check : goal.returns-clause-check
+returns-clause-check c = one_check_text

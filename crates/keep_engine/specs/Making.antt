@@ -1,0 +1,36 @@
+-- Words for the parts of a run: what is made before the first write, and its delivery. No public clause cites them.
+use Rattle.std.specs.Prelude.{◌≡◌, ◌⊎◌, ℕ, List, Result, Ok, Err, slice_index}
+use Rattle.keep_tree.specs.Forest.{Grove}
+use Rattle.keep_inventory.specs.Stock.{Stock}
+use Rattle.keep_inventory.specs.Inventory.{inventory}
+use Rattle.keep_report.specs.declared.exit.Exit.{Exit}
+use Rattle.keep_report.specs.declared.stop.Stop.{Stop}
+use Rattle.keep_report.specs.declared.stop.Stop.TheVariants as stops
+use Rattle.keep_report.specs.Exits.{exit_of}
+use Rattle.keep_report.specs.Sent.{IsAll, IsUntouched, Sends, Sent}
+use Rattle.keep_report.specs.Told.{Reports}
+use Rattle.keep_engine.specs.declared.outcome.Outcome.{Outcome}
+use Rattle.keep_engine.specs.Running.{Halts, Texts, line_of}
+
+-- what a command makes of a forest
+abbrev pub MakesOf : Texts → Halts → Grove → Result Outcome Stop → Type 0
+MakesOf Text Halt g (Ok outcome) = Text g outcome.exit outcome.text
+MakesOf Text Halt g (Err stops.Memory) = Unit {0}
+MakesOf Text Halt g (Err stop) = Halt g stop
+
+-- what it makes of the bytes of an inventory
+abbrev pub Makes : Texts → Halts → List ℕ → Result Outcome Stop → Type 0
+Makes Text Halt bytes (Err (stops.Inventory fault)) = inventory bytes ≡ Err fault
+Makes Text Halt bytes (Err stops.Memory) = Unit {0}
+Makes Text Halt bytes made = (stock : Stock) × (inventory bytes ≡ Ok stock) × MakesOf Text Halt stock.grove made
+
+-- a text was sent, or why only a front of it was; or why there is none was told
+abbrev pub Delivers : Result Outcome Stop → Exit → Sent → Sent → Type 0
+Delivers (Ok outcome) exit out errors =
+    ((exit ≡ outcome.exit) × IsAll outcome.text out × IsUntouched errors)
+    ⊎ ((stop : Stop) × Sends (Err stop) outcome.text out × (exit ≡ exit_of stop) × Reports (line_of stop) errors)
+Delivers (Err stop) exit out errors = (exit ≡ exit_of stop) × IsUntouched out × Reports (line_of stop) errors
+
+-- a list of ends as the function from an index to its end
+unfoldable pub at_index : List ℕ → ℕ → ℕ
+at_index ends i = slice_index ends i

@@ -1,0 +1,86 @@
+-- Requests: what is asked for an entry, what comes back of it, and that it can be sent and answered.
+-- Source: Vault, HTTP API: `auth/token`, "Renew a token (self)" and "Lookup a token (self)"; `sys/leases`, "Renew lease" and
+-- "Read lease".
+use Rattle.std.specs.Prelude.{◌≡◌, ℕ, ◌≤◌, ◌⊎◌, List, [], ◌++◌, Option, Some, None, Result, Ok, Err, codes, length, option_map}
+use Rattle.keep_exchange.specs.declared.exchange.TheConstants.{MOST_REPLY}
+use Rattle.keep_exchange.specs.Exchanges.{Behind, IsGivenUp}
+use Rattle.keep_inventory.specs.Stock.{credential_at}
+use Rattle.keep_tree.specs.declared.entry.Entry.{Entry}
+use Rattle.keep_tree.specs.declared.entry.Kind.{Kind}
+use Rattle.keep_tree.specs.declared.entry.Kind.TheVariants.{Token, Lease}
+use Rattle.keep_tree.specs.Forest.{Grove, entry_at}
+use Rattle.mini_broker.specs.declared.served.Served.{Served}
+use Rattle.mini_broker.specs.declared.served.Served.TheVariants as served
+use Rattle.mini_broker.specs.declared.stream.TheConstants.{MOST_REQUEST}
+use Rattle.mini_broker.specs.Ledger.{Ledger}
+use Rattle.mini_broker.specs.Step.{Says, step}
+use Rattle.mini_broker.specs.Stream.{sent_of}
+use Rattle.vault_http.specs.declared.reply.Reply.{Reply}
+use Rattle.vault_http.specs.declared.request.Request.{Request}
+use Rattle.vault_http.specs.RoundTripRequest.{IsWritable}
+use Rattle.vault_http.specs.Written.{reply_text, request_text}
+use Rattle.vault_json.specs.Written.{lease_text, lookup_text, renew_text}
+
+-- ---- the requests, to a broker at that port
+
+-- a token is renewed with its own credential
+abbrev pub token_renewal : ℕ → List ℕ → ℕ → Request
+token_renewal port credential step = record { method = codes "POST"; path = codes "/v1/auth/token/renew-self"; token = Some credential; body = renew_text step; port = port }
+
+-- a lease with that of the token it belongs to
+abbrev pub lease_renewal : ℕ → Option (List ℕ) → List ℕ → ℕ → Request
+lease_renewal port owner id step = record { method = codes "POST"; path = codes "/v1/sys/leases/renew"; token = owner; body = lease_text id step; port = port }
+
+-- an entry is asked for its fixed step
+abbrev pub asked_as : Kind → ℕ → List (List ℕ) → ℕ → Entry → Request
+asked_as Token port cs i e = token_renewal port (credential_at cs i) e.step
+asked_as Lease port cs i e = lease_renewal port (option_map (credential_at cs) e.parent) (credential_at cs i) e.step
+
+-- the request that renews the entry i
+unfoldable pub request_of : ℕ → List (List ℕ) → Grove → ℕ → Request
+request_of port cs g i = asked_as (entry_at g.entries i).kind port cs i (entry_at g.entries i)
+
+-- a token is looked up with its own credential, a lease with that of the token it belongs to
+abbrev pub token_looked : ℕ → List ℕ → Request
+token_looked port credential = record { method = codes "GET"; path = codes "/v1/auth/token/lookup-self"; token = Some credential; body = []; port = port }
+
+abbrev pub lease_looked : ℕ → Option (List ℕ) → List ℕ → Request
+lease_looked port owner id = record { method = codes "POST"; path = codes "/v1/sys/leases/lookup"; token = owner; body = lookup_text id; port = port }
+
+abbrev pub looked_as : Kind → ℕ → List (List ℕ) → ℕ → Entry → Request
+looked_as Token port cs i e = token_looked port (credential_at cs i)
+looked_as Lease port cs i e = lease_looked port (option_map (credential_at cs) e.parent) (credential_at cs i)
+
+-- the request that looks the entry i up
+unfoldable pub lookup_of : ℕ → List (List ℕ) → Grove → ℕ → Request
+lookup_of port cs g i = looked_as (entry_at g.entries i).kind port cs i (entry_at g.entries i)
+
+-- ---- what comes back
+
+-- what of that is a reply
+abbrev pub reply_in : Served → Option Reply
+reply_in (served.Reply reply) = Some reply
+reply_in served.Dropped = None
+
+-- a reply, if it is one, that is not longer than is read
+abbrev pub Fits : Served → Type 0
+Fits (served.Reply reply) = length (reply_text reply) ≤ MOST_REPLY
+Fits served.Dropped = Unit {0}
+
+-- a request that can be written and read, and whose replies can be read
+pub record IsFit (r : Request) : Type 0 where
+  pub writable : IsWritable r
+  pub short : length (request_text r) ≤ MOST_REQUEST
+  pub answered : (l : Ledger) (t : ℕ) (sent : Served) → Says t (step l t r).answer sent → Fits sent
+
+-- the request was served at t, and its reply read, if there was one
+pub record IsAsked (old : Ledger) (t : ℕ) (r : Request) (reply : Option Reply) (new : Option Behind) : Type 0 where
+  pub sent : Served
+  pub says : Says t (step old t r).answer sent
+  pub reply_is : reply ≡ reply_in sent
+  pub is : new ≡ Some (record { table = (step old t r).ledger; wire = request_text r ++ sent_of sent })
+
+-- what asking comes to; where memory was wanting there may have been no exchange
+abbrev pub Asks : {E : Type 0} → Behind → ℕ → Request → Result (Option Reply) E → Option Behind → Type 0
+Asks old t r (Ok reply) new = IsAsked old.table t r reply new
+Asks old t r (Err fault) new = (new ≡ Some old) ⊎ IsGivenUp old.table t r new

@@ -1,0 +1,40 @@
+ghost use Rattle.std.specs.Prelude.{◌≡◌, ◌<◌, IfSome, length};
+ghost use Rattle.keep_exchange.specs.Requests.{Asks, request_of};
+ghost use Rattle.keep_tree.specs.Forest.{entry_at};
+
+use crate::exchange::Exchange;
+use crate::fault::ExchangeFault;
+use crate::requests::request_for;
+use keep_inventory::Credentials;
+use keep_moment::Moment;
+use keep_tree::Forest;
+use std::alloc::{AllocError, Global};
+use vault_http::Reply;
+
+/// Asks the broker at that port to renew an entry, and gives its reply; `None` where no reply came, or none that could be
+/// read. The only error is want of memory.
+///
+/// Where the broker's table is known, the reply is that of the Broker step at `t`, and the table is as that step leaves it.
+pub fn ask<E: Exchange>(
+    alloc: Global,
+    exchange: &mut E,
+    t: Moment,
+    port: u16,
+    credentials: &Credentials,
+    forest: &Forest,
+    i: u32,
+) -> Result<Option<Reply>, AllocError>
+    requires within { i < length forest.now.entries }
+    requires credentials { length credentials.now ≡ length forest.now.entries }
+    requires over { IfSome (entry_at forest.now.entries i).parent (λ p. p < length forest.now.entries) }
+    ensures { IfSome (E.behind exchange.old) (λ old. Asks old t (request_of port credentials.now forest.now i) result (E.behind exchange.new)) }
+{
+    let request = request_for(alloc, port, credentials, forest, i)?;
+    match exchange.exchange(alloc, t, &request) {
+        Ok(reply) => Ok(Some(reply)),
+        Err(ExchangeFault::OutOfMemory) => Err(AllocError),
+        Err(ExchangeFault::ConnectFailed | ExchangeFault::WriteFailed | ExchangeFault::Http(_)) => {
+            Ok(None)
+        }
+    }
+}

@@ -1,0 +1,165 @@
+ghost use Rattle.std.specs.Prelude.{◌≡◌, ◌<◌, ◌≤◌, ◌≢◌, IfOk, IfSome, IsUtf8, Ok, true, length};
+ghost use Rattle.keep_exchange.specs.Lookups.{LooksUp, lookup_in, looked, behind_if};
+ghost use Rattle.keep_exchange.specs.Requests.{lease_looked, lookup_of, token_looked};
+ghost use Rattle.keep_inventory.specs.Stock.{IsSendable};
+ghost use Rattle.keep_tree.specs.Forest.{entry_at};
+ghost use Rattle.mini_broker.specs.declared.stream.TheConstants.{MOST_REQUEST};
+ghost use Rattle.vault_http.specs.RoundTripRequest.{IsWritable};
+ghost use Rattle.vault_http.specs.Written.{request_text};
+ghost use Rattle.vault_json.specs.Answer.{Gives};
+
+use crate::exchange::Exchange;
+use crate::fault::ExchangeFault;
+use crate::texts::is_port;
+use http::Method;
+use keep_inventory::{Inventory, credentials_are_sendable};
+use keep_moment::{Moment, Text};
+use keep_tree::Kind;
+use std::alloc::{AllocError, Global};
+use vault_http::{Reply, Request};
+use vault_json::{Lookup, ReplyFault, lookup_body, read_lookup_lease, read_lookup_self};
+
+/// Looks an entry up at `t` with the broker at that port, and makes of it what the broker says. `false`: no reply came, or
+/// none with status 200 that can be read, or it says what is not applied to this entry; the inventory is then as it was. The
+/// only error is want of memory.
+///
+/// Where the broker's table is known, the reply is that of the Broker step, and the table is as that step leaves it.
+pub fn look_up<E: Exchange>(
+    alloc: Global,
+    exchange: &mut E,
+    t: Moment,
+    port: u16,
+    inventory: &mut Inventory,
+    i: u32,
+) -> Result<bool, AllocError>
+    requires { i < length inventory.old.grove.entries }
+    ensures looked { IfSome (E.behind exchange.old) (λ old. LooksUp port old t inventory.old i result inventory.new (E.behind exchange.new)) }
+    ensures unapplied { result ≢ Ok true → inventory.new ≡ inventory.old }
+{
+    let request = lookup_for(alloc, port, inventory, i)?;
+    match exchange.exchange(alloc, t, &request) {
+        Ok(reply) => apply(alloc, inventory, i, t, &reply),
+        Err(ExchangeFault::OutOfMemory) => Err(AllocError),
+        Err(ExchangeFault::ConnectFailed | ExchangeFault::WriteFailed | ExchangeFault::Http(_)) => {
+            Ok(false)
+        }
+    }
+}
+
+/// The request that looks an entry up: a token with its own credential, a lease with that of the token it belongs to.
+#[tactic(auto, unfolding(crate::specs::Requests::lookup_of))]
+fn lookup_for(
+    alloc: Global,
+    port: u16,
+    inventory: &Inventory,
+    i: u32,
+) -> Result<Request, AllocError>
+    requires { i < length inventory.now.grove.entries }
+    ensures is { IfOk result (λ r. r ≡ lookup_of port inventory.now.credentials inventory.now.grove i) }
+    ensures writable { IfOk result IsWritable }
+    ensures short { IfOk result (λ r. length (request_text r) ≤ MOST_REQUEST) }
+{
+    let entry = inventory.forest().get(i);
+    match entry.kind {
+        Kind::Token => token_lookup(alloc, port, inventory.credential(i)),
+        Kind::Lease => {
+            let owner = match entry.parent {
+                None => None,
+                Some(p) => Some(Text::of(alloc, inventory.credential(p))?),
+            };
+            lease_lookup(alloc, port, owner, inventory.credential(i))
+        }
+    }
+}
+
+/// Applies a reply to the entry that was looked up, if it says something of it.
+fn apply(
+    alloc: Global,
+    inventory: &mut Inventory,
+    i: u32,
+    t: Moment,
+    reply: &Reply,
+) -> Result<bool, AllocError>
+    requires { i < length inventory.old.grove.entries }
+    ensures applied { IfOk result (λ is. looked inventory.old i t (Ok reply.now) ≡ behind_if is inventory.new) }
+    ensures unapplied { result ≢ Ok true → inventory.new ≡ inventory.old }
+{
+    if reply.status != 200 {
+        return Ok(false);
+    }
+    let kind = inventory.forest().get(i).kind;
+    match lookup_in(alloc, kind, reply.body.list()) {
+        Ok(lookup) => Ok(inventory.apply_lookup(i, &lookup, t).is_ok()),
+        Err(ReplyFault::OutOfMemory) => Err(AllocError),
+        Err(_) => Ok(false),
+    }
+}
+
+/// What the body of a reply says of an entry of that kind.
+fn lookup_in(alloc: Global, kind: Kind, body: &[u8]) -> Result<Lookup, ReplyFault>
+    ensures { Gives (λ x. x) result (lookup_in kind body.now) }
+{
+    match kind {
+        Kind::Token => read_lookup_self(alloc, body),
+        Kind::Lease => read_lookup_lease(alloc, body),
+    }
+}
+
+fn token_lookup(alloc: Global, port: u16, credential: &[u8]) -> Result<Request, AllocError>
+    requires { IsSendable credential.now }
+    ensures is { IfOk result (λ r. r ≡ token_looked port credential.now) }
+    ensures writable { IfOk result IsWritable }
+    ensures short { IfOk result (λ r. length (request_text r) ≤ MOST_REQUEST) }
+{
+    is_port(port);
+    let request = token_message(alloc, port, credential)?;
+    Ok(request)
+}
+
+fn token_message(alloc: Global, port: u16, credential: &[u8]) -> Result<Request, AllocError>
+    ensures { IfOk result (λ r. r ≡ token_looked port credential.now) }
+{
+    Ok(Request {
+        method: Method::GET,
+        path: Text::of(alloc, b"/v1/auth/token/lookup-self")?,
+        token: Some(Text::of(alloc, credential)?),
+        body: Text::of(alloc, b"")?,
+        port,
+    })
+}
+
+fn lease_lookup(
+    alloc: Global,
+    port: u16,
+    owner: Option<Text>,
+    id: &[u8],
+) -> Result<Request, AllocError>
+    requires owner { IfSome owner IsSendable }
+    requires id { IsSendable id.now }
+    ensures is { IfOk result (λ r. r ≡ lease_looked port owner id.now) }
+    ensures writable { IfOk result IsWritable }
+    ensures short { IfOk result (λ r. length (request_text r) ≤ MOST_REQUEST) }
+{
+    is_port(port);
+    credentials_are_sendable();
+    let request = lease_message(alloc, port, owner, id)?;
+    Ok(request)
+}
+
+fn lease_message(
+    alloc: Global,
+    port: u16,
+    owner: Option<Text>,
+    id: &[u8],
+) -> Result<Request, AllocError>
+    requires { IsUtf8 id.now }
+    ensures { IfOk result (λ r. r ≡ lease_looked port owner id.now) }
+{
+    Ok(Request {
+        method: Method::POST,
+        path: Text::of(alloc, b"/v1/sys/leases/lookup")?,
+        token: owner,
+        body: lookup_body(alloc, id)?,
+        port,
+    })
+}

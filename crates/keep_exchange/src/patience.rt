@@ -1,0 +1,95 @@
+use std::io;
+use std::io::{ErrorKind, Read, Write};
+use std::time::Duration;
+
+/// How long one connect, read or write may take where nothing else is said, in seconds.
+pub const PATIENCE: u64 = 5;
+
+/// How long each connect, read and write may take: the longest time that was named, and a quarter of a second from one that
+/// took longer to the next exchange that has its reply. So a round of many entries against a silent broker ends.
+#[derive(Clone, Copy, Debug)]
+pub(crate) struct Patience {
+    longest: Duration,
+    is_short: bool,
+}
+
+impl Patience {
+    pub(crate) fn new(longest: Duration) -> Patience {
+        Patience {
+            longest,
+            is_short: false,
+        }
+    }
+
+    /// How long the next connect, read or write may take.
+    pub(crate) fn limit(&self) -> Duration {
+        if self.is_short {
+            self.longest.min(Duration::from_millis(250))
+        } else {
+            self.longest
+        }
+    }
+
+    /// Something took too long.
+    pub(crate) fn shorten(&mut self) {
+        self.is_short = true;
+    }
+
+    /// An exchange has its reply.
+    pub(crate) fn restore(&mut self) {
+        self.is_short = false;
+    }
+}
+
+/// Whether a call failed because it took too long.
+pub(crate) fn is_late(error: &io::Error) -> bool {
+    matches!(error.kind(), ErrorKind::TimedOut | ErrorKind::WouldBlock)
+}
+
+/// A stream, and whether a read or a write of it took too long.
+#[derive(Drop)]
+pub(crate) struct Watched<S> {
+    stream: S,
+    is_late: bool,
+}
+
+impl<S> Watched<S> {
+    pub(crate) fn new(stream: S) -> Watched<S> {
+        Watched {
+            stream,
+            is_late: false,
+        }
+    }
+
+    pub(crate) fn is_late(&self) -> bool {
+        self.is_late
+    }
+}
+
+impl<S: Read> Read for Watched<S> {
+    fn read(&mut self, buf: &mut [u8]) -> io::Result<usize> {
+        match self.stream.read(buf) {
+            Ok(n) => Ok(n),
+            Err(error) => {
+                self.is_late = self.is_late || is_late(&error);
+                Err(error)
+            }
+        }
+    }
+}
+
+impl<S: Write> Write for Watched<S> {
+    fn write(&mut self, piece: &[u8]) -> io::Result<usize> {
+        match self.stream.write(piece) {
+            Ok(n) => Ok(n),
+            Err(error) => {
+                self.is_late = self.is_late || is_late(&error);
+                Err(error)
+            }
+        }
+    }
+
+    fn flush(&mut self) -> io::Result<()> {
+        self.stream.flush()
+    }
+}

@@ -1,0 +1,106 @@
+ghost use Rattle.std.specs.Prelude.{◌≡◌, None};
+ghost use Rattle.vault_http.specs.RoundTripRequest.{IsWritable};
+
+use crate::exchange::{Exchange, MOST_REPLY};
+use crate::fault::ExchangeFault;
+use crate::over::count_after;
+use keep_moment::Moment;
+use mini_broker::{StreamFault, Table};
+use std::alloc::Global;
+use std::net::{IpAddr, Ipv4Addr, Net, OpenListener, SocketAddr, TcpListener, TcpStream};
+use vault_http::{Counted, Device, HttpFault, Reply, Request, read_reply, write_request};
+
+/// An exchange over 127.0.0.1 with a broker's table that is served in the same thread: it connects, writes the request,
+/// accepts, serves it, and reads the reply.
+#[derive(Drop)]
+pub struct SelfServed<'a, R: Net> {
+    rt: &'a R,
+    listener: R::Listener,
+    port: u16,
+    table: Table,
+    failures: u64,
+}
+
+impl<'a, R: Net> SelfServed<'a, R> {
+    /// Listens on 127.0.0.1 at a port that the system chooses.
+    ///
+    /// `ConnectFailed`: it could not listen, and the table is dropped.
+    pub fn bind(rt: &'a R, _alloc: Global, table: Table) -> Result<SelfServed<'a, R>, ExchangeFault> {
+        let any = SocketAddr::new(IpAddr::V4(Ipv4Addr::LOCALHOST), 0);
+        let Ok(listener) = TcpListener::bind(rt, any) else {
+            return Err(ExchangeFault::ConnectFailed);
+        };
+        let Ok(address) = listener.local_addr() else {
+            return Err(ExchangeFault::ConnectFailed);
+        };
+        Ok(SelfServed {
+            rt,
+            listener,
+            port: address.port(),
+            table,
+            failures: 0,
+        })
+    }
+
+    /// The broker's table.
+    pub fn table(&self) -> &Table {
+        &self.table
+    }
+
+    fn carry(&mut self, alloc: Global, t: Moment, request: &Request) -> Result<Reply, ExchangeFault>
+        requires { IsWritable request.now }
+    {
+        let address = SocketAddr::new(IpAddr::V4(Ipv4Addr::LOCALHOST), self.port);
+        let Ok(client) = TcpStream::connect(self.rt, address) else {
+            return Err(ExchangeFault::ConnectFailed);
+        };
+        let mut client = Counted::new(client);
+        write_request(alloc, &mut client, request)?;
+        self.serve(t)?;
+        Ok(read_reply(alloc, &mut client, MOST_REPLY)?)
+    }
+
+    /// Accepts one connection and serves its request; the connection is closed behind it.
+    fn serve(&mut self, t: Moment) -> Result<(), ExchangeFault> {
+        let Ok((stream, _)) = self.listener.accept() else {
+            return Err(ExchangeFault::ConnectFailed);
+        };
+        let mut stream = Counted::new(stream);
+        match self.table.serve_stream(t, &mut stream) {
+            Ok(()) => Ok(()),
+            Err(StreamFault::ReadFailed) => Err(ExchangeFault::Http(HttpFault::ReadFailed)),
+            Err(StreamFault::WriteFailed) => Err(ExchangeFault::WriteFailed),
+            Err(StreamFault::OutOfMemory) => Err(ExchangeFault::OutOfMemory),
+        }
+    }
+}
+
+impl<'a, R: Net> Device for SelfServed<'a, R> {
+    ghost failed_calls = { λ e. e.failures };
+
+    fn failures(&self) -> u64 {
+        self.failures
+    }
+}
+
+impl<'a, R: Net> Exchange for SelfServed<'a, R> {
+    ghost behind = { λ _. None };
+
+    ghost host_port = { λ e. e.port };
+
+    fn port(&self) -> u16 {
+        self.port
+    }
+
+    fn exchange(
+        &mut self,
+        alloc: Global,
+        t: Moment,
+        request: &Request,
+    ) -> Result<Reply, ExchangeFault> {
+        let before = self.failures;
+        let result = self.carry(alloc, t, request);
+        self.failures = count_after(before, &result);
+        result
+    }
+}

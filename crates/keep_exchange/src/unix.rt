@@ -1,0 +1,81 @@
+ghost use Rattle.std.specs.Prelude.{◌≡◌, None};
+
+use crate::exchange::Exchange;
+use crate::fault::ExchangeFault;
+use crate::over::{count_after, exchange_over};
+use crate::patience::Patience;
+use keep_moment::Moment;
+use std::alloc::Global;
+use std::net::Net;
+use std::os::unix::net::UnixStream;
+use std::time::Duration;
+use vault_http::{Device, Reply, Request};
+
+/// An exchange with the broker that listens on a UNIX socket: whoever may not enter the socket's folder can neither listen
+/// in its place nor connect to it.
+#[derive(Drop)]
+pub struct UnixExchange<'a, R: Net> {
+    rt: &'a R,
+    path: &'a str,
+    patience: Patience,
+    failures: u64,
+}
+
+impl<'a, R: Net> UnixExchange<'a, R> {
+    /// The exchange with the broker at that path, where each read and write may take so long. One that takes longer has
+    /// failed; those that follow may take a quarter of a second, until an exchange has its reply. It takes no memory, and
+    /// connects to nothing yet.
+    pub fn patient(rt: &'a R, path: &'a str, longest: Duration) -> UnixExchange<'a, R> {
+        UnixExchange {
+            rt,
+            path,
+            patience: Patience::new(longest),
+            failures: 0,
+        }
+    }
+
+    /// A connection whose reads and writes have a limit.
+    fn connect(&self) -> Result<UnixStream, ExchangeFault> {
+        let limit = self.patience.limit();
+        let Ok(stream) = UnixStream::connect(self.rt, self.path) else {
+            return Err(ExchangeFault::ConnectFailed);
+        };
+        if stream.set_read_timeout(Some(limit)).is_err()
+            || stream.set_write_timeout(Some(limit)).is_err()
+        {
+            return Err(ExchangeFault::ConnectFailed);
+        }
+        Ok(stream)
+    }
+}
+
+impl<'a, R: Net> Device for UnixExchange<'a, R> {
+    ghost failed_calls = { λ e. e.failures };
+
+    fn failures(&self) -> u64 {
+        self.failures
+    }
+}
+
+impl<'a, R: Net> Exchange for UnixExchange<'a, R> {
+    ghost behind = { λ _. None };
+
+    fn port(&self) -> u16 {
+        8200
+    }
+
+    fn exchange(
+        &mut self,
+        alloc: Global,
+        _t: Moment,
+        request: &Request,
+    ) -> Result<Reply, ExchangeFault> {
+        let before = self.failures;
+        let result = match self.connect() {
+            Ok(stream) => exchange_over(alloc, stream, request, &mut self.patience),
+            Err(fault) => Err(fault),
+        };
+        self.failures = count_after(before, &result);
+        result
+    }
+}

@@ -1,7 +1,0 @@
-use Rattle.std.proofs.Common.{◌∙◌}
-use Rattle.keep_inventory.specs.Keys.{is_top_key}
-use Rattle.keep_inventory.proofs.Keys.{keys_listed}
-use Rattle.keep_inventory.proofs.known.has_only_top_keys.Goals as goal
-
-pub returns : goal.returns
-returns c = c.has_top_keys.ensures ∙ keys_listed is_top_key c.args.table.now.entries

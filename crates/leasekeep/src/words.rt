@@ -1,0 +1,131 @@
+use crate::parser::parse;
+use clap::error::ErrorKind;
+use clap::{ArgMatches, Error};
+use keep_device::Sink;
+use keep_engine::{Command, Exit, PROGRAM, Stop, tell};
+use keep_moment::Moment;
+use std::alloc::{AllocError, AllocFailed, Global};
+use std::rt::Env;
+use std::{env, io};
+
+const NOT_UTF8: &[u8] = b"error: a word of the command line is not UTF-8\n";
+const UNREADABLE: &[u8] = b"error: a value of the command line is unreadable\n";
+
+/// Why the matches of a command line give no command.
+#[derive(Clone, Copy, Debug)]
+enum Unread {
+    /// A value is not there, or is not of its kind.
+    Value,
+    /// Memory was refused.
+    Memory,
+}
+
+impl From<AllocError> for Unread {
+    fn from(_e: AllocError) -> Unread {
+        Unread::Memory
+    }
+}
+
+impl<T: Drop> From<AllocFailed<T>> for Unread {
+    fn from(_e: AllocFailed<T>) -> Unread {
+        Unread::Memory
+    }
+}
+
+/// What the words of the command line ask; or the exit, once it was told or shown why they ask nothing.
+pub fn read_command<R: Env + AllocGlobal + Print + Eprint, E: Sink>(
+    rt: &R,
+    errors: &mut E,
+) -> Result<Command, Exit> {
+    let alloc = rt.alloc();
+    let words = match words(rt) {
+        Ok(words) => words,
+        Err(error) if error.kind() == io::ErrorKind::OutOfMemory => {
+            return Err(Stop::Memory.report(alloc, PROGRAM, errors));
+        }
+        Err(_) => return Err(refuse(NOT_UTF8, errors)),
+    };
+    let matches = match parse(alloc, &words) {
+        Ok(matches) => matches,
+        Err(error) => return Err(show(rt, &error, errors)),
+    };
+    match command_of(alloc, &matches) {
+        Ok(command) => Ok(command),
+        Err(Unread::Value) => Err(refuse(UNREADABLE, errors)),
+        Err(Unread::Memory) => Err(Stop::Memory.report(alloc, PROGRAM, errors)),
+    }
+}
+
+/// The words of the command line, the program's name first. A word that is not UTF-8 is an error.
+fn words<R: Env + AllocGlobal>(rt: &R) -> io::Result<Vec<String>> {
+    Ok(env::args(rt)?.collect(rt.alloc())?)
+}
+
+fn refuse<E: Sink>(line: &[u8], errors: &mut E) -> Exit {
+    tell(errors, line);
+    Exit::CommandLine
+}
+
+/// Shows the text of a command line that asks nothing: a mistake's on standard error, help and the version on standard
+/// output, which is exit 0 unless it could not be written.
+fn show<R: AllocGlobal + Print + Eprint, E: Sink>(rt: &R, error: &Error, errors: &mut E) -> Exit {
+    if error.kind() == ErrorKind::OutOfMemory {
+        return Stop::Memory.report(rt.alloc(), PROGRAM, errors);
+    }
+    let shown = error.print(rt);
+    if error.exit_code() != 0 {
+        Exit::CommandLine
+    } else if shown.is_ok() {
+        Exit::Done
+    } else {
+        Stop::Write.report(rt.alloc(), PROGRAM, errors)
+    }
+}
+
+/// The command, with all its values. Behind this nothing asks for a value by its name.
+fn command_of(alloc: Global, matches: &ArgMatches<'_>) -> Result<Command, Unread> {
+    match matches.subcommand() {
+        Some(("ends", matches)) => Ok(Command::Ends {
+            file: word(alloc, matches, "FILE")?,
+            start: start(matches)?,
+            moments: moments(alloc, matches)?,
+        }),
+        Some(("plan", matches)) => Ok(Command::Plan {
+            file: word(alloc, matches, "FILE")?,
+            start: start(matches)?,
+        }),
+        Some(("check", matches)) => Ok(Command::Check {
+            file: word(alloc, matches, "FILE")?,
+            certificate: word(alloc, matches, "CERT")?,
+        }),
+        _ => Err(Unread::Value),
+    }
+}
+
+fn word(alloc: Global, matches: &ArgMatches<'_>, name: &str) -> Result<String, Unread> {
+    match matches.get_str(name) {
+        Some(word) => Ok(String::from_str(alloc, word)?),
+        None => Err(Unread::Value),
+    }
+}
+
+fn start(matches: &ArgMatches<'_>) -> Result<Moment, Unread> {
+    let seconds = matches.get_one::<u64>("START").ok_or(Unread::Value)?;
+    Moment::new(seconds).ok_or(Unread::Value)
+}
+
+fn moments(alloc: Global, matches: &ArgMatches<'_>) -> Result<Vec<Moment>, Unread> {
+    let mut moments = Vec::new(alloc);
+    if let Some(values) = matches.get_many::<u64>("MOMENT") {
+        for value in values {
+            let Ok(seconds) = value else {
+                return Err(Unread::Value);
+            };
+            let Some(moment) = Moment::new(seconds) else {
+                return Err(Unread::Value);
+            };
+            moments.push(moment)?;
+        }
+    }
+    Ok(moments)
+}

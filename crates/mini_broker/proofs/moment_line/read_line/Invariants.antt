@@ -1,0 +1,13 @@
+-- What was read so far is a front of the input without a line feed, a byte for each turn.
+use Rattle.std.proofs.Common.{◌≡◌, length}
+use Rattle.std.specs.Io.KnownBytes.{Consumes}
+use Rattle.mini_broker.specs.MomentLine.{IsOneLine}
+use Rattle.mini_broker.proofs.moment_line.read_line.Given as goal
+
+abbrev pub invariant-loop : goal.invariant-loop
+invariant-loop g l = record {
+  given : Consumes (g.S.Device.remaining l.fn.source) (g.S.Device.remaining l.source) l.line.items;
+  one : IsOneLine l.line.items;
+  turns : length l.line.items ≡ l.counter;
+  count : g.S.Device.failed_calls l.source ≡ g.S.Device.failed_calls l.fn.source;
+}

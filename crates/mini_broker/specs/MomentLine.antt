@@ -1,0 +1,58 @@
+-- Lines of moments: by which whoever drives a broker says when each connection is served. This project's own.
+use Rattle.std.specs.Prelude.{◌≡◌, ℕ, ◌<◌, ◌≤◌, not, ◌==◌, true, List, [], ◌∷◌, ◌++◌, decimal, length, Option, IfSome, Result, Ok, Err}
+use Rattle.std.specs.List.{list_all}
+use Rattle.keep_moment.specs.declared.moment.TheConstants.{LAST}
+use Rattle.keep_device.specs.Failures.{one_more}
+use Rattle.mini_broker.specs.declared.moment_line.LineFault.{LineFault}
+use Rattle.mini_broker.specs.declared.moment_line.LineFault.TheVariants as lines
+use Rattle.mini_broker.specs.declared.moment_line.Moments.{Moments}
+use Rattle.mini_broker.specs.declared.moment_line.Moments.TheVariants as moments
+use Rattle.mini_broker.specs.declared.moment_line.TheConstants.{MOST_LINE}
+use Rattle.std.specs.Io.KnownBytes.{Consumes}
+
+-- the seconds since 1970-01-01T00:00:00Z in decimal digits, without zeros in front, and a line feed
+abbrev pub moment_line : ℕ → List ℕ
+moment_line m = decimal m ++ 10 ∷ []
+
+-- the bytes begin with the line of a moment, of as many bytes as a line may have
+abbrev pub BeginsWith : List ℕ → ℕ → List ℕ → Type 0
+BeginsWith bytes m rest = (m ≤ LAST) × (length (moment_line m) ≤ MOST_LINE) × (bytes ≡ moment_line m ++ rest)
+
+-- no line of a moment stands in front
+abbrev pub HasNoMoment : List ℕ → Type 0
+HasNoMoment bytes = (m : ℕ) (rest : List ℕ) → BeginsWith bytes m rest → ⊥
+
+-- ---- a line of whatever it holds
+
+-- no line feed stands in the text
+abbrev pub IsOneLine : List ℕ → Type 0
+IsOneLine text = list_all (λ b. not (b == 10)) text ≡ true
+
+-- no line of as many bytes as a line may have stands in front
+abbrev pub HasNoLine : List ℕ → Type 0
+HasNoLine bytes = (text rest : List ℕ) → IsOneLine text → length text < MOST_LINE → bytes ≡ text ++ (10 ∷ rest) → ⊥
+
+-- one failure more where a read failed, and else none
+abbrev pub CountsLine : {X : Type 0} → Result X LineFault → ℕ → ℕ → Type 0
+CountsLine (Ok x) before now = now ≡ before
+CountsLine (Err lines.ReadFailed) before now = now ≡ one_more before
+CountsLine (Err lines.NoMoment) before now = now ≡ before
+CountsLine (Err lines.OutOfMemory) before now = now ≡ before
+
+-- an input before and after: its bytes to come, and how many calls of it have failed
+pub record Lines : Type 0 where
+  pub before : Option (List ℕ)
+  pub now : Option (List ℕ)
+  pub failed : ℕ
+  pub failures : ℕ
+
+-- the moment of a line that was read, and no byte behind it; or that none stands in front
+abbrev pub TellsLine : Result ℕ LineFault → Lines → Type 0
+TellsLine (Ok m) input = Consumes input.before input.now (moment_line m)
+TellsLine (Err lines.NoMoment) input = IfSome input.before HasNoMoment
+TellsLine (Err fault) input = Unit {0}
+
+-- the moment at which the next connection is served: the one of all, for which nothing is read, or that of the next line
+abbrev pub Tells : Moments → Result ℕ LineFault → Lines → Type 0
+Tells (moments.All m) result input = (result ≡ Ok m) × (input.now ≡ input.before) × (input.failures ≡ input.failed)
+Tells moments.Lines result input = TellsLine result input × CountsLine result input.failed input.failures

@@ -1,0 +1,130 @@
+ghost use Rattle.std.specs.Prelude.{◌≡◌, ◌++◌, ◌∷◌, [], None, Ok, Err, IfOk, IfSome, IsErrOf};
+ghost use Rattle.std.specs.Io.KnownBytes.{Consumes, IsAtEnd};
+ghost use Rattle.keep_device.specs.Failures.{CountsRead};
+ghost use Rattle.mini_broker.specs.declared.moment_line.LineFault.TheVariants as lines;
+ghost use Rattle.mini_broker.specs.MomentLine.{CountsLine, HasNoLine, HasNoMoment, IsOneLine, Tells, moment_line};
+
+use keep_device::{Failed, Source};
+use keep_moment::{LAST, Moment};
+use keep_words::number_up_to;
+use std::alloc::{AllocError, AllocFailed, Global};
+use thiserror::Error;
+
+/// The most bytes of a line of moments, its line feed included.
+pub const MOST_LINE: usize = 256;
+
+/// Why no moment was read.
+#[derive(Clone, Copy, Debug, PartialEq, Eq, Error)]
+pub enum LineFault {
+    /// A read failed, and the device has counted it.
+    #[error("a read failed")]
+    ReadFailed,
+    /// The input has ended, or its next line is no moment.
+    #[error("no moment")]
+    NoMoment,
+    /// Memory ran out.
+    #[error("out of memory")]
+    OutOfMemory,
+}
+
+impl From<Failed> for LineFault {
+    ghost from_gives = { λ _ e. e ≡ lines.ReadFailed };
+
+    fn from(_e: Failed) -> LineFault {
+        LineFault::ReadFailed
+    }
+}
+
+impl From<AllocError> for LineFault {
+    ghost from_gives = { λ _ e. e ≡ lines.OutOfMemory };
+
+    fn from(_e: AllocError) -> LineFault {
+        LineFault::OutOfMemory
+    }
+}
+
+impl<T: Drop> From<AllocFailed<T>> for LineFault {
+    ghost from_gives = { λ _ e. e ≡ lines.OutOfMemory };
+
+    fn from(_e: AllocFailed<T>) -> LineFault {
+        LineFault::OutOfMemory
+    }
+}
+
+/// At which moments the connections of a broker are served.
+#[derive(Clone, Copy, Debug, PartialEq, Eq)]
+pub enum Moments {
+    /// All at this one.
+    All(Moment),
+    /// Each at that of one line of an input.
+    Lines,
+}
+
+/// The moment at which the next connection is served. Where all have one, nothing is read.
+///
+/// The faults are those of [`read_moment`].
+pub fn next_moment<S: Source>(
+    alloc: Global,
+    moments: Moments,
+    lines: &mut S,
+) -> Result<Moment, LineFault>
+    ensures { Tells moments result (record { before = S.remaining lines.old; now = S.remaining lines.new; failed = S.failed_calls lines.old; failures = S.failed_calls lines.new }) }
+{
+    match moments {
+        Moments::All(moment) => Ok(moment),
+        Moments::Lines => read_moment(alloc, lines),
+    }
+}
+
+/// Reads one line and no byte behind it, and gives the moment that it spells: whole seconds since 1970-01-01T00:00:00Z in
+/// decimal digits without zeros in front, at most 253402300799, and a line feed.
+///
+/// `ReadFailed`: a read failed. `NoMoment`: the input has ended before a line feed, or the line has more than 256 bytes, or
+/// spells no moment. `OutOfMemory`: a growth was refused.
+fn read_moment<S: Source>(alloc: Global, source: &mut S) -> Result<Moment, LineFault>
+    ensures line { IfOk result (λ m. Consumes (S.remaining source.old) (S.remaining source.new) (moment_line m)) }
+    ensures none { IsErrOf result lines.NoMoment → IfSome (S.remaining source.old) HasNoMoment }
+    ensures count { CountsLine result (S.failed_calls source.old) (S.failed_calls source.new) }
+{
+    let Some(line) = read_line(alloc, source)? else {
+        return Err(LineFault::NoMoment);
+    };
+    let Some(seconds) = number_up_to(&line, LAST) else {
+        return Err(LineFault::NoMoment);
+    };
+    Moment::new(seconds).ok_or(LineFault::NoMoment)
+}
+
+/// Reads one line and no byte behind it, and gives it without its line feed; `None` where the input ends before that, or the
+/// line has more than 256 bytes.
+fn read_line<S: Source>(alloc: Global, source: &mut S) -> Result<Option<Vec<u8>>, LineFault>
+    ensures line { IfOk result (λ line. IfSome line (λ text. Consumes (S.remaining source.old) (S.remaining source.new) (text.items ++ 10 ∷ []))) }
+    ensures one { IfOk result (λ line. IfSome line (λ text. IsOneLine text.items)) }
+    ensures none { result ≡ Ok None → IfSome (S.remaining source.old) HasNoLine }
+    ensures fault { IsErrOf result lines.NoMoment → ⊥ }
+    ensures count { CountsLine result (S.failed_calls source.old) (S.failed_calls source.new) }
+{
+    let mut line = Vec::new(alloc);
+    for _ in 0..MOST_LINE {
+        match next_byte(source)? {
+            None => return Ok(None),
+            Some(b'\n') => return Ok(Some(line)),
+            Some(byte) => line.push(byte)?,
+        }
+    }
+    Ok(None)
+}
+
+/// Reads one byte, `None` at the end of the input.
+fn next_byte<S: Source>(source: &mut S) -> Result<Option<u8>, Failed>
+    ensures some { IfOk result (λ byte. IfSome byte (λ b. Consumes (S.remaining source.old) (S.remaining source.new) (b ∷ []))) }
+    ensures none { result ≡ Ok None → IsAtEnd (S.remaining source.old) }
+    ensures count { CountsRead result (S.failed_calls source.old) (S.failed_calls source.new) }
+{
+    let mut byte = [0u8];
+    if source.read_some(&mut byte)? == 0 {
+        Ok(None)
+    } else {
+        Ok(Some(byte[0]))
+    }
+}

@@ -1,0 +1,127 @@
+ghost use Rattle.std.specs.Prelude.{◌≡◌, ℕ, ◌+◌, ◌-◌, ◌*◌, ◌<◌, ◌≤◌, ◌⊎◌, List, [], ◌++◌, length, take, drop, IsTrue, false};
+ghost use Rattle.std.specs.List.{list_all};
+ghost use Rattle.vault_http.specs.declared.known.TheConstants.{SMALL_HEAD};
+ghost use Rattle.vault_http.specs.Body.{framing_of, IsPartOf};
+ghost use Rattle.vault_http.specs.EmptyLine.{HasLineBehind, is_blank};
+ghost use Rattle.vault_http.specs.Known.{IsCurrent, IsHeaded, IsKnown};
+ghost use Rattle.vault_http.specs.Messages.{UnlessMemory};
+ghost use Rattle.vault_http.specs.Verdicts.{IsDone, IfDone, IfMore};
+
+use crate::HttpFault;
+use crate::body::{Partial, judge_body};
+use crate::empty_line::{blank_front, brings_empty_line};
+use crate::message::{Head, Message};
+use crate::verdict::Verdict;
+use std::alloc::Global;
+
+/// The most bytes of a head that is not whole which are looked at after each read. Longer ones are looked at as often as
+/// their number doubles, so that the work stays in proportion to the bytes.
+pub const SMALL_HEAD: usize = 4096;
+
+/// What is known of a message of which not all bytes have come.
+#[derive(Debug, Drop)]
+pub(crate) enum Known<M> {
+    /// There is no head yet. So many bytes were looked at for one; in so many there is none; and so many at the front are
+    /// carriage returns and line feeds.
+    Head(usize, usize, usize),
+    /// The head has so many bytes; the message without its body; and what is known of the body.
+    Body(usize, M, Partial),
+}
+
+/// Judges the bytes of a message that were read so far, of which `max` may be read; `ended` says that the input ends behind
+/// them. What was known of the first of them is `known`.
+pub(crate) fn go_on<M: Message>(
+    alloc: Global,
+    known: Known<M>,
+    bytes: &[u8],
+    max: usize,
+    ended: bool,
+) -> Verdict<Known<M>, Result<M, HttpFault>>
+    requires known { IsKnown M.has_no_head (M.is_answer max) M.with_body max bytes.now known }
+    ensures answer { IfDone result (λ a. (more : List ℕ) → (IsTrue ended → more ≡ [])
+        → UnlessMemory a (M.is_answer max (bytes.now ++ more) a)) }
+    ensures decides { (IsTrue ended ⊎ (max < length bytes.now)) → IsDone result }
+    ensures known { IfMore result (λ k. IsKnown M.has_no_head (M.is_answer max) M.with_body max bytes.now k) }
+    ensures current { IfMore result (λ k. IsCurrent max bytes.now k) }
+{
+    M::laws();
+    match known {
+        Known::Body(len, message, partial) => {
+            behind(alloc, len, message, partial, bytes, max, ended)
+        }
+        Known::Head(looked, seen, blank) => {
+            let blank = blank_front(bytes, blank);
+            if !ended && !is_due(bytes, max, looked, seen, blank) {
+                return Verdict::More(Known::Head(looked, bytes.len(), blank));
+            }
+            look(alloc, bytes, max, ended, blank)
+        }
+    }
+}
+
+/// Whether the bytes are to be looked at for a head: they are few, or as many as may be read, or have doubled; or an empty
+/// line came behind the first `seen`, which may end one.
+fn is_due(bytes: &[u8], max: usize, looked: usize, seen: usize, blank: usize) -> bool
+    requires seen { seen ≤ length bytes.now }
+    requires blank { blank ≤ length bytes.now }
+    ensures short { result ≡ false → length bytes.now < max }
+    ensures many { result ≡ false → (SMALL_HEAD < length bytes.now) × (length bytes.now < 2 * looked) }
+    ensures line { result ≡ false → (blank ≡ length bytes.now) ⊎ (HasLineBehind seen bytes.now → ⊥) }
+{
+    bytes.len() <= SMALL_HEAD
+        || bytes.len() >= max
+        || bytes.len() / 2 >= looked
+        || (blank < bytes.len() && brings_empty_line(bytes, seen))
+}
+
+/// Looks at the bytes for a head, and for what stands behind it. The first `blank` are carriage returns and line feeds.
+pub(crate) fn look<M: Message>(
+    alloc: Global,
+    bytes: &[u8],
+    max: usize,
+    ended: bool,
+    blank: usize,
+) -> Verdict<Known<M>, Result<M, HttpFault>>
+    requires within { blank ≤ length bytes.now }
+    requires blank { IsTrue (list_all is_blank (take blank bytes.now)) }
+    ensures answer { IfDone result (λ a. (more : List ℕ) → (IsTrue ended → more ≡ [])
+        → UnlessMemory a (M.is_answer max (bytes.now ++ more) a)) }
+    ensures decides { (IsTrue ended ⊎ (max < length bytes.now)) → IsDone result }
+    ensures known { IfMore result (λ k. IsKnown M.has_no_head (M.is_answer max) M.with_body max bytes.now k) }
+    ensures current { IfMore result (λ k. IsCurrent max bytes.now k) }
+{
+    match M::head(alloc, bytes, max) {
+        Head::Open if ended => Verdict::Done(Err(HttpFault::Truncated)),
+        Head::Open => Verdict::More(Known::Head(bytes.len(), bytes.len(), blank)),
+        Head::Refused(fault) => Verdict::Done(Err(fault)),
+        Head::Found(len, message, framing) => {
+            let partial = Partial::new(alloc, framing);
+            behind(alloc, len, message, partial, bytes, max, ended)
+        }
+    }
+}
+
+/// Judges what stands behind a head of `len` bytes.
+fn behind<M: Message>(
+    alloc: Global,
+    len: usize,
+    message: M,
+    partial: Partial,
+    bytes: &[u8],
+    max: usize,
+    ended: bool,
+) -> Verdict<Known<M>, Result<M, HttpFault>>
+    requires headed { IsHeaded (M.is_answer max) M.with_body max bytes.now len message (framing_of partial) }
+    requires part { IsPartOf partial (max - len) (drop len bytes.now) }
+    ensures answer { IfDone result (λ a. (more : List ℕ) → (IsTrue ended → more ≡ [])
+        → UnlessMemory a (M.is_answer max (bytes.now ++ more) a)) }
+    ensures decides { (IsTrue ended ⊎ (max < length bytes.now)) → IsDone result }
+    ensures known { IfMore result (λ k. IsKnown M.has_no_head (M.is_answer max) M.with_body max bytes.now k) }
+    ensures current { IfMore result (λ k. IsCurrent max bytes.now k) }
+{
+    match judge_body(alloc, partial, &bytes[len..], max - len, ended) {
+        Verdict::More(partial) => Verdict::More(Known::Body(len, message, partial)),
+        Verdict::Done(Ok(body)) => Verdict::Done(Ok(message.with_body(body))),
+        Verdict::Done(Err(fault)) => Verdict::Done(Err(fault.into())),
+    }
+}

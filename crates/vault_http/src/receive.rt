@@ -1,0 +1,112 @@
+ghost use Rattle.std.specs.Prelude.{◌≡◌, ℕ, List, [], length, IfSome, IsErrOf};
+ghost use Rattle.std.specs.Io.KnownBytes.{Keeps};
+ghost use Rattle.keep_device.specs.declared.limits.TheConstants.{MOST_READS, MOST_ROOM};
+ghost use Rattle.keep_device.specs.Whole.{MakesAtMost};
+ghost use Rattle.vault_http.specs.declared.http_fault.HttpFault.TheVariants as faults;
+ghost use Rattle.vault_http.specs.Holding.{HandedNone};
+ghost use Rattle.vault_http.specs.Known.{IsCurrent, IsKnown};
+ghost use Rattle.vault_http.specs.Reading.{Settles, SettlesReply, SettlesRequest, HandedNoReply, HandedNoRequest, CountsMessage};
+
+use crate::known::{Known, go_on, look};
+use crate::message::Message;
+use crate::verdict::Verdict;
+use crate::{HttpFault, Reply, Request, Source};
+use keep_device::{MOST_READS, MOST_ROOM, read_more, zeros};
+use std::alloc::Global;
+
+/// Reads one reply of at most `max` bytes, its head included. What stands behind it is not looked at. It makes at most 4,096
+/// reads, each with room for 65,536 bytes, or for what is left up to one byte past `max` where that is less.
+///
+/// The answer is given as soon as the bytes settle it, be it the reply or a fault, so a peer that keeps its side open is
+/// not waited for. Two faults of a head may be seen later: that it has more than 64 fields, at its end; and where more than
+/// 4,096 bytes of it have come, any, once they have doubled.
+///
+/// Where the source tells its bytes, does not fail, and hands them and its end out in at most 4,096 reads, the answer is
+/// that of the bytes, however they are cut. `ReadFailed`: a read failed. The other faults are those of the bytes;
+/// `TooLong` is also that 4,096 reads did not do: what they handed out settles no answer.
+pub fn read_reply<R: Source>(alloc: Global, reader: &mut R, max: usize) -> Result<Reply, HttpFault>
+    ensures answer { IfSome (R.remaining reader.old) (λ bytes.
+        SettlesReply max bytes (R.remaining reader.new) (R.reads_left reader.old) (R.reads_left reader.new) result) }
+    ensures reads { MakesAtMost MOST_READS (R.remaining reader.old) (R.reads_made reader.old) (R.reads_made reader.new) }
+    ensures written { Keeps (R.written reader.old) (R.written reader.new) }
+    ensures count { CountsMessage result (R.failed_calls reader.old) (R.failed_calls reader.new) }
+
+    // Any read may be the one that fails, so none is made but where more bytes are rightly waited for.
+    ensures prompt { IsErrOf result faults.ReadFailed → HandedNoReply max (R.remaining reader.old) (R.remaining reader.new) }
+{
+    read_message(alloc, reader, max)
+}
+
+/// Reads one request, as [`read_reply`] does a reply. It has port 0.
+pub fn read_request<R: Source>(
+    alloc: Global,
+    reader: &mut R,
+    max: usize,
+) -> Result<Request, HttpFault>
+    ensures answer { IfSome (R.remaining reader.old) (λ bytes.
+        SettlesRequest max bytes (R.remaining reader.new) (R.reads_left reader.old) (R.reads_left reader.new) result) }
+    ensures reads { MakesAtMost MOST_READS (R.remaining reader.old) (R.reads_made reader.old) (R.reads_made reader.new) }
+    ensures written { Keeps (R.written reader.old) (R.written reader.new) }
+    ensures count { CountsMessage result (R.failed_calls reader.old) (R.failed_calls reader.new) }
+
+    // Any read may be the one that fails, so none is made but where more bytes are rightly waited for.
+    ensures prompt { IsErrOf result faults.ReadFailed → HandedNoRequest max (R.remaining reader.old) (R.remaining reader.new) }
+{
+    read_message(alloc, reader, max)
+}
+
+/// Reads one message of at most `max` bytes.
+fn read_message<M: Message, R: Source>(
+    alloc: Global,
+    reader: &mut R,
+    max: usize,
+) -> Result<M, HttpFault>
+    ensures answer { IfSome (R.remaining reader.old) (λ whole.
+        Settles M.has_no_head (M.is_answer max) whole (R.remaining reader.new) (R.reads_left reader.old) (R.reads_left reader.new) result) }
+    ensures reads { MakesAtMost MOST_READS (R.remaining reader.old) (R.reads_made reader.old) (R.reads_made reader.new) }
+    ensures written { Keeps (R.written reader.old) (R.written reader.new) }
+    ensures count { CountsMessage result (R.failed_calls reader.old) (R.failed_calls reader.new) }
+    ensures prompt { IsErrOf result faults.ReadFailed → HandedNone M.has_no_head (M.is_answer max) (R.remaining reader.old) (R.remaining reader.new) }
+{
+    M::laws();
+    let mut room = zeros(alloc, MOST_ROOM)?;
+    let mut bytes = Vec::new(alloc);
+    match look(alloc, &bytes, max, false, 0) {
+        Verdict::Done(answer) => answer,
+        Verdict::More(known) => message_from(
+            alloc, reader, &mut room, &mut bytes, max, known,
+        ),
+    }
+}
+
+/// Reads a message behind `bytes`, which are empty.
+fn message_from<M: Message, R: Source>(
+    alloc: Global,
+    reader: &mut R,
+    room: &mut [u8],
+    bytes: &mut Vec<u8>,
+    max: usize,
+    known: Known<M>,
+) -> Result<M, HttpFault>
+    requires room { length room.old ≡ MOST_ROOM }
+    requires none { bytes.old.items ≡ [] }
+    requires known { IsKnown M.has_no_head (M.is_answer max) M.with_body max bytes.old.items known }
+    requires current { IsCurrent max bytes.old.items known }
+    ensures answer { IfSome (R.remaining reader.old) (λ whole.
+        Settles M.has_no_head (M.is_answer max) whole (R.remaining reader.new) (R.reads_left reader.old) (R.reads_left reader.new) result) }
+    ensures reads { MakesAtMost MOST_READS (R.remaining reader.old) (R.reads_made reader.old) (R.reads_made reader.new) }
+    ensures written { Keeps (R.written reader.old) (R.written reader.new) }
+    ensures count { CountsMessage result (R.failed_calls reader.old) (R.failed_calls reader.new) }
+    ensures prompt { IsErrOf result faults.ReadFailed → HandedNone M.has_no_head (M.is_answer max) (R.remaining reader.old) (R.remaining reader.new) }
+{
+    M::laws();
+    let mut known = known;
+    for _ in 0..MOST_READS {
+        let some = read_more(reader, room, bytes, max)?;
+        match go_on(alloc, known, bytes, max, !some) {
+            Verdict::Done(answer) => return answer,
+            Verdict::More(next) => known = next,
+        }
+    }
+    Err(HttpFault::TooLong)
+}

@@ -1,0 +1,65 @@
+ghost use Rattle.std.specs.Prelude.{◌≡◌, ◌<◌, ◌≤◌, length, take};
+ghost use Rattle.vault_http.specs.Heads.{FoundReply};
+ghost use Rattle.vault_http.specs.Known.{IsHead};
+ghost use Rattle.vault_http.specs.Messages.{IsReply, reply_with};
+ghost use Rattle.httparse.specs.Grammar.{HasNoResponse};
+
+use crate::framing::{Framing, LengthFault};
+use crate::front::front_of;
+use crate::heads::{ReplyHead, reply_head};
+use crate::message::{Head, Message};
+use crate::{HttpFault, Reply};
+use keep_moment::Text;
+use std::alloc::Global;
+
+impl Message for Reply {
+    ghost is_answer = { IsReply };
+
+    ghost has_no_head = { HasNoResponse };
+
+    ghost with_body = { reply_with };
+
+    fn head(alloc: Global, bytes: &[u8], max: usize) -> Head<Reply> {
+        match reply_head(front_of(bytes, max)) {
+            ReplyHead::Open if bytes.len() >= max => Head::Refused(HttpFault::TooLong),
+            ReplyHead::Open => Head::Open,
+            ReplyHead::Refused => Head::Refused(HttpFault::BadHead),
+            ReplyHead::Found(len, status, framing) => {
+                found_reply(alloc, bytes, max, len, status, framing)
+            }
+        }
+    }
+
+    fn with_body(self, body: Text) -> Reply {
+        Reply {
+            status: self.status,
+            body,
+        }
+    }
+
+    fn laws() {}
+}
+
+/// The reply without its body, where its head was found and does not refuse it.
+fn found_reply(
+    alloc: Global,
+    bytes: &[u8],
+    max: usize,
+    len: usize,
+    status: u16,
+    framing: Result<Framing, LengthFault>,
+) -> Head<Reply>
+    requires found { FoundReply (take max bytes.now) len status framing }
+    ensures { IsHead HasNoResponse (IsReply max) reply_with max bytes.now result }
+{
+    if status >= 100 && status < 200 {
+        return Head::Refused(HttpFault::BadHead);
+    }
+    match framing {
+        Err(fault) => Head::Refused(fault.into()),
+        Ok(framing) => {
+            let body = Text::from_vec(Vec::new(alloc));
+            Head::Found(len, Reply { status, body }, framing)
+        }
+    }
+}
