@@ -18,12 +18,12 @@ from .broker import Broker
 from .clock import SystemClock
 from .control import ControlFault, ControlServer, send_command
 from .discover import DiscoverFault, discover, read_short_list
-from .engine import Parts
 from .events import Alerts, Log
 from .http_client import Address, HttpTransport
 from .journal import Journal
 from .lint import kinds_of, lint
 from .notify import Notifier
+from .parts import Parts
 from .run_process import ProcessLauncher
 from .service import Service, Surroundings
 from .source import Source, SourceFault
@@ -56,6 +56,12 @@ def _socket(arguments: argparse.Namespace) -> Path:
 def _state_folder() -> Path:
     own = os.environ.get("XDG_STATE_HOME", "~/.local/state")
     return _folder("STATE_DIRECTORY", f"{own}/leasekeepd")
+
+
+def _program() -> str:
+    """The `leasekeep` beside this program, else the one that PATH finds."""
+    beside = Path(sys.argv[0]).absolute().parent / "leasekeep"
+    return str(beside) if os.access(beside, os.X_OK) and beside.is_file() else "leasekeep"
 
 
 def _timeout(word: str) -> int:
@@ -109,7 +115,8 @@ def _add_serve(commands: "argparse._SubParsersAction[argparse.ArgumentParser]", 
                        help="the broker: a port of 127.0.0.1, or the path of a UNIX socket")
     serve.add_argument("--timeout", type=_timeout, default=5, metavar="SECONDS",
                        help="the longest that a connect, read or write may take (1 to 60, default: 5)")
-    serve.add_argument("--leasekeep", default="leasekeep", metavar="PROGRAM", help="the program (default: %(default)s)")
+    serve.add_argument("--leasekeep", default=_program(), metavar="PROGRAM",
+                       help="the program (default: that beside leasekeepd, else that in PATH)")
     serve.add_argument("--log", choices=("text", "json"), default="text", help="the form of log lines")
     serve.add_argument("--alert", metavar="PROGRAM", help="run PROGRAM with the words of each warning")
     serve.add_argument("--group", metavar="GROUP", help="the group that may use the control socket")

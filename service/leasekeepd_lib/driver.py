@@ -2,18 +2,17 @@
 
 from __future__ import annotations
 
-import random
 from dataclasses import dataclass, replace
 from enum import Enum
 
 from .book import CLOSE, Book
-from .broker import Broker, Verdict
-from .clock import DAY, Clock, RunClock
-from .events import Log
+from .broker import Verdict
+from .clock import DAY, RunClock
 from .inbox import Inbox
 from .inventory import Entry, Inventory
 from .link import Link
 from .own import OwnWork
+from .parts import Parts
 from .pauses import Pauses
 from .run_lines import Answer, Line, Word
 
@@ -54,15 +53,14 @@ class Driver:
     """One run under way."""
 
     def __init__(
-        self, kept: Inventory, wanted: Inventory, refused: set[str], broker: Broker, clock: Clock, run_clock: RunClock,
-        link: Link, book: Book, own: OwnWork, inbox: Inbox, log: Log, chance: random.Random,
+        self, kept: Inventory, wanted: Inventory, refused: set[str], parts: Parts, run_clock: RunClock, link: Link,
+        book: Book, own: OwnWork, inbox: Inbox,
     ) -> None:
         self._kept, self._wanted, self._refused = kept, wanted, refused
-        self._broker, self._clock, self._run_clock, self._link = broker, clock, run_clock, link
-        self._book, self._own, self._inbox, self._log, self._chance = book, own, inbox, log, chance
+        self._broker, self._clock, self._log, self._chance = parts.broker, parts.clock, parts.log, parts.chance
+        self._run_clock, self._link, self._book, self._own, self._inbox = run_clock, link, book, own, inbox
         self._believed: dict[str, int] = {}
         self._deferred: dict[str, int] = {}
-        self._lost: set[str] = set()
         self._last_moment = run_clock.start
         self._handed_at = run_clock.elapsed_then
         self._retries: Pauses | None = None
@@ -158,7 +156,6 @@ class Driver:
         self._last_moment = moment
         self._handed_at = self._clock.elapsed()
         answer = await self._link.hand_in(f"tick {moment}")
-        self._lost = set(answer.lost) if answer.asked else self._lost
         self._take_shorts(answer)
         self._last_word = answer.last.word
         if answer.last.word is Word.NEXT and answer.next_wake == moment:

@@ -2,22 +2,18 @@
 
 from __future__ import annotations
 
-import random
-from dataclasses import dataclass
-
 from .assignment import Assignment, assign
 from .book import Book
-from .broker import Broker
-from .clock import Clock, RunClock
+from .clock import RunClock
 from .driver import DAY, LOOK_AT_CLOCKS, Driver, Ending
-from .events import Log
 from .inbox import Inbox
 from .inventory import Inventory, inventory_text
 from .link import Link, RunEnded, RunStuck
 from .own import OwnWork
+from .parts import Parts
 from .pauses import pause_length
 from .run_lines import Line
-from .run_process import Launcher, LaunchFault, RunExit
+from .run_process import LaunchFault, RunExit
 from .survey import Survey, Surveyor
 
 GOOD_STRETCH = 60.0
@@ -27,17 +23,6 @@ MOST_EXITS = 2
 HELD = 3600.0
 BEHIND_QUOTA = 1.1
 """Seconds between the lookups and the run's, where the broker limits requests by the second."""
-
-
-@dataclass
-class Parts:
-    """What the engine is handed."""
-
-    clock: Clock
-    broker: Broker
-    launcher: Launcher
-    log: Log
-    chance: random.Random
 
 
 class Engine:
@@ -52,9 +37,8 @@ class Engine:
         self.driver: Driver | None = None
         self.assignment = Assignment()
         self._parts = parts
-        self._own = OwnWork(parts.broker, parts.clock, self.book, parts.log, parts.chance, self.inbox.begin,
-                            self.moment)
-        self._surveyor = Surveyor(parts.broker, parts.clock, self.book, parts.log, self.inbox, parts.chance)
+        self._own = OwnWork(parts, self.book, self.inbox.begin, self.moment)
+        self._surveyor = Surveyor(parts, self.book, self.inbox)
         self._near = 0
         self._quick = 0
 
@@ -168,8 +152,7 @@ class Engine:
             if drivers:
                 drivers[0].hear(line)
         link = Link(run, 2 * parts.broker.timeout + 5, heard, self.inbox.waiter.ring)
-        driver = Driver(kept, self.inventory, survey.refused, parts.broker, parts.clock, run_clock, link, self.book,
-                        self._own, self.inbox, parts.log, parts.chance)
+        driver = Driver(kept, self.inventory, survey.refused, parts, run_clock, link, self.book, self._own, self.inbox)
         drivers.append(driver)
         run_exit: RunExit | None = None
         try:

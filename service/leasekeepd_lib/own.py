@@ -3,14 +3,12 @@
 from __future__ import annotations
 
 import asyncio
-import random
 from typing import Callable, Coroutine
 
 from .book import Book
-from .broker import Broker, Heard, Verdict
-from .clock import Clock
-from .events import Log
+from .broker import Heard, Verdict
 from .inventory import Entry, Inventory
+from .parts import Parts
 from .pauses import Pauses, time_left
 
 MOST_BETWEEN = 300.0
@@ -24,11 +22,10 @@ class OwnWork:
     `moment` is the present moment by the broker's clock."""
 
     def __init__(
-        self, broker: Broker, clock: Clock, book: Book, log: Log, chance: random.Random,
-        begin: Callable[[str], None], moment: Callable[[], float],
+        self, parts: Parts, book: Book, begin: Callable[[str], None], moment: Callable[[], float],
     ) -> None:
-        self._broker, self._clock, self._book, self._log = broker, clock, book, log
-        self._chance, self._begin, self._moment = chance, begin, moment
+        self._broker, self._clock, self._log, self._chance = parts.broker, parts.clock, parts.log, parts.chance
+        self._book, self._begin, self._moment = book, begin, moment
         self._tasks: dict[tuple[str, str], asyncio.Task[None]] = {}
         self.inventory = Inventory()
 

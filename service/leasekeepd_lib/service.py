@@ -11,13 +11,14 @@ from typing import Any, Coroutine
 
 from .broker import Verdict
 from .changes import Change, ChangeFault, What, apply_judged, only_entry, replay, said_by
-from .clock import LAST, Clock, date_text
-from .engine import Engine, Parts
+from .clock import LAST, date_text
+from .engine import Engine
 from .events import Alerts
 from .inventory import Inventory, inventory_text
 from .inventory_file import CREDENTIAL
 from .journal import Journal
 from .notify import Notifier
+from .parts import Parts
 from .rfc3339 import read_rfc3339
 from .source import Loaded, Source, SourceFault
 from .status import status_lines, write_metrics

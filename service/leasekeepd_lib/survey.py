@@ -4,15 +4,14 @@ from __future__ import annotations
 
 import asyncio
 import math
-import random
 from dataclasses import dataclass, field
 
 from .book import Book
-from .broker import AT_ONCE, Broker, Heard, Verdict
-from .clock import PARTED, Clock
-from .events import Log
+from .broker import AT_ONCE, Heard, Verdict
+from .clock import PARTED
 from .inbox import Inbox
 from .inventory import Entry, Inventory
+from .parts import Parts
 from .pauses import Pauses, time_left
 
 SPARE = 5.0
@@ -60,11 +59,9 @@ class Survey:
 class Surveyor:
     """Looks entries up until the broker answers."""
 
-    def __init__(
-        self, broker: Broker, clock: Clock, book: Book, log: Log, inbox: Inbox, chance: random.Random,
-    ) -> None:
-        self._broker, self._clock, self._book, self._log = broker, clock, book, log
-        self._inbox, self._chance = inbox, chance
+    def __init__(self, parts: Parts, book: Book, inbox: Inbox) -> None:
+        self._broker, self._clock, self._log, self._chance = parts.broker, parts.clock, parts.log, parts.chance
+        self._book, self._inbox = book, inbox
 
     async def survey(self, inventory: Inventory, offset: float) -> Survey | None:
         """Tries until an entry is answered; None where another beginning is asked for meanwhile."""

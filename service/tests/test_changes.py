@@ -18,12 +18,12 @@ from typing import Any, Callable, Coroutine
 from leasekeepd_lib.broker import Broker
 from leasekeepd_lib.changes import ChangeFault
 from leasekeepd_lib.control import CLIENTS_MOST, ControlFault, ControlServer, send_command
-from leasekeepd_lib.engine import Parts
 from leasekeepd_lib.events import Log
 from leasekeepd_lib.inventory import Entry, Inventory, Kind, inventory_text
 from leasekeepd_lib.inventory_file import read_inventory
 from leasekeepd_lib.journal import Journal
 from leasekeepd_lib.notify import Notifier
+from leasekeepd_lib.parts import Parts
 from leasekeepd_lib.service import Service, Surroundings
 from leasekeepd_lib.source import Source, SourceFault
 from leasekeepd_lib.storage import Storage

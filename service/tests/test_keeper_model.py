@@ -9,14 +9,13 @@ import unittest
 from dataclasses import replace
 from typing import AsyncIterator
 
-from leasekeepd_lib.http_client import Request, Response
-from leasekeepd_lib.inventory import Entry, Inventory, Kind
+from leasekeepd_lib.http_client import Request, Response, TransportFault
+from leasekeepd_lib.inventory import Entry, Inventory, Kind, inventory_text
 
 from .model.keeper import Keeper, rows_of
 from .model.live_run import LiveRun, Stop
 from .model.vault import Vault, VaultTransport
 from .model.world import World, simulate
-from leasekeepd_lib.inventory import inventory_text
 
 START = 1000
 
@@ -74,7 +73,6 @@ class Scripted:
         self._inventory = inventory
 
     async def request(self, request: Request) -> Response:
-        from leasekeepd_lib.http_client import TransportFault
         body = json.loads(request.body) if request.body else {}
         key = body.get("lease_id", request.token)
         row = self._rows[key]

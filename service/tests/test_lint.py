@@ -2,7 +2,6 @@
 
 from __future__ import annotations
 
-import asyncio
 import shutil
 import tempfile
 import unittest
@@ -10,7 +9,7 @@ from pathlib import Path
 
 from leasekeepd_lib.broker import Broker
 from leasekeepd_lib.discover import DiscoverFault, discover, read_short_list
-from leasekeepd_lib.inventory import Inventory
+from leasekeepd_lib.inventory import Inventory, inventory_text
 from leasekeepd_lib.inventory_file import read_inventory
 from leasekeepd_lib.lint import lint
 
@@ -85,7 +84,6 @@ class Lint(unittest.TestCase):
                     self.assertNotIn(secret, "\n".join(lines))
 
     def test_a_round_that_a_slow_broker_makes_longer_than_the_margin(self) -> None:
-        from leasekeepd_lib.inventory import inventory_text
         text = inventory_text(fleet(40, 600, 60, 300))
         self.assertIn("f:2: doubt: margin: the fullest round times the time-out is over the margin (40 entries, 5 s",
                       "\n".join(linted(text)))

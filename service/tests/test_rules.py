@@ -13,8 +13,7 @@ from leasekeepd_lib.inventory_file import read_inventory
 from leasekeepd_lib.pauses import pause_length, time_left
 
 from .model.stage import Stage, fleet
-from .model.vault import Act, Fault, about, both, lookups, renewals
-from .model.world import World
+from .model.vault import Act, about, both, lookups, renewals
 from .test_scenarios import BEGAN, HOUR, Scenario, fault
 
 START = int(BEGAN)

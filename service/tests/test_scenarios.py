@@ -8,6 +8,7 @@ from typing import Any, Callable, Coroutine
 from leasekeepd_lib.clock import date_text
 from leasekeepd_lib.inventory import Inventory
 
+from .model.keeper import Keeper, rows_of
 from .model.stage import Stage, fleet
 from .model.vault import Act, Fault, about, both, lookups, renewals
 from .model.world import simulate
@@ -45,7 +46,6 @@ class Scenario(unittest.TestCase):
 
 class Quiet(Scenario):
     def test_without_faults_three_weeks_take_the_rehearsed_renewals(self) -> None:
-        from .test_keeper_model import rehearse
         self.play(fleet(3, 50_000, 60, 40_000, need=21 * 86400 - 20_000), lambda stage: stage.finish(21 * 86400))
         self.assert_kept()
         self.assert_quiet()
@@ -90,8 +90,6 @@ class Quiet(Scenario):
 
 def rehearse_from(inventory: Inventory) -> list[str]:
     """What `rehearse` prints of the inventory, by the model."""
-    import asyncio
-    from .model.keeper import Keeper, rows_of
     keeper = Keeper(rows_of(inventory), inventory.margin, int(BEGAN))
     lines: list[str] = []
     moment = keeper.next_wake

@@ -1,16 +1,14 @@
 -- The states that events lead to, what each event adds to the pairs, and when entries are asked: for the laws of steps.
-use Rattle.std.proofs.Common.{◌≡◌, ◌≢◌, ◌∙◌, ℕ, ◌+◌, ◌<◌, ◌≤◌, ◌++◌, Bool, true, false, List, [], ◌∷◌, Some, None, Result, Ok, Err, length, set, refl, sym, ap, subst, arith, inl, inr}
+use Rattle.std.proofs.Common.{◌≡◌, ◌∙◌, ℕ, ◌<◌, ◌≤◌, ◌++◌, true, List, [], ◌∷◌, Some, None, Result, Ok, Err, length, set, refl, sym, ap, subst, arith, inl, inr}
 use Rattle.std.proofs.lemmas.Bool.{cases_eq}
 use Rattle.std.proofs.lemmas.List.{append-nil, length-set}
 use Rattle.std.proofs.lemmas.List.Elements.{All-from_get_or, All-get_or, All-nil}
 use Rattle.std.specs.List.{All}
 use Rattle.keep_moment.specs.declared.moment.TheConstants.{LAST}
 use Rattle.keep_tree.specs.declared.entry.Entry.{Entry}
-use Rattle.keep_tree.specs.declared.forest.TheConstants.{END_MAX}
 use Rattle.keep_tree.specs.Forest.{Grove, end_of, entry_at}
 use Rattle.keep_tree.specs.Push.{IsForest}
 use Rattle.keep_tree.proofs.Entries.{entry_at_set_other, entry_at_set_same}
-use Rattle.keep_tree.proofs.Placed.{read_range, read_step, replaced_is_forest, replaces_read}
 use Rattle.keep_rule.specs.Asks.{asks, first_of}
 use Rattle.keep_rule.specs.declared.limit.TheConstants.{LIMIT}
 use Rattle.keep_core.specs.declared.event.Event.{Event}

@@ -16,7 +16,7 @@ use Rattle.keep_rule.specs.Asks.{asking, asks, first_of, is_due, is_wanted, with
 use Rattle.keep_rule.specs.Ends.{after, is_asked}
 use Rattle.keep_rule.specs.Forced.{bound, latest_end}
 use Rattle.keep_rule.specs.Keeps.{Keeps}
-use Rattle.keep_rule.specs.Replay.{KeptBetween}
+use Rattle.keep_rule.specs.code.Replay.{KeptBetween}
 use Rattle.keep_rule.proofs.Asking.{Covers, IsSafe, asked_end, asks_wanted, asks_within, covers_more, covers_need, covers_not_due, short_over}
 use Rattle.keep_rule.proofs.Keeping.{IsRising}
 use Rattle.keep_rule.proofs.Lists.{need_within}

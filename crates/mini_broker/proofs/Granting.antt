@@ -1,5 +1,6 @@
--- One renewal that is served without a fault: what a request for an entry asks is granted to exactly the renewal rule's end.
-use Rattle.std.proofs.Common.{◌≡◌, ◌==◌, ℕ, ◌+◌, ◌<◌, ◌≤◌, ◌&&◌, Bool, true, false, not, cond, List, Option, Some, None, is_none, Result, Ok, Err, bytes_eq, length, option_map, refl, sym, ap, ◌∙◌, arith, inl, inr}
+-- One renewal that is served without a fault: what a request for an entry asks is granted to exactly the renewal rule's end
+-- where the rule grants it, and is refused elsewhere.
+use Rattle.std.proofs.Common.{◌≡◌, ◌==◌, ℕ, ◌+◌, ◌<◌, ◌&&◌, Bool, true, false, not, cond, List, Option, Some, None, is_none, Result, Ok, Err, bytes_eq, length, option_map, refl, sym, ap, ◌∙◌, arith, inl, inr}
 use Rattle.std.proofs.lemmas.Bool.{cases_Bool, cond-true, cond-false}
 use Rattle.std.specs.Cmp.Lexicographic.{bytes_decides}
 use Rattle.keep_tree.specs.declared.entry.Entry.{Entry}
@@ -16,19 +17,20 @@ use Rattle.vault_http.specs.declared.request.Request.{Request}
 use Rattle.mini_broker.specs.declared.row.Row.{Row}
 use Rattle.mini_broker.specs.declared.call.Call.{Call}
 use Rattle.mini_broker.specs.declared.call.Call.TheVariants.{RenewSelf, RenewLease}
-use Rattle.mini_broker.specs.declared.refusal.Refusal.TheVariants.{NotRenewable, PermissionDenied, UnsupportedMethod}
-use Rattle.mini_broker.specs.Faults.{fault_at, next_number, without}
+use Rattle.mini_broker.specs.declared.refusal.Refusal.{Refusal}
+use Rattle.mini_broker.specs.declared.refusal.Refusal.TheVariants.{NotRenewable, PermissionDenied, UnknownLease, UnsupportedMethod}
+use Rattle.mini_broker.specs.Faults.{fault_at, next_number}
 use Rattle.mini_broker.specs.Granted.{AsksRenewal, asked_for, bearer_for, call_for, renewed_row}
-use Rattle.mini_broker.specs.Laws.{RenewalIsByTheRule}
+use Rattle.mini_broker.specs.Laws.{RenewalIsByTheRule, UngrantedIsRefused}
 use Rattle.mini_broker.specs.Ledger.{Ledger}
 use Rattle.mini_broker.specs.Listed.{is_alive, listed}
-use Rattle.mini_broker.specs.Renewing.{granted, new_end, renewal as renewal_served, step_of, with_row}
+use Rattle.mini_broker.specs.Renewing.{granted, new_end, renewal as renewal_served, step_of}
 use Rattle.mini_broker.specs.Request.{asked, is_write}
 use Rattle.mini_broker.specs.Rows.{row_of}
-use Rattle.mini_broker.specs.Step.{after_sweep, by_call, counted, refuses as refused, renews, step, tells}
-use Rattle.mini_broker.specs.Subject.{Subject, bearer, is_lease_with, is_token_with, lease_with, belongs, owned, subject, token_with, with_asked, with_bearer}
+use Rattle.mini_broker.specs.Step.{after_sweep, by_call, counted, refuses as refused, renews, step}
+use Rattle.mini_broker.specs.Subject.{bearer, is_lease_with, is_token_with, lease_with, belongs, owned, subject, token_with, with_asked, with_bearer}
 use Rattle.mini_broker.specs.Sweep.{swept}
-use Rattle.mini_broker.proofs.Ranges.{found_lone}
+use Rattle.mini_broker.proofs.Ranges.{found_lone, found_none}
 use Rattle.mini_broker.proofs.Sweeping.{alive_up}
 
 cases_Kind : (k : Kind) (P : Type 0) → (k ≡ Token → P) → (k ≡ Lease → P) → P
@@ -245,15 +247,127 @@ renewed_by s t i grant =
     ap (λ n. record (row_of s i) { end = n })
     (sym (cond-true (is_granted s.grove.entries 1 (end_of s.grove.entries) t i) (renewal (entry_at s.grove.entries i) t) (end_of s.grove.entries i) grant))
 
-pub by_the_rule : RenewalIsByTheRule
+-- a renewal without a fault is counted with what it comes to
+serves : (s : Stock) (t i : ℕ) (l : Ledger) → swept t l.rows ≡ listed s t → fault_at l.faults (next_number l.count) ≡ None → (r : Request) → AsksRenewal s i r →
+    (found : Result Row Refusal) → renewal_served (listed s t) t (call_for (entry_at s.grove.entries i).kind) r None ≡ found →
+    step l t r ≡ counted (record { rows = listed s t; faults = l.faults; count = l.count }) (next_number l.count) (call_for (entry_at s.grove.entries i).kind) None found
 unfolding step
-by_the_rule s stock t i within grant l same none r asks =
+serves s t i l same none r asks found is =
     let k = (entry_at s.grove.entries i).kind in
-    let parts = grant_parts s.grove t i grant in
     let left : Ledger = record { rows = listed s t; faults = l.faults; count = l.count } in
     ap (by_call (after_sweep l t) t r) asks.call
     ∙ allowed (after_sweep l t) t r k asks.method
     ∙ ap (λ rows. renews (record { rows = rows; faults = l.faults; count = l.count }) t (call_for k) r) same
     ∙ renews_plain left t (call_for k) r none
-    ∙ ap (λ found. counted left (next_number l.count) (call_for k) None found)
-    (granted_is s stock t i within parts.0 parts.1 r asks ∙ ap (λ row. Ok row) (renewed_by s t i grant))
+    ∙ ap (λ x. counted left (next_number l.count) (call_for k) None x) is
+
+pub by_the_rule : RenewalIsByTheRule
+by_the_rule s stock t i within grant l same none r asks =
+    let parts = grant_parts s.grove t i grant in
+    serves s t i l same none r asks (Ok (renewed_row s t i)) (granted_is s stock t i within parts.0 parts.1 r asks ∙ ap (λ row. Ok row) (renewed_by s t i grant))
+
+-- ---- what the rule does not grant
+
+token_gone :
+    (s : Stock) → IsStock s → (t i : ℕ) → i < length s.grove.entries → (entry_at s.grove.entries i).kind ≡ Token → is_alive s.grove t i ≡ false →
+    token_with (listed s t) (credential_at s.credentials i) ≡ None
+unfolding token_with listed
+token_gone s stock t i within token gone =
+    found_none (λ r. is_token_with (credential_at s.credentials i) r) (row_of s) (is_alive s.grove t) (length s.grove.entries) 0
+    (λ j low high alive hit.
+    let is = token_hit s (credential_at s.credentials i) j hit in
+    let same : j ≡ i = stock.apart j i (omega arith) within (is.0 ∙ sym token) is.1 in
+    let bad : true ≡ false = sym alive ∙ ap (is_alive s.grove t) same ∙ gone in cc)
+
+lease_gone :
+    (s : Stock) → IsStock s → (t i : ℕ) → i < length s.grove.entries → (entry_at s.grove.entries i).kind ≡ Lease → is_alive s.grove t i ≡ false →
+    lease_with (listed s t) (credential_at s.credentials i) ≡ None
+unfolding lease_with listed
+lease_gone s stock t i within lease gone =
+    found_none (λ r. is_lease_with (credential_at s.credentials i) r) (row_of s) (is_alive s.grove t) (length s.grove.entries) 0
+    (λ j low high alive hit.
+    let is = lease_hit s (credential_at s.credentials i) j hit in
+    let same : j ≡ i = stock.apart j i (omega arith) within (is.0 ∙ sym lease) is.1 in
+    let bad : true ≡ false = sym alive ∙ ap (is_alive s.grove t) same ∙ gone in cc)
+
+-- a token that is not listed is not let in
+denied : (s : Stock) → IsStock s → (t i : ℕ) → i < length s.grove.entries → (entry_at s.grove.entries i).kind ≡ Token → is_alive s.grove t i ≡ false →
+    (call : Call) (r : Request) → r.token ≡ Some (credential_at s.credentials i) → subject (listed s t) call r ≡ Err PermissionDenied
+unfolding subject
+denied s stock t i within token gone call r bears =
+    let rows = listed s t in
+    ap (λ o. with_bearer rows call r.body (bearer rows o)) bears
+    ∙ ap (λ o. with_bearer rows call r.body o) (token_gone s stock t i within token gone)
+
+-- nor is a lease found that is not
+unknown : (s : Stock) → IsStock s → (t i p : ℕ) → i < length s.grove.entries → (entry_at s.grove.entries i).kind ≡ Lease → is_alive s.grove t i ≡ false →
+    p < length s.grove.entries → (entry_at s.grove.entries p).kind ≡ Token → is_alive s.grove t p ≡ true →
+    (r : Request) → r.token ≡ Some (credential_at s.credentials p) → asked RenewLease r.body ≡ Some (asked_for Lease (credential_at s.credentials i) (entry_at s.grove.entries i).step) →
+    subject (listed s t) RenewLease r ≡ Err UnknownLease
+unfolding subject
+unknown s stock t i p within lease gone inside token alive r bears body =
+    let rows = listed s t in
+    ap (λ o. with_bearer rows RenewLease r.body (bearer rows o)) bears
+    ∙ ap (λ o. with_bearer rows RenewLease r.body o) (token_found s stock t p inside token alive)
+    ∙ ap (λ a. with_asked rows (row_of s p) a) body
+    ∙ ap (λ o. owned (row_of s p) (Some (entry_at s.grove.entries i).step) o) (lease_gone s stock t i within lease gone)
+
+abbrev IsRefused : Stock → ℕ → ℕ → Request → Type 0
+IsRefused s t i r = (refusal : Refusal) × (subject (listed s t) (call_for (entry_at s.grove.entries i).kind) r ≡ Err refusal)
+
+gone_lease : (s : Stock) → IsStock s → (t i : ℕ) → i < length s.grove.entries → (entry_at s.grove.entries i).kind ≡ Lease → is_alive s.grove t i ≡ false →
+    (r : Request) → r.token ≡ option_map (credential_at s.credentials) (entry_at s.grove.entries i).parent →
+    asked RenewLease r.body ≡ Some (asked_for Lease (credential_at s.credentials i) (entry_at s.grove.entries i).step) →
+    (refusal : Refusal) × (subject (listed s t) RenewLease r ≡ Err refusal)
+gone_lease s stock t i within lease gone r bears body =
+    let over = lease_has_token s stock.forest i within lease in
+    let p = over.0 in
+    let first : p < i = over.1.1.0 in
+    let inside : p < length s.grove.entries = omega arith in
+    let carries = bears ∙ ap (option_map (credential_at s.credentials)) over.1.0 in
+    elim (cases_Bool (is_alive s.grove t p)) [
+      | inl alive ↦ (UnknownLease, unknown s stock t i p within lease gone inside over.1.1.1 alive r carries body)
+      | inr ended ↦ (PermissionDenied, denied s stock t p inside over.1.1.1 ended RenewLease r carries)
+    ]
+
+gone_is : (s : Stock) → IsStock s → (t i : ℕ) → i < length s.grove.entries → is_alive s.grove t i ≡ false → (r : Request) → AsksRenewal s i r → IsRefused s t i r
+gone_is s stock t i within gone r asks =
+    let e = entry_at s.grove.entries i in
+    let c = credential_at s.credentials i in
+    cases_Kind e.kind (IsRefused s t i r)
+    (λ token. (
+      PermissionDenied,
+      ap (λ k. subject (listed s t) (call_for k) r) token ∙ denied s stock t i within token gone RenewSelf r (asks.token ∙ ap (λ k. bearer_for k s i) token),
+    ))
+    (λ lease.
+    let w = gone_lease s stock t i within lease gone r (asks.token ∙ ap (λ k. bearer_for k s i) lease)
+    (sym (ap (λ k. asked (call_for k) r.body) lease) ∙ asks.body ∙ ap (λ k. Some (asked_for k c e.step)) lease) in
+    (w.0, ap (λ k. subject (listed s t) (call_for k) r) lease ∙ w.1))
+
+not_both : (a b : Bool) → a && b ≡ false → b ≡ true → a ≡ false
+not_both true b e h = sym h ∙ e
+not_both false b e h = refl
+
+not_renewable : (g : Grove) (t i : ℕ) → is_granted g.entries 1 (end_of g.entries) t i ≡ false → is_alive g t i ≡ true → (entry_at g.entries i).renewable ≡ false
+unfolding is_granted is_alive
+not_renewable g t i ungrant alive = not_both (entry_at g.entries i).renewable _ ungrant alive
+
+refused_is : (s : Stock) → IsStock s → (t i : ℕ) → i < length s.grove.entries → is_granted s.grove.entries 1 (end_of s.grove.entries) t i ≡ false → (r : Request) → AsksRenewal s i r →
+    (refusal : Refusal) × (renewal_served (listed s t) t (call_for (entry_at s.grove.entries i).kind) r None ≡ Err refusal)
+unfolding renewal_served
+refused_is s stock t i within ungrant r asks =
+    let e = entry_at s.grove.entries i in
+    let row = row_of s i in
+    elim (cases_Bool (is_alive s.grove t i)) [
+      | inl alive ↦ (
+        NotRenewable,
+        ap (granted None t) (subject_is s stock t i within alive r asks)
+            ∙ cond-false row.renewable (Ok (record row { end = new_end None t row (Some e.step) })) (Err NotRenewable) (renewable_in s i ∙ not_renewable s.grove t i ungrant alive),
+      )
+      | inr gone ↦ (let w = gone_is s stock t i within gone r asks in (w.0, ap (granted None t) w.1))
+    ]
+
+pub ungranted : UngrantedIsRefused
+ungranted s stock t i within ungrant l same none r asks =
+    let w = refused_is s stock t i within ungrant r asks in
+    (w.0, serves s t i l same none r asks (Err w.0) w.1)

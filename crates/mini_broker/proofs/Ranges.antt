@@ -1,5 +1,5 @@
 -- Lists of the form `map f (filter p (range_with_len a n))`: what is found in them, and when two of them are the same.
-use Rattle.std.proofs.Common.{◌≡◌, ℕ, zero, suc, ◌+◌, ◌<◌, ◌≤◌, Bool, true, false, cond, List, [], ◌∷◌, Some, filter, map, refl, sym, ap, ◌∙◌, arith, inl, inr}
+use Rattle.std.proofs.Common.{◌≡◌, ℕ, zero, suc, ◌+◌, ◌<◌, ◌≤◌, Bool, true, false, cond, List, [], ◌∷◌, Some, None, filter, map, refl, sym, ap, ◌∙◌, arith, inl, inr}
 use Rattle.std.proofs.lemmas.Bool.{cases_Bool, cases_eq, cond-true, cond-false}
 use Rattle.std.specs.List.{find, range_with_len}
 
@@ -69,4 +69,23 @@ found_lone test f p i (suc n) a passes there low high lone =
             | inl here ↦ ap (λ b. find test (map f (cond b (a ∷ filter p rest) (filter p rest)))) here ∙ cond-false (test (f a)) (Some (f a)) (find test xs) miss ∙ more
             | inr gone ↦ ap (λ b. find test (map f (cond b (a ∷ filter p rest) (filter p rest)))) gone ∙ more
           ]
+    ]
+
+-- where none that passes is listed, none is found
+pub found_none :
+    {X : Type 0} (test : X → Bool) (f : ℕ → X) (p : ℕ → Bool) (n a : ℕ) → ((j : ℕ) → a ≤ j → j < a + n → p j ≡ true → test (f j) ≡ true → ⊥) →
+    find test (map f (filter p (range_with_len a n))) ≡ None
+found_none test f p zero a none = refl
+found_none test f p (suc n) a none =
+    let rest = range_with_len (a + 1) n in
+    let xs = map f (filter p rest) in
+    let more : find test xs ≡ None = found_none test f p n (a + 1) (λ j l h. none j (omega arith) (omega arith)) in
+    elim (cases_Bool (p a)) [
+      | inl here ↦
+          let miss : test (f a) ≡ false = elim (cases_Bool (test (f a))) [
+            | inl hit ↦ absurd (none a (omega arith) (omega arith) here hit)
+            | inr no' ↦ no'
+          ] in
+          ap (λ b. find test (map f (cond b (a ∷ filter p rest) (filter p rest)))) here ∙ cond-false (test (f a)) (Some (f a)) (find test xs) miss ∙ more
+      | inr gone ↦ ap (λ b. find test (map f (cond b (a ∷ filter p rest) (filter p rest)))) gone ∙ more
     ]

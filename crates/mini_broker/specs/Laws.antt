@@ -1,5 +1,5 @@
 -- Laws of the definitions alone.
-use Rattle.std.specs.Prelude.{◌≡◌, ℕ, ◌<◌, ◌≤◌, true, List, None, length}
+use Rattle.std.specs.Prelude.{◌≡◌, ℕ, ◌<◌, ◌≤◌, true, false, List, None, length}
 use Rattle.std.specs.List.{list_all}
 use Rattle.keep_tree.specs.Forest.{end_of, entry_at}
 use Rattle.keep_tree.specs.Push.{IsForest}
@@ -7,13 +7,14 @@ use Rattle.keep_tree.specs.Renewal.{is_granted}
 use Rattle.keep_inventory.specs.Stock.{IsStock, Stock}
 use Rattle.vault_http.specs.declared.request.Request.{Request}
 use Rattle.mini_broker.specs.declared.row.Row.{Row}
+use Rattle.mini_broker.specs.declared.refusal.Refusal.{Refusal}
 use Rattle.mini_broker.specs.Faults.{fault_at, next_number, without}
 use Rattle.mini_broker.specs.Granted.{AsksRenewal, call_for, renewed_row}
 use Rattle.mini_broker.specs.Ledger.{Ledger}
 use Rattle.mini_broker.specs.Listed.{listed}
 use Rattle.mini_broker.specs.Renewing.{with_row}
 use Rattle.mini_broker.specs.Rows.{rows_of}
-use Rattle.mini_broker.specs.Step.{step, tells}
+use Rattle.mini_broker.specs.Step.{refuses, step, tells}
 use Rattle.mini_broker.specs.Sweep.{lives, swept}
 
 -- every row that a sweep has kept lives among those that it has kept: each row over it is listed and ends later, which is
@@ -40,3 +41,14 @@ RenewalIsByTheRule =
       answer = tells (call_for (entry_at s.grove.entries i).kind) (renewed_row s t i);
       ledger = record { rows = with_row (listed s t) (renewed_row s t i); faults = without l.faults (next_number l.count); count = next_number l.count };
     }
+
+-- and one for an entry that the rule does not grant is refused, and no row changes
+abbrev pub UngrantedIsRefused : Type 0
+UngrantedIsRefused =
+    (s : Stock) → IsStock s → (t i : ℕ) → i < length s.grove.entries → is_granted s.grove.entries 1 (end_of s.grove.entries) t i ≡ false →
+    (l : Ledger) → swept t l.rows ≡ listed s t → fault_at l.faults (next_number l.count) ≡ None →
+    (r : Request) → AsksRenewal s i r →
+    (refusal : Refusal) × (step l t r ≡ record {
+      answer = refuses refusal;
+      ledger = record { rows = listed s t; faults = without l.faults (next_number l.count); count = next_number l.count };
+    })

@@ -1,5 +1,5 @@
 //! Laws of the definitions alone.
-ghost use Rattle.mini_broker.specs.Laws.{RenewalIsByTheRule, SweptInventory, SweptLater, SweptRowsLive};
+ghost use Rattle.mini_broker.specs.Laws.{RenewalIsByTheRule, SweptInventory, SweptLater, SweptRowsLive, UngrantedIsRefused};
 
 /// The law that a sweep has nothing more to do at the same moment: every row that it has kept is alive, with all that are
 /// over it. So a renewal that is served after the sweep meets the renewal rule's condition, with a margin of one second.
@@ -17,7 +17,9 @@ pub fn swept_inventory()
     ensures { SweptInventory }
 {}
 
-/// The law that a renewal without a fault gives the end of the renewal rule, with a margin of one second.
+/// The law that a renewal without a fault is by the renewal rule, with a margin of one second: where the rule grants it, it
+/// gives the end of the rule; elsewhere it is refused, and no row changes.
 pub fn renewal_is_by_the_rule()
-    ensures { RenewalIsByTheRule }
+    ensures granted { RenewalIsByTheRule }
+    ensures refused { UngrantedIsRefused }
 {}

@@ -1,6 +1,6 @@
 use crate::words::Command;
-use keep_device::{Counted, Sink, Source, write_all};
-use keep_report::Stop;
+use keep_device::{Counted, Sink, Source};
+use keep_report::{Stop, tell};
 use mini_broker::{LineFault, StreamFault, Table, next_moment};
 use std::io::{Read, Write};
 use std::net::{IpAddr, Ipv4Addr, Net, OpenListener, OpenStream, SocketAddr, TcpListener};
@@ -26,8 +26,7 @@ pub fn serve_port<R: AllocGlobal + Net, S: Source, E: Sink>(
             .map_err(|error| stop_of(&error))?
             .port();
         let line = format!(in rt.alloc(); "listening 127.0.0.1:{chosen}\n")?;
-        let _ = write_all(errors, line.as_bytes());
-        let _ = errors.flush();
+        tell(errors, line.as_bytes());
     }
     let patience = Some(Duration::from_secs(command.patience));
     for _ in 0..command.count {

@@ -1,9 +1,9 @@
 use crate::parser::{mistake, parse};
 use clap::error::ErrorKind;
 use clap::{ArgMatches, Error};
-use keep_device::{Sink, write_all};
+use keep_device::Sink;
 use keep_moment::Moment;
-use keep_report::{Exit, Stop};
+use keep_report::{Exit, Stop, tell};
 use mini_broker::Moments;
 use std::alloc::{AllocError, AllocFailed, Global};
 use std::rt::Env;
@@ -92,8 +92,7 @@ pub fn read_command<R: Env + AllocGlobal + Print + Eprint, E: Sink>(
             return Err(Stop::Memory.report(alloc, PROGRAM, errors));
         }
         Err(_) => {
-            let _ = write_all(errors, b"error: a word of the command line is not UTF-8\n");
-            let _ = errors.flush();
+            tell(errors, b"error: a word of the command line is not UTF-8\n");
             return Err(Exit::CommandLine);
         }
     };

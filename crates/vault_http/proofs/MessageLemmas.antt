@@ -12,10 +12,11 @@ use Rattle.vault_http.specs.declared.framing.LengthFault.TheVariants as lengths
 use Rattle.vault_http.specs.declared.http_fault.HttpFault.{HttpFault}
 use Rattle.vault_http.specs.declared.http_fault.HttpFault.TheVariants.{ReadFailed, BadHead, BadLength, BadChunk, Truncated, TooLong, TwoLengths, OutOfMemory}
 use Rattle.vault_http.specs.declared.reply.Reply.{Reply}
-use Rattle.vault_http.specs.Heads.{most_fields, FoundReply, framing_of_response}
+use Rattle.vault_http.specs.Heads.{FoundReply, framing_of_response}
 use Rattle.vault_http.specs.Messages.{IsHeadless, IsOpenReply, IsBehind, is_informational, reply_of, IsReply, UnlessMemory, body_fault, length_fault}
 use Rattle.vault_http.specs.Reading.{Settles, CountsMessage}
 use Rattle.vault_http.proofs.Fronts.{take-grows}
+use Rattle.vault_http.specs.declared.found_head.TheConstants.{MOST_FIELDS}
 
 -- ---- no head
 
@@ -24,12 +25,12 @@ unless (Ok x) P p = p
 unless (Err OutOfMemory) P p = tt
 unless (Err fault) P p = p
 
-overflows_on : (front more : List ℕ) → ResponseOverflows most_fields front → ResponseOverflows most_fields (front ++ more)
+overflows_on : (front more : List ℕ) → ResponseOverflows MOST_FIELDS front → ResponseOverflows MOST_FIELDS (front ++ more)
 overflows_on front more over after h rest reads = over (more ++ after) h rest (subst (λ b. ReadsResponse b h rest) (append_assoc front more after) reads)
 
-pub refused_reply : (max : ℕ) (bytes more : List ℕ) → ResponseOverflows most_fields (take max bytes) → IsReply max (bytes ++ more) (Err BadHead)
+pub refused_reply : (max : ℕ) (bytes more : List ℕ) → ResponseOverflows MOST_FIELDS (take max bytes) → IsReply max (bytes ++ more) (Err BadHead)
 refused_reply max bytes more over =
-    inl (BadHead, subst (ResponseOverflows most_fields) (sym (take-grows max bytes more)) (overflows_on (take max bytes) (take (max - length bytes) more) over), refl)
+    inl (BadHead, subst (ResponseOverflows MOST_FIELDS) (sym (take-grows max bytes more)) (overflows_on (take max bytes) (take (max - length bytes) more) over), refl)
 
 -- ---- a head
 
@@ -96,7 +97,7 @@ not_behind false status (Err f) room rest e = not_length f (cc)
 not_behind false status (Ok f) room rest h = not_reply_of status h.0 (sym h.2)
 
 pub not_read_failed : (max : ℕ) (bytes : List ℕ) → IsReply max bytes (Err ReadFailed) → ⊥
-not_read_failed max bytes (inl h) = not_headless IsOpenReply (ResponseOverflows most_fields) max bytes h.0 h.1 (cc (h.2))
+not_read_failed max bytes (inl h) = not_headless IsOpenReply (ResponseOverflows MOST_FIELDS) max bytes h.0 h.1 (cc (h.2))
 not_read_failed max bytes (inr h) = not_behind (is_informational (status_code h.head)) (status_code h.head) (framing_of_response h.head) (max - length (print_response h.head)) h.rest h.behind
 
 -- ---- reading

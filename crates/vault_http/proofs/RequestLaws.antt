@@ -9,7 +9,7 @@ use Rattle.httparse.proofs.GrammarLemmas.{print_request-append, request_unique}
 use Rattle.vault_http.specs.declared.body.BodyFault.{BodyFault}
 use Rattle.vault_http.specs.declared.framing.Framing.{Framing}
 use Rattle.vault_http.specs.declared.framing.LengthFault.{LengthFault}
-use Rattle.vault_http.specs.declared.heads.Start.{Start}
+use Rattle.vault_http.specs.declared.found_head.Start.{Start}
 use Rattle.vault_http.specs.declared.http_fault.HttpFault.{HttpFault}
 use Rattle.vault_http.specs.declared.http_fault.HttpFault.TheVariants.{ReadFailed, TooLong, Truncated}
 use Rattle.vault_http.specs.declared.request.Request.{Request}

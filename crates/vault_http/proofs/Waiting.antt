@@ -84,9 +84,9 @@ module _ {A : Type 0} (HasNoHead : List ℕ → Type 0) (IsAnswer : List ℕ →
         within = h.within;
         there = omega (arith, h.there, length-append bytes more);
         answers = λ after body is. subst (λ t. IsAnswer t (whole_of with_body message body)) (sym (append_assoc bytes more after))
-        (h.answers (more ++ after) body (subst (λ t. IsBody framed (max - len) t body) (behind after) is));
+            (h.answers (more ++ after) body (subst (λ t. IsBody framed (max - len) t body) (behind after) is));
         has_body = λ after m is. subst (λ t. HasBody framed (max - len) t) (sym (behind after))
-        (h.has_body (more ++ after) m (subst (λ t. IsAnswer t (Ok m)) (append_assoc bytes more after) is));
+            (h.has_body (more ++ after) m (subst (λ t. IsAnswer t (Ok m)) (append_assoc bytes more after) is));
       }
 
   pub known_on : (max : ℕ) (bytes more : List ℕ) (k : Known A) → IsKnown HasNoHead IsAnswer with_body max bytes k → IsKnown HasNoHead IsAnswer with_body max (bytes ++ more) k

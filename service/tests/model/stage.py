@@ -8,10 +8,11 @@ import random
 from typing import AsyncIterator, Callable
 
 from leasekeepd_lib.broker import Broker
-from leasekeepd_lib.engine import Engine, Parts
+from leasekeepd_lib.engine import Engine
 from leasekeepd_lib.events import Log
 from leasekeepd_lib.http_client import Request, Response, TransportFault
 from leasekeepd_lib.inventory import Entry, Inventory, Kind
+from leasekeepd_lib.parts import Parts
 from leasekeepd_lib.run_process import RunExit
 
 from .live_run import LiveRun, Stop

@@ -9,6 +9,7 @@ from dataclasses import dataclass, field
 from enum import Enum
 from typing import Any, Callable
 
+from leasekeepd_lib.clock import date_text
 from leasekeepd_lib.http_client import Request, Response, TransportFault
 from leasekeepd_lib.inventory import Inventory, Kind
 
@@ -201,7 +202,6 @@ class Vault:
                 "explicit_max_ttl": row.explicit_max, "orphan": row.parent is None, "period": row.period}
 
     def _lease_facts(self, row: Secret, lease_id: str) -> dict[str, Any]:
-        from leasekeepd_lib.clock import date_text
         return {"id": lease_id, "issue_time": date_text(row.issued), "renewable": row.renewable,
                 "ttl": self._left(row)}
 

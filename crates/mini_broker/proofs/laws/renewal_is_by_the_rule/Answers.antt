@@ -1,5 +1,8 @@
-use Rattle.mini_broker.proofs.Granting as law
+use Rattle.mini_broker.proofs.Granting.{by_the_rule, ungranted}
 use Rattle.mini_broker.proofs.laws.renewal_is_by_the_rule.Goals as goal
 
-pub returns : goal.returns
-returns c = law.by_the_rule
+pub returns-clause-granted : goal.returns-clause-granted
+returns-clause-granted c = by_the_rule
+
+pub returns-clause-refused : goal.returns-clause-refused
+returns-clause-refused c = ungranted
