@@ -253,6 +253,20 @@ class Restarts(Scenario):
         self.assert_kept()
 
 
+    def test_a_run_that_never_gets_going(self) -> None:
+        for fault_of_it in ("is_missing", "ends_at_once"):
+            async def scene(stage: Stage) -> None:
+                setattr(stage.launcher, fault_of_it, True)
+                await stage.until(2 * HOUR)
+                setattr(stage.launcher, fault_of_it, False)
+                await stage.finish(3 * HOUR)
+            with self.subTest(fault=fault_of_it):
+                self.play(fleet(20, 300, 40, 200), scene)
+                self.assert_kept()
+                self.assertLess(self.stage.beginnings, 2 * HOUR / 10)
+                self.assertTrue(self.stage.launcher.runs[-1].events)
+
+
 class Clocks(Scenario):
     def test_suspended(self) -> None:
         async def before(stage: Stage) -> None:

@@ -14,7 +14,7 @@ use Rattle.keep_rule.specs.Forced.{bound, latest_end}
 use Rattle.keep_rule.proofs.Asking.{wanted_renewable}
 use Rattle.keep_rule.proofs.Joining.{kept_before, plan_later}
 use Rattle.keep_rule.proofs.Keeping.{end_below_bound, renewal_later}
-use Rattle.keep_rule.proofs.Timely.{after_unwanted, after_wanted}
+use Rattle.keep_rule.proofs.Covering.{after_unwanted, after_wanted}
 use Rattle.keep_rule.specs.Runs.{moments_of}
 use Rattle.keep_rule.specs.declared.force.Force.{Force}
 use Rattle.keep_core.specs.InForce.{AllForcedAs}

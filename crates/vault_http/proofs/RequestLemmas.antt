@@ -1,10 +1,9 @@
 -- Judging a request by a part of it, as `MessageLemmas` does a reply.
-use Rattle.std.proofs.Common.{◌≡◌, ℕ, ◌-◌, inl, inr, Bool, IsTrue, List, [], ◌++◌, length, take, drop, refl, sym, append_assoc, subst, map, Option, None, Some, option_map, Result, Ok, Err}
-use Rattle.std.proofs.lemmas.List.{take_rest}
+use Rattle.std.proofs.Common.{◌≡◌, ℕ, ◌-◌, inl, inr, List, ◌++◌, length, take, drop, refl, sym, append_assoc, subst, map, Option, None, Some, option_map, Result, Ok, Err}
 use Rattle.http.specs.Token as header
 use Rattle.httparse.specs.declared.spans.Span.{Span}
 use Rattle.httparse.specs.Grammar as grammar
-use Rattle.httparse.specs.Grammar.{RequestHead, print_request, ReadsRequest}
+use Rattle.httparse.specs.Grammar.{print_request, ReadsRequest}
 use Rattle.httparse.specs.Spans.{RequestOverflows, span_bytes, name_and_value}
 use Rattle.vault_http.specs.declared.body.BodyFault.{BodyFault}
 use Rattle.vault_http.specs.declared.framing.Framing.{Framing}
@@ -14,7 +13,7 @@ use Rattle.vault_http.specs.declared.http_fault.HttpFault.{HttpFault}
 use Rattle.vault_http.specs.declared.http_fault.HttpFault.TheVariants.{ReadFailed, BadHead}
 use Rattle.vault_http.specs.declared.request.Request.{Request}
 use Rattle.vault_http.specs.Heads.{FoundRequest, framing_of_request, token_of, IsAt}
-use Rattle.vault_http.specs.Messages.{IsOpenRequest, IsFramed, request_of, IsRequest, UnlessMemory}
+use Rattle.vault_http.specs.Messages.{IsOpenRequest, IsFramed, request_of, IsRequest}
 use Rattle.vault_http.specs.Starts.{IsStart, IsTokenWithin, request_at}
 use Rattle.vault_http.proofs.Fronts.{take-grows}
 use Rattle.vault_http.proofs.MessageLemmas.{head_on, not_headless, not_length, not_body}

@@ -13,7 +13,7 @@ from leasekeepd_lib.events import Log
 from leasekeepd_lib.http_client import Request, Response, TransportFault
 from leasekeepd_lib.inventory import Entry, Inventory, Kind
 from leasekeepd_lib.parts import Parts
-from leasekeepd_lib.run_process import RunExit
+from leasekeepd_lib.run_process import LaunchFault, RunExit
 
 from .live_run import LiveRun, Stop
 from .vault import Vault, VaultTransport
@@ -100,13 +100,18 @@ class ScriptedLauncher:
         self.starts: list[int] = []
         self.began: list[float] = []
         self.refuses: Callable[[Request, str], bool] | None = None
+        self.is_missing = self.ends_at_once = False
 
     async def launch(self, inventory: str, start: int) -> ScriptedRun:
         self.texts.append(inventory)
         self.starts.append(start)
         self.began.append(self._vault.world.now())
+        if self.is_missing:
+            raise LaunchFault("cannot start leasekeep: No such file or directory")
         run = ScriptedRun(inventory, start, RunTransport(self._vault, self.refuses))
         self.runs.append(run)
+        if self.ends_at_once:
+            run.kill()
         return run
 
 
