@@ -58,6 +58,12 @@ def _state_folder() -> Path:
     return _folder("STATE_DIRECTORY", f"{own}/leasekeepd")
 
 
+def _program() -> str:
+    """The `leasekeep` beside this program, else the one that PATH finds."""
+    beside = Path(sys.argv[0]).absolute().parent / "leasekeep"
+    return str(beside) if os.access(beside, os.X_OK) and beside.is_file() else "leasekeep"
+
+
 def _timeout(word: str) -> int:
     seconds = int(word)
     if not 1 <= seconds <= 60:
@@ -73,12 +79,13 @@ def _address(word: str) -> Address:
 
 def _parser() -> argparse.ArgumentParser:
     parser = argparse.ArgumentParser(
-        prog="leasekeepd", description="Keeps Vault tokens and leases alive: drives `leasekeep run` in real time.")
+        prog="leasekeepd", description="Keeps Vault tokens and leases alive: drives `leasekeep run` in real time.",
+        epilog="Exits: 0; 1 what may not be served, or went wrong; 2 the command line.")
     commands = parser.add_subparsers(dest="command", required=True, metavar="COMMAND")
     runtime = argparse.ArgumentParser(add_help=False)
     runtime.add_argument("--runtime", type=Path, metavar="FOLDER",
-                         help=f"folder of the control socket (default: {_runtime_folder()}, and for commands"
-                         f" {SYSTEM_RUNTIME} where that has a socket and the other has none)")
+                         help=f"folder of the control socket (default: $RUNTIME_DIRECTORY, else"
+                         f" $XDG_RUNTIME_DIR/leasekeepd; for commands {SYSTEM_RUNTIME} where that has none)")
     _add_serve(commands, runtime)
     need = commands.add_parser("need", parents=[runtime], help="change until when an entry is needed")
     need.add_argument("name", metavar="NAME")
@@ -103,18 +110,25 @@ def _parser() -> argparse.ArgumentParser:
 
 def _add_serve(commands: "argparse._SubParsersAction[argparse.ArgumentParser]", runtime: argparse.ArgumentParser,
                ) -> None:
-    serve = commands.add_parser("serve", parents=[runtime], help="keep what FILE says alive")
+    serve = commands.add_parser(
+        "serve", parents=[runtime], help="keep what FILE says alive",
+        description="Keeps what FILE says alive: starts `leasekeep run`, sleeps until each wake-up, and logs what it"
+        " prints. SIGTERM ends it, SIGHUP reads FILE anew.",
+        epilog="It refuses a FILE that is faulty, that others may read, with a token without secret or a lease without"
+        " lease_id, or with a margin under four times the time-out: exit 1.")
     serve.add_argument("file", type=Path, metavar="FILE", help="the inventory")
     serve.add_argument("address", type=_address, metavar="PORT|SOCKET",
                        help="the broker: a port of 127.0.0.1, or the path of a UNIX socket")
     serve.add_argument("--timeout", type=_timeout, default=5, metavar="SECONDS",
                        help="the longest that a connect, read or write may take (1 to 60, default: 5)")
-    serve.add_argument("--leasekeep", default="leasekeep", metavar="PROGRAM", help="the program (default: %(default)s)")
+    serve.add_argument("--leasekeep", default=_program(), metavar="PROGRAM",
+                       help="the program (default: that beside leasekeepd, else that in PATH)")
     serve.add_argument("--log", choices=("text", "json"), default="text", help="the form of log lines")
     serve.add_argument("--alert", metavar="PROGRAM", help="run PROGRAM with the words of each warning")
     serve.add_argument("--group", metavar="GROUP", help="the group that may use the control socket")
     serve.add_argument("--state", type=Path, metavar="FOLDER", default=_state_folder(),
-                       help="folder of the journal and the last good file (default: %(default)s)")
+                       help="folder of the journal and the last good file (default: $STATE_DIRECTORY, else"
+                       " $XDG_STATE_HOME/leasekeepd or ~/.local/state/leasekeepd)")
     serve.add_argument("--metrics", type=Path, metavar="FILE", help="write metrics for Prometheus' node exporter")
     serve.add_argument("--names-are-secrets", action="store_true",
                        help="serve entries without a secret or lease_id, for trials")

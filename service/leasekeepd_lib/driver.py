@@ -15,13 +15,20 @@ from .own import OwnWork
 from .parts import Parts
 from .pauses import Pauses
 from .run_lines import Answer, Line, Word
+from .run_process import Run
 
 LOOK_AT_CLOCKS = 30.0
+LONGEST_ANSWER = 5.0
+"""Seconds beyond twice the time-out that one line of the run may take."""
 TRIES_BEFORE_PROBE = 3
 AGAIN_AFTER_REFUSAL = 1.0
 AGAIN_AFTER_SHORT_GRANT = 3.0
 BEHIND = 0.002
 """Seconds behind a moment at which it is handed in: what rounding takes off must not make it early."""
+LEAST_PACE = 0.05
+"""Seconds that one request of the run is thought to take at least."""
+SHORTENED = 0.25
+"""Seconds that one request of the run takes behind one that has failed for want of time."""
 QUIET = 10.0
 """Seconds before a wake-up within which no beginning is made that can wait."""
 DAY_LATEST = DAY + 3600.0
@@ -53,12 +60,14 @@ class Driver:
     """One run under way."""
 
     def __init__(
-        self, kept: Inventory, wanted: Inventory, refused: set[str], parts: Parts, run_clock: RunClock, link: Link,
+        self, kept: Inventory, wanted: Inventory, refused: set[str], parts: Parts, run_clock: RunClock, run: Run,
         book: Book, own: OwnWork, inbox: Inbox,
     ) -> None:
         self._kept, self._wanted, self._refused = kept, wanted, refused
         self._broker, self._clock, self._log, self._chance = parts.broker, parts.clock, parts.log, parts.chance
-        self._run_clock, self._link, self._book, self._own, self._inbox = run_clock, link, book, own, inbox
+        self._run_clock, self._book, self._own, self._inbox = run_clock, book, own, inbox
+        self._link = Link(run, 2 * parts.broker.timeout + LONGEST_ANSWER, self._hear, inbox.waiter.ring,
+                          self._more_time)
         self._believed: dict[str, int] = {}
         self._deferred: dict[str, int] = {}
         self._last_moment = run_clock.start
@@ -68,6 +77,10 @@ class Driver:
         self._gives_up_next = False
         self._last_word = Word.IDLE
         self.next_wake: int | None = None
+
+    def stop(self) -> None:
+        """Reads no more of the run."""
+        self._link.stop()
 
     async def open(self, may_begin_again: bool) -> Ending | None:
         """Reads the entries; an ending where one is too near its end although the broker would renew it (rule 6)."""
@@ -191,7 +204,14 @@ class Driver:
         heard = await self._broker.look_up(self._wanted, entry)
         return heard.verdict is not Verdict.FAILED
 
-    def hear(self, line: Line) -> None:
+    async def _more_time(self) -> float:
+        """How long the run may stay silent beyond one answer's time: as long as all its requests take at the broker's
+        present pace, twice. A lookup tells that pace; where it fails, the run goes on in quarters of a second."""
+        heard = await self._broker.look_up(self._wanted, self._kept.entries[0])
+        pace = SHORTENED if heard.verdict is Verdict.FAILED else max(heard.took, LEAST_PACE)
+        return 2 * pace * len(self._kept.entries)
+
+    def _hear(self, line: Line) -> None:
         """A line of the run: written to the log, and into the book."""
         self._inbox.waiter.beat()
         entry = self._kept.find(line.name) if line.word in (Word.TOLD, Word.REFUSED, Word.LOST) else None

@@ -8,11 +8,10 @@ from .clock import RunClock
 from .driver import DAY, LOOK_AT_CLOCKS, Driver, Ending
 from .inbox import Inbox
 from .inventory import Inventory, inventory_text
-from .link import Link, RunEnded, RunStuck
+from .link import RunEnded, RunStuck
 from .own import OwnWork
 from .parts import Parts
 from .pauses import pause_length
-from .run_lines import Line
 from .run_process import LaunchFault, RunExit
 from .survey import Survey, Surveyor
 
@@ -146,20 +145,12 @@ class Engine:
         except LaunchFault as fault:
             parts.log.alert("run", str(fault))
             return str(fault)
-        drivers: list[Driver] = []
-
-        def heard(line: Line) -> None:
-            if drivers:
-                drivers[0].hear(line)
-        link = Link(run, 2 * parts.broker.timeout + 5, heard, self.inbox.waiter.ring)
-        driver = Driver(kept, self.inventory, survey.refused, parts, run_clock, link, self.book, self._own, self.inbox)
-        drivers.append(driver)
-        run_exit: RunExit | None = None
+        driver = Driver(kept, self.inventory, survey.refused, parts, run_clock, run, self.book, self._own, self.inbox)
         try:
             ending = await self._drive(driver)
         finally:
             self.driver = None
-            link.stop()
+            driver.stop()
             run_exit = await run.end()
         return self._reason(ending, run_exit)
 

@@ -93,9 +93,7 @@ class OwnWork:
         if not (entry.renewable if standing.facts is None else standing.renewable):
             return
         if standing.end is not None:
-            left = standing.end - self._clock.elapsed()
-            await asyncio.sleep(min(max(left - self.inventory.margin, 0.0), left / PART_OF_GRANT, MOST_BETWEEN)
-                                if left > 0 else 0.0)
+            await asyncio.sleep(self._before_first(standing.end - self._clock.elapsed(), standing.real_step(entry)))
         while self._needed(entry):
             heard, _ = await self._renew(entry)
             if heard.grant is not None:
@@ -109,6 +107,13 @@ class OwnWork:
                 self._log.note("not-renewed", entry.name, heard.why)
                 left = time_left(standing.end, self._clock.elapsed(), since, self.inventory.margin)
                 await asyncio.sleep(pauses.next(left))
+
+    def _before_first(self, left: float, step: int) -> float:
+        """Seconds before the first renewal of an entry that has so long left: a third of that, but within the margin
+        at once, and where it has longer than its step not before a renewal leads further."""
+        if left > step:
+            return left - step + step / PART_OF_GRANT
+        return max(min(left - self.inventory.margin, left / PART_OF_GRANT, MOST_BETWEEN), 0.0)
 
     async def _look(self, entry: Entry) -> None:
         standing = self._book[entry.name]

@@ -128,7 +128,9 @@ class Surveyor:
         ceiling = self._book.ceiling(inventory, entry)
         if ceiling is not None and self._clock.wall() + survey.offset + standing.end - now >= ceiling - 1:
             return False
-        return standing.end - now <= inventory.margin + SPARE + 2 * passes.both
+        left = standing.end - now
+        # A renewal counts from now: of an entry that has longer than its step, it would make the life shorter.
+        return left < standing.real_step(entry) and left <= inventory.margin + SPARE + 2 * passes.both
 
     async def _renew(self, inventory: Inventory, entry: Entry, survey: Survey) -> None:
         name, standing = entry.name, self._book[entry.name]

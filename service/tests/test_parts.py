@@ -71,7 +71,7 @@ class Events(unittest.TestCase):
             folder = Path(name)
             program = folder / "alert"
             program.write_text('#!/bin/sh\necho "begin $*" >>"$0.log"\n'
-                               'if [ "$1" = slow ]; then exec sleep 60; fi\nsleep 0.2\necho end >>"$0.log"\n')
+                               'if [ "$1" = slow ]; then exec sleep 60; fi\necho end >>"$0.log"\n')
             program.chmod(0o755)
             clock = FixedClock()
 
@@ -82,13 +82,19 @@ class Events(unittest.TestCase):
                                     (Level.WARNING, "short web 1060"), (Level.INFO, "told web"),
                                     (Level.ALERT, "gone db")):
                     alerts.hear(level, text)
-                await asyncio.sleep(1.6)
+                await written(5)
                 clock.now += 601
                 alerts.hear(Level.WARNING, "short web 1060")
-                await asyncio.sleep(0.6)
+                await written(7)
                 task.cancel()
                 await asyncio.gather(task, return_exceptions=True)
-            with mock.patch.object(events, "ALERT_SECONDS", 0.5):
+
+            async def written(lines: int) -> None:
+                async with asyncio.timeout(20):
+                    while not log.exists() or len(log.read_text().splitlines()) < lines:
+                        await asyncio.sleep(0.02)
+            log = folder / "alert.log"
+            with mock.patch.object(events, "ALERT_SECONDS", 1.5):
                 asyncio.run(go())
             self.assertEqual((folder / "alert.log").read_text().splitlines(), [
                 "begin slow", "begin short web 1060", "end", "begin gone db", "end", "begin short web 1060", "end"])
@@ -168,7 +174,7 @@ class Http(unittest.TestCase):
                 broker = Broker(HttpTransport(Address(path)), SystemClock(), 0.3)
                 began = time.monotonic()
                 heard = await broker.look_up(Inventory((TOKEN,)), TOKEN)
-                self.assertLess(time.monotonic() - began, 0.6)
+                self.assertLess(time.monotonic() - began, 1.3)  # The reply drips for 1.6 seconds.
                 self.assertEqual((heard.verdict, heard.why), (Verdict.FAILED, "no reply within 0.3 s"))
                 await asyncio.wait_for(hung_up.wait(), 2)
                 server.close()
@@ -272,7 +278,8 @@ class Links(unittest.TestCase):
                 pass
 
         async def handed(event: str, times: int) -> bool:
-            link = Link(Run(), 5.0, lambda line: None, lambda: None)  # type: ignore[arg-type]
+            more_time = mock.AsyncMock(return_value=0.0)
+            link = Link(Run(), 5.0, lambda line: None, lambda: None, more_time)  # type: ignore[arg-type]
             for _ in range(times):
                 await link.hand_in(event)
             link.stop()

@@ -124,6 +124,7 @@ async def act_out(seed: int) -> tuple[Stage, list[str]]:
     stage = Stage(plotted.inventory)
     stage.vault.load(plotted.inventory)
     stage.vault.tells_date = plotted.chance.random() < 0.5
+    stage.launcher.prints_at_once = plotted.chance.random() < 0.5
     stage.vault.latency = plotted.chance.choice((0.0, 0.0, 0.01, 0.1))
     happened = []
     now = 0.0

@@ -119,6 +119,18 @@ class Beginnings(Scenario):
         renewed = [name for _, path, name, _ in self.stage.vault.log if "renew" in path]
         self.assertEqual(sorted(renewed), ["e0", "e3", "e4", "e5"])
 
+    def test_no_renewal_makes_a_life_shorter(self) -> None:
+        async def scene(stage: Stage) -> None:
+            stage.vault.latency = 2.0
+            stage.vault.faults.append(fault(0, 500, on=both(lookups, about("root"))))
+            await stage.until(100)
+            asked = {name for _, path, name, _ in stage.vault.log if "renew" in path}
+            self.assertNotIn("e0", asked)
+            self.assertIn("e2", asked)
+            await stage.finish(900)
+        self.play(fleet(4, 300, 60, lambda place: (500, 240, 100)[place], root=True), scene)
+        self.assert_kept()
+
     def test_5_at_most_eight_at_a_time(self) -> None:
         async def scene(stage: Stage) -> None:
             stage.vault.faults.append(fault(0, 100, Act.HANG))

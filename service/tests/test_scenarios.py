@@ -190,12 +190,26 @@ class Outages(Scenario):
         self.assertLess(self.stage.vault.count("renew"), 300)
 
     def test_a_reply_that_drips(self) -> None:
+        for at_once in (False, True):
+            async def scene(stage: Stage) -> None:
+                stage.launcher.prints_at_once = at_once
+                stage.vault.faults.append(fault(100, 3 * HOUR, Act.DRIP, on=both(renewals, about("e5"))))
+                await stage.finish(3 * HOUR)
+            with self.subTest(at_once=at_once):
+                self.play(fleet(30, 600, 60, 300), scene)
+                self.assertIn(self.stage.lost(), ([], ["e5"]))
+                ended = BEGAN + 255 + (3 if at_once else 0)
+                self.assertIn(f"{date_text(ended)} begin an answer took too long", self.stage.output.getvalue())
+
+    def test_a_slow_broker_and_a_run_that_prints_at_the_end_of_an_answer(self) -> None:
         async def scene(stage: Stage) -> None:
-            stage.vault.faults.append(fault(100, 3 * HOUR, Act.DRIP, on=both(renewals, about("e5"))))
-            await stage.finish(3 * HOUR)
-        self.play(fleet(30, 600, 60, 300), scene)
-        self.assertIn(self.stage.lost(), ([], ["e5"]))
-        self.assertIn(f"{date_text(BEGAN + 255)} begin an answer took too long", self.stage.output.getvalue())
+            stage.launcher.prints_at_once = True
+            stage.vault.latency = 1.5
+            await stage.finish(HOUR)
+        self.play(fleet(30, 900, 120, 600), scene)
+        self.assert_kept()
+        self.assertEqual(self.stage.beginnings, 1)
+        self.assert_quiet()
 
     def test_two_outages_with_half_a_minute_between(self) -> None:
         for act in (Act.REFUSE, Act.HANG):
@@ -251,6 +265,20 @@ class Restarts(Scenario):
             await stage.finish(HOUR)
         self.play(fleet(30, 63, 60, 63), scene)
         self.assert_kept()
+
+
+    def test_a_run_that_never_gets_going(self) -> None:
+        for fault_of_it in ("is_missing", "ends_at_once"):
+            async def scene(stage: Stage) -> None:
+                setattr(stage.launcher, fault_of_it, True)
+                await stage.until(2 * HOUR)
+                setattr(stage.launcher, fault_of_it, False)
+                await stage.finish(3 * HOUR)
+            with self.subTest(fault=fault_of_it):
+                self.play(fleet(20, 300, 40, 200), scene)
+                self.assert_kept()
+                self.assertLess(self.stage.beginnings, 2 * HOUR / 10)
+                self.assertTrue(self.stage.launcher.runs[-1].events)
 
 
 class Clocks(Scenario):

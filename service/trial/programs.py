@@ -5,6 +5,7 @@ from __future__ import annotations
 import os
 import shutil
 import subprocess
+import sys
 from pathlib import Path
 
 TOP = Path(__file__).resolve().parents[2]
@@ -24,6 +25,16 @@ def is_live(name: str, program: str) -> bool:
     if name == "leasekeep":
         return _has(program, ["run", "--help"], "PORT")
     return _has(program, ["--help"], "standard input")
+
+
+def find_or_model(name: str) -> str:
+    """A live program, built where there is none yet; else the model of the tests, which is said on standard error."""
+    program = find_program(name, may_build=True)
+    if program is not None:
+        return program
+    print(f"no {name} that can serve a trial is built, installed or named by {name.upper()}:"
+          f" the model that the tests have of it runs in its place", file=sys.stderr)
+    return str(TOP / "service" / "tests" / f"scripted_{name}")
 
 
 def find_program(name: str, may_build: bool = False) -> str | None:

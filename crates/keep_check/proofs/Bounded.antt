@@ -17,7 +17,7 @@ use Rattle.keep_rule.proofs.Asking.{asked_end}
 use Rattle.keep_rule.proofs.Keeping.{IsRising}
 use Rattle.keep_rule.proofs.Stuck.{IsStuck}
 use Rattle.keep_rule.proofs.Tail.{moments_with_asks}
-use Rattle.keep_rule.proofs.Timely.{after_unwanted, after_wanted}
+use Rattle.keep_rule.proofs.Covering.{after_unwanted, after_wanted}
 use Rattle.keep_rule.proofs.Walk.{ends_from}
 use Rattle.keep_check.specs.Kept.{KeptTo, own_after, own_end}
 use Rattle.keep_check.proofs.OwnEnds.{own_late, own_least, own_stuck, own_yes}

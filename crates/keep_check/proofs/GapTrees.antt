@@ -5,7 +5,7 @@ use Rattle.std.proofs.lemmas.Bool.{cases_lt}
 use Rattle.std.proofs.lemmas.List.{get_or-append-add, get_or-append_right, get_or_append_left}
 use Rattle.keep_check.specs.declared.gap_tree.GapTree.{GapTree}
 use Rattle.keep_check.specs.declared.gap_tree.GapTree.TheVariants.{Empty, Leaf, Fork'}
-use Rattle.keep_check.specs.Gaps.{AllNarrow, HasMarks, IsFirstFrom, gaps_in, mark}
+use Rattle.keep_check.specs.code.Gaps.{AllNarrow, HasMarks, IsFirstFrom, gaps_in, mark}
 
 pub mark_bounds : (t : GapTree) → HasMarks t → (k : ℕ) → get_or (gaps_in t) k 0 ≤ mark t
 mark_bounds Empty marks k = omega arith

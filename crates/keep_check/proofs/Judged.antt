@@ -16,7 +16,7 @@ use Rattle.keep_check.specs.declared.answer.Cause.{Cause}
 use Rattle.keep_check.specs.declared.answer.Cause.TheVariants.{NotForced, NotKept, NotRising, NotUnkeepable}
 use Rattle.keep_check.specs.Answer.{IsKept, IsWalkAnswer, first_fault}
 use Rattle.keep_check.specs.Kept.{own}
-use Rattle.keep_check.specs.Steps.{FirstShort}
+use Rattle.keep_check.specs.code.Steps.{FirstShort}
 use Rattle.keep_check.specs.Walk.{fault, is_forced, rises}
 use Rattle.keep_check.proofs.Answers.{faultless}
 use Rattle.keep_check.proofs.Keeping.{kept_law}

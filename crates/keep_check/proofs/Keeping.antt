@@ -17,9 +17,9 @@ use Rattle.keep_rule.specs.Ends.{after, ends_after}
 use Rattle.keep_rule.specs.Forced.{bound, latest_end}
 use Rattle.keep_rule.specs.Keeps.{ends_at}
 use Rattle.keep_rule.specs.Schedule.{RisesStrictly}
-use Rattle.keep_rule.proofs.Asking.{Covers, asked_end, covers_more, covers_need, covers_not_due, short_over}
+use Rattle.keep_rule.proofs.Asking.{Covers}
 use Rattle.keep_rule.proofs.Keeping.{IsRising}
-use Rattle.keep_rule.proofs.Timely.{after_unwanted, after_wanted, asks_grow}
+use Rattle.keep_rule.proofs.Covering.{IsNeeded, asks_grow, round_covers}
 use Rattle.keep_rule.proofs.Walk.{ends_from}
 use Rattle.keep_check.specs.Kept.{KeptTo, own, own_end}
 use Rattle.keep_check.specs.Laws.{KeptLaw}
@@ -46,99 +46,13 @@ timely_first : (es : List Entry) (margin i n : ℕ) (ends : ℕ → ℕ) (prev :
 timely_first es margin i n ends prev [] timely = timely
 timely_first es margin i n ends prev (t ∷ ts) timely = timely.0
 
-bound_at_most : (es : List Entry) (ends : ℕ → ℕ) (t a m : ℕ) → ends a ≤ m → renewal (entry_at es a) t ≤ m → bound es ends (Some t) a ≤ m
-unfolding bound latest_end
-bound_at_most es ends t a m end new = by_test (entry_at es a).renewable (ends a) (renewal (entry_at es a) t) end new where
-  by_test : (b : Bool) (x y : ℕ) → x ≤ m → y ≤ m → cond b (max x y) x ≤ m
-  by_test true x y p q = omega arith
-  by_test false x y p q = p
-
-bound_fixed : (es : List Entry) (ends : ℕ → ℕ) (t a : ℕ) → (entry_at es a).renewable ≡ false → bound es ends (Some t) a ≡ ends a
-unfolding bound latest_end
-bound_fixed es ends t a fixed = cond-false (entry_at es a).renewable (max (ends a) (renewal (entry_at es a) t)) (ends a) fixed
-
--- where an end over a comes too soon for a renewal at t, a lasts until n
-lasts_under : (es : List Entry) → ParentsFirst es → (margin i n t : ℕ) (e : ℕ → ℕ) → CoversOver es margin i n e (Some t) → (a b : ℕ) → Over es a i → Over es b a → e b < t + margin → n ≤ e a
-lasts_under es first margin i n t e safe a b over up short =
-    elim (safe b (over_up es first (i + 1) b a i (omega arith) up over)) [
-      | inl lasts ↦ elim (safe a over) [ inl here ↦ here | inr granted ↦ omega arith ]
-      | inr granted ↦ absurd (omega arith)
-    ]
-
--- a test of five that fails, fails at one of them
-fails_at : (a b c d e : Bool) (P : Type 0) → a && (b && (c && (d && e))) ≡ false → (a ≡ false → P) → (b ≡ false → P) → (c ≡ false → P) → (d ≡ false → P) → (e ≡ false → P) → P
-fails_at false b c d e P h p q r s t = p refl
-fails_at true false c d e P h p q r s t = q refl
-fails_at true true false d e P h p q r s t = r refl
-fails_at true true true false e P h p q r s t = s refl
-fails_at true true true true e P h p q r s t = t h
-
--- an end that a request at t would not make later is at least the bound that t leaves, or lasts until n
-no_gain :
-    (es : List Entry) → ParentsFirst es → (margin i n : ℕ) (ends e : ℕ → ℕ) → ((k : ℕ) → ends k ≤ e k) → (t : ℕ) → CoversOver es margin i n e (Some t) →
-    (a : ℕ) → Over es a i → nat_lt (e a) (renewed es margin e t a) ≡ false → (bound es ends (Some t) a ≤ e a) ⊎ (n ≤ e a)
-unfolding renewed is_granted
-no_gain es first margin i n ends e grown t safe a over none =
-    let less : renewed es margin e t a ≤ e a = grind (arith, nat_tests) in
-    let from : ends a ≤ e a = grown a in
-    elim (cases_Bool (entry_at es a).renewable) [
-      | inr fixed ↦ inl (let is = bound_fixed es ends t a fixed in omega arith)
-      | inl renewable ↦ elim (cases_Bool (all_last es e (t + margin) a)) [
-        | inl all ↦
-            let granted : (entry_at es a).renewable && all_last es e (t + margin) a ≡ true = ap (λ b. b && all_last es e (t + margin) a) renewable ∙ all in
-            let is = cond-true ((entry_at es a).renewable && all_last es e (t + margin) a) (renewal (entry_at es a) t) (e a) granted in
-            inl (bound_at_most es ends t a (e a) from (subst (λ x. x ≤ e a) is less))
-        | inr not_all ↦
-            let short = short_over es e (t + margin) a not_all in
-            inr (lasts_under es first margin i n t e safe a short.0 over short.1 short.2)
-      ]
-    ]
-
--- an entry over i that the Asks leave out is covered without a renewal
-still_covered :
-    (es : List Entry) → ParentsFirst es → (margin s : ℕ) → 0 < margin → (i : ℕ) → s < (entry_at es i).need → (ends e : ℕ → ℕ) → ((k : ℕ) → ends k ≤ e k) → (t : ℕ) (next : Option ℕ) →
-    CoversOver es margin i (entry_at es i).need e (Some t) → CoversOver es margin i (entry_at es i).need (bound es ends (Some t)) next →
-    (a : ℕ) → Over es a i → is_wanted es margin s e t next a ≡ false → Covers margin next (entry_at es i).need (e a)
-unfolding is_wanted
-still_covered es first margin s above i later ends e grown t next safe bounds a over unwanted =
-    let n = (entry_at es i).need in
-    fails_at (entry_at es a).renewable (all_last es e (t + 1) a) (nat_lt (e a) (carried es s a)) (nat_lt (e a) (renewed es margin e t a)) (is_due margin next (e a))
-    (Covers margin next n (e a)) unwanted
-    (λ fixed.
-    let is = bound_fixed es ends t a fixed in
-    let from : ends a ≤ e a = grown a in
-    covers_more margin next n (bound es ends (Some t) a) (e a) (omega arith) (bounds a over))
-    (λ gone.
-    let short = short_over es e (t + 1) a gone in
-    covers_need margin next n (e a) (lasts_under es first margin i n t e safe a short.0 over short.1 (omega (arith, short.2))))
-    (λ lasts.
-    let carries = carried_at_least es s a i over later in
-    let last : carried es s a ≤ e a = grind (arith, nat_tests) in
-    covers_need margin next n (e a) (omega arith))
-    (λ none. elim (no_gain es first margin i n ends e grown t safe a over none) [
-      | inl high ↦ covers_more margin next n (bound es ends (Some t) a) (e a) high (bounds a over)
-      | inr lasts ↦ covers_need margin next n (e a) lasts
-    ])
-    (λ waits. covers_not_due margin next n (e a) waits)
-
--- ends that cover until t do, after its Asks, cover until the next moment, where the bounds that t leaves do
-round_covers :
-    (es : List Entry) → ParentsFirst es → (margin s : ℕ) → 0 < margin → (i : ℕ) → s < (entry_at es i).need → (ends e : ℕ → ℕ) → ((k : ℕ) → ends k ≤ e k) → (t : ℕ) (next : Option ℕ) →
-    CoversOver es margin i (entry_at es i).need e (Some t) → CoversOver es margin i (entry_at es i).need (bound es ends (Some t)) next →
-    CoversOver es margin i (entry_at es i).need (after es margin e (asking es margin s e t next)) next
-round_covers es first margin s above i later ends e grown t next safe bounds a over =
-    let n = (entry_at es i).need in
-    elim (cases_Bool (is_wanted es margin s e t next a)) [
-      | inl wanted ↦
-          let is = after_wanted es margin s e t next a wanted in
-          let new = (asked_end es margin s e t next a wanted).1 in
-          let from : ends a ≤ e a = grown a in
-          let high = bound_at_most es ends t a (renewal (entry_at es a) t) (omega arith) (omega arith) in
-          subst (Covers margin next n) (sym is) (covers_more margin next n (bound es ends (Some t) a) (renewal (entry_at es a) t) high (bounds a over))
-      | inr unwanted ↦
-          subst (Covers margin next n) (sym (after_unwanted es margin s e t next a unwanted))
-          (still_covered es first margin s above i later ends e grown t next safe bounds a over unwanted)
-    ]
+-- the entries over i, each with the need of i
+over_needed : (es : List Entry) → ParentsFirst es → (s i : ℕ) → s < (entry_at es i).need → IsNeeded es s (λ a. Over es a i) (λ a. (entry_at es i).need)
+over_needed es first s i later = record {
+  up = λ b a over up. over_up es first (i + 1) b a i (omega arith) up over;
+  more = λ b a over up. omega arith;
+  carries = λ a over. carried_at_least es s a i over later;
+}
 
 covered_at : (margin t n m end : ℕ) → m < n → m < t → Covers margin (Some t) n end → m < end
 covered_at margin t n m end need before covers = elim covers [ inl lasts ↦ omega arith | inr granted ↦ omega arith ]
@@ -160,7 +74,7 @@ kept_from g forest s i later ends (t ∷ ts) prev from e grown rising safe timel
           subst (λ (f : ℕ → ℕ). m < f a) (sym (ends_unchanged es margin t m e (w ∷ rest) (asks_rise es margin s e t ts rising.1) before)) (covered_at margin t (entry_at es i).need m (e a) need before (safe a over))
       | inr due ↦
           let grows : (k : ℕ) → ends k ≤ after es margin e w k = λ k. let l : ends k ≤ e k = grown k in let up = asks_grow es margin s e t (first_of ts) k in omega arith in
-          let round = round_covers es (parents_first g forest) margin s forest.margin_above i later ends e grown t (first_of ts) safe
+          let round = round_covers es margin s forest.margin_above (λ a. Over es a i) (λ a. (entry_at es i).need) (over_needed es (parents_first g forest) s i later) ends e grown t (first_of ts) safe
           (timely_first es margin i (entry_at es i).need ends (Some t) ts timely.1) in
           subst (λ (f : ℕ → ℕ). m < f a) (sym (ends_from es margin e m w rest due))
           (kept_from g forest s i later ends ts (Some t) t (after es margin e w) grows rising.1 round timely.1 m due need a over)

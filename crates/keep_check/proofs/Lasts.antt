@@ -9,7 +9,7 @@ use Rattle.keep_tree.specs.Renewal.{all_last}
 use Rattle.keep_tree.proofs.Chains.{all_last_child, all_last_root}
 use Rattle.keep_tree.proofs.Placed.{parents_first}
 use Rattle.keep_rule.proofs.Rounds.{LastsBelow}
-use Rattle.keep_check.specs.Steps.{AllLast, least_with}
+use Rattle.keep_check.specs.code.Steps.{AllLast, least_with}
 
 le_min : (m a b : ℕ) → nat_le m (min a b) ≡ nat_le m a && nat_le m b
 le_min m a b = grind (arith, nat_tests)

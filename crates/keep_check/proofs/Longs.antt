@@ -4,7 +4,7 @@ use Rattle.std.proofs.lemmas.Bool.{cond-true, cond-false}
 use Rattle.keep_tree.specs.declared.entry.Entry.{Entry}
 use Rattle.keep_tree.specs.Renewal.{capped, renewal}
 use Rattle.keep_rule.specs.Forced.{latest_end}
-use Rattle.keep_check.specs.Steps.{LongFrom}
+use Rattle.keep_check.specs.code.Steps.{LongFrom}
 
 pub long_fixed : (e : Entry) (need : ℕ) → e.renewable ≡ false → e.end < need → (t : ℕ) → latest_end e e.end (Some t) < need
 unfolding latest_end

@@ -9,7 +9,7 @@ use Rattle.keep_rule.specs.Forced.{latest_end}
 use Rattle.keep_rule.proofs.Asking.{Covers}
 use Rattle.keep_rule.proofs.Keeping.{IsRising, renewal_later}
 use Rattle.keep_check.specs.Kept.{own_after, own_end}
-use Rattle.keep_check.specs.Steps.{AllBridged, last_behind}
+use Rattle.keep_check.specs.code.Steps.{AllBridged, last_behind}
 
 and_false : (a b : Bool) → b ≡ false → a && b ≡ false
 and_false true b e = e

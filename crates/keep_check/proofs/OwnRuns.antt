@@ -7,7 +7,7 @@ use Rattle.keep_rule.specs.declared.force.Force.{Force}
 use Rattle.keep_rule.specs.declared.run.Run.{Run}
 use Rattle.keep_rule.specs.Runs.{all_wakes, moments_of, wakes, wakes_of}
 use Rattle.keep_check.specs.Kept.{own_after, own_end}
-use Rattle.keep_check.specs.Steps.{Stops}
+use Rattle.keep_check.specs.code.Steps.{Stops}
 use Rattle.keep_check.proofs.OwnEnds.{own_stuck, own_yes}
 use Rattle.keep_check.proofs.Longs.{new_capped, new_free}
 use Rattle.keep_check.proofs.Run.{run_first}

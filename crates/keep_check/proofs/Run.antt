@@ -10,7 +10,7 @@ use Rattle.keep_rule.specs.declared.force.Force.{Force}
 use Rattle.keep_rule.specs.Runs.{wakes_of}
 use Rattle.keep_check.specs.declared.answer.Cause.{Cause}
 use Rattle.keep_check.specs.declared.answer.Cause.TheVariants.{NotForced, NotRising}
-use Rattle.keep_check.specs.Steps.{Finds}
+use Rattle.keep_check.specs.code.Steps.{Finds}
 use Rattle.keep_check.specs.Walk.{fault, is_forced, rises}
 use Rattle.keep_check.proofs.Answers.{forced_parts, forced_tests}
 

@@ -2,7 +2,7 @@
 use Rattle.std.proofs.Common.{◌≡◌, ℕ, suc, zero, ◌+◌, ◌-◌, ◌*◌, ◌<◌, ◌≤◌, ◌⊎◌, sym, ap, ◌∙◌, arith, inl, inr}
 use Rattle.keep_rule.specs.declared.run.Run.{Run}
 use Rattle.keep_rule.specs.Runs.{moments_of, wakes, wakes_of}
-use Rattle.keep_check.specs.Steps.{AllBridged, last_behind}
+use Rattle.keep_check.specs.code.Steps.{AllBridged, last_behind}
 
 pub bridged_spaced : (gap step n t first entry needed : ℕ) → first ≤ t + gap → (n ≤ 1) ⊎ (step ≤ gap) → AllBridged gap t (moments_of (wakes_of first step n entry needed))
 unfolding wakes_of

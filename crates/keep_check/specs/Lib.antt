@@ -3,5 +3,4 @@ pub mod Walk
 pub mod Fit
 pub mod Answer
 pub mod Laws
-pub mod Steps
-pub mod Gaps
+pub mod code

@@ -2,7 +2,7 @@ ghost use Rattle.std.specs.Prelude.{◌≡◌, ℕ, ◌+◌, ◌<◌, ◌≤◌,
 ghost use Rattle.keep_moment.specs.declared.moment.TheConstants.{LAST};
 ghost use Rattle.keep_tree.specs.Renewal.{capped, renewal};
 ghost use Rattle.keep_rule.specs.Forced.{latest_end};
-ghost use Rattle.keep_check.specs.Steps.{LongFrom};
+ghost use Rattle.keep_check.specs.code.Steps.{LongFrom};
 
 use keep_tree::Entry;
 

@@ -15,7 +15,7 @@ pub(crate) fn gaps_to(from: u64, gap: u64, to: u64) -> u64
 }
 
 /// The greatest number of gaps, at most `most`, that lead from `from` no further than `last`.
-pub(crate) fn gaps_within(from: u64, gap: u64, most: u64, last: u64) -> u64
+pub(crate) fn gaps_until(from: u64, gap: u64, most: u64, last: u64) -> u64
     requires from { from ≤ last }
     requires gap { 0 < gap }
     ensures most { result ≤ most }

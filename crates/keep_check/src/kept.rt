@@ -5,13 +5,13 @@ ghost use Rattle.keep_tree.specs.Push.{IsForest};
 ghost use Rattle.keep_rule.specs.Schedule.{RisesStrictly};
 ghost use Rattle.keep_rule.specs.Runs.{all_wakes, moments_of, wakes};
 ghost use Rattle.keep_check.specs.Fit.{AllFit};
-ghost use Rattle.keep_check.specs.Gaps.{AllNarrow, HasMarks, IsIdleAt, gaps_in, gaps_of};
+ghost use Rattle.keep_check.specs.code.Gaps.{AllNarrow, HasMarks, IsIdleAt, gaps_in, gaps_of};
 ghost use Rattle.keep_check.specs.Kept.{own, own_end};
-ghost use Rattle.keep_check.specs.Steps.{FirstShort, Stops, least_with};
+ghost use Rattle.keep_check.specs.code.Steps.{FirstShort, Stops, least_with};
 
 use crate::bound::renewal;
 use crate::gap_tree::GapTree;
-use crate::gaps::gaps_within;
+use crate::gaps::gaps_until;
 use crate::walk::last_of;
 use keep_rule::Run;
 use keep_tree::{Entry, Forest};
@@ -163,10 +163,10 @@ fn more_in_time(entry: &Entry, margin: u32, end: u64, run: &Run) -> u64
     }
     let margin = margin as u64;
     if (entry.step as u64) < gap + margin {
-        return gaps_within(run.first, gap, most, end - margin);
+        return gaps_until(run.first, gap, most, end - margin);
     }
     match entry.ceiling {
-        Some(ceiling) => gaps_within(run.first, gap, most, end.max(ceiling) - margin),
+        Some(ceiling) => gaps_until(run.first, gap, most, end.max(ceiling) - margin),
         None => most,
     }
 }

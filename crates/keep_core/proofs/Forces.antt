@@ -8,13 +8,13 @@ use Rattle.keep_tree.specs.Forest.{Grove, end_of, entry_at}
 use Rattle.keep_tree.specs.Over.{Over}
 use Rattle.keep_tree.specs.Push.{IsForest}
 use Rattle.keep_tree.specs.Renewal.{renewal}
-use Rattle.keep_tree.proofs.Carrying.{and_left}
 use Rattle.keep_rule.specs.Asks.{asking, first_of, is_wanted}
 use Rattle.keep_rule.specs.Ends.{after}
 use Rattle.keep_rule.specs.Forced.{bound, latest_end}
+use Rattle.keep_rule.proofs.Asking.{wanted_renewable}
 use Rattle.keep_rule.proofs.Joining.{kept_before, plan_later}
 use Rattle.keep_rule.proofs.Keeping.{end_below_bound, renewal_later}
-use Rattle.keep_rule.proofs.Timely.{after_unwanted, after_wanted}
+use Rattle.keep_rule.proofs.Covering.{after_unwanted, after_wanted}
 use Rattle.keep_rule.specs.Runs.{moments_of}
 use Rattle.keep_rule.specs.declared.force.Force.{Force}
 use Rattle.keep_core.specs.InForce.{AllForcedAs}
@@ -50,10 +50,6 @@ forced_later g s t ts best after_none (x ∷ xs) prev forced =
       record { over = f.over; later = need_later g s t ts best after_none prev x.entry x.needed f.over f.later f.short; short = f.short; due = f.due },
       forced_later g s t ts best after_none xs (Some x.at) forced.1,
     )
-
-wanted_renewable : (es : List Entry) (margin s : ℕ) (e : ℕ → ℕ) (t : ℕ) (next : Option ℕ) (i : ℕ) → is_wanted es margin s e t next i ≡ true → (entry_at es i).renewable ≡ true
-unfolding is_wanted
-wanted_renewable es margin s e t next i wanted = and_left (entry_at es i).renewable _ wanted
 
 -- an end after a round that was answered by the rule is at most the bound that the round leaves, and so is each bound
 answered_end : (g h : Grove) (t : ℕ) (next : Option ℕ) → IsAnsweredByRule g h t next → (i u : ℕ) → t ≤ u → end_of h.entries i ≤ bound g.entries (end_of g.entries) (Some u) i

@@ -16,14 +16,13 @@ use Rattle.keep_rule.specs.declared.wake.Wake.{Wake}
 use Rattle.keep_rule.specs.Asks.{first_of, is_wanted, with_asks}
 use Rattle.keep_rule.specs.Forced.{bound, latest_end}
 use Rattle.keep_rule.specs.Plans.{IsPlan, moments}
-use Rattle.keep_rule.specs.Schedule.{IsSchedule}
 use Rattle.keep_rule.specs.Unkeepable.{AllKeepable}
 use Rattle.keep_rule.proofs.Asking.{Covers, IsSafe, asked_end, asks_wanted, covers_more, covers_need}
 use Rattle.keep_rule.proofs.Existence.{there_is_one}
 use Rattle.keep_rule.proofs.Joining.{InOrder, order_plan, plan_order}
 use Rattle.keep_rule.proofs.Keeping.{IsRising, end_below_bound, one_least, renewal_later}
-use Rattle.keep_rule.proofs.Next.{can_be_led, next_comes}
-use Rattle.keep_rule.proofs.Schedule.{schedule_is_best}
+use Rattle.keep_rule.proofs.Next.{can_be_led}
+use Rattle.keep_rule.proofs.Schedule.{schedule_is_best, schedule_timely}
 use Rattle.keep_rule.proofs.Tail.{moments_with_asks}
 use Rattle.keep_rule.proofs.Timely.{AllTimely, timely_keeps}
 use Rattle.keep_core.specs.LawsOfPlans.{NoLongerLaw}
@@ -35,15 +34,7 @@ use Rattle.keep_core.proofs.Kept.{unchanged}
 use Rattle.keep_core.proofs.Shortening.{left_at_most, need_past, shorten_at, shorten_count, shorten_ends, shorten_forest, shorten_keepable, shorten_margin}
 use Rattle.keep_core.proofs.Standing.{best_first, best_keepable, tick}
 
--- the moments of a schedule come in time
-schedule_timely :
-    (g : Grove) → IsForest g → (s : ℕ) (ends : ℕ → ℕ) → AllKeepable g s ends → (ts : List ℕ) (prev : Option ℕ) → IsSchedule g.entries g.margin s ends prev ts →
-    AllTimely g.entries g.margin s ends prev ts
-schedule_timely g forest s ends keepable [] prev schedule = schedule
-schedule_timely g forest s ends keepable (t ∷ ts) prev schedule =
-    ((next_comes g forest s ends keepable prev t schedule.0).covers, schedule_timely g forest s ends keepable ts (Some t) schedule.1)
-
--- and so do those of a least and latest plan
+-- the moments of a least and latest plan come in time
 best_timely : (g : Grove) → IsForest g → (s : ℕ) (ts : List ℕ) → IsPlanOf g s ts → AllTimely g.entries g.margin s (end_of g.entries) None ts
 best_timely g forest s ts best =
     let ends = end_of g.entries in

@@ -21,7 +21,7 @@ use Rattle.keep_rule.proofs.Enough.{enough}
 use Rattle.keep_rule.proofs.Keeping.{one_least, unkeepable}
 use Rattle.keep_rule.proofs.LaterStart.{later_start}
 use Rattle.keep_rule.proofs.Tail.{tail}
-use Rattle.keep_rule.proofs.Timely.{after_unwanted, after_wanted}
+use Rattle.keep_rule.proofs.Covering.{after_unwanted, after_wanted}
 use Rattle.keep_core.specs.LawsOfPlans.{IsAnsweredByRule, KeptPlanLaw, SomeoneLaw, TailKeptLaw, TickLaw}
 use Rattle.keep_core.specs.Replan.{IsPlanOf}
 use Rattle.keep_core.specs.Shorten.{shorten}

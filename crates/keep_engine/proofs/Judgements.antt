@@ -22,7 +22,8 @@ use Rattle.keep_engine.specs.declared.outcome.Outcome.{Outcome}
 use Rattle.keep_report.specs.declared.stop.Stop.{Stop}
 use Rattle.keep_report.specs.declared.stop.Stop.TheVariants as stops
 use Rattle.keep_engine.specs.CheckAnswers.{IsNamed, IsVerdict, VerdictTexts}
-use Rattle.keep_engine.specs.CheckRun.{CheckHalts, CheckTexts, IsJudged, IsUnreadable}
+use Rattle.keep_engine.specs.CheckRun.{CheckTexts, IsJudged, IsUnreadable}
+use Rattle.keep_engine.specs.Running.{NoHalts}
 use Rattle.keep_engine.specs.CheckText.{unreadable_line}
 use Rattle.keep_engine.specs.Making.{MakesOf}
 
@@ -54,7 +55,7 @@ verdict_judged g text c exits.TooLong line writes is = absurd is
 verdict_judged g text c exits.Device line writes is = absurd is
 verdict_judged g text c exits.Memory line writes is = absurd is
 
-pub text_judged : (g : Grove) (text : List ℕ) (c : Cert) (made : Result Outcome Stop) → Writes g.entries text c → MakesOf (VerdictTexts c) CheckHalts g made → MakesOf (CheckTexts text) CheckHalts g made
+pub text_judged : (g : Grove) (text : List ℕ) (c : Cert) (made : Result Outcome Stop) → Writes g.entries text c → MakesOf (VerdictTexts c) NoHalts g made → MakesOf (CheckTexts text) NoHalts g made
 text_judged g text c (Ok outcome) writes judged = verdict_judged g text c outcome.exit outcome.text writes judged
 text_judged g text c (Err stops.Memory) writes judged = tt
 text_judged g text c (Err (stops.Inventory fault)) writes judged = absurd judged

@@ -6,4 +6,6 @@ pub mod OneText
 mod Sizes
 mod OwnText
 pub mod Obeying
+pub mod Reaching
+mod Until
 mod SameRun

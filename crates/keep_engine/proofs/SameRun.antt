@@ -1,6 +1,6 @@
 -- Same run: of two inventories that differ in credentials alone each run that comes to its end has one exit and one text,
 -- for every command whose text and whose reason to have none are told by the forest.
-use Rattle.std.proofs.Common.{◌≡◌, ◌∙◌, ℕ, suc, ◌<◌, ◌≤◌, List, [], ◌∷◌, Option, Some, None, Ok, Err, length, refl, sym, ap, subst, arith, inl, inr, ◌⊎◌}
+use Rattle.std.proofs.Common.{◌≡◌, ◌∙◌, ℕ, Bool, suc, ◌<◌, ◌≤◌, List, [], ◌∷◌, Option, Some, None, Ok, Err, length, refl, sym, ap, subst, arith, inl, inr, ◌⊎◌}
 use Rattle.std.specs.Io.KnownBytes.{Appends, Keeps}
 use Rattle.std.proofs.lemmas.List.{append-nil, length-map}
 use Rattle.std.proofs.KnownBytes.{Keeps-refl}
@@ -24,11 +24,13 @@ use Rattle.keep_report.specs.Exits.{exit_of}
 use Rattle.keep_report.specs.Sent.{IsUntouched, Sends, Sent}
 use Rattle.keep_report.specs.Told.{Reports}
 use Rattle.keep_report.proofs.Fronts.{whole_front}
-use Rattle.keep_engine.specs.CheckRun.{CheckHalts, CheckTexts}
+use Rattle.keep_engine.specs.CheckRun.{CheckTexts}
 use Rattle.keep_engine.specs.EndsRun.{EndsHalts, EndsTexts}
 use Rattle.keep_engine.specs.PlanRun.{IsCertified, IsPairText, IsPlanText, PlanHalts, PlanTexts}
-use Rattle.keep_engine.specs.Running.{Halted, Halts, RunOf, Texts, line_of}
-use Rattle.keep_engine.specs.Secrecy.{CheckSecrecy, DifferInSecrets, EndsSecrecy, IsWhole, PlanSecrecy, RunAlike, TellSame, WriteFronts, WriteSame}
+use Rattle.keep_engine.specs.Running.{Halted, Halts, NoHalts, RunOf, Texts, line_of}
+use Rattle.keep_engine.specs.Secrecy.{CheckSecrecy, DifferInSecrets, EndsSecrecy, IsWhole, PlanSecrecy, ReachSecrecy, RunAlike, TellSame, WriteFronts, WriteSame}
+use Rattle.keep_engine.proofs.Reaching.{one_reach_text}
+use Rattle.keep_engine.specs.ReachRun.{ReachTexts}
 use Rattle.keep_engine.proofs.OneText.{one_check_text, one_ends_text, one_plan_text}
 
 -- ---- the forest is one
@@ -190,7 +192,17 @@ one_plan s = record {
 pub plan_secrecy : PlanSecrecy
 plan_secrecy bytes other s exit exit' out out' errors errors' d a b = runs_alike (PlanTexts s) (PlanHalts s) bytes other exit exit' out out' errors errors' (one_plan s) d a b
 
-one_check : (text : List ℕ) → IsOne (CheckTexts text) CheckHalts
+one_reach : (s : ℕ) (dates : Bool) → IsOne (ReachTexts s dates) NoHalts
+one_reach s dates = record {
+  text = λ g e f t u forest a b. (a.0 ∙ sym b.0, one_reach_text g s dates t u a.1 b.1);
+  reason = λ g x y a b. absurd a;
+  apart = λ g e t x a b. b;
+}
+
+pub reach_secrecy : ReachSecrecy
+reach_secrecy bytes other s dates exit exit' out out' errors errors' d a b = runs_alike (ReachTexts s dates) NoHalts bytes other exit exit' out out' errors errors' (one_reach s dates) d a b
+
+one_check : (text : List ℕ) → IsOne (CheckTexts text) NoHalts
 one_check text = record {
   text = λ g e f t u forest a b. one_check_text g text e f t u forest a b;
   reason = λ g x y a b. absurd a;
@@ -198,4 +210,4 @@ one_check text = record {
 }
 
 pub check_secrecy : CheckSecrecy
-check_secrecy bytes other text exit exit' out out' errors errors' d a b = runs_alike (CheckTexts text) CheckHalts bytes other exit exit' out out' errors errors' (one_check text) d a b
+check_secrecy bytes other text exit exit' out out' errors errors' d a b = runs_alike (CheckTexts text) NoHalts bytes other exit exit' out out' errors errors' (one_check text) d a b

@@ -14,7 +14,7 @@ use Rattle.keep_report.specs.declared.exit.Exit.{Exit}
 use Rattle.keep_report.specs.declared.exit.Exit.TheVariants as exits
 use Rattle.keep_engine.specs.CheckText.{no_line, unreadable_line}
 use Rattle.keep_report.specs.Sent.{Sent}
-use Rattle.keep_engine.specs.Running.{Halts, RunOf, Texts}
+use Rattle.keep_engine.specs.Running.{NoHalts, RunOf, Texts}
 
 -- the text writes a certificate that gets Yes: its moments are least and latest, or no plan keeps
 pub record IsAccepted (g : Grove) (text line : List ℕ) : Type 0 where
@@ -44,13 +44,9 @@ IsJudged g text exits.Done line = IsAccepted g text line
 IsJudged g text exits.No line = IsRefused g text line ⊎ IsUnreadable g text line
 IsJudged g text exit line = ⊥
 
--- there is always a line
-abbrev pub CheckHalts : Halts
-CheckHalts g stop = ⊥
-
 abbrev pub CheckTexts : List ℕ → Texts
 CheckTexts text g exit line = IsJudged g text exit line
 
 -- `check` over the bytes of an inventory and of a certificate
 abbrev pub CheckRun : List ℕ → List ℕ → Exit → Sent → Sent → Type 0
-CheckRun bytes text exit out errors = RunOf (CheckTexts text) CheckHalts bytes exit out errors
+CheckRun bytes text exit out errors = RunOf (CheckTexts text) NoHalts bytes exit out errors

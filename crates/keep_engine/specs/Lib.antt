@@ -2,6 +2,9 @@ pub mod Running
 pub mod EndsText
 pub mod EndsRun
 pub mod PlanRun
+pub mod ReachText
+pub mod ReachRun
+pub mod ReachLaws
 pub mod CheckText
 pub mod CheckRun
 pub mod CheckAnswers

@@ -21,6 +21,10 @@ Texts = Grove → Exit → List ℕ → Type 0
 abbrev pub Halts : Type 1
 Halts = Grove → Stop → Type 0
 
+-- there is always a text
+abbrev pub NoHalts : Halts
+NoHalts g stop = ⊥
+
 -- the line that tells of a stop
 abbrev pub line_of : Stop → List ℕ
 line_of stop = fault_line (codes "leasekeep") stop

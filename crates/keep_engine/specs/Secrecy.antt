@@ -1,5 +1,5 @@
 -- Secrecy: of two inventories that differ in their credentials alone a run writes the same.
-use Rattle.std.specs.Prelude.{◌≡◌, ℕ, List, Ok}
+use Rattle.std.specs.Prelude.{◌≡◌, ℕ, Bool, List, Ok}
 use Rattle.std.specs.Io.KnownBytes.{Appends}
 use Rattle.keep_device.specs.Front.{AppendsFront}
 use Rattle.keep_inventory.specs.Bare.{AreAlike}
@@ -12,6 +12,7 @@ use Rattle.keep_engine.specs.EndsRun.{EndsRun}
 use Rattle.keep_report.specs.Told.{Reports}
 use Rattle.keep_report.specs.Sent.{Sent}
 use Rattle.keep_engine.specs.PlanRun.{PlanRun}
+use Rattle.keep_engine.specs.ReachRun.{ReachRun}
 
 -- two good inventories whose documents differ in the keys `secret` and `lease_id` and their values alone
 pub record DifferInSecrets (bytes other : List ℕ) : Type 0 where
@@ -54,6 +55,11 @@ abbrev pub PlanSecrecy : Type 0
 PlanSecrecy =
     (bytes other : List ℕ) (s : ℕ) (exit exit' : Exit) (out out' errors errors' : Sent) → DifferInSecrets bytes other →
     PlanRun bytes s exit out errors → PlanRun other s exit' out' errors' → RunAlike exit exit' out out' errors errors'
+
+abbrev pub ReachSecrecy : Type 0
+ReachSecrecy =
+    (bytes other : List ℕ) (s : ℕ) (dates : Bool) (exit exit' : Exit) (out out' errors errors' : Sent) → DifferInSecrets bytes other →
+    ReachRun bytes s dates exit out errors → ReachRun other s dates exit' out' errors' → RunAlike exit exit' out out' errors errors'
 
 abbrev pub CheckSecrecy : Type 0
 CheckSecrecy =

@@ -1,10 +1,10 @@
 ghost use Rattle.keep_engine.specs.CheckRun.{CheckRun};
 
 use crate::check_text::check_text;
-use keep_report::{Exit, Watched};
 use crate::deliver::deliver;
-use std::alloc::Global;
 use keep_device::Sink;
+use keep_report::{Exit, Watched};
+use std::alloc::Global;
 
 /// The command `check`: judges a certificate, whoever wrote it, by the inventory's forest and the certificate's own start.
 /// It writes `yes` and gives exit 0 exactly where the text is a certificate over the forest and what it claims holds: its
@@ -23,5 +23,10 @@ pub fn run_check<W: Sink, E: Sink>(
 ) -> Exit
     ensures { CheckRun inventory.now certificate.now result (⟦<W as Watched>⟧.sent out.old out.new) (⟦<E as Watched>⟧.sent errors.old errors.new) }
 {
-    deliver(alloc, check_text(alloc, inventory, certificate), out, errors)
+    deliver(
+        alloc,
+        check_text(alloc, inventory, certificate),
+        out,
+        errors,
+    )
 }

@@ -1,8 +1,9 @@
 ghost use Rattle.std.specs.Prelude.{IfOk};
 ghost use Rattle.keep_check.specs.Fit.{CanBeJudged};
 ghost use Rattle.keep_engine.specs.CheckAnswers.{VerdictTexts};
-ghost use Rattle.keep_engine.specs.CheckRun.{CheckHalts, CheckTexts};
+ghost use Rattle.keep_engine.specs.CheckRun.{CheckTexts};
 ghost use Rattle.keep_engine.specs.Making.{Makes, MakesOf};
+ghost use Rattle.keep_engine.specs.Running.{NoHalts};
 
 use crate::check_lines::{no_line, unreadable_line};
 use crate::outcome::Outcome;
@@ -20,7 +21,7 @@ pub(crate) fn check_text(
     inventory: &[u8],
     certificate: &[u8],
 ) -> Result<Outcome, Stop>
-    ensures { Makes (CheckTexts certificate.now) CheckHalts inventory.now result }
+    ensures { Makes (CheckTexts certificate.now) NoHalts inventory.now result }
 {
     let inventory = read(alloc, inventory)?;
     judge_text(alloc, inventory.forest(), certificate)
@@ -29,7 +30,7 @@ pub(crate) fn check_text(
 /// The line about a text over a forest, from its names and numbers alone.
 #[tactic(auto, using(crate::proofs::Judgements::text_judged, crate::proofs::Judgements::text_unreadable, keep_check::proofs::Written::written_fits))]
 fn judge_text(alloc: Global, forest: &Forest, certificate: &[u8]) -> Result<Outcome, Stop>
-    ensures { MakesOf (CheckTexts certificate.now) CheckHalts forest.now result }
+    ensures { MakesOf (CheckTexts certificate.now) NoHalts forest.now result }
 {
     match keep_cert::read(alloc, forest, certificate) {
         Ok(cert) => judge(alloc, forest, &cert),
@@ -44,7 +45,7 @@ fn judge_text(alloc: Global, forest: &Forest, certificate: &[u8]) -> Result<Outc
 #[tactic(auto, using(crate::proofs::Judgements::cause_named))]
 fn judge(alloc: Global, forest: &Forest, cert: &Cert) -> Result<Outcome, Stop>
     requires { CanBeJudged forest.now cert.now.body }
-    ensures { MakesOf (VerdictTexts cert.now) CheckHalts forest.now result }
+    ensures { MakesOf (VerdictTexts cert.now) NoHalts forest.now result }
 {
     match check(alloc, forest, cert) {
         Err(CheckFault::OutOfMemory) => Err(Stop::Memory),

@@ -7,14 +7,17 @@ ghost use Rattle.keep_engine.specs.CheckRun.{CheckRun};
 ghost use Rattle.keep_engine.specs.EndsRun.{EndsRun};
 ghost use Rattle.keep_engine.specs.Obeys.{Obeys};
 ghost use Rattle.keep_engine.specs.PlanRun.{PlanRun};
+ghost use Rattle.keep_engine.specs.ReachRun.{ReachRun};
 
 use crate::check::run_check;
 use crate::deliver::PROGRAM;
 use crate::ends::run_ends;
 use crate::inputs::Inputs;
-use crate::limits::{MOST_CERTIFICATE, MOST_INVENTORY};
+use crate::limits::MOST_CERTIFICATE;
 use crate::plan::run_plan;
+use crate::reach::run_reach;
 use keep_device::{InputFault, Sink};
+use keep_inventory::MOST_INVENTORY;
 use keep_moment::Moment;
 use keep_report::{Exit, Stop, Watched};
 use std::alloc::Global;
@@ -29,12 +32,24 @@ pub enum Command {
         moments: Vec<Moment>,
     },
     /// The plan of an inventory from a start on.
-    Plan { file: String, start: Moment },
+    Plan {
+        file: String,
+        start: Moment,
+    },
+    /// Until when each entry can live, from a start on; moments as dates, or as numbers.
+    Reach {
+        file: String,
+        start: Moment,
+        dates: bool,
+    },
     /// The judgement of a certificate by an inventory.
-    Check { file: String, certificate: String },
+    Check {
+        file: String,
+        certificate: String,
+    },
 }
 
-/// Does what a command asks: [`run_ends`], [`run_plan`] or [`run_check`] over the bytes of its files.
+/// Does what a command asks: [`run_ends`], [`run_plan`], [`run_reach`] or [`run_check`] over the bytes of its files.
 ///
 /// The inventory is read first, at most [`MOST_INVENTORY`] bytes, and for `check` the certificate behind it, at most
 /// [`MOST_CERTIFICATE`]. Exit 6, with the line of a read: a file was not read to its end, or is longer. Exit 7: memory for
@@ -55,6 +70,9 @@ pub fn obey<I: Inputs, W: Sink, E: Sink>(
             moments,
         } => ends_from(alloc, file, *start, moments, inputs, out, errors),
         Command::Plan { file, start } => plan_from(alloc, file, *start, inputs, out, errors),
+        Command::Reach { file, start, dates } => {
+            reach_from(alloc, file, *start, *dates, inputs, out, errors)
+        }
         Command::Check { file, certificate } => {
             check_from(alloc, file, certificate, inputs, out, errors)
         }
@@ -90,6 +108,23 @@ fn plan_from<I: Inputs, W: Sink, E: Sink>(
 {
     match inputs.read(alloc, file, MOST_INVENTORY) {
         Ok(inventory) => run_plan(alloc, inventory.list(), start, out, errors),
+        Err(fault) => tell_unread(alloc, fault, errors),
+    }
+}
+
+fn reach_from<I: Inputs, W: Sink, E: Sink>(
+    alloc: Global,
+    file: &str,
+    start: Moment,
+    dates: bool,
+    inputs: &mut I,
+    out: &mut W,
+    errors: &mut E,
+) -> Exit
+    ensures { RunFrom (I.bytes_at inputs.old file.now) MOST_INVENTORY (λ bytes. ReachRun bytes start dates) result (⟦<W as Watched>⟧.sent out.old out.new) (⟦<E as Watched>⟧.sent errors.old errors.new) }
+{
+    match inputs.read(alloc, file, MOST_INVENTORY) {
+        Ok(inventory) => run_reach(alloc, inventory.list(), start, dates, out, errors),
         Err(fault) => tell_unread(alloc, fault, errors),
     }
 }

@@ -1,11 +1,11 @@
 ghost use Rattle.keep_engine.specs.EndsRun.{EndsRun};
 
-use crate::ends_text::ends_text;
-use keep_report::{Exit, Watched};
 use crate::deliver::deliver;
-use keep_moment::Moment;
-use std::alloc::Global;
+use crate::ends_text::ends_text;
 use keep_device::Sink;
+use keep_moment::Moment;
+use keep_report::{Exit, Watched};
+use std::alloc::Global;
 
 /// The command `ends`: asks every entry of the inventory at each of the moments, and writes the line `NAME END` for each
 /// entry, then `keeps yes` where each entry was alive from `start` until its need, else `keeps no`.
@@ -24,5 +24,10 @@ pub fn run_ends<W: Sink, E: Sink>(
 ) -> Exit
     ensures { EndsRun inventory.now start moments.now result (⟦<W as Watched>⟧.sent out.old out.new) (⟦<E as Watched>⟧.sent errors.old errors.new) }
 {
-    deliver(alloc, ends_text(alloc, inventory, start, moments), out, errors)
+    deliver(
+        alloc,
+        ends_text(alloc, inventory, start, moments),
+        out,
+        errors,
+    )
 }

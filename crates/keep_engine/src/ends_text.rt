@@ -101,7 +101,7 @@ fn push_line(alloc: Global, entry: &Entry, end: u64, text: &mut Vec<u8>) -> Resu
 }
 
 #[tactic(auto, unfolding(crate::specs::EndsText::keeps_line))]
-fn keeps_line(kept: bool) -> &'static [u8]
+pub(crate) fn keeps_line(kept: bool) -> &'static [u8]
     ensures { result.now ≡ keeps_line kept }
 {
     if kept { b"keeps yes\n" } else { b"keeps no\n" }

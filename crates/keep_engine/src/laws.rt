@@ -1,6 +1,10 @@
+ghost use Rattle.std.specs.Prelude.{◌≡◌};
 ghost use Rattle.keep_engine.specs.EndsText.{OneEndsText};
 ghost use Rattle.keep_engine.specs.Laws.{OneCheckText, OnePlanText, OwnCertificateLaw, OwnTextLaw};
-ghost use Rattle.keep_engine.specs.Secrecy.{CheckSecrecy, EndsSecrecy, PlanSecrecy};
+ghost use Rattle.keep_engine.specs.ReachLaws.{UntilLaw, WhateverIsNeeded};
+ghost use Rattle.keep_engine.specs.ReachText.{OneReachText};
+ghost use Rattle.keep_engine.specs.declared.limits.TheConstants.{MOST_CERTIFICATE};
+ghost use Rattle.keep_engine.specs.Secrecy.{CheckSecrecy, EndsSecrecy, PlanSecrecy, ReachSecrecy};
 
 /// The law that own certificates are accepted. What `print` writes of a decision as `plan` gave it, with the start it was
 /// planned from, is read back over the same forest, and `keep_check::check` can answer nothing but Yes. And what the command
@@ -13,12 +17,13 @@ pub fn own_certificates_are_accepted()
 {}
 
 /// The law that what is written tells nothing but names, numbers and moments: of two inventories with one forest, as those
-/// that differ in the tokens' values and the lease ids alone, `ends`, `plan` and `check` each write one text with one exit.
+/// that differ in the tokens' values and the lease ids alone, `ends`, `plan`, `reach` and `check` each write one text with one exit.
 /// So `check` says `yes` exactly where the text is a certificate that gets Yes: for no text is there a right `yes` and a
 /// right other line.
 pub fn no_secret_shows()
     ensures ends { OneEndsText }
     ensures plan { OnePlanText }
+    ensures reach { OneReachText }
     ensures check { OneCheckText }
 {}
 
@@ -28,5 +33,18 @@ pub fn no_secret_shows()
 pub fn secrets_change_no_run()
     ensures ends { EndsSecrecy }
     ensures plan { PlanSecrecy }
+    ensures reach { ReachSecrecy }
     ensures check { CheckSecrecy }
+{}
+
+/// The limit of a certificate's file as a number. It does nothing.
+pub fn limits_law()
+    ensures { MOST_CERTIFICATE ≡ 16777216 }
+{}
+
+/// The law of what `reach` shows: an entry that alone is needed is kept by some plan until the moment that the line names,
+/// and by none a second longer; and no need changes that moment, so it is the same where others are needed too.
+pub fn until_law()
+    ensures until { UntilLaw }
+    ensures whatever { WhateverIsNeeded }
 {}

@@ -5,6 +5,7 @@
 //! `specs/Running`, which says for all commands how a run ends.
 #![tactic(auto)]
 
+mod bound;
 mod check;
 mod check_lines;
 mod check_text;
@@ -18,15 +19,20 @@ mod limits;
 mod outcome;
 mod plan;
 mod plan_text;
+mod reach;
+mod reach_text;
 #[cfg(test)]
 mod tests;
 
 pub use check::run_check;
 pub use command::{Command, obey};
+pub use deliver::PROGRAM;
 pub use ends::run_ends;
 pub use inputs::Inputs;
-pub use deliver::PROGRAM;
 pub use keep_report::{Exit, Stop, tell};
-pub use laws::{no_secret_shows, own_certificates_are_accepted, secrets_change_no_run};
-pub use limits::{MOST_CERTIFICATE, MOST_INVENTORY};
+pub use laws::{
+    limits_law, no_secret_shows, own_certificates_are_accepted, secrets_change_no_run, until_law,
+};
+pub use limits::MOST_CERTIFICATE;
 pub use plan::run_plan;
+pub use reach::run_reach;

@@ -1,5 +1,2 @@
-/// The most bytes of an inventory that the program reads from a file: 1 MiB.
-pub const MOST_INVENTORY: usize = 1_048_576;
-
 /// The most bytes of a certificate that the program reads from a file: 16 MiB.
 pub const MOST_CERTIFICATE: usize = 16_777_216;

@@ -1,11 +1,11 @@
 ghost use Rattle.keep_engine.specs.PlanRun.{PlanRun};
 
-use keep_report::{Exit, Watched};
 use crate::deliver::deliver;
 use crate::plan_text::plan_text;
-use keep_moment::Moment;
-use std::alloc::Global;
 use keep_device::Sink;
+use keep_moment::Moment;
+use keep_report::{Exit, Watched};
+use std::alloc::Global;
 
 /// The command `plan`: writes the certificate of the inventory's decision from `start` on. Exit 0: the wake-ups are least
 /// and latest; where each asks its Asks they keep, and no plan that keeps has fewer. Exit 3: no plan keeps, and the

@@ -7,6 +7,7 @@ mod faulty;
 mod fronts;
 mod inventories;
 mod plans;
+mod reaches;
 
 use keep_moment::Moment;
 use std::test::Fail;

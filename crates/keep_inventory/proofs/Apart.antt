@@ -1,26 +1,13 @@
 -- Apart: of one kind no credential stands twice in an inventory, whatever tables it was read from.
-use Rattle.std.proofs.Common.{◌≡◌, ℕ, zero, suc, ◌+◌, ◌-◌, ◌<◌, ◌≤◌, Bool, true, false, ◌||◌, List, ◌∷◌, [], ◌++◌, length, None, Ok, bytes_eq, get_or, refl, sym, ap, ◌∙◌, subst, arith, unwrap_or, ⊎_elim}
+use Rattle.std.proofs.Common.{◌≡◌, ℕ, zero, suc, ◌+◌, ◌<◌, Bool, true, false, ◌||◌, List, ◌∷◌, [], ◌++◌, length, bytes_eq, get_or, refl, sym, ap, ◌∙◌, subst, arith, ⊎_elim}
 use Rattle.std.specs.List.{list_any}
 use Rattle.std.specs.Cmp.Lexicographic.{nat_list_eq_equiv}
 use Rattle.std.proofs.lemmas.Bool.{cases_lt}
 use Rattle.std.proofs.lemmas.List.{length_push, get_or_push}
-use Rattle.toml.specs.Data.{no_items, Members}
-use Rattle.keep_tree.specs.declared.entry.Entry.{Entry}
-use Rattle.keep_tree.specs.declared.entry.Kind.{Kind}
-use Rattle.keep_tree.specs.declared.entry.Kind.TheVariants as kind
-use Rattle.keep_tree.specs.Forest.{Grove, entry_at}
-use Rattle.keep_tree.proofs.Entries.{entry_at_push_old, entry_at_push_new}
-use Rattle.keep_inventory.specs.declared.key.Key.TheVariants.{SystemMax, Margin, Token, Lease}
-use Rattle.keep_inventory.specs.declared.row.Row.{Row}
-use Rattle.keep_inventory.specs.Keys.{top_keys}
-use Rattle.keep_inventory.specs.Values.{only, whole, text, tables, value_at}
-use Rattle.keep_inventory.specs.Stock.{AreApart, IsStock, credential_at}
-use Rattle.keep_inventory.specs.Intake.{Intake, nothing, stock_of, holds}
-use Rattle.keep_inventory.specs.Inventory.{token_entered, lease_entered, entered_by, intake_of}
-use Rattle.keep_inventory.proofs.Chains.{bind_ok}
-use Rattle.keep_inventory.proofs.Stocks.{first_half, second_half}
-use Rattle.keep_inventory.proofs.Parts.{TokenParts, LeaseParts, token_parts, lease_parts}
-use Rattle.keep_inventory.proofs.Taken.{Fits, KeepsIt, all_keep, lease_entered_ok, token_entered_ok, took_lease, took_token}
+use Rattle.keep_inventory.specs.Values.{text}
+use Rattle.keep_inventory.specs.Stock.{credential_at}
+use Rattle.keep_inventory.specs.Intake.{holds}
+use Rattle.keep_inventory.proofs.Stocks.{first_half}
 
 -- ---- texts of which none stands twice
 

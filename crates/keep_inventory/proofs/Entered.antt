@@ -1,5 +1,5 @@
 -- Entered: what holds of an inventory whatever tables it was read from: what its margin gives it and each table keeps.
-use Rattle.std.proofs.Common.{◌≡◌, ℕ, ◌<◌, ◌≤◌, ◌&&◌, Bool, true, false, cond, Some, None, Option, Result, Ok, Err, IfSome, nat_le, refl, subst, arith, unwrap_or}
+use Rattle.std.proofs.Common.{◌≡◌, ℕ, ◌≤◌, ◌&&◌, Bool, true, false, cond, Some, None, Option, Result, Ok, Err, IfSome, nat_le, refl, subst, arith, unwrap_or}
 use Rattle.std.proofs.lemmas.Bool.{and_parts}
 use Rattle.std.proofs.lemmas.Bool.Decides.{nat_tests}
 use Rattle.std.proofs.Math.IntN.{pos, negsuc}

@@ -17,7 +17,7 @@ use Rattle.keep_tree.proofs.Entries.{entry_at_push_old, entry_at_push_new}
 use Rattle.keep_tree.proofs.Placed.{empty_is_forest, pushed_is_forest}
 use Rattle.keep_inventory.specs.declared.row.Row.{Row}
 use Rattle.keep_inventory.specs.declared.terms.Terms.{Terms}
-use Rattle.keep_inventory.specs.Stock.{AreApart, IsSendable, IsStock, Stock, credential_at, no_terms, terms_at}
+use Rattle.keep_inventory.specs.Stock.{AreApart, IsSendable, IsStock, Stock, no_terms, terms_at}
 use Rattle.keep_inventory.specs.Intake.{Intake, nothing, stock_of}
 use Rattle.keep_inventory.specs.Inventory.{token_entered, lease_entered, intake_of, inventory, inventory_of, tree_of}
 use Rattle.keep_inventory.specs.Laws.{InventoryLaw, SendableLaw}

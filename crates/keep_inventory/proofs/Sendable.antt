@@ -7,7 +7,7 @@ use Rattle.std.specs.Char.{is_ascii_alphanumeric}
 use Rattle.std.proofs.lemmas.Bool.{and_parts}
 use Rattle.std.proofs.lemmas.Bool.Decides.{nat_tests}
 use Rattle.std.proofs.lemmas.List.Elements.{All-append, All-nil, All-push}
-use Rattle.toml.specs.Data.{string, integer, float, boolean, datetime, array, table, Data, no_items, Members, get_member}
+use Rattle.toml.specs.Data.{string, integer, float, boolean, datetime, array, table, Data, Members, get_member}
 use Rattle.keep_tree.specs.declared.forest.TheConstants.{NAME_MAX}
 use Rattle.keep_tree.specs.Forest.{Grove}
 use Rattle.keep_tree.specs.Push.{is_name, is_name_byte, refusal}
@@ -15,16 +15,12 @@ use Rattle.keep_tree.proofs.Placed.{taken_from_refusal}
 use Rattle.keep_inventory.specs.declared.fault.InvFault.{InvFault}
 use Rattle.keep_inventory.specs.declared.fault.InvFault.TheVariants.{BadValue}
 use Rattle.keep_inventory.specs.declared.key.Key.{Key}
-use Rattle.keep_inventory.specs.declared.key.Key.TheVariants.{SystemMax, Margin, Token, Lease, Secret, LeaseId}
+use Rattle.keep_inventory.specs.declared.key.Key.TheVariants.{Secret, LeaseId}
 use Rattle.keep_inventory.specs.declared.row.Row.{Row}
-use Rattle.keep_inventory.specs.Keys.{top_keys, key_text}
-use Rattle.keep_inventory.specs.Values.{only, read_if, whole, tables, credential, is_credential, value_at}
+use Rattle.keep_inventory.specs.Keys.{key_text}
+use Rattle.keep_inventory.specs.Values.{read_if, credential, is_credential}
 use Rattle.keep_inventory.specs.Stock.{IsSendable}
-use Rattle.keep_inventory.specs.Intake.{Intake, nothing, stock_of}
-use Rattle.keep_inventory.specs.Inventory.{token_entered, lease_entered, entered_by, intake_of, inventory, inventory_of, tree_of}
-use Rattle.keep_inventory.proofs.Chains.{bind_ok}
-use Rattle.keep_inventory.proofs.Parts.{TokenParts, LeaseParts, token_parts, lease_parts}
-use Rattle.keep_inventory.proofs.Taken.{KeepsIt, all_keep, lease_entered_ok, token_entered_ok}
+use Rattle.keep_inventory.proofs.Parts.{TokenParts, LeaseParts}
 
 -- ---- bytes
 

@@ -1,5 +1,5 @@
 -- Spans: the step of a row that was read is a duration; step and ceiling are those of its terms.
-use Rattle.std.proofs.Common.{◌≡◌, ◌==◌, ℕ, ◌≤◌, Some, None, Option, Result, Ok, refl, sym, subst, arith, unwrap_or, inl, inr}
+use Rattle.std.proofs.Common.{◌≡◌, ◌==◌, ℕ, ◌≤◌, Some, None, Option, Ok, refl, sym, subst, arith, unwrap_or, inl, inr}
 use Rattle.std.proofs.lemmas.Bool.{cases_Bool, cond-true, cond-false}
 use Rattle.toml.specs.Data.{Members}
 use Rattle.keep_tree.specs.declared.entry.Entry.{Entry}

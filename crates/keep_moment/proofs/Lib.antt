@@ -3,4 +3,4 @@ mod Calendar
 mod Pieces
 mod Zones
 mod Stamps
-mod Moments
+pub mod Moments

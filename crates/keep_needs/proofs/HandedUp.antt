@@ -12,7 +12,7 @@ use Rattle.keep_tree.proofs.Chains.{ParentsFirst, cases_Option, over_child, over
 use Rattle.keep_tree.proofs.Entries.{entry_at_past}
 use Rattle.keep_needs.specs.declared.load.Load.{Load}
 use Rattle.keep_needs.specs.Carried.{IsCarried, NamesFrom, load_at}
-use Rattle.keep_needs.specs.Loads.{AllOwn, IsAtMost, IsHandedUp, IsHeavier, need_after, nth, own_load, seen}
+use Rattle.keep_needs.specs.code.Loads.{AllOwn, IsAtMost, IsHandedUp, IsHeavier, need_after, nth, own_load, seen}
 use Rattle.keep_needs.proofs.Loads.{at_most_self, at_most_trans, load_seen, nth_set_other, nth_set_same}
 
 -- a need after s is the own load's; an own load above 0 is a need after s

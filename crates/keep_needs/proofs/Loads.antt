@@ -3,7 +3,7 @@ use Rattle.std.proofs.Common.{◌≡◌, ◌≢◌, ℕ, ◌<◌, ◌≤◌, Lis
 use Rattle.std.proofs.lemmas.List.{get_or_read, get_or-map, get_or-set_other, get_or-set_same, length-map}
 use Rattle.keep_needs.specs.declared.load.Load.{Load}
 use Rattle.keep_needs.specs.Carried.{CarriedNeed, load_at}
-use Rattle.keep_needs.specs.Loads.{IsAtMost, nth, seen}
+use Rattle.keep_needs.specs.code.Loads.{IsAtMost, nth, seen}
 
 pub load_seen : (loads : List Load) (i : ℕ) → i < length loads → load_at (map seen loads) i ≡ seen (nth loads i)
 unfolding load_at nth

@@ -1,2 +1,2 @@
 pub mod Carried
-pub mod Loads
+pub mod code

@@ -1,7 +1,7 @@
 ghost use Rattle.std.specs.Prelude.{◌≡◌, ℕ, ◌<◌, length, vec_len, IfOk};
 ghost use Rattle.keep_tree.specs.Push.{IsForest};
 ghost use Rattle.keep_needs.specs.Carried.{IsCarried, load_at};
-ghost use Rattle.keep_needs.specs.Loads.{AllOwn, IsHandedUp, need_after};
+ghost use Rattle.keep_needs.specs.code.Loads.{AllOwn, IsHandedUp, need_after};
 
 use crate::fault::NeedsFault;
 use crate::load::{Load, heavier};
@@ -19,7 +19,7 @@ pub struct Carried {
 impl Model for Carried {
     ghost use Rattle.std.specs.Prelude.{List, map};
     ghost use Rattle.keep_needs.specs.Carried.{CarriedNeed};
-    ghost use Rattle.keep_needs.specs.Loads.{seen};
+    ghost use Rattle.keep_needs.specs.code.Loads.{seen};
 
     ghost Value = { List CarriedNeed };
 
@@ -75,7 +75,7 @@ fn own_loads(alloc: Global, forest: &Forest, start: Moment) -> Result<Vec<Load>,
 }
 
 /// The entry's need where it comes after `start`, else 0.
-#[tactic(auto, unfolding(crate::specs::Loads::need_after))]
+#[tactic(auto, unfolding(crate::specs::code::Loads::need_after))]
 fn need_after(start: Moment, entry: &Entry) -> u64
     ensures { result ≡ need_after start entry.now }
 {

@@ -1,5 +1,5 @@
 ghost use Rattle.std.specs.Prelude.{◌≡◌};
-ghost use Rattle.keep_needs.specs.Loads.{IsHeavier};
+ghost use Rattle.keep_needs.specs.code.Loads.{IsHeavier};
 
 /// A need that an entry carries, as a moment, 0 where it carries none, and the index of the entry that has it.
 #[derive(Clone, Copy, Debug)]

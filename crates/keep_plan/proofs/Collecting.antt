@@ -6,7 +6,7 @@ use Rattle.keep_rule.specs.declared.run.Run.{Run}
 use Rattle.keep_rule.specs.Runs.{AreRuns, IsRun, all_wakes, wakes}
 use Rattle.keep_schedule.specs.Given.{IsFirstRun}
 use Rattle.keep_rule.specs.declared.limit.TheConstants.{LIMIT}
-use Rattle.keep_plan.specs.Collecting.{AreLongestBefore, IsOverlong, IsTaken, IsWhole}
+use Rattle.keep_plan.specs.code.Collecting.{AreLongestBefore, IsOverlong, IsTaken, IsWhole}
 use Rattle.keep_plan.specs.Decides.{AreLongest}
 use Rattle.keep_plan.proofs.Walking.{length_wakes_of}
 

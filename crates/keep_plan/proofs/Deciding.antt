@@ -17,7 +17,7 @@ use Rattle.keep_rule.specs.Runs.{all_wakes, moments_of}
 use Rattle.keep_schedule.specs.Forces.{AreForces}
 use Rattle.keep_schedule.proofs.Bridge.{forces_schedule}
 use Rattle.keep_schedule.proofs.Forces.{forces_are_best}
-use Rattle.keep_plan.specs.Collecting.{IsOverlong, IsWhole}
+use Rattle.keep_plan.specs.code.Collecting.{IsOverlong, IsWhole}
 use Rattle.keep_plan.specs.Decides.{AreBest, IsTooLong, NoneKeeps, SomeKeeps}
 
 pub none_keeps : (g : Grove) (s i f : ℕ) → Unkeepable g.entries g.margin s (end_of g.entries) i f → NoneKeeps g s

@@ -1,83 +1,84 @@
--- The Asks: what decides whether an entry is asked, and one entry more; for `asks`.
-use Rattle.std.proofs.Common.{◌≡◌, ◌∙◌, ℕ, zero, suc, ◌+◌, ◌&&◌, ◌++◌, List, [], ◌∷◌, Bool, true, false, cond, Option, Some, None, filter, get_or, length, nat_lt, refl, sym, ap, arith, inl, inr}
-use Rattle.std.proofs.lemmas.Bool.{cases_eq}
-use Rattle.std.proofs.lemmas.List.{get_or-append-add, get_or_append_left, length-append}
+-- The Asks: the question of the code is whether an entry is asked; and one entry more.
+use Rattle.std.proofs.Common.{◌≡◌, ◌∙◌, ℕ, zero, suc, ◌+◌, ◌<◌, ◌≤◌, ◌&&◌, ◌++◌, List, [], ◌∷◌, Bool, true, false, cond, Option, Some, None, filter, length, nat_le, nat_lt, refl, sym, ap, arith, inl, inr}
+use Rattle.std.proofs.lemmas.Bool.{and_from, and_parts, cases_Bool, cond-false}
+use Rattle.std.proofs.lemmas.Bool.Decides.{nat_tests}
 use Rattle.std.proofs.lemmas.List.Elements.{filter-append}
-use Rattle.std.specs.List.{range_with_len}
+use Rattle.std.specs.List.{list_all, range_with_len}
 use Rattle.keep_tree.specs.declared.entry.Entry.{Entry}
 use Rattle.keep_tree.specs.Carried.{carried}
-use Rattle.keep_tree.specs.Forest.{end_of, entry_at}
-use Rattle.keep_tree.specs.Renewal.{all_last, renewed}
+use Rattle.keep_tree.specs.Forest.{Grove, end_of, entry_at}
+use Rattle.keep_tree.specs.Over.{chain}
+use Rattle.keep_tree.specs.Renewal.{all_last, is_granted, renewal, renewed}
 use Rattle.keep_rule.specs.Asks.{asks, is_due, is_wanted}
-use Rattle.keep_plan.specs.Living.{AreLiving, waits_until}
+use Rattle.keep_needs.specs.Carried.{CarriedNeed, IsCarried, load_at}
+use Rattle.keep_plan.specs.code.Wanted.{is_test, waits_until}
 
--- the questions whether i is asked: whether it is renewable, whether it lives, whether it falls short, whether it gains, and
--- whether it is due
-off_1 : (a b c d e : Bool) → a ≡ false → a && (b && (c && (d && e))) ≡ false
-off_1 false b c d e h = refl
-off_1 true b c d e h = absurd cc
+-- what all last until m, they last until each earlier moment
+each_sooner : (ends : ℕ → ℕ) (n m : ℕ) → n ≤ m → (xs : List ℕ) → list_all (λ a. nat_le m (ends a)) xs ≡ true → list_all (λ a. nat_le n (ends a)) xs ≡ true
+each_sooner ends n m less [] h = refl
+each_sooner ends n m less (x ∷ xs) h =
+    let k = and_parts (nat_le m (ends x)) (list_all (λ a. nat_le m (ends a)) xs) h in
+    let far : nat_le m (ends x) ≡ true = k.0 in
+    let here : nat_le n (ends x) ≡ true = grind (arith, nat_tests) in
+    and_from _ _ here (each_sooner ends n m less xs k.1)
 
-off_2 : (a b c d e : Bool) → b ≡ false → a && (b && (c && (d && e))) ≡ false
-off_2 false b c d e h = refl
-off_2 true false c d e h = refl
-off_2 true true c d e h = absurd cc
+-- an entry that gains by a renewal can be renewed, and is alive
+gaining : (es : List Entry) (margin at i : ℕ) → 0 < margin → nat_lt (end_of es i) (renewed es margin (end_of es) at i) ≡ true
+    → ((entry_at es i).renewable ≡ true) × (all_last es (end_of es) (at + 1) i ≡ true)
+unfolding renewed is_granted all_last
+gaining es margin at i above gains =
+    let renewable = (entry_at es i).renewable in
+    let lasts = list_all (λ a. nat_le (at + margin) (end_of es a)) (chain es i) in
+    elim (cases_Bool (renewable && lasts)) [
+      | inl granted ↦
+          let p = and_parts renewable lasts granted in
+          (p.0, each_sooner (end_of es) (at + 1) (at + margin) (omega arith) (chain es i) p.1)
+      | inr refused ↦ absurd (
+          let is = cond-false (renewable && lasts) (renewal (entry_at es i) at) (end_of es i) refused in
+          let none : nat_lt (end_of es i) (end_of es i) ≡ true = sym (ap (nat_lt (end_of es i)) is) ∙ gains in
+          let bad : end_of es i < end_of es i = grind (arith, nat_tests) in
+          omega arith)
+    ]
 
-off_3 : (a b c d e : Bool) → c ≡ false → a && (b && (c && (d && e))) ≡ false
-off_3 false b c d e h = refl
-off_3 true false c d e h = refl
-off_3 true true false d e h = refl
-off_3 true true true d e h = absurd cc
+-- the questions whether i is asked: whether it is renewable, whether it is alive, whether it falls short, whether it gains,
+-- and whether it is due
+reordered : (c d e : Bool) → c && (d && e) ≡ c && (e && d)
+reordered false d e = refl
+reordered true false false = refl
+reordered true false true = refl
+reordered true true false = refl
+reordered true true true = refl
 
-on : (a b c d e : Bool) → a ≡ true → b ≡ true → c ≡ true → a && (b && (c && (d && e))) ≡ d && e
-on true true true d e p q r = refl
-on false b c d e p q r = absurd cc
-on true false c d e p q r = absurd cc
-on true true false d e p q r = absurd cc
+unasked : (a b c e : Bool) → a && (b && (c && (false && e))) ≡ c && (e && false)
+unasked false b false e = refl
+unasked false b true false = refl
+unasked false b true true = refl
+unasked true false false e = refl
+unasked true false true false = refl
+unasked true false true true = refl
+unasked true true c e = reordered c false e
 
-last_on : (d e : Bool) → e ≡ true → d && e ≡ d
-last_on true e h = h
-last_on false e h = refl
+three_of_five : (a b c d e : Bool) → (d ≡ true → (a ≡ true) × (b ≡ true)) → a && (b && (c && (d && e))) ≡ c && (e && d)
+three_of_five a b c false e follow = unasked a b c e
+three_of_five true true c true e follow = reordered c true e
+three_of_five false b c true e follow = absurd (let no = (follow refl).0 in cc)
+three_of_five true false c true e follow = absurd (let no = (follow refl).1 in cc)
 
-last_off : (d e : Bool) → e ≡ false → d && e ≡ false
-last_off true e h = h
-last_off false e h = refl
+-- an end that comes before that is due
+due_until : (margin end : ℕ) (next o : Option ℕ) → o ≡ waits_until margin next → is_due 0 o end ≡ is_due margin next end
+due_until margin end None o is = ap (λ p. is_due 0 p end) is
+due_until margin end (Some next) o is = ap (λ p. is_due 0 p end) is ∙ ap (λ m. nat_lt end m) (let e : next + margin + 0 ≡ next + margin = omega arith in e)
 
-module _ (es : List Entry) (margin s at : ℕ) (next : Option ℕ) (i : ℕ) where
-  pub unwanted_fixed : (entry_at es i).renewable ≡ false → is_wanted es margin s (end_of es) at next i ≡ false
-  unfolding is_wanted
-  unwanted_fixed h = off_1 (entry_at es i).renewable (all_last es (end_of es) (at + 1) i) (nat_lt (end_of es i) (carried es s i)) (nat_lt (end_of es i) (renewed es margin (end_of es) at i)) (is_due margin next (end_of es i)) h
-
-  pub unwanted_gone : all_last es (end_of es) (at + 1) i ≡ false → is_wanted es margin s (end_of es) at next i ≡ false
-  unfolding is_wanted
-  unwanted_gone h = off_2 (entry_at es i).renewable (all_last es (end_of es) (at + 1) i) (nat_lt (end_of es i) (carried es s i)) (nat_lt (end_of es i) (renewed es margin (end_of es) at i)) (is_due margin next (end_of es i)) h
-
-  pub unwanted_enough : nat_lt (end_of es i) (carried es s i) ≡ false → is_wanted es margin s (end_of es) at next i ≡ false
-  unfolding is_wanted
-  unwanted_enough h = off_3 (entry_at es i).renewable (all_last es (end_of es) (at + 1) i) (nat_lt (end_of es i) (carried es s i)) (nat_lt (end_of es i) (renewed es margin (end_of es) at i)) (is_due margin next (end_of es i)) h
-
-  pub wanted_due : (entry_at es i).renewable ≡ true → all_last es (end_of es) (at + 1) i ≡ true → nat_lt (end_of es i) (carried es s i) ≡ true → is_due margin next (end_of es i) ≡ true → is_wanted es margin s (end_of es) at next i ≡ nat_lt (end_of es i) (renewed es margin (end_of es) at i)
-  unfolding is_wanted
-  wanted_due p q r h = on (entry_at es i).renewable (all_last es (end_of es) (at + 1) i) (nat_lt (end_of es i) (carried es s i)) (nat_lt (end_of es i) (renewed es margin (end_of es) at i)) (is_due margin next (end_of es i)) p q r
-      ∙ last_on (nat_lt (end_of es i) (renewed es margin (end_of es) at i)) (is_due margin next (end_of es i)) h
-
-  pub wanted_late : (entry_at es i).renewable ≡ true → all_last es (end_of es) (at + 1) i ≡ true → nat_lt (end_of es i) (carried es s i) ≡ true → is_due margin next (end_of es i) ≡ false → is_wanted es margin s (end_of es) at next i ≡ false
-  unfolding is_wanted
-  wanted_late p q r h = on (entry_at es i).renewable (all_last es (end_of es) (at + 1) i) (nat_lt (end_of es i) (carried es s i)) (nat_lt (end_of es i) (renewed es margin (end_of es) at i)) (is_due margin next (end_of es i)) p q r
-      ∙ last_off (nat_lt (end_of es i) (renewed es margin (end_of es) at i)) (is_due margin next (end_of es i)) h
-
--- one entry more
-pub living_more : (es : List Entry) (at n : ℕ) (living : List Bool) (b : Bool) → b ≡ all_last es (end_of es) (at + 1) n → AreLiving es at n living → AreLiving es at (n + 1) (living ++ b ∷ [])
-living_more es at n living b is so_far =
-    let count = so_far.count in
-    record {
-      count = length-append living (b ∷ []) ∙ (let e : length living + 1 ≡ n + 1 = omega arith in e);
-      each = λ i h. elim (cases_eq i n) [
-        | inl here ↦
-            ap (λ k. get_or (living ++ b ∷ []) k false) (let e : i ≡ length living + 0 = omega arith in e) ∙ get_or-append-add living (b ∷ []) 0 false
-            ∙ is ∙ ap (all_last es (end_of es) (at + 1)) (sym here)
-        | inr other ↦ get_or_append_left living (b ∷ []) false i (omega arith) ∙ so_far.each i (omega arith)
-      ];
-    }
+pub test_is :
+    (g : Grove) → 0 < g.margin → (s at : ℕ) (next until : Option ℕ) (loads : List CarriedNeed) (i : ℕ) → i < length g.entries → IsCarried g s loads →
+    until ≡ waits_until g.margin next → is_test g loads at until i ≡ is_wanted g.entries g.margin s (end_of g.entries) at next i
+unfolding is_wanted
+test_is g above s at next until loads i within is waits =
+    let es = g.entries in
+    let gains = nat_lt (end_of es i) (renewed es g.margin (end_of es) at i) in
+    ap (λ n. nat_lt (end_of es i) n && (is_due 0 until (end_of es i) && gains)) (is.need i within)
+    ∙ ap (λ d. nat_lt (end_of es i) (carried es s i) && (d && gains)) (due_until g.margin (end_of es i) next until waits)
+    ∙ sym (three_of_five (entry_at es i).renewable (all_last es (end_of es) (at + 1) i) (nat_lt (end_of es i) (carried es s i)) gains (is_due g.margin next (end_of es i)) (gaining es g.margin at i above))
 
 range_more : (a n : ℕ) → range_with_len a (suc n) ≡ range_with_len a n ++ (a + n) ∷ []
 range_more a zero = ap (λ k. k ∷ []) (let e : a ≡ a + 0 = omega arith in e)
@@ -91,8 +92,3 @@ asked_more p n =
 pub asks_of : (es : List Entry) (margin s at : ℕ) (next : Option ℕ) (n : ℕ) → n ≡ length es → filter (is_wanted es margin s (end_of es) at next) (range_with_len 0 n) ≡ asks es margin s (end_of es) at next
 unfolding asks
 asks_of es margin s at next n count = ap (λ k. filter (is_wanted es margin s (end_of es) at next) (range_with_len 0 k)) count
-
--- an end that comes before that is due
-pub due_until : (margin end : ℕ) (next o : Option ℕ) → o ≡ waits_until margin next → is_due 0 o end ≡ is_due margin next end
-due_until margin end None o is = ap (λ p. is_due 0 p end) is
-due_until margin end (Some next) o is = ap (λ p. is_due 0 p end) is ∙ ap (λ m. nat_lt end m) (let e : next + margin + 0 ≡ next + margin = omega arith in e)

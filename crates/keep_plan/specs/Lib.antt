@@ -1,5 +1,4 @@
 pub mod Planned
 pub mod Shortfall
 pub mod Decides
-pub mod Living
-pub mod Collecting
+pub mod code

@@ -1,6 +1,6 @@
 ghost use Rattle.std.specs.Prelude.{◌≡◌, IfOk, MatchOption};
 ghost use Rattle.keep_schedule.specs.Courses.{IsToCome};
-ghost use Rattle.keep_plan.specs.Collecting.{IsOverlong, IsWhole};
+ghost use Rattle.keep_plan.specs.code.Collecting.{IsOverlong, IsWhole};
 
 use keep_schedule::{LIMIT, QueueSchedule, Run};
 use std::alloc::{AllocError, Global};

@@ -1,4 +1,4 @@
-use crate::planned::Plan;
+use crate::plans::Plan;
 
 /// What can be done for the needs of a forest.
 #[derive(Debug, Drop)]

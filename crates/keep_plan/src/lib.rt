@@ -3,27 +3,27 @@
 //! The contract for the layers above: `plan` gives the least and latest plan with the force of each wake-up, or names a pair
 //! that no plan can keep, or answers that each plan is too long (`Decides` of `specs/`). A [`Plan`] holds the wake-ups that
 //! are still to come as runs (`Planned`); its `asks` are the Asks of `keep_rule`. `shortfall` names the lowest entry that no
-//! renewal leads to a need it carries (`IsShortfall`). Begin with `decide`.
+//! renewal leads to a need it carries (`IsShortfall`). Begin with `planning`.
 #![tactic(auto)]
 
 mod asks;
 mod collect;
-mod decide;
 mod decision;
+mod falling_short;
 mod fault;
 mod pair;
-mod planned;
+mod planning;
+mod plans;
 mod runs;
-mod short;
 #[cfg(test)]
 mod tests;
 mod wakes;
 
-pub use decide::plan;
 pub use decision::Decision;
+pub use falling_short::shortfall;
 pub use fault::PlanFault;
 pub use keep_schedule::LIMIT;
 pub use pair::Shortfall;
-pub use planned::Plan;
-pub use short::shortfall;
+pub use planning::plan;
+pub use plans::Plan;
 pub use wakes::Wakes;

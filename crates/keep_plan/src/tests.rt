@@ -44,7 +44,7 @@ fn token_and_lease(ceiling: u64) -> [Row; 2] {
         ceiling: Some(ceiling),
         ..token(None, 1100, true, 0)
     };
-    [over, token(Some(0), 1060, true, 1200)]
+    [over, lease]
 }
 
 fn forest_of(alloc: Global, rows: &[Row]) -> Result<Forest, Fail> {

@@ -8,11 +8,11 @@ use crate::exit::Exit;
 use crate::fault_line::fault_line;
 use crate::sent::Watched;
 use crate::telling::tell;
+use keep_device::{InputFault, Sink, SinkFault};
 use keep_inventory::InvFault;
 use keep_moment::Name;
 use keep_rule::WakeFault;
 use std::alloc::{AllocError, AllocFailed, Global};
-use keep_device::{InputFault, Sink, SinkFault};
 
 /// Why a run stopped before its end.
 #[derive(Debug, Drop)]

@@ -95,7 +95,7 @@ asks_within p (suc n) a m h =
       | inr fails ↦ ap (λ b. list_any (λ j. nat_le m j) (cond b (a ∷ filter p (range_with_len (a + 1) n)) (filter p (range_with_len (a + 1) n)))) fails ∙ rest
     ]
 
-wanted_renewable : (es : List Entry) (margin s : ℕ) (e : ℕ → ℕ) (t : ℕ) (next : Option ℕ) (i : ℕ) → is_wanted es margin s e t next i ≡ true → (entry_at es i).renewable ≡ true
+pub wanted_renewable : (es : List Entry) (margin s : ℕ) (e : ℕ → ℕ) (t : ℕ) (next : Option ℕ) (i : ℕ) → is_wanted es margin s e t next i ≡ true → (entry_at es i).renewable ≡ true
 unfolding is_wanted
 wanted_renewable es margin s e t next i wanted = and_left (entry_at es i).renewable _ wanted
 

@@ -21,7 +21,7 @@ use Rattle.keep_rule.proofs.Asking.{asked_end, asks_wanted}
 use Rattle.keep_rule.proofs.Joining.{keeps_joined}
 use Rattle.keep_rule.proofs.Keeping.{renewal_later, stuck_from}
 use Rattle.keep_rule.proofs.Stuck.{AllStuck, gone}
-use Rattle.keep_rule.proofs.Timely.{after_unwanted, after_wanted, asks_grow}
+use Rattle.keep_rule.proofs.Covering.{after_unwanted, after_wanted, asks_grow}
 
 pub times_cons : (w : Wake) (ws : List Wake) (i : ℕ) → times_asked (w ∷ ws) i ≡ cond (is_asked w i) 1 0 + times_asked ws i
 times_cons w ws i = sum_by-cons (λ v. cond (is_asked v i) 1 0) w ws

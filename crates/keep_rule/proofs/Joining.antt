@@ -10,7 +10,7 @@ use Rattle.keep_rule.specs.declared.wake.Wake.{Wake}
 use Rattle.keep_rule.specs.Ends.{after, ends_after}
 use Rattle.keep_rule.specs.Keeps.{Keeps, ends_at}
 use Rattle.keep_rule.specs.Plans.{IsPlan, moments}
-use Rattle.keep_rule.specs.Replay.{KeptBetween}
+use Rattle.keep_rule.specs.code.Replay.{KeptBetween}
 use Rattle.keep_rule.proofs.Walk.{ends_from}
 
 -- the moments of a plan from s

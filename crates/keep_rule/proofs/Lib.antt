@@ -6,6 +6,7 @@ pub mod Stuck
 pub mod Keeping
 pub mod Asking
 pub mod Examples
+pub mod Covering
 pub mod Timely
 pub mod Enough
 pub mod Next

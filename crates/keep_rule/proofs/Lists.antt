@@ -14,7 +14,7 @@ use Rattle.keep_tree.proofs.Entries.{entry_at_past}
 use Rattle.keep_tree.proofs.Placed.{range_parts}
 use Rattle.keep_rule.specs.Ends.{listed}
 use Rattle.keep_rule.specs.Plans.{asks_past}
-use Rattle.keep_rule.specs.Replay.{shown}
+use Rattle.keep_rule.specs.code.Replay.{shown}
 
 -- a list from an index on begins with what is read there
 pub unrolled : {X : Type 0} (xs : List X) (i : ℕ) (x : X) → i < length xs → x ≡ get_or xs i x → drop i xs ≡ x ∷ drop (i + 1) xs

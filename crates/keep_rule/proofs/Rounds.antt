@@ -12,7 +12,7 @@ use Rattle.keep_tree.specs.Renewal.{all_last, is_granted, renewal, renewed}
 use Rattle.keep_tree.proofs.Chains.{ParentsFirst, all_last_child, all_last_root}
 use Rattle.keep_rule.specs.declared.wake.Wake.{Wake}
 use Rattle.keep_rule.specs.Ends.{after, is_asked}
-use Rattle.keep_rule.specs.Replay.{Lasts, renewed_by, shown}
+use Rattle.keep_rule.specs.code.Replay.{Lasts, renewed_by, shown}
 
 -- each of the first n of lasts is the least end over its entry
 abbrev pub LastsBelow : List Entry → (ℕ → ℕ) → List ℕ → ℕ → Type 0

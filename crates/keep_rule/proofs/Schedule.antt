@@ -18,7 +18,7 @@ use Rattle.keep_rule.proofs.Next.{Comes, next_comes}
 use Rattle.keep_rule.proofs.Timely.{AllTimely, timely_keeps}
 
 -- the moments of a schedule come in time
-schedule_timely :
+pub schedule_timely :
     (g : Grove) → IsForest g → (s : ℕ) (ends : ℕ → ℕ) → AllKeepable g s ends → (ts : List ℕ) (prev : Option ℕ) → IsSchedule g.entries g.margin s ends prev ts →
     AllTimely g.entries g.margin s ends prev ts
 schedule_timely g forest s ends keepable [] prev schedule = schedule

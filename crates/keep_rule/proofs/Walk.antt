@@ -11,7 +11,7 @@ use Rattle.keep_rule.specs.declared.wake.WakeFault.TheVariants.{BeforeStart, Uno
 use Rattle.keep_rule.specs.Ends.{after, ends_after}
 use Rattle.keep_rule.specs.Keeps.{Keeps, ends_at}
 use Rattle.keep_rule.specs.Plans.{asks_past, fault_at, fault_from, first_some, wake_fault}
-use Rattle.keep_rule.specs.Replay.{KeptBetween}
+use Rattle.keep_rule.specs.code.Replay.{KeptBetween}
 
 -- wake-ups in order from s on, that ask no index past n entries
 abbrev pub Rises : ℕ → ℕ → List Wake → Type 0

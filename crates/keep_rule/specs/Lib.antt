@@ -3,7 +3,6 @@ pub mod Runs
 pub mod Ends
 pub mod Keeps
 pub mod Reach
-pub mod Replay
 pub mod Unkeepable
 pub mod Forced
 pub mod Least
@@ -12,3 +11,4 @@ pub mod Schedule
 pub mod Laws
 pub mod Requests
 pub mod LawsOfRounds
+pub mod code

@@ -24,7 +24,7 @@ pub use laws_of_rounds::{
     fewest_requests_law, fewest_times_law, later_start_law, same_asks_law, same_requests_law,
     tail_law,
 };
-pub use limit::LIMIT;
+pub use limit::{LIMIT, limit_law};
 pub use replay::{ends_after, keeps};
 pub use rule::{granted_end, reach};
 pub use run::Run;

@@ -4,10 +4,10 @@ ghost use Rattle.keep_tree.specs.Push.{IsForest};
 ghost use Rattle.keep_rule.specs.Ends.{after, ends_after, listed};
 ghost use Rattle.keep_rule.specs.Keeps.{Keeps};
 ghost use Rattle.keep_rule.specs.Plans.{asks_past, wake_fault};
-ghost use Rattle.keep_rule.specs.Replay.{KeptBetween, Lasts, renewed_by, shown};
+ghost use Rattle.keep_rule.specs.code.Replay.{KeptBetween, Lasts, renewed_by, shown};
 
 use crate::rule::renewal;
-use crate::wake::{Wake, WakeFault, first_fault};
+use crate::wake::{Wake, WakeFault, wake_fault};
 use keep_moment::{LAST, Moment};
 use keep_tree::{Ends, Forest};
 use std::alloc::{AllocError, Global};
@@ -30,7 +30,7 @@ pub fn ends_after(
     ensures refused { IfSome (wake_fault forest.now.entries start wakes.now) (λ fault. result ≡ Err fault) }
     ensures memory { wake_fault forest.now.entries start wakes.now ≡ None → IsOkUnless result WakeFault.OutOfMemory }
 {
-    if let Some(fault) = first_fault(forest, start, wakes) {
+    if let Some(fault) = wake_fault(forest, start, wakes) {
         return Err(fault);
     }
     let mut ends = present_ends(alloc, forest)?;
@@ -59,7 +59,7 @@ pub fn keeps(
     ensures refused { IfSome (wake_fault forest.now.entries start wakes.now) (λ fault. result ≡ Err fault) }
     ensures memory { wake_fault forest.now.entries start wakes.now ≡ None → IsOkUnless result WakeFault.OutOfMemory }
 {
-    if let Some(fault) = first_fault(forest, start, wakes) {
+    if let Some(fault) = wake_fault(forest, start, wakes) {
         return Err(fault);
     }
     let mut ends = present_ends(alloc, forest)?;

@@ -49,13 +49,13 @@ impl<T: Drop> From<AllocFailed<T>> for WakeFault {
 
 /// The fault of the first wake-up that is at fault.
 #[tactic(auto, unfolding(crate::specs::Plans::wake_fault))]
-pub(crate) fn first_fault(forest: &Forest, start: Moment, wakes: &[Wake]) -> Option<WakeFault>
+pub(crate) fn wake_fault(forest: &Forest, start: Moment, wakes: &[Wake]) -> Option<WakeFault>
     ensures { result ≡ wake_fault forest.now.entries start wakes.now }
 {
     let entries = forest.len();
     let mut before = start;
     for (i, wake) in wakes.iter().enumerate() {
-        let fault = wake_fault(entries, start, before, i as u64 + 1, wake);
+        let fault = fault_at(entries, start, before, i as u64 + 1, wake);
         if fault.is_some() {
             return fault;
         }
@@ -66,7 +66,7 @@ pub(crate) fn first_fault(forest: &Forest, start: Moment, wakes: &[Wake]) -> Opt
 
 /// What is wrong with the wake-up number `count`, behind one at `before`, where there are so many entries.
 #[tactic(auto, unfolding(crate::specs::Plans::fault_at))]
-fn wake_fault(
+fn fault_at(
     entries: u32,
     start: Moment,
     before: Moment,

@@ -5,9 +5,9 @@ use Rattle.std.proofs.lemmas.Bool.{cases_lt}
 use Rattle.keep_moment.specs.declared.moment.TheConstants.{LAST}
 use Rattle.keep_schedule.specs.declared.groups.Groups.{Groups}
 use Rattle.keep_schedule.specs.declared.groups.Next.{Next}
-use Rattle.keep_schedule.specs.Groups.{IsGrouped, IsHead, Joins, Settles, Waits}
-use Rattle.keep_schedule.specs.Line.{FirstOf}
-use Rattle.keep_schedule.specs.Stretches.{Stretches}
+use Rattle.keep_schedule.specs.code.Groups.{IsGrouped, IsHead, Joins, Settles, Waits}
+use Rattle.keep_schedule.specs.code.Line.{FirstOf}
+use Rattle.keep_schedule.specs.code.Stretches.{Stretches}
 use Rattle.keep_schedule.specs.Terms.{Ahead, IsSound, Leads, Terms}
 use Rattle.keep_schedule.proofs.Grouping.{join_leads, later}
 use Rattle.keep_schedule.proofs.Leading.{ahead}

@@ -4,17 +4,20 @@ use Rattle.std.proofs.lemmas.Bool.{cases_Bool, cases_eq, cases_lt}
 use Rattle.std.proofs.lemmas.Bool.Decides.{nat_tests}
 use Rattle.keep_tree.specs.declared.entry.Entry.{Entry}
 use Rattle.keep_tree.specs.Carried.{IsFrom, carried}
-use Rattle.keep_tree.specs.Forest.{end_of, entry_at}
+use Rattle.keep_tree.specs.Forest.{Grove, end_of, entry_at}
 use Rattle.keep_tree.specs.Over.{is_over}
-use Rattle.keep_tree.proofs.Carrying.{and_left, and_right}
+use Rattle.keep_tree.proofs.Carrying.{and_left, and_right, carried_at_least}
 use Rattle.keep_rule.specs.Forced.{bound}
 use Rattle.keep_rule.specs.Schedule.{IsNext, IsSchedule}
+use Rattle.keep_rule.specs.Unkeepable.{AllKeepable}
 use Rattle.keep_rule.proofs.Existence.{there_is_one}
+use Rattle.keep_rule.proofs.Keeping.{end_below_bound}
+use Rattle.keep_rule.proofs.Next.{can_be_led}
 use Rattle.keep_rule.proofs.Schedule.{schedule_is_best}
 use Rattle.keep_rule.specs.declared.force.Force.{Force}
 use Rattle.keep_rule.specs.Runs.{moments_of}
-use Rattle.keep_schedule.specs.Forces.{AreForced, AreForces, IsForce}
-use Rattle.keep_schedule.specs.Laws.{ForcesLaw}
+use Rattle.keep_schedule.specs.Forces.{AreForced, AreForces, AreLowest, IsForce}
+use Rattle.keep_schedule.specs.Laws.{ForcesLaw, LowestLaw}
 use Rattle.keep_schedule.proofs.Bridge.{carrier, forces_schedule, one_from}
 use Rattle.keep_schedule.proofs.Leading.{same_force}
 
@@ -126,3 +129,30 @@ forces_are_best g s forest keepable =
     let forces = forces_exist es g.margin s ends None schedule.0 schedule.1 in
     let best = schedule_is_best g s ends forest keepable (moments_of forces.0) (forces_schedule es g.margin s ends None forces.0 forces.1) in
     (forces.0, (forces.1, (λ ys are. one_list es g.margin s ends None ys forces.0 are forces.1, (forces_forced es g.margin s ends None forces.0 forces.1, (best.0, best.1.1.1)))))
+
+-- each force is the lowest pair that is Forced at its wake-up: whoever is Forced there falls short, by no later bound
+forces_lowest :
+    (g : Grove) (s : ℕ) (ends : ℕ → ℕ) → AllKeepable g s ends → (prev : Option ℕ) (xs : List Force) → AreForces g.entries g.margin s ends prev xs →
+    AreLowest g.entries g.margin s ends prev xs
+forces_lowest g s ends keepable prev [] forces = tt
+forces_lowest g s ends keepable prev (x ∷ xs) forces =
+    let es = g.entries in
+    let first = forces.0 in
+    let short = first.short in
+    let from : ends x.entry ≤ bound es ends prev x.entry = end_below_bound es ends prev x.entry in
+    let led = can_be_led g s ends keepable x.entry (omega arith) in
+    let room : s + g.margin ≤ ends x.entry = led.room in
+    let moment = first.moment in (
+      λ i f other.
+      let carries = carried_at_least es s i f other.over other.later in
+      let lacks = other.short in
+      let falls : bound es ends prev i < carried es s i = omega arith in
+      let near = first.least i falls in
+      let due = other.due in
+      let same : bound es ends prev i ≡ bound es ends prev x.entry = omega arith in
+      first.lowest i falls same,
+      (first.from, forces_lowest g s ends keepable (Some x.at) xs forces.1),
+    )
+
+pub forces_are_lowest : LowestLaw
+forces_are_lowest g s forest keepable xs forces = forces_lowest g s (end_of g.entries) keepable None xs forces

@@ -2,7 +2,7 @@
 use Rattle.std.proofs.Common.{ℕ, ◌+◌, ◌<◌, ◌≤◌, Option, Some, None, arith, inl, inr}
 use Rattle.std.proofs.lemmas.Bool.{cases_lt}
 use Rattle.keep_schedule.specs.Terms.{Ahead, Leads, Terms, deadline}
-use Rattle.keep_schedule.specs.Groups.{Grouped}
+use Rattle.keep_schedule.specs.code.Groups.{Grouped}
 use Rattle.keep_schedule.proofs.Leading.{ahead}
 
 -- what is grouped stays so at a later wake-up

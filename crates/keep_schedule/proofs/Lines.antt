@@ -1,7 +1,7 @@
 -- Lines: what stands in a line where one is put in front.
 use Rattle.std.proofs.Common.{◌≡◌, zero, suc, ◌⊎◌, List, ◌∷◌, refl, arith, inl, inr}
 use Rattle.std.specs.List.{Contains}
-use Rattle.keep_schedule.specs.Line.{Spot}
+use Rattle.keep_schedule.specs.code.Line.{Spot}
 
 pub contains_cons : (x y : Spot) (ys : List Spot) → Contains (y ∷ ys) x → (y ≡ x) ⊎ Contains ys x
 contains_cons x y ys (zero, h, e) = inl e

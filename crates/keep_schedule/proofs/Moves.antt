@@ -7,8 +7,8 @@ use Rattle.std.specs.List.{Contains}
 use Rattle.std.specs.List.Sorted.{IsPermutation}
 use Rattle.keep_schedule.specs.declared.groups.Groups.{Groups}
 use Rattle.keep_schedule.specs.declared.groups.Turn.TheVariants.{Comes, Leaves}
-use Rattle.keep_schedule.specs.Groups.{IsGrouped, IsKeyed, IsTurn, Shrinks, size}
-use Rattle.keep_schedule.specs.Line.{FirstOf, IsFirst, Lined, Spot, spot}
+use Rattle.keep_schedule.specs.code.Groups.{IsGrouped, IsKeyed, IsTurn, Shrinks, size}
+use Rattle.keep_schedule.specs.code.Line.{FirstOf, IsFirst, Lined, Spot, spot}
 use Rattle.keep_schedule.specs.Terms.{Ahead, Terms}
 use Rattle.keep_schedule.proofs.Lines.{contains_cons, contains_head, contains_more}
 

@@ -12,13 +12,13 @@ use Rattle.keep_schedule.specs.declared.groups.Next.{Next}
 use Rattle.keep_schedule.specs.declared.groups.Next.TheVariants.{Done, Joined, Waiting}
 use Rattle.keep_rule.specs.declared.run.Run.{Run}
 use Rattle.keep_schedule.specs.Courses.{IsToCome}
-use Rattle.keep_schedule.specs.Groups.{IsGrouped, IsKeyed, Joins, Settles, Waits}
-use Rattle.keep_schedule.specs.Line.{FirstOf, Lined, Spot, spot}
+use Rattle.keep_schedule.specs.code.Groups.{IsGrouped, IsKeyed, Joins, Settles, Waits}
+use Rattle.keep_schedule.specs.code.Line.{FirstOf, Lined, Spot, spot}
 use Rattle.keep_schedule.specs.Prospect.{Prospect, terms_of}
 use Rattle.keep_schedule.specs.Queues.{Fills, IsBegun, IsDue, IsReady}
 use Rattle.keep_rule.specs.Runs.{wakes, wakes_of}
 use Rattle.keep_schedule.specs.Given.{GivesHead, GivesRun, IsFirstRun}
-use Rattle.keep_schedule.specs.Stretches.{IsOther, Stretches}
+use Rattle.keep_schedule.specs.code.Stretches.{IsOther, Stretches}
 use Rattle.keep_schedule.specs.Terms.{Ahead, AreLed, IsSound, Leads, Terms, deadline}
 use Rattle.keep_schedule.proofs.Bridge.{need_past}
 use Rattle.keep_schedule.proofs.Grouping.{first_leads, join_leads, later, none_lacks, wait_leads}

@@ -3,7 +3,7 @@ use Rattle.std.proofs.Common.{◌≡◌, ℕ, zero, suc, ◌+◌, ◌-◌, ◌*�
 use Rattle.keep_rule.specs.declared.force.Force.{Force}
 use Rattle.keep_schedule.specs.Terms.{AreLed, Leads, Terms}
 use Rattle.keep_rule.specs.Runs.{wakes_of}
-use Rattle.keep_schedule.specs.Stretches.{LeadsAll}
+use Rattle.keep_schedule.specs.code.Stretches.{LeadsAll}
 use Rattle.keep_schedule.proofs.Leading.{one_leads, same_force}
 
 tail_leads : (t : Terms) (w d f n : ℕ) → LeadsAll t w d f (suc n) → LeadsAll t (w + d) d f n

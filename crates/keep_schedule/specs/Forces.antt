@@ -24,3 +24,9 @@ AreForces es margin s ends prev (x ∷ xs) = IsForce es margin s ends prev x × 
 abbrev pub AreForced : List Entry → ℕ → ℕ → (ℕ → ℕ) → Option ℕ → List Force → Type 0
 AreForced es margin s ends prev [] = Unit {0}
 AreForced es margin s ends prev (x ∷ xs) = Forced es margin s ends prev x.at x.entry x.needed × AreForced es margin s ends (Some x.at) xs
+
+-- each names the lowest entry that is Forced there by some needed one, and the from of what that entry carries
+abbrev pub AreLowest : List Entry → ℕ → ℕ → (ℕ → ℕ) → Option ℕ → List Force → Type 0
+AreLowest es margin s ends prev [] = Unit {0}
+AreLowest es margin s ends prev (x ∷ xs) =
+    ((i f : ℕ) → Forced es margin s ends prev x.at i f → x.entry ≤ i) × (IsFrom es s x.entry x.needed × AreLowest es margin s ends (Some x.at) xs)

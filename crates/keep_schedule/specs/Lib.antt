@@ -3,8 +3,6 @@ pub mod Given
 pub mod Terms
 pub mod Prospect
 pub mod Courses
-pub mod Line
-pub mod Groups
-pub mod Stretches
 pub mod Queues
 pub mod Laws
+pub mod code

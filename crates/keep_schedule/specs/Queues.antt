@@ -6,8 +6,8 @@ use Rattle.keep_schedule.specs.declared.groups.Groups.{Groups}
 use Rattle.keep_schedule.specs.declared.groups.Next.{Next}
 use Rattle.keep_schedule.specs.declared.groups.Next.TheVariants.{Done, Joined, Waiting}
 use Rattle.keep_schedule.specs.Courses.{Course}
-use Rattle.keep_schedule.specs.Groups.{IsGrouped, IsHead, IsKeyed, Joins, Waits, size}
-use Rattle.keep_schedule.specs.Line.{IsFirst, Lined, spot}
+use Rattle.keep_schedule.specs.code.Groups.{IsGrouped, IsHead, IsKeyed, Joins, Waits, size}
+use Rattle.keep_schedule.specs.code.Line.{IsFirst, Lined, spot}
 use Rattle.keep_schedule.specs.Terms.{Ahead, Leads, Terms, deadline}
 
 -- how far it has come, and how many runs at most are still to come

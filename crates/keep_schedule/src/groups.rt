@@ -1,8 +1,8 @@
 ghost use Rattle.std.specs.Prelude.{◌≡◌, ℕ, ◌+◌, ◌<◌, ◌≤◌, ◌∷◌, ◌↔◌, length, Some, IsTrue};
 ghost use Rattle.std.specs.List.Sorted.{IsPermutation};
 ghost use Rattle.keep_moment.specs.declared.moment.TheConstants.{LAST};
-ghost use Rattle.keep_schedule.specs.Groups.{IsFiled, IsGrouped, IsTurn, Settles};
-ghost use Rattle.keep_schedule.specs.Line.{IsFirst, Spot, spot};
+ghost use Rattle.keep_schedule.specs.code.Groups.{IsFiled, IsGrouped, IsTurn, Settles};
+ghost use Rattle.keep_schedule.specs.code.Line.{IsFirst, Spot, spot};
 ghost use Rattle.keep_schedule.specs.Prospect.{terms_of};
 ghost use Rattle.keep_schedule.specs.Terms.{Ahead};
 

@@ -1,6 +1,6 @@
 ghost use Rattle.std.specs.Prelude.{◌≡◌, ℕ, ◌<◌, ◌≤◌, [], ◌∷◌, length, IfOk};
 ghost use Rattle.std.specs.List.Sorted.{IsPermutation};
-ghost use Rattle.keep_schedule.specs.Line.{FirstOf, IsFirst, Spot, spot};
+ghost use Rattle.keep_schedule.specs.code.Line.{FirstOf, IsFirst, Spot, spot};
 
 use std::alloc::{AllocError, Global};
 use std::cmp::Reverse;
@@ -15,7 +15,7 @@ pub(crate) struct Line {
 
 impl Model for Line {
     ghost use Rattle.std.specs.BinaryHeap.{IsHeap, heap_capacity, heap_items};
-    ghost use Rattle.keep_schedule.specs.Line.{Lined, falling};
+    ghost use Rattle.keep_schedule.specs.code.Line.{Lined, falling};
 
     ghost Value = { Lined };
 

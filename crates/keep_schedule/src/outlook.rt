@@ -39,6 +39,7 @@ impl<'a> Outlook<'a> {
         ensures value { result ≡ record { grove = forest.now; loads = carried.now } }
         ensures sound { IsForest forest.now }
     {
+        // Its contract says that the forest is one, which the proof needs here.
         let _entries = forest.len();
         Outlook { forest, carried }
     }

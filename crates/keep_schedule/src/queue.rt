@@ -6,7 +6,7 @@ ghost use Rattle.keep_needs.specs.Carried.{IsCarried};
 ghost use Rattle.keep_rule.specs.declared.force.Force.{Force};
 ghost use Rattle.keep_schedule.specs.Courses.{IsToCome, IsWithin};
 ghost use Rattle.keep_schedule.specs.Forces.{AreForces};
-ghost use Rattle.keep_schedule.specs.Groups.{Waits};
+ghost use Rattle.keep_schedule.specs.code.Groups.{Waits};
 ghost use Rattle.keep_schedule.specs.Prospect.{terms_of};
 ghost use Rattle.keep_schedule.specs.Queues.{Fills, IsBegun, IsReady, runs_left};
 ghost use Rattle.keep_schedule.specs.Given.{GivesRun, LeavesFewer};

@@ -1,8 +1,8 @@
 ghost use Rattle.std.specs.Prelude.{◌≡◌, ℕ, ◌+◌, ◌<◌, ◌≤◌, ◌⊎◌, ◌↔◌, length, Some, IsTrue};
 ghost use Rattle.keep_moment.specs.declared.moment.TheConstants.{LAST};
-ghost use Rattle.keep_schedule.specs.Groups.{IsGrouped, IsHead, Joins, Waits};
+ghost use Rattle.keep_schedule.specs.code.Groups.{IsGrouped, IsHead, Joins, Waits};
 ghost use Rattle.keep_schedule.specs.Prospect.{terms_of};
-ghost use Rattle.keep_schedule.specs.Stretches.{IsOther, Stretches};
+ghost use Rattle.keep_schedule.specs.code.Stretches.{IsOther, Stretches};
 ghost use Rattle.keep_schedule.specs.Terms.{IsSound, Leads};
 
 use crate::groups::{Groups, Next, settle};

@@ -40,4 +40,11 @@ impl Indices {
     {
         &self.items
     }
+
+    /// Gives the list back, without taking memory.
+    pub fn into_vec(self) -> Vec<u32>
+        ensures { result.items ≡ self }
+    {
+        self.items
+    }
 }

@@ -10,6 +10,7 @@ mod entry;
 mod fault;
 mod forest;
 mod indices;
+mod limits;
 #[cfg(test)]
 mod tests;
 
@@ -18,3 +19,4 @@ pub use entry::{Entry, Kind};
 pub use fault::TreeFault;
 pub use forest::{END_MAX, Forest, MARGIN_MAX, MAX_DEPTH, MAX_ENTRIES, NAME_MAX};
 pub use indices::Indices;
+pub use limits::limits_law;

@@ -29,6 +29,19 @@ Example:
 
 Exit status: 0 done, 1 inventory, 2 command line, 3 unkeepable, 5 more than 10000000 wake-ups, 6 read or write, 7 memory";
 
+const REACH_ABOUT: &str =
+    "Shows until when each entry can live, and whether every need can be kept";
+
+const REACH_AFTER: &str = "\
+A line `NAME UNTIL BY NEED` for each entry: UNTIL is the moment at which it ends at the latest, `always` where nothing limits
+it; BY the entry whose ceiling or end that is, itself or a token over it; NEED until when it is needed, 0 where it is not.
+Then `keeps yes` where some plan from START on keeps every entry until its need, else `keeps no`.
+
+Example:
+  leasekeep reach web.toml 1000
+
+Exit status: 0 done, 1 inventory, 2 command line, 6 read or write, 7 memory";
+
 const CHECK_ABOUT: &str = "Judges a certificate by an inventory, whoever wrote it";
 
 const CHECK_AFTER: &str = "\
@@ -53,6 +66,7 @@ fn leasekeep<'a>(alloc: Global) -> Result<Command<'a>, AllocError> {
         .arg_required_else_help(true)
         .subcommand(ends(alloc)?)?
         .subcommand(plan(alloc)?)?
+        .subcommand(reach(alloc)?)?
         .subcommand(check(alloc)?)
 }
 
@@ -81,6 +95,21 @@ fn plan<'a>(alloc: Global) -> Result<Command<'a>, AllocError> {
         .after_help(PLAN_AFTER)
         .arg(file(alloc)?)?
         .arg(moment(alloc, "START", "The moment from which entries are kept")?.required(true))
+}
+
+/// `reach FILE START [--dates]`
+fn reach<'a>(alloc: Global) -> Result<Command<'a>, AllocError> {
+    Command::new(alloc, "reach")
+        .about(REACH_ABOUT)
+        .after_help(REACH_AFTER)
+        .arg(file(alloc)?)?
+        .arg(moment(alloc, "START", "The moment from which entries are kept")?.required(true))?
+        .arg(
+            Arg::new(alloc, "dates")
+                .long("dates")
+                .help("Shows moments as dates of RFC 3339, as far as they have one")
+                .action(ArgAction::SetTrue),
+        )
 }
 
 /// `check FILE CERT`

@@ -15,7 +15,13 @@ pub fn run<R: Env + Files + AllocGlobal + Print + Eprint, E: Write + Drop>(
     match read_command(rt, &mut errors) {
         Ok(command) => {
             let mut out = Counted::new(io::writer(rt));
-            obey(rt.alloc(), &command, &mut Disk { rt }, &mut out, &mut errors)
+            obey(
+                rt.alloc(),
+                &command,
+                &mut Disk { rt },
+                &mut out,
+                &mut errors,
+            )
         }
         Err(exit) => exit,
     }

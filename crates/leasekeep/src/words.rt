@@ -9,6 +9,7 @@ use std::rt::Env;
 use std::{env, io};
 
 const NOT_UTF8: &[u8] = b"error: a word of the command line is not UTF-8\n";
+
 const UNREADABLE: &[u8] = b"error: a value of the command line is unreadable\n";
 
 /// Why the matches of a command line give no command.
@@ -93,6 +94,11 @@ fn command_of(alloc: Global, matches: &ArgMatches<'_>) -> Result<Command, Unread
         Some(("plan", matches)) => Ok(Command::Plan {
             file: word(alloc, matches, "FILE")?,
             start: start(matches)?,
+        }),
+        Some(("reach", matches)) => Ok(Command::Reach {
+            file: word(alloc, matches, "FILE")?,
+            start: start(matches)?,
+            dates: matches.get_flag("dates"),
         }),
         Some(("check", matches)) => Ok(Command::Check {
             file: word(alloc, matches, "FILE")?,

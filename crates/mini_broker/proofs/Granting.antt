@@ -1,6 +1,6 @@
 -- One renewal that is served without a fault: what a request for an entry asks is granted to exactly the renewal rule's end
 -- where the rule grants it, and is refused elsewhere.
-use Rattle.std.proofs.Common.{◌≡◌, ◌==◌, ℕ, ◌+◌, ◌<◌, ◌≤◌, ◌&&◌, Bool, true, false, not, cond, List, Option, Some, None, is_none, Result, Ok, Err, bytes_eq, length, option_map, refl, sym, ap, ◌∙◌, arith, inl, inr}
+use Rattle.std.proofs.Common.{◌≡◌, ◌==◌, ℕ, ◌+◌, ◌<◌, ◌&&◌, Bool, true, false, not, cond, List, Option, Some, None, is_none, Result, Ok, Err, bytes_eq, length, option_map, refl, sym, ap, ◌∙◌, arith, inl, inr}
 use Rattle.std.proofs.lemmas.Bool.{cases_Bool, cond-true, cond-false}
 use Rattle.std.specs.Cmp.Lexicographic.{bytes_decides}
 use Rattle.keep_tree.specs.declared.entry.Entry.{Entry}
@@ -19,16 +19,16 @@ use Rattle.mini_broker.specs.declared.call.Call.{Call}
 use Rattle.mini_broker.specs.declared.call.Call.TheVariants.{RenewSelf, RenewLease}
 use Rattle.mini_broker.specs.declared.refusal.Refusal.{Refusal}
 use Rattle.mini_broker.specs.declared.refusal.Refusal.TheVariants.{NotRenewable, PermissionDenied, UnknownLease, UnsupportedMethod}
-use Rattle.mini_broker.specs.Faults.{fault_at, next_number, without}
+use Rattle.mini_broker.specs.Faults.{fault_at, next_number}
 use Rattle.mini_broker.specs.Granted.{AsksRenewal, asked_for, bearer_for, call_for, renewed_row}
 use Rattle.mini_broker.specs.Laws.{RenewalIsByTheRule, UngrantedIsRefused}
 use Rattle.mini_broker.specs.Ledger.{Ledger}
 use Rattle.mini_broker.specs.Listed.{is_alive, listed}
-use Rattle.mini_broker.specs.Renewing.{granted, new_end, renewal as renewal_served, step_of, with_row}
+use Rattle.mini_broker.specs.Renewing.{granted, new_end, renewal as renewal_served, step_of}
 use Rattle.mini_broker.specs.Request.{asked, is_write}
 use Rattle.mini_broker.specs.Rows.{row_of}
-use Rattle.mini_broker.specs.Step.{after_sweep, by_call, counted, refuses as refused, renews, step, tells}
-use Rattle.mini_broker.specs.Subject.{Subject, bearer, is_lease_with, is_token_with, lease_with, belongs, owned, subject, token_with, with_asked, with_bearer}
+use Rattle.mini_broker.specs.Step.{after_sweep, by_call, counted, refuses as refused, renews, step}
+use Rattle.mini_broker.specs.Subject.{bearer, is_lease_with, is_token_with, lease_with, belongs, owned, subject, token_with, with_asked, with_bearer}
 use Rattle.mini_broker.specs.Sweep.{swept}
 use Rattle.mini_broker.proofs.Ranges.{found_lone, found_none}
 use Rattle.mini_broker.proofs.Sweeping.{alive_up}

@@ -1,5 +1,5 @@
 -- Lines: what is read up to a line feed, and that a line of a moment stands in front of an input in one way alone.
-use Rattle.std.proofs.Common.{◌≡◌, ◌==◌, ℕ, ◌+◌, ◌<◌, ◌≤◌, ◌^◌, not, Bool, true, false, ◌&&◌, List, [], ◌∷◌, ◌++◌, Option, Some, None, IfSome, IfOk, Result, Ok, Err, length, refl, sym, ap, ◌∙◌, subst, arith, rules, inl, inr}
+use Rattle.std.proofs.Common.{◌≡◌, ◌==◌, ℕ, ◌<◌, ◌≤◌, not, true, false, ◌&&◌, List, [], ◌∷◌, ◌++◌, Option, Some, None, IfSome, length, refl, sym, ap, ◌∙◌, arith, rules, inl, inr}
 use Rattle.std.specs.Char.{is_ascii_digit}
 use Rattle.std.specs.Io.KnownBytes.{Consumes, IsAtEnd}
 use Rattle.std.specs.List.{list_all}
@@ -14,7 +14,7 @@ use Rattle.std.proofs.lemmas.Str.Parse.{IsNumeralModel, numerals_by_value}
 use Rattle.std.proofs.Math.ListN.{length-append}
 use Rattle.keep_moment.specs.declared.moment.TheConstants.{LAST}
 use Rattle.mini_broker.specs.declared.moment_line.TheConstants.{MOST_LINE}
-use Rattle.mini_broker.specs.MomentLine.{BeginsWith, HasNoLine, HasNoMoment, IsOneLine, moment_line}
+use Rattle.mini_broker.specs.MomentLine.{HasNoLine, HasNoMoment, IsOneLine}
 
 -- ---- what is read piece by piece
 

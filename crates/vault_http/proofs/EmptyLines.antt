@@ -1,6 +1,6 @@
 -- Empty lines: a head and a body in chunks end with one.
-use Rattle.std.proofs.Common.{◌≡◌, ℕ, ◌+◌, ◌-◌, ◌<◌, ◌≤◌, ◌⊎◌, inl, inr, Bool, true, false, cond, nat_eq, List, [], ◌∷◌, ◌++◌, length, take, drop, refl, sym, ap, ◌∙◌, arith, append_assoc, length-append, take-append-drop, append-nil, take_while, IsTrue, ◌&&◌}
-use Rattle.std.proofs.lemmas.Bool.{cases_lt, and_from}
+use Rattle.std.proofs.Common.{◌≡◌, ℕ, ◌+◌, ◌-◌, ◌<◌, ◌≤◌, Bool, true, false, cond, nat_eq, List, [], ◌∷◌, ◌++◌, length, take, drop, refl, sym, ap, ◌∙◌, arith, append_assoc, length-append, take-append-drop, append-nil, take_while, IsTrue, ◌&&◌}
+use Rattle.std.proofs.lemmas.Bool.{and_from}
 use Rattle.std.proofs.lemmas.List.{take_at, take-append-le, drop-append-le, length-take-le}
 use Rattle.std.proofs.lemmas.List.Folds.{list_all-append}
 use Rattle.httparse.specs.Grammar.{LineEnd, crlf, lf, print_end, Field, print_field, print_section, ResponseHead, print_response, RequestHead, print_request, print_blank, print_version, print_reason}
@@ -85,40 +85,6 @@ line_behind last xs more p r e ends short = record {
   bytes_are = e ∙ ap (λ t. t ++ r) ends.1 ∙ append_assoc ends.0 (empty_line last) r;
   behind = omega (arith, short, ap length ends.1, length-append ends.0 (empty_line last));
 }
-
--- ---- where the empty line stands
-
--- an empty line behind some bytes of the rest is one behind as many bytes of the whole
-pub line_in_rest : (front rest : List ℕ) (n : ℕ) → HasLineBehind n rest → HasLineBehind (length front + n) (front ++ rest)
-line_in_rest front rest n h = record {
-  front = front ++ h.front;
-  end = h.end;
-  rest = h.rest;
-  bytes_are = ap (λ t. front ++ t) h.bytes_are ∙ sym (append_assoc front h.front (10 ∷ (print_end h.end ++ h.rest)));
-  behind = omega (arith, h.behind, length-append front h.front);
-}
-
--- an empty line of a text that goes on: within it, or behind it
-pub line_where : (n : ℕ) (xs more : List ℕ) → HasLineBehind n (xs ++ more) → HasLineBehind n xs ⊎ HasLineBehind (length xs) (xs ++ more)
-line_where n xs more h =
-    let p = h.front ++ empty_line h.end in
-    let long : length p ≡ length h.front + 1 + length (print_end h.end) = length-append h.front (empty_line h.end) ∙ omega arith in
-    let whole : xs ++ more ≡ p ++ h.rest = h.bytes_are ∙ sym (append_assoc h.front (empty_line h.end) h.rest) in
-    elim (cases_lt (length xs) (length p)) [
-      | inl short ↦ inr (line_behind h.end xs more p h.rest whole (h.front, refl) short)
-      | inr within ↦ inl (record {
-        front = h.front;
-        end = h.end;
-        rest = drop (length p) xs;
-        bytes_are = front_split xs more p h.rest whole within ∙ append_assoc h.front (empty_line h.end) (drop (length p) xs);
-        behind = h.behind;
-      })
-    ]
-
--- the empty line ends within the text
-pub line_within : (n : ℕ) (bytes : List ℕ) → HasLineBehind n bytes → n < length bytes
-line_within n bytes h =
-    omega (arith, h.behind, ap length h.bytes_are, length-append h.front (10 ∷ (print_end h.end ++ h.rest)), length-append (print_end h.end) h.rest)
 
 -- ---- looking for one
 

@@ -4,10 +4,10 @@ use Rattle.std.proofs.lemmas.List.{take_more, map-append}
 use Rattle.std.proofs.lemmas.List.Elements.{filter-append}
 use Rattle.httparse.specs.declared.spans.Span.{Span}
 use Rattle.httparse.specs.Spans.{span_bytes, IsWithin}
-use Rattle.vault_http.specs.declared.lone.Lone.{Lone}
-use Rattle.vault_http.specs.declared.lone.Lone.TheVariants.{Absent, One, Several}
+use Rattle.vault_http.specs.declared.named_field.Lone.{Lone}
+use Rattle.vault_http.specs.declared.named_field.Lone.TheVariants.{Absent, One, Several}
 use Rattle.vault_http.specs.Fields.{is_named, values_of}
-use Rattle.vault_http.specs.Lone.{IsLone, and_lone}
+use Rattle.vault_http.specs.NamedField.{IsLone, and_lone}
 
 -- the values with one field more
 abbrev pub and_value : Bool → List (List ℕ) → List ℕ → List (List ℕ)

@@ -1,6 +1,6 @@
 -- Judging a message by a part of it: what holds of its first bytes holds of every input that goes on from them.
-use Rattle.std.proofs.Common.{◌≡◌, ℕ, ◌+◌, ◌-◌, ◌<◌, ◌≤◌, inl, inr, Bool, true, false, IsTrue, List, [], ◌++◌, length, take, drop, refl, sym, ap, ◌∙◌, arith, append_assoc, append-nil, subst, length-append, length-drop, take-append-drop, Option, None, Some, IfSome, Result, Ok, Err}
-use Rattle.std.proofs.lemmas.List.{take_all, take-append-le, drop_at, length-take, take_rest}
+use Rattle.std.proofs.Common.{◌≡◌, ℕ, ◌+◌, ◌-◌, ◌≤◌, inl, inr, Bool, true, false, IsTrue, List, [], ◌++◌, length, take, drop, refl, sym, ap, ◌∙◌, arith, append_assoc, subst, length-append, take-append-drop, Option, None, Some, IfSome, Result, Ok, Err}
+use Rattle.std.proofs.lemmas.List.{drop_at, length-take}
 use Rattle.std.specs.Io.KnownBytes.{Consumes, IsAtEnd}
 use Rattle.httparse.specs.Grammar.{print_response, ReadsResponse, status_code}
 use Rattle.httparse.specs.Spans.{ResponseOverflows}
@@ -12,10 +12,12 @@ use Rattle.vault_http.specs.declared.framing.LengthFault.TheVariants as lengths
 use Rattle.vault_http.specs.declared.http_fault.HttpFault.{HttpFault}
 use Rattle.vault_http.specs.declared.http_fault.HttpFault.TheVariants.{ReadFailed, BadHead, BadLength, BadChunk, Truncated, TooLong, TwoLengths, OutOfMemory}
 use Rattle.vault_http.specs.declared.reply.Reply.{Reply}
-use Rattle.vault_http.specs.Heads.{most_fields, FoundReply, framing_of_response}
+use Rattle.vault_http.specs.Body.{HasBody}
+use Rattle.vault_http.specs.Heads.{FoundReply, framing_of_response}
 use Rattle.vault_http.specs.Messages.{IsHeadless, IsOpenReply, IsBehind, is_informational, reply_of, IsReply, UnlessMemory, body_fault, length_fault}
 use Rattle.vault_http.specs.Reading.{Settles, CountsMessage}
 use Rattle.vault_http.proofs.Fronts.{take-grows}
+use Rattle.vault_http.specs.declared.found_head.TheConstants.{MOST_FIELDS}
 
 -- ---- no head
 
@@ -24,12 +26,12 @@ unless (Ok x) P p = p
 unless (Err OutOfMemory) P p = tt
 unless (Err fault) P p = p
 
-overflows_on : (front more : List ℕ) → ResponseOverflows most_fields front → ResponseOverflows most_fields (front ++ more)
+overflows_on : (front more : List ℕ) → ResponseOverflows MOST_FIELDS front → ResponseOverflows MOST_FIELDS (front ++ more)
 overflows_on front more over after h rest reads = over (more ++ after) h rest (subst (λ b. ReadsResponse b h rest) (append_assoc front more after) reads)
 
-pub refused_reply : (max : ℕ) (bytes more : List ℕ) → ResponseOverflows most_fields (take max bytes) → IsReply max (bytes ++ more) (Err BadHead)
+pub refused_reply : (max : ℕ) (bytes more : List ℕ) → ResponseOverflows MOST_FIELDS (take max bytes) → IsReply max (bytes ++ more) (Err BadHead)
 refused_reply max bytes more over =
-    inl (BadHead, subst (ResponseOverflows most_fields) (sym (take-grows max bytes more)) (overflows_on (take max bytes) (take (max - length bytes) more) over), refl)
+    inl (BadHead, subst (ResponseOverflows MOST_FIELDS) (sym (take-grows max bytes more)) (overflows_on (take max bytes) (take (max - length bytes) more) over), refl)
 
 -- ---- a head
 
@@ -55,14 +57,10 @@ headed_reply max bytes more len status framed a f behind =
     let by_len = subst (λ k. IsBehind (is_informational (status_code f.head)) (status_code f.head) (framing_of_response f.head) (max - k) rest a) f.len_is by_framing in
     inr (record { head = f.head; rest = rest; reads = (f.reads.0, on.0); few = f.few; within = on.1; behind = by_len })
 
-pub unless_map : {A : Type 0} (a : Result A HttpFault) (P Q : Type 0) → (P → Q) → UnlessMemory a P → UnlessMemory a Q
-unless_map (Ok x) P Q f p = f p
-unless_map (Err OutOfMemory) P Q f p = tt
-unless_map (Err fault) P Q f p = f p
-
--- more than may be read leaves more than may be read behind the head
-pub over_rest : (max : ℕ) (bytes : List ℕ) (len : ℕ) → len ≤ max → max < length bytes → max - len < length (take (length bytes - len) (drop len bytes))
-over_rest max bytes len within over = omega (arith, ap length (take_rest bytes len), length-drop len bytes)
+-- a body behind the head, where the head says how long it is
+abbrev pub HasBodyOf : Result Framing LengthFault → ℕ → List ℕ → Type 0
+HasBodyOf (Ok framed) room rest = HasBody framed room rest
+HasBodyOf (Err fault) room rest = ⊥
 
 -- ---- no answer but a failed read is `ReadFailed`
 
@@ -96,7 +94,7 @@ not_behind false status (Err f) room rest e = not_length f (cc)
 not_behind false status (Ok f) room rest h = not_reply_of status h.0 (sym h.2)
 
 pub not_read_failed : (max : ℕ) (bytes : List ℕ) → IsReply max bytes (Err ReadFailed) → ⊥
-not_read_failed max bytes (inl h) = not_headless IsOpenReply (ResponseOverflows most_fields) max bytes h.0 h.1 (cc (h.2))
+not_read_failed max bytes (inl h) = not_headless IsOpenReply (ResponseOverflows MOST_FIELDS) max bytes h.0 h.1 (cc (h.2))
 not_read_failed max bytes (inr h) = not_behind (is_informational (status_code h.head)) (status_code h.head) (framing_of_response h.head) (max - length (print_response h.head)) h.rest h.behind
 
 -- ---- reading

@@ -8,16 +8,14 @@ use Rattle.httparse.proofs.GrammarLemmas.{print_response-append, response_unique
 use Rattle.vault_http.specs.declared.body.BodyFault.{BodyFault}
 use Rattle.vault_http.specs.declared.framing.Framing.{Framing}
 use Rattle.vault_http.specs.declared.framing.LengthFault.{LengthFault}
-use Rattle.vault_http.specs.declared.http_fault.HttpFault.{HttpFault}
 use Rattle.vault_http.specs.declared.http_fault.HttpFault.TheVariants.{ReadFailed, BadHead}
 use Rattle.vault_http.specs.declared.reply.Reply.{Reply}
 use Rattle.vault_http.specs.EmptyLine.{HasLineBehind, is_blank}
-use Rattle.vault_http.specs.Body.{HasBody, IsBody}
 use Rattle.vault_http.specs.Heads.{FoundReply, framing_of_response}
 use Rattle.vault_http.specs.Known.{IsHeaded, whole_of}
 use Rattle.vault_http.specs.Messages.{IsBehind, IsReply, is_informational, length_fault, reply_of, reply_with}
 use Rattle.vault_http.proofs.EmptyLines.{front_split, line_behind, response_ends, not_blank}
-use Rattle.vault_http.proofs.MessageLemmas.{head_on, headed_reply, not_read_failed}
+use Rattle.vault_http.proofs.MessageLemmas.{HasBodyOf, head_on, headed_reply, not_read_failed}
 
 pub never_read_failed : (max : ℕ) (bytes : List ℕ) → IsReply max bytes (Err ReadFailed) → ⊥
 never_read_failed max bytes h = not_read_failed max bytes h
@@ -64,11 +62,6 @@ pub lengthless_reply : (max : ℕ) (bytes more : List ℕ) (len status : ℕ) (f
 lengthless_reply max bytes more len status fault f e =
     headed_reply max bytes more len status (Err fault) (Err (length_fault fault)) f
     (subst (λ b. IsBehind b status (Err fault) (max - len) (drop len bytes ++ more) (Err (length_fault fault))) (sym e) refl)
-
--- a body behind the head, where the head says how long it is
-abbrev HasBodyOf : Result Framing LengthFault → ℕ → List ℕ → Type 0
-HasBodyOf (Ok framed) room rest = HasBody framed room rest
-HasBodyOf (Err fault) room rest = ⊥
 
 reply_body : (b : Bool) (status : ℕ) (framed : Result Framing LengthFault) (room : ℕ) (rest : List ℕ) (message : Reply) → IsBehind b status framed room rest (Ok message) → HasBodyOf framed room rest
 reply_body true status framed room rest message e = absurd (cc (e))

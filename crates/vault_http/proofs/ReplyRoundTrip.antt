@@ -20,12 +20,13 @@ use Rattle.vault_http.specs.declared.http_fault.HttpFault.TheVariants.{ReadFaile
 use Rattle.vault_http.specs.declared.reply.Reply.{Reply}
 use Rattle.vault_http.specs.Body.{counted_body}
 use Rattle.vault_http.specs.Framing.{framing, framing_by, counted, transfer_encoding, content_length, reply_framing}
-use Rattle.vault_http.specs.Heads.{most_fields, framing_of_response}
+use Rattle.vault_http.specs.Heads.{framing_of_response}
 use Rattle.vault_http.specs.Messages.{IsHeadless, IsOpenReply, IsFramed, IsBehind, is_informational, reply_of, IsReply}
 use Rattle.vault_http.specs.RoundTrip.{is_sent, ReadsBackReply}
 use Rattle.vault_http.specs.Written.{reply_text, status_line, length_lines, last_lines, phrase}
 use Rattle.vault_http.proofs.DecimalLemmas.{decimal_digits, digits_pass, digits_trimmed, length_known}
 use Rattle.vault_http.proofs.Fronts.{take-grows}
+use Rattle.vault_http.specs.declared.found_head.TheConstants.{MOST_FIELDS}
 
 -- ---- the head as a tree
 
@@ -111,8 +112,8 @@ written_framing status n w few =
 
 -- ---- the one answer
 
-headless : (max : ℕ) (bytes rest : List ℕ) (head : ResponseHead) (fault : HttpFault) → ReadsResponse bytes head rest → length head.fields ≤ most_fields → length (print_response head) ≤ max
-    → IsHeadless IsOpenReply (λ b. (more : List ℕ) (h : ResponseHead) (left : List ℕ) → ReadsResponse (b ++ more) h left → most_fields < length h.fields) max bytes fault → ⊥
+headless : (max : ℕ) (bytes rest : List ℕ) (head : ResponseHead) (fault : HttpFault) → ReadsResponse bytes head rest → length head.fields ≤ MOST_FIELDS → length (print_response head) ≤ max
+    → IsHeadless IsOpenReply (λ b. (more : List ℕ) (h : ResponseHead) (left : List ℕ) → ReadsResponse (b ++ more) h left → MOST_FIELDS < length h.fields) max bytes fault → ⊥
 headless max bytes rest head ReadFailed reads few within h = h
 headless max bytes rest head BadHead reads few within h =
     let over = h (drop max bytes) head rest (subst (λ b. ReadsResponse b head rest) (sym (take-append-drop max bytes)) reads) in

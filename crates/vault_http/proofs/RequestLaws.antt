@@ -9,18 +9,16 @@ use Rattle.httparse.proofs.GrammarLemmas.{print_request-append, request_unique}
 use Rattle.vault_http.specs.declared.body.BodyFault.{BodyFault}
 use Rattle.vault_http.specs.declared.framing.Framing.{Framing}
 use Rattle.vault_http.specs.declared.framing.LengthFault.{LengthFault}
-use Rattle.vault_http.specs.declared.heads.Start.{Start}
-use Rattle.vault_http.specs.declared.http_fault.HttpFault.{HttpFault}
+use Rattle.vault_http.specs.declared.found_head.Start.{Start}
 use Rattle.vault_http.specs.declared.http_fault.HttpFault.TheVariants.{ReadFailed, TooLong, Truncated}
 use Rattle.vault_http.specs.declared.request.Request.{Request}
 use Rattle.vault_http.specs.EmptyLine.{HasLineBehind, is_blank}
-use Rattle.vault_http.specs.Body.{HasBody, IsBody}
 use Rattle.vault_http.specs.Heads.{FoundRequest, framing_of_request, token_of}
 use Rattle.vault_http.specs.Known.{IsHeaded, whole_of}
 use Rattle.vault_http.specs.Messages.{IsFramed, IsOpenRequest, IsRequest, request_of, request_with}
 use Rattle.vault_http.specs.Starts.{request_at}
 use Rattle.vault_http.proofs.EmptyLines.{front_split, line_behind, request_ends, not_blank}
-use Rattle.vault_http.proofs.MessageLemmas.{head_on}
+use Rattle.vault_http.proofs.MessageLemmas.{HasBodyOf, head_on}
 use Rattle.vault_http.proofs.RequestLemmas.{headed_request, not_read_failed}
 
 pub never_read_failed : (max : ℕ) (bytes : List ℕ) → IsRequest max bytes (Err ReadFailed) → ⊥
@@ -53,11 +51,6 @@ open_request max bytes short o =
     (inl (Truncated, (short, all), refl), all.0)
 
 -- ---- behind a head
-
--- a body behind the head, where the head says how long it is
-abbrev HasBodyOf : Result Framing LengthFault → ℕ → List ℕ → Type 0
-HasBodyOf (Ok framed) room rest = HasBody framed room rest
-HasBodyOf (Err fault) room rest = ⊥
 
 request_body : (method path : List ℕ) (token : Option (List ℕ)) (framed : Result Framing LengthFault) (room : ℕ) (rest : List ℕ) (message : Request)
     → IsFramed (request_of method path token) framed room rest (Ok message) → HasBodyOf framed room rest

@@ -1,30 +1,30 @@
 -- Judging a request by a part of it, as `MessageLemmas` does a reply.
-use Rattle.std.proofs.Common.{◌≡◌, ℕ, ◌-◌, inl, inr, Bool, IsTrue, List, [], ◌++◌, length, take, drop, refl, sym, append_assoc, subst, map, Option, None, Some, option_map, Result, Ok, Err}
-use Rattle.std.proofs.lemmas.List.{take_rest}
+use Rattle.std.proofs.Common.{◌≡◌, ℕ, ◌-◌, inl, inr, List, ◌++◌, length, take, drop, refl, sym, append_assoc, subst, map, Option, None, Some, option_map, Result, Ok, Err}
 use Rattle.http.specs.Token as header
 use Rattle.httparse.specs.declared.spans.Span.{Span}
 use Rattle.httparse.specs.Grammar as grammar
-use Rattle.httparse.specs.Grammar.{RequestHead, print_request, ReadsRequest}
+use Rattle.httparse.specs.Grammar.{print_request, ReadsRequest}
 use Rattle.httparse.specs.Spans.{RequestOverflows, span_bytes, name_and_value}
 use Rattle.vault_http.specs.declared.body.BodyFault.{BodyFault}
 use Rattle.vault_http.specs.declared.framing.Framing.{Framing}
 use Rattle.vault_http.specs.declared.framing.LengthFault.{LengthFault}
-use Rattle.vault_http.specs.declared.heads.Start.{Start}
+use Rattle.vault_http.specs.declared.found_head.Start.{Start}
 use Rattle.vault_http.specs.declared.http_fault.HttpFault.{HttpFault}
 use Rattle.vault_http.specs.declared.http_fault.HttpFault.TheVariants.{ReadFailed, BadHead}
 use Rattle.vault_http.specs.declared.request.Request.{Request}
-use Rattle.vault_http.specs.Heads.{most_fields, FoundRequest, framing_of_request, token_of, IsAt}
-use Rattle.vault_http.specs.Messages.{IsOpenRequest, IsFramed, request_of, IsRequest, UnlessMemory}
+use Rattle.vault_http.specs.Heads.{FoundRequest, framing_of_request, token_of, IsAt}
+use Rattle.vault_http.specs.Messages.{IsOpenRequest, IsFramed, request_of, IsRequest}
 use Rattle.vault_http.specs.Starts.{IsStart, IsTokenWithin, request_at}
 use Rattle.vault_http.proofs.Fronts.{take-grows}
-use Rattle.vault_http.proofs.MessageLemmas.{ head_on, not_headless, not_length, not_body}
+use Rattle.vault_http.proofs.MessageLemmas.{head_on, not_headless, not_length, not_body}
+use Rattle.vault_http.specs.declared.found_head.TheConstants.{MOST_FIELDS}
 
-overflows_on : (front more : List ℕ) → RequestOverflows most_fields front → RequestOverflows most_fields (front ++ more)
+overflows_on : (front more : List ℕ) → RequestOverflows MOST_FIELDS front → RequestOverflows MOST_FIELDS (front ++ more)
 overflows_on front more over after h rest reads = over (more ++ after) h rest (subst (λ b. ReadsRequest b h rest) (append_assoc front more after) reads)
 
-pub refused_request : (max : ℕ) (bytes more : List ℕ) → RequestOverflows most_fields (take max bytes) → IsRequest max (bytes ++ more) (Err BadHead)
+pub refused_request : (max : ℕ) (bytes more : List ℕ) → RequestOverflows MOST_FIELDS (take max bytes) → IsRequest max (bytes ++ more) (Err BadHead)
 refused_request max bytes more over =
-    inl (BadHead, subst (RequestOverflows most_fields) (sym (take-grows max bytes more)) (overflows_on (take max bytes) (take (max - length bytes) more) over), refl)
+    inl (BadHead, subst (RequestOverflows MOST_FIELDS) (sym (take-grows max bytes more)) (overflows_on (take max bytes) (take (max - length bytes) more) over), refl)
 
 -- the token that the span covers
 token_at : (front : List ℕ) (token : Option Span) (value : Option (List ℕ)) → IsAt front token value → option_map (span_bytes front) token ≡ value
@@ -72,5 +72,5 @@ not_framed method path token (Err f) room rest e = not_length f (cc)
 not_framed method path token (Ok f) room rest h = not_request_of method path token h.0 (sym h.2)
 
 pub not_read_failed : (max : ℕ) (bytes : List ℕ) → IsRequest max bytes (Err ReadFailed) → ⊥
-not_read_failed max bytes (inl h) = not_headless IsOpenRequest (RequestOverflows most_fields) max bytes h.0 h.1 (cc (h.2))
+not_read_failed max bytes (inl h) = not_headless IsOpenRequest (RequestOverflows MOST_FIELDS) max bytes h.0 h.1 (cc (h.2))
 not_read_failed max bytes (inr h) = not_framed h.head.method h.head.target (token_of (map name_and_value h.head.fields)) (framing_of_request h.head) (max - length (print_request h.head)) h.rest h.behind

@@ -17,13 +17,14 @@ use Rattle.vault_http.specs.declared.http_fault.HttpFault.{HttpFault}
 use Rattle.vault_http.specs.declared.http_fault.HttpFault.TheVariants.{ReadFailed, BadHead, BadLength, BadChunk, Truncated, TooLong, TwoLengths, OutOfMemory}
 use Rattle.vault_http.specs.declared.request.Request.{Request}
 use Rattle.vault_http.specs.Framing.{framing, framing_by, counted, transfer_encoding, content_length}
-use Rattle.vault_http.specs.Heads.{most_fields, framing_of_request, token_of, token_name}
+use Rattle.vault_http.specs.Heads.{framing_of_request, token_of, token_name}
 use Rattle.vault_http.specs.Messages.{IsHeadless, IsOpenRequest, IsFramed, request_of, IsRequest}
 use Rattle.vault_http.specs.RoundTripRequest.{is_sent_method, is_path_byte, is_token_value_byte, IsSentToken, IsSendable, without_port, ReadsBackRequest}
 use Rattle.vault_http.specs.Written.{request_text, host_lines, token_line, body_lines, length_lines, last_lines, is_get}
 use Rattle.vault_http.proofs.DecimalLemmas.{IsDigitByte, decimal_digits, digits_trimmed, length_known, value_byte}
 use Rattle.vault_http.proofs.Fronts.{take-grows}
 use Rattle.vault_http.proofs.ReplyRoundTrip.{type_field, length_field, close_field, type_is, length_is, close_is, counted_whole}
+use Rattle.vault_http.specs.declared.found_head.TheConstants.{MOST_FIELDS}
 
 -- ---- the head as a tree
 
@@ -227,7 +228,7 @@ token_is true port (Some token) n h = ap (λ t. Some t) (trimmed token (token_vi
 token_is false port None n h = refl
 token_is false port (Some token) n h = ap (λ t. Some t) (trimmed token (token_visible token h))
 
-few_fields : (get : Bool) (port : ℕ) (token : Option (List ℕ)) (n : ℕ) → length (fields_of get port token n) ≤ most_fields
+few_fields : (get : Bool) (port : ℕ) (token : Option (List ℕ)) (n : ℕ) → length (fields_of get port token n) ≤ MOST_FIELDS
 few_fields true port None n = omega arith
 few_fields true port (Some token) n = omega arith
 few_fields false port None n = omega arith
@@ -235,8 +236,8 @@ few_fields false port (Some token) n = omega arith
 
 -- ---- the one answer
 
-headless : (max : ℕ) (bytes rest : List ℕ) (head : RequestHead) (fault : HttpFault) → ReadsRequest bytes head rest → length head.fields ≤ most_fields → length (print_request head) ≤ max
-    → IsHeadless IsOpenRequest (λ b. (more : List ℕ) (h : RequestHead) (left : List ℕ) → ReadsRequest (b ++ more) h left → most_fields < length h.fields) max bytes fault → ⊥
+headless : (max : ℕ) (bytes rest : List ℕ) (head : RequestHead) (fault : HttpFault) → ReadsRequest bytes head rest → length head.fields ≤ MOST_FIELDS → length (print_request head) ≤ max
+    → IsHeadless IsOpenRequest (λ b. (more : List ℕ) (h : RequestHead) (left : List ℕ) → ReadsRequest (b ++ more) h left → MOST_FIELDS < length h.fields) max bytes fault → ⊥
 headless max bytes rest head ReadFailed reads few within h = h
 headless max bytes rest head BadHead reads few within h =
     let over = h (drop max bytes) head rest (subst (λ b. ReadsRequest b head rest) (sym (take-append-drop max bytes)) reads) in

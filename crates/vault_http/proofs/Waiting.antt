@@ -1,12 +1,11 @@
 -- Where more of a message is rightly waited for: for the judges and the reading loop.
-use Rattle.std.proofs.Common.{◌≡◌, ℕ, ◌+◌, ◌-◌, ◌*◌, ◌<◌, ◌≤◌, ◌⊎◌, inl, inr, cond, nat_lt, Bool, true, false, not, IsTrue, List, [], ◌++◌, length, take, drop, replicate, refl, sym, ap, ◌∙◌, arith, append_assoc, append-nil, subst, length-append, take-append-drop, Option, None, Some, IfSome, Result, Ok, Err}
+use Rattle.std.proofs.Common.{◌≡◌, ℕ, ◌+◌, ◌-◌, ◌<◌, ◌≤◌, ◌⊎◌, inl, inr, cond, nat_lt, Bool, true, false, not, IsTrue, List, [], ◌++◌, length, take, drop, replicate, refl, sym, ap, ◌∙◌, arith, append_assoc, append-nil, subst, length-append, take-append-drop, Option, None, Some, IfSome, Result, Ok, Err}
 use Rattle.std.proofs.lemmas.Bool.{lt-ltb, le-ltb}
 use Rattle.std.proofs.lemmas.List.{length-replicate, take-append-le, drop-append-le, take_all, length-take-le}
 use Rattle.std.specs.List.{list_all}
 use Rattle.std.specs.Io.KnownBytes.{Consumes, Keeps, IsAtEnd}
 use Rattle.std.proofs.KnownBytes.{Consumes-kept}
 use Rattle.keep_device.specs.declared.limits.TheConstants.{MOST_READS}
-use Rattle.keep_device.specs.Whole.{MakesAtMost}
 use Rattle.vault_http.specs.declared.body.BodyFault.{BodyFault}
 use Rattle.vault_http.specs.declared.body.BodyFault.TheVariants.{TooLong, Truncated}
 use Rattle.vault_http.specs.declared.body.Partial.{Partial}
@@ -20,7 +19,7 @@ use Rattle.vault_http.specs.declared.known.Known.TheVariants as known
 use Rattle.vault_http.specs.Body.{IsBody, HasBody, IsCutOff, IsPartOf, counted_body, framing_of, open_body}
 use Rattle.vault_http.specs.Chunks.{HasChunks}
 use Rattle.vault_http.specs.EmptyLine.{HasLineBehind, is_blank}
-use Rattle.vault_http.specs.Holding.{Holds, HandedNone, IsLongHead, IsPending, IsWaitedFor}
+use Rattle.vault_http.specs.Holding.{Holds, HandedNone, IsPending, IsWaitedFor}
 use Rattle.vault_http.specs.Known.{IsCurrent, IsHeaded, IsKnown, whole_of}
 use Rattle.vault_http.specs.Reading.{HeldIsRead, IsLate, Settles}
 use Rattle.vault_http.proofs.WholeChunks.{never_both}
@@ -84,9 +83,9 @@ module _ {A : Type 0} (HasNoHead : List ℕ → Type 0) (IsAnswer : List ℕ →
         within = h.within;
         there = omega (arith, h.there, length-append bytes more);
         answers = λ after body is. subst (λ t. IsAnswer t (whole_of with_body message body)) (sym (append_assoc bytes more after))
-        (h.answers (more ++ after) body (subst (λ t. IsBody framed (max - len) t body) (behind after) is));
+            (h.answers (more ++ after) body (subst (λ t. IsBody framed (max - len) t body) (behind after) is));
         has_body = λ after m is. subst (λ t. HasBody framed (max - len) t) (sym (behind after))
-        (h.has_body (more ++ after) m (subst (λ t. IsAnswer t (Ok m)) (append_assoc bytes more after) is));
+            (h.has_body (more ++ after) m (subst (λ t. IsAnswer t (Ok m)) (append_assoc bytes more after) is));
       }
 
   pub known_on : (max : ℕ) (bytes more : List ℕ) (k : Known A) → IsKnown HasNoHead IsAnswer with_body max bytes k → IsKnown HasNoHead IsAnswer with_body max (bytes ++ more) k
@@ -185,38 +184,3 @@ module _ {A : Type 0} (HasNoHead : List ℕ → Type 0) (IsAnswer : List ℕ →
   pub handed_none : (before now after : Option (List ℕ)) (bytes : List ℕ) → Consumes before now bytes → Keeps now after → IsWaitedFor HasNoHead IsAnswer bytes → HandedNone HasNoHead IsAnswer before after
   handed_none None now after bytes given kept l = tt
   handed_none (Some w) now after bytes given kept l = (bytes, Consumes-kept (Some w) now after bytes given kept, l)
-
--- ---- the loops
-
-pub not_ended : (some : Bool) → (IsTrue (not some) → ⊥) → IsTrue some
-not_ended true h = refl
-not_ended false h = absurd (h refl)
-
-pub pace_first : (a : Option (List ℕ)) (now : ℕ) → IfSome a (λ _. (0 + now ≤ now) × ((◌≡◌ {A = ℕ} 0 0) ⊎ (0 < now)))
-pace_first None now = tt
-pace_first (Some w) now = (omega arith, inl refl)
-
-pub pace_on : (a b : Option (List ℕ)) (bytes : List ℕ) (counter before now next : ℕ) (S F : Type 0) → Consumes a b bytes
-    → IfSome a (λ _. (counter + now ≤ before) × ((counter ≡ 0) ⊎ (0 < now))) → IfSome b (λ _. S → F → (next < now) × (0 < next)) → S → F
-    → IfSome a (λ _. (counter + 1 + next ≤ before) × ((counter + 1 ≡ 0) ⊎ (0 < next)))
-pace_on None b bytes counter before now next S F given p q s f = tt
-pace_on (Some w) None bytes counter before now next S F given p q s f = absurd given
-pace_on (Some w) (Some v) bytes counter before now next S F given p q s f = let r = q s f in (omega (arith, p.0, r.0), inr r.1)
-
--- one read more than before
-pub made_first : (a : Option (List ℕ)) (now : ℕ) → MakesAtMost 0 a now now
-made_first None now = tt
-made_first (Some w) now = omega arith
-
-pub made_on : (a b : Option (List ℕ)) (bytes : List ℕ) (counter before now next : ℕ) → Consumes a b bytes → MakesAtMost counter a before now → MakesAtMost 1 b now next
-    → MakesAtMost (counter + 1) a before next
-made_on None b bytes counter before now next given p q = tt
-made_on (Some w) None bytes counter before now next given p q = absurd given
-made_on (Some w) (Some v) bytes counter before now next given p q = omega (arith, p, q)
-
--- a read more within those that are allowed
-pub made_within : (a b : Option (List ℕ)) (bytes : List ℕ) (counter most before now next : ℕ) → counter < most → Consumes a b bytes → MakesAtMost counter a before now → MakesAtMost 1 b now next
-    → MakesAtMost most a before next
-made_within None b bytes counter most before now next more given p q = tt
-made_within (Some w) None bytes counter most before now next more given p q = absurd given
-made_within (Some w) (Some v) bytes counter most before now next more given p q = omega (arith, p, q, more)

@@ -1,15 +1,11 @@
 -- A body in chunks is whole or cut off, and never both; and where it is whole, it ends with an empty line.
 use Rattle.std.proofs.Common.{◌≡◌, ℕ, ◌+◌, ◌-◌, ◌≤◌, ◌⊎◌, inl, inr, List, [], ◌∷◌, ◌++◌, length, drop, refl, sym, ap, ◌∙◌, arith, append_assoc, subst, length-append, Result, Ok, Err}
-use Rattle.std.proofs.lemmas.Bool.{cases_lt}
 use Rattle.std.proofs.lemmas.List.{drop_at}
 use Rattle.std.specs.List.{AllByRecursion}
-use Rattle.httparse.specs.Grammar.{crlf}
 use Rattle.vault_http.specs.declared.body.BodyFault.{BodyFault}
 use Rattle.vault_http.specs.declared.body.BodyFault.TheVariants.{TooLong, Truncated, BadChunk, OutOfMemory}
 use Rattle.vault_http.specs.Chunks.{line_end, IsSize, IsData, size, HasPart, MayHave, Chunk, IsChunk, print_chunk, print_chunks, content, joined, StopsAt, IsChunked}
 use Rattle.vault_http.specs.Framing.{is_digit}
-use Rattle.vault_http.specs.EmptyLine.{HasLineBehind}
-use Rattle.vault_http.proofs.EmptyLines.{empty_line, ends_more, front_split, line_behind}
 use Rattle.vault_http.proofs.Runs.{same_run}
 
 -- ---- whole or cut off

@@ -1,5 +1,5 @@
 -- A body behind its head, where only so many bytes may be read (RFC 9112, section 6.3).
-use Rattle.std.specs.Prelude.{◌≡◌, ℕ, ◌+◌, ◌≤◌, List, [], length, take, nat_lt, if◌then◌else◌, Result, Ok, Err}
+use Rattle.std.specs.Prelude.{◌≡◌, ℕ, ◌≤◌, List, [], length, take, nat_lt, if◌then◌else◌, Result, Ok, Err}
 use Rattle.vault_http.specs.declared.body.BodyFault.{BodyFault}
 use Rattle.vault_http.specs.declared.body.BodyFault.TheVariants.{TooLong, Truncated}
 use Rattle.vault_http.specs.declared.body.Partial.{Partial}

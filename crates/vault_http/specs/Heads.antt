@@ -6,17 +6,14 @@ use Rattle.httparse.specs.Spans.{span_bytes, IsWithin, name_and_value, RequestOv
 use Rattle.vault_http.specs.declared.framing.Framing.{Framing}
 use Rattle.vault_http.specs.declared.framing.Framing.TheVariants.{Empty, ToEnd}
 use Rattle.vault_http.specs.declared.framing.LengthFault.{LengthFault}
-use Rattle.vault_http.specs.declared.heads.ReplyHead.{ReplyHead}
-use Rattle.vault_http.specs.declared.heads.ReplyHead.TheVariants as reply
-use Rattle.vault_http.specs.declared.heads.Start.{Start}
-use Rattle.vault_http.specs.declared.heads.RequestFront.{RequestFront}
-use Rattle.vault_http.specs.declared.heads.RequestFront.TheVariants as request
+use Rattle.vault_http.specs.declared.found_head.ReplyHead.{ReplyHead}
+use Rattle.vault_http.specs.declared.found_head.ReplyHead.TheVariants as reply
+use Rattle.vault_http.specs.declared.found_head.Start.{Start}
+use Rattle.vault_http.specs.declared.found_head.RequestFront.{RequestFront}
+use Rattle.vault_http.specs.declared.found_head.RequestFront.TheVariants as request
+use Rattle.vault_http.specs.declared.found_head.TheConstants.{MOST_FIELDS}
 use Rattle.vault_http.specs.Fields.{values_of}
 use Rattle.vault_http.specs.Framing.{framing, reply_framing}
-
--- the most fields of a head
-abbrev pub most_fields : ℕ
-most_fields = 64
 
 -- the name of the token's field
 unfoldable pub token_name : List ℕ
@@ -49,7 +46,7 @@ pub record FoundReply (front : List ℕ) (len status : ℕ) (framed : Result Fra
   pub head : ResponseHead
   pub rest : List ℕ
   pub reads : ReadsResponse front head rest
-  pub few : length head.fields ≤ most_fields
+  pub few : length head.fields ≤ MOST_FIELDS
   pub len_is : len ≡ length (print_response head)
   pub status_is : status ≡ status_code head
   pub framing_is : framed ≡ framing_of_response head
@@ -57,7 +54,7 @@ pub record FoundReply (front : List ℕ) (len status : ℕ) (framed : Result Fra
 -- no head yet, none of at most 64 fields whatever follows, or a head
 abbrev pub IsReplyHead : List ℕ → ReplyHead → Type 0
 IsReplyHead front reply.Open = HasNoResponse front × MayBecomeResponse front
-IsReplyHead front reply.Refused = ResponseOverflows most_fields front
+IsReplyHead front reply.Refused = ResponseOverflows MOST_FIELDS front
 IsReplyHead front (reply.Found len status framed) = FoundReply front len status framed
 
 -- the front begins with the head of a request, of that length, method, path, token and framing
@@ -65,7 +62,7 @@ pub record FoundRequest (front : List ℕ) (len : ℕ) (start : Start) (framed :
   pub head : RequestHead
   pub rest : List ℕ
   pub reads : ReadsRequest front head rest
-  pub few : length head.fields ≤ most_fields
+  pub few : length head.fields ≤ MOST_FIELDS
   pub len_is : len ≡ length (print_request head)
   pub method_is : IsWithin (length front) start.method × (span_bytes front start.method ≡ head.method)
   pub path_is : IsWithin (length front) start.path × (span_bytes front start.path ≡ head.target)
@@ -75,5 +72,5 @@ pub record FoundRequest (front : List ℕ) (len : ℕ) (start : Start) (framed :
 -- no head yet, none of at most 64 fields whatever follows, or a head
 abbrev pub IsRequestHead : List ℕ → RequestFront → Type 0
 IsRequestHead front request.Open = HasNoRequest front × MayBecomeRequest front
-IsRequestHead front request.Refused = RequestOverflows most_fields front
+IsRequestHead front request.Refused = RequestOverflows MOST_FIELDS front
 IsRequestHead front (request.Found len start framed) = FoundRequest front len start framed

@@ -2,7 +2,7 @@ pub mod Written
 pub mod Sending
 pub mod Fields
 pub mod Framing
-pub mod Lone
+pub mod NamedField
 pub mod Chunks
 pub mod Body
 pub mod Heads

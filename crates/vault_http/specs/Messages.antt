@@ -13,7 +13,8 @@ use Rattle.vault_http.specs.declared.http_fault.HttpFault.TheVariants.{BadHead, 
 use Rattle.vault_http.specs.declared.reply.Reply.{Reply}
 use Rattle.vault_http.specs.declared.request.Request.{Request}
 use Rattle.vault_http.specs.Body.{IsBody}
-use Rattle.vault_http.specs.Heads.{most_fields, token_of, framing_of_response, framing_of_request}
+use Rattle.vault_http.specs.Heads.{token_of, framing_of_response, framing_of_request}
+use Rattle.vault_http.specs.declared.found_head.TheConstants.{MOST_FIELDS}
 
 -- the faults of a body and of its length, as faults of the message
 abbrev pub body_fault : BodyFault → HttpFault
@@ -76,26 +77,26 @@ pub record IsHeadedReply (max : ℕ) (bytes : List ℕ) (answer : Result Reply H
   pub head : ResponseHead
   pub rest : List ℕ
   pub reads : ReadsResponse bytes head rest
-  pub few : length head.fields ≤ most_fields
+  pub few : length head.fields ≤ MOST_FIELDS
   pub within : length (print_response head) ≤ max
   pub behind : IsBehind (is_informational (status_code head)) (status_code head) (framing_of_response head) (max - length (print_response head)) rest answer
 
 -- what reading a reply answers
 abbrev pub IsReply : ℕ → List ℕ → Result Reply HttpFault → Type 0
-IsReply max bytes answer = ((fault : HttpFault) × IsHeadless IsOpenReply (ResponseOverflows most_fields) max bytes fault × (answer ≡ Err fault)) ⊎ IsHeadedReply max bytes answer
+IsReply max bytes answer = ((fault : HttpFault) × IsHeadless IsOpenReply (ResponseOverflows MOST_FIELDS) max bytes fault × (answer ≡ Err fault)) ⊎ IsHeadedReply max bytes answer
 
 -- an input with the head of a request within its first `max` bytes
 pub record IsHeadedRequest (max : ℕ) (bytes : List ℕ) (answer : Result Request HttpFault) : Type 0 where
   pub head : RequestHead
   pub rest : List ℕ
   pub reads : ReadsRequest bytes head rest
-  pub few : length head.fields ≤ most_fields
+  pub few : length head.fields ≤ MOST_FIELDS
   pub within : length (print_request head) ≤ max
   pub behind : IsFramed (request_of head.method head.target (token_of (map name_and_value head.fields))) (framing_of_request head) (max - length (print_request head)) rest answer
 
 -- what reading a request answers; the port is no part of the message
 abbrev pub IsRequest : ℕ → List ℕ → Result Request HttpFault → Type 0
-IsRequest max bytes answer = ((fault : HttpFault) × IsHeadless IsOpenRequest (RequestOverflows most_fields) max bytes fault × (answer ≡ Err fault)) ⊎ IsHeadedRequest max bytes answer
+IsRequest max bytes answer = ((fault : HttpFault) × IsHeadless IsOpenRequest (RequestOverflows MOST_FIELDS) max bytes fault × (answer ≡ Err fault)) ⊎ IsHeadedRequest max bytes answer
 
 -- said of every answer but want of memory
 abbrev pub UnlessMemory : {A : Type 0} → Result A HttpFault → Type 0 → Type 0

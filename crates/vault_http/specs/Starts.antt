@@ -4,7 +4,7 @@ use Rattle.http.specs.Token.{IsToken}
 use Rattle.httparse.specs.declared.spans.Span.{Span}
 use Rattle.httparse.specs.Spans.{span_bytes, IsWithin}
 use Rattle.vault_http.specs.declared.body.BodyFault.{BodyFault}
-use Rattle.vault_http.specs.declared.heads.Start.{Start}
+use Rattle.vault_http.specs.declared.found_head.Start.{Start}
 use Rattle.vault_http.specs.declared.http_fault.HttpFault.{HttpFault}
 use Rattle.vault_http.specs.declared.request.Request.{Request}
 use Rattle.vault_http.specs.Messages.{request_of}

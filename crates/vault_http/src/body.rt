@@ -29,7 +29,7 @@ impl From<AllocError> for BodyFault {
 }
 
 /// What is known of a body of which not all bytes have come.
-#[derive(Debug, Drop)]
+#[derive(Drop)]
 pub(crate) enum Partial {
     /// It has none.
     Empty,

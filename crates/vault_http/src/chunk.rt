@@ -9,8 +9,8 @@ ghost use Rattle.vault_http.specs.Verdicts.{IsDone, IfDone, IfMore};
 ghost use Rattle.vault_http.specs.Steps.{IsEnding, IsLine, IsStep};
 
 use crate::body::{BodyFault, Partial};
+use crate::first_bytes::front_of;
 use crate::framing::number_of;
-use crate::front::front_of;
 use crate::verdict::Verdict;
 use keep_moment::Text;
 

@@ -19,7 +19,7 @@ use std::alloc::Global;
 pub const SMALL_HEAD: usize = 4096;
 
 /// What is known of a message of which not all bytes have come.
-#[derive(Debug, Drop)]
+#[derive(Drop)]
 pub(crate) enum Known<M> {
     /// There is no head yet. So many bytes were looked at for one; in so many there is none; and so many at the front are
     /// carriage returns and line feeds.

@@ -8,13 +8,13 @@
 mod body;
 mod chunk;
 mod empty_line;
+mod first_bytes;
+mod found_head;
 mod framing;
-mod front;
-mod heads;
 mod http_fault;
 mod known;
-mod lone;
 mod message;
+mod named_field;
 mod receive;
 mod reply;
 mod reply_message;
@@ -24,6 +24,7 @@ mod round_trip;
 mod verdict;
 mod writing;
 
+pub use found_head::MOST_FIELDS;
 pub use http_fault::HttpFault;
 pub use keep_device::{
     Counted, Device, Failed, InputFault, MemoryPair, MemorySink, MemorySource, Sink, SinkFault,
@@ -33,7 +34,7 @@ pub use known::SMALL_HEAD;
 pub use receive::{read_reply, read_request};
 pub use reply::Reply;
 pub use request::Request;
-pub use round_trip::{held_is_read, reply_reads_back, request_reads_back};
+pub use round_trip::{held_is_read, http_limits_law, reply_reads_back, request_reads_back};
 pub use writing::{SendFault, write_reply, write_request};
 
 #[cfg(test)]

@@ -11,7 +11,7 @@ use keep_moment::Text;
 use std::alloc::Global;
 
 /// What stands at the front of the bytes of a message.
-#[derive(Debug, Drop)]
+#[derive(Drop)]
 pub(crate) enum Head<M> {
     /// No head yet, and one may come.
     Open,

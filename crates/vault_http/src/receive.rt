@@ -73,9 +73,7 @@ fn read_message<M: Message, R: Source>(
     let mut bytes = Vec::new(alloc);
     match look(alloc, &bytes, max, false, 0) {
         Verdict::Done(answer) => answer,
-        Verdict::More(known) => message_from(
-            alloc, reader, &mut room, &mut bytes, max, known,
-        ),
+        Verdict::More(known) => message_from(alloc, reader, &mut room, &mut bytes, max, known),
     }
 }
 

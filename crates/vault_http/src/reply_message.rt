@@ -4,9 +4,9 @@ ghost use Rattle.vault_http.specs.Known.{IsHead};
 ghost use Rattle.vault_http.specs.Messages.{IsReply, reply_with};
 ghost use Rattle.httparse.specs.Grammar.{HasNoResponse};
 
+use crate::first_bytes::front_of;
+use crate::found_head::{ReplyHead, reply_head};
 use crate::framing::{Framing, LengthFault};
-use crate::front::front_of;
-use crate::heads::{ReplyHead, reply_head};
 use crate::message::{Head, Message};
 use crate::{HttpFault, Reply};
 use keep_moment::Text;

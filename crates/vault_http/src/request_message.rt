@@ -5,9 +5,9 @@ ghost use Rattle.vault_http.specs.Messages.{IsRequest, UnlessMemory, request_wit
 ghost use Rattle.vault_http.specs.Starts.{IsStart, request_at};
 ghost use Rattle.httparse.specs.Grammar.{HasNoRequest};
 
+use crate::first_bytes::front_of;
+use crate::found_head::{RequestFront, Start, request_head};
 use crate::framing::{Framing, LengthFault};
-use crate::front::front_of;
-use crate::heads::{RequestFront, Start, request_head};
 use crate::message::{Head, Message};
 use crate::{HttpFault, Request};
 use http::Method;

@@ -1,3 +1,6 @@
+ghost use Rattle.std.specs.Prelude.{◌≡◌};
+ghost use Rattle.vault_http.specs.declared.found_head.TheConstants.{MOST_FIELDS};
+ghost use Rattle.vault_http.specs.declared.known.TheConstants.{SMALL_HEAD};
 ghost use Rattle.httparse.specs.Grammar.{HasNoRequest, HasNoResponse};
 ghost use Rattle.vault_http.specs.Messages.{IsReply, IsRequest};
 ghost use Rattle.vault_http.specs.Reading.{HeldIsRead};
@@ -34,3 +37,9 @@ pub fn held_is_read(max: usize)
 {
     let _ = max;
 }
+
+/// The limits of messages as numbers; those of reads are in [`keep_device::limits_law`]. It does nothing.
+pub fn http_limits_law()
+    ensures fields { MOST_FIELDS ≡ 64 }
+    ensures small { SMALL_HEAD ≡ 4096 }
+{}

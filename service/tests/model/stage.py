@@ -13,7 +13,7 @@ from leasekeepd_lib.events import Log
 from leasekeepd_lib.http_client import Request, Response, TransportFault
 from leasekeepd_lib.inventory import Entry, Inventory, Kind
 from leasekeepd_lib.parts import Parts
-from leasekeepd_lib.run_process import RunExit
+from leasekeepd_lib.run_process import LaunchFault, RunExit
 
 from .live_run import LiveRun, Stop
 from .vault import Vault, VaultTransport
@@ -48,12 +48,14 @@ class RunTransport:
 class ScriptedRun:
     """`leasekeep run` within the test's own process."""
 
-    def __init__(self, text: str, start: int, transport: RunTransport) -> None:
+    def __init__(self, text: str, start: int, transport: RunTransport, prints_at_once: bool = False) -> None:
+        self._prints_at_once = prints_at_once
         self._lines: asyncio.Queue[str | None] = asyncio.Queue()
         self.events: list[str] = []
         self._events: asyncio.Queue[str | None] = asyncio.Queue()
         self._exit = RunExit(-9)
         self.printed: list[str] = []
+        self._held: list[str] = []
         self._task = asyncio.create_task(self._run(text, start, transport))
 
     async def _run(self, text: str, start: int, transport: RunTransport) -> None:
@@ -67,11 +69,20 @@ class ScriptedRun:
 
     def _print(self, line: str) -> None:
         self.printed.append(line)
-        self._lines.put_nowait(line)
+        if not self._prints_at_once:
+            self._lines.put_nowait(line)
+        else:
+            self._held.append(line)
 
     async def _fed(self) -> AsyncIterator[str]:
+        for line in self._held:
+            self._lines.put_nowait(line)
+        self._held.clear()
         while (event := await self._events.get()) is not None:
             yield event
+            for line in self._held:
+                self._lines.put_nowait(line)
+            self._held.clear()
 
     async def read_line(self) -> str | None:
         return await self._lines.get()
@@ -100,13 +111,19 @@ class ScriptedLauncher:
         self.starts: list[int] = []
         self.began: list[float] = []
         self.refuses: Callable[[Request, str], bool] | None = None
+        self.is_missing = self.ends_at_once = self.prints_at_once = False
 
     async def launch(self, inventory: str, start: int) -> ScriptedRun:
         self.texts.append(inventory)
         self.starts.append(start)
         self.began.append(self._vault.world.now())
-        run = ScriptedRun(inventory, start, RunTransport(self._vault, self.refuses))
+        if self.is_missing:
+            raise LaunchFault("cannot start leasekeep: No such file or directory")
+        run = ScriptedRun(inventory, start, RunTransport(self._vault, self.refuses),
+                          self.prints_at_once)
         self.runs.append(run)
+        if self.ends_at_once:
+            run.kill()
         return run
 
 

@@ -110,6 +110,7 @@ fn fill(alloc: Global, margin: u32, rows: &[Row]) -> Result<Forest, Fail> {
 #[tactic(auto, using(crate::proofs::Printing::decided_is_of))]
 fn printed(alloc: Global, forest: &Forest) -> Result<Result<Text, PrintFault>, Fail> {
     let start = Moment::new(1000).ok_or("a moment")?;
+    // Its contract says that the forest is one, which the proof needs here.
     let _entries = forest.len();
     let decision = plan(alloc, forest, start)?;
     Ok(print(alloc, forest, start, &decision))

@@ -2,9 +2,9 @@ use super::inventories::{IN_TURN, ONE_DUE, TOKEN_AND_LEASE, WEB, inventory_of};
 use super::moment;
 use super::plans::{OF_ONE_TOKEN, PLANNED};
 use crate::{Exit, run_check, run_plan};
+use keep_device::MemorySink;
 use std::process::Abort;
 use std::test::Fail;
-use keep_device::MemorySink;
 
 /// The certificate of the web example in version 2.
 pub const IN_RUNS: &str = "leasekeep-plan 2\nstart 1000\nrun 1059 59 3 web web\nend 3\n";

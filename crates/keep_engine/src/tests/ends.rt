@@ -3,11 +3,11 @@ use super::inventories::{
 };
 use super::moment;
 use crate::{Exit, run_ends};
+use keep_device::MemorySink;
 use keep_moment::Moment;
 use std::alloc::Global;
 use std::process::Abort;
 use std::test::Fail;
-use keep_device::MemorySink;
 
 const WITH_MARGIN: &str =
     "margin = 10\n[[token]]\nname = \"web\"\nissued = 1000\nend = 1060\nincrement = 60\nmax_ttl = 9000\nneed = 1200\n";

@@ -1,6 +1,6 @@
 use crate::{Exit, PROGRAM, Stop};
-use std::test::Fail;
 use keep_device::{InputFault, MemorySink};
+use std::test::Fail;
 
 const IN_ORDER: [Exit; 8] = [
     Exit::Done,
@@ -32,7 +32,11 @@ fn an_input_that_is_not_read_is_reported(rt: HostRuntime) -> Result<(), Fail> {
     let alloc = rt.alloc();
     for (fault, exit, line) in INPUTS {
         let mut errors = MemorySink::new(alloc, None);
-        assert_eq!(rt; Stop::from(fault).report(alloc, PROGRAM, &mut errors), exit, "{line}");
+        assert_eq!(rt;
+            Stop::from(fault).report(alloc, PROGRAM, &mut errors),
+            exit,
+            "{line}"
+        );
         assert!(rt; errors.bytes() == line.as_bytes(), "{line}");
     }
     Ok(())

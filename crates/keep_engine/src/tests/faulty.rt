@@ -1,8 +1,8 @@
 use super::moment;
 use crate::{Exit, run_check, run_ends, run_plan};
+use keep_device::MemorySink;
 use std::process::Abort;
 use std::test::Fail;
-use keep_device::MemorySink;
 
 // Texts that are no inventories, with what stands behind `leasekeep: inventory: ` in the fault line.
 const FAULTY: [(&str, &str); 15] = [

@@ -4,9 +4,9 @@ use super::inventories::{
 };
 use super::moment;
 use crate::{Exit, run_plan};
+use keep_device::MemorySink;
 use std::process::Abort;
 use std::test::Fail;
-use keep_device::MemorySink;
 
 /// Inventories, the exits of their plans from 1000 on, and the lines behind the first two.
 pub const PLANNED: [(&str, Exit, &str); 12] = [

@@ -23,8 +23,6 @@ const HUNDRED_THOUSAND: Orphan = Orphan(1002, 2, true, Some(201000), 101002);
 
 const ONE_MORE: Orphan = Orphan(1002, 2, true, Some(201000), 101003);
 
-const TEN_MILLION: Orphan = Orphan(1002, 2, true, Some(20001000), 10001002);
-
 fn orphans(alloc: Global, rows: &[Orphan]) -> Result<Forest, Fail> {
     let mut forest = Forest::new(alloc);
     for (i, row) in rows.iter().enumerate() {
@@ -61,7 +59,7 @@ fn both_count(alloc: Global, rows: &[Orphan]) -> Result<Option<u64>, Fail> {
     }
     let mut scan = ScanSchedule::new(&forest, &carried, start);
     let mut queue = QueueSchedule::new(alloc, &forest, &carried, start)?;
-    for count in 0..10000001 {
+    for count in 0..1000000 {
         let force = parts(scan.next());
         if force != parts(queue.next()) {
             return Ok(None);
@@ -70,20 +68,19 @@ fn both_count(alloc: Global, rows: &[Orphan]) -> Result<Option<u64>, Fail> {
             return Ok(Some(count));
         }
     }
-    Err("more than 10,000,000 wake-ups")?
+    Err("a million wake-ups")?
 }
 
 // Both schedules give one list of these examples, as long as it has to be.
 #[test]
 fn both_schedules_give_as_many(rt: HostRuntime) -> Result<(), Fail> {
     let alloc = rt.alloc();
-    let cases: [(&[Orphan], u64); 6] = [
+    let cases: [(&[Orphan], u64); 5] = [
         (&[PAY], 1),
         (&[ENDED], 0),
         (&[FIXED, LONG], 0),
         (&[HUNDRED_THOUSAND], 100000),
         (&[ONE_MORE], 100001),
-        (&[TEN_MILLION], 10000000),
     ];
     for (i, case) in cases.iter().enumerate() {
         let (rows, want) = *case;

@@ -1,3 +1,4 @@
+use super::source;
 use crate::{HttpFault, MemorySource, read_reply, read_request};
 use std::alloc::Global;
 use std::test::Fail;
@@ -35,5 +36,53 @@ fn makes_4096_reads_for_a_request(rt: HostRuntime) -> Result<(), Fail> {
         assert_eq!(rt; got.map(|request| request.body.list().len()), want);
         assert_eq!(rt; source.reads(), 4096);
     }
+    Ok(())
+}
+
+// The second read would fail, so none is made: what came refuses the message, whatever follows.
+#[test]
+fn answers_a_fault_without_another_read(rt: HostRuntime) -> Result<(), Fail> {
+    let alloc = rt.alloc();
+    let cases: [(&[u8], HttpFault); 8] = [
+        (b"HTTP/2", HttpFault::BadHead),
+        (b"HTTP/1.1 2x", HttpFault::BadHead),
+        (b"HTTP/1.1 200 OK\r\nname\r", HttpFault::BadHead),
+        (b"HTTP/1.1 100 Continue\r\n\r\n", HttpFault::BadHead),
+        (
+            b"HTTP/1.1 200 OK\r\nContent-Length: 1x\r\n\r\n",
+            HttpFault::BadLength,
+        ),
+        (
+            b"HTTP/1.1 200 OK\r\nContent-Length: 0\r\nTransfer-Encoding: chunked\r\n\r\n",
+            HttpFault::TwoLengths,
+        ),
+        (
+            b"HTTP/1.1 200 OK\r\nTransfer-Encoding: chunked\r\n\r\n1\r\nab",
+            HttpFault::BadChunk,
+        ),
+        (
+            b"HTTP/1.1 200 OK\r\nContent-Length: 1048576\r\n\r\n",
+            HttpFault::TooLong,
+        ),
+    ];
+    for (bytes, fault) in cases {
+        let mut source = source(alloc, bytes, &[], Some(1))?;
+        assert_eq!(rt;
+            read_reply(alloc, &mut source, 1048576).map(|_| ()),
+            Err(fault)
+        );
+        assert_eq!(rt; source.reads(), 1);
+    }
+    Ok(())
+}
+
+// No byte may be read, so none is.
+#[test]
+fn reads_nothing_where_nothing_fits(rt: HostRuntime) -> Result<(), Fail> {
+    let alloc = rt.alloc();
+    let mut source = source(alloc, b"GET / HTTP/1.1\r\n\r\n", &[], None)?;
+    let got = read_request(alloc, &mut source, 0);
+    assert_eq!(rt; got.map(|_| ()), Err(HttpFault::TooLong));
+    assert_eq!(rt; source.reads(), 0);
     Ok(())
 }

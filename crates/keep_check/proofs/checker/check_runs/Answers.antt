@@ -3,7 +3,7 @@ use Rattle.keep_tree.specs.Forest.{end_of}
 use Rattle.keep_rule.specs.Runs.{all_wakes, moments_of}
 use Rattle.keep_check.specs.Answer.{first_fault}
 use Rattle.keep_check.specs.Kept.{own}
-use Rattle.keep_check.specs.Steps.{FirstShort}
+use Rattle.keep_check.specs.code.Steps.{FirstShort}
 use Rattle.keep_check.proofs.Judged.{walk_fault, walk_rises, walk_unkept, walk_yes}
 use Rattle.keep_check.proofs.checker.check_runs.Goals as goal
 

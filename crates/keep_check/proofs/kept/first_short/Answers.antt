@@ -4,7 +4,7 @@ use Rattle.keep_tree.specs.Forest.{end_of, entry_at}
 use Rattle.keep_rule.proofs.Rounds.{LastsBelow}
 use Rattle.keep_rule.specs.Runs.{all_wakes, moments_of}
 use Rattle.keep_check.specs.Kept.{own}
-use Rattle.keep_check.specs.Steps.{least_with}
+use Rattle.keep_check.specs.code.Steps.{least_with}
 use Rattle.keep_check.proofs.Lasts.{all_last_more, least_here, least_pushed, short_here}
 use Rattle.keep_check.proofs.kept.first_short.Goals as goal
 use Rattle.keep_check.proofs.kept.first_short.Goals.{else-start-need-via-then-start-need+else-last-need, else-start-need-via-else-start-need}

@@ -3,7 +3,7 @@ use Rattle.keep_tree.specs.Forest.{end_of}
 use Rattle.keep_rule.proofs.Rounds.{LastsBelow}
 use Rattle.keep_rule.specs.Runs.{all_wakes, moments_of}
 use Rattle.keep_check.specs.Kept.{own}
-use Rattle.keep_check.specs.Steps.{AllLast}
+use Rattle.keep_check.specs.code.Steps.{AllLast}
 use Rattle.keep_check.proofs.kept.first_short.Given as goal
 
 abbrev pub invariant-loop-index : goal.invariant-loop-index

@@ -1,5 +1,5 @@
 use Rattle.std.proofs.Common.{◌∙◌, ◌<◌, ◌≤◌, ap, arith, get_or, length, subst, sym}
-use Rattle.keep_check.specs.Gaps.{AllNarrow, IsFirstFrom, gaps_of}
+use Rattle.keep_check.specs.code.Gaps.{AllNarrow, IsFirstFrom, gaps_of}
 use Rattle.keep_check.proofs.GapTrees.{until_narrow, until_wide, until_within}
 use Rattle.keep_check.proofs.Jumps.{length-gaps}
 use Rattle.keep_check.proofs.kept.wide_from.Goals as goal

@@ -5,7 +5,7 @@ use Rattle.keep_tree.specs.Forest.{end_of, entry_at}
 use Rattle.keep_rule.specs.Forced.{latest_end}
 use Rattle.keep_rule.specs.Runs.{wakes_of}
 use Rattle.keep_check.specs.declared.answer.Cause.TheVariants.{NotRising}
-use Rattle.keep_check.specs.Steps.{LongFrom}
+use Rattle.keep_check.specs.code.Steps.{LongFrom}
 use Rattle.keep_check.specs.Walk.{fault}
 use Rattle.keep_check.proofs.Run.{Going, could_wait, stands_still, walks_all, walks_into}
 use Rattle.keep_check.proofs.walk.fault_after_first.Goals as goal

@@ -3,7 +3,7 @@ use Rattle.keep_tree.specs.Forest.{end_of}
 use Rattle.keep_rule.proofs.Keeping.{end_below_bound}
 use Rattle.keep_rule.specs.declared.force.Force.{Force}
 use Rattle.keep_rule.specs.Runs.{wakes_of}
-use Rattle.keep_check.specs.Steps.{Finds}
+use Rattle.keep_check.specs.code.Steps.{Finds}
 use Rattle.keep_check.specs.Walk.{fault}
 use Rattle.keep_check.proofs.Answers.{first_rises, forced_parts}
 use Rattle.keep_check.proofs.Run.{falls, found_behind, run_first, unforced}

@@ -1,4 +1,4 @@
-use Rattle.keep_engine.proofs.Obeying.{obeys_check, obeys_ends, obeys_plan}
+use Rattle.keep_engine.proofs.Obeying.{obeys_check, obeys_ends, obeys_plan, obeys_reach}
 use Rattle.keep_engine.proofs.command.obey.Goals as goal
 
 pub returns-in-Ends : goal.returns-in-Ends
@@ -9,6 +9,10 @@ returns-in-Ends g c =
 pub returns-in-Plan : goal.returns-in-Plan
 returns-in-Plan g c =
     obeys_plan (g.I.Inputs.bytes_at c.args.inputs.now) c.plan_from.result _ _ c.args.command.now c.in-Plan.file c.in-Plan.start c.deref-in-Plan.result.now c.in-Plan.is c.deref-in-Plan.ensures c.plan_from.ensures
+
+pub returns-in-Reach : goal.returns-in-Reach
+returns-in-Reach g c =
+    obeys_reach (g.I.Inputs.bytes_at c.args.inputs.now) c.reach_from.result _ _ c.args.command.now c.in-Reach.file c.in-Reach.start c.in-Reach.dates c.deref-in-Reach.result.now c.in-Reach.is c.deref-in-Reach.ensures c.reach_from.ensures
 
 pub returns-in-Check : goal.returns-in-Check
 returns-in-Check g c =

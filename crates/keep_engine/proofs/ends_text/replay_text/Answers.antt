@@ -24,12 +24,14 @@ returns c =
     let judged : IsTrue c.in_ok-kept.kept ↔ Keeps es g.margin s (end_of es) asked =
     subst (λ ws. IsTrue c.in_ok-kept.kept ↔ Keeps es g.margin s (end_of es) ws) wakes' c.in_ok-kept.ensures.kept.1 in
     let lines : end_lines es (at_index c.list.result.now) (length es) ≡ end_lines es (ends_after es g.margin (end_of es) asked) (length es) =
-    end_lines_same es (at_index c.list.result.now) (ends_after es g.margin (end_of es) asked) (length es) (at_index_listed es c.list.result.now (ends_after es g.margin (end_of es) asked) ends) in
-    (refl, record {
-      in_order = subst (λ ws. wake_fault es s ws ≡ None) wakes c.in_ok-ends.ensures.ends.0;
-      kept = c.in_ok-kept.kept;
-      judged = judged;
-      spelled = c.from_vec.ensures ∙ c.in_ok-extend_from_slice.ensures.items
-          ∙ ap (λ xs. c.push_lines.new.text.items ++ xs) c.keeps_line.ensures
-          ∙ ap (λ xs. xs ++ keeps_line c.in_ok-kept.kept) (c.in_ok-push_lines.ensures ∙ ap (λ xs. xs ++ end_lines es (at_index c.list.result.now) (length es)) c.new-text.ensures.items ∙ lines);
-    })
+    end_lines_same es (at_index c.list.result.now) (ends_after es g.margin (end_of es) asked) (length es) (at_index_listed es c.list.result.now (ends_after es g.margin (end_of es) asked) ends) in (
+      refl,
+      record {
+        in_order = subst (λ ws. wake_fault es s ws ≡ None) wakes c.in_ok-ends.ensures.ends.0;
+        kept = c.in_ok-kept.kept;
+        judged = judged;
+        spelled = c.from_vec.ensures ∙ c.in_ok-extend_from_slice.ensures.items
+            ∙ ap (λ xs. c.push_lines.new.text.items ++ xs) c.keeps_line.ensures
+            ∙ ap (λ xs. xs ++ keeps_line c.in_ok-kept.kept) (c.in_ok-push_lines.ensures ∙ ap (λ xs. xs ++ end_lines es (at_index c.list.result.now) (length es)) c.new-text.ensures.items ∙ lines);
+      },
+    )

@@ -1,4 +1,5 @@
 use Rattle.keep_engine.proofs.OneText.{one_check_text, one_ends_text, one_plan_text}
+use Rattle.keep_engine.proofs.Reaching.{one_reach_text}
 use Rattle.keep_engine.proofs.laws.no_secret_shows.Goals as goal
 
 pub returns-clause-ends : goal.returns-clause-ends
@@ -6,6 +7,9 @@ returns-clause-ends c = one_ends_text
 
 pub returns-clause-plan : goal.returns-clause-plan
 returns-clause-plan c = one_plan_text
+
+pub returns-clause-reach : goal.returns-clause-reach
+returns-clause-reach c = one_reach_text
 
 pub returns-clause-check : goal.returns-clause-check
 returns-clause-check c = one_check_text

@@ -3,7 +3,7 @@ use Rattle.std.proofs.lemmas.List.{take_at}
 use Rattle.keep_tree.proofs.Placed.{parents_first}
 use Rattle.keep_needs.specs.declared.load.Load.{Load}
 use Rattle.keep_needs.specs.Carried.{IsCarried}
-use Rattle.keep_needs.specs.Loads.{AllOwn, seen}
+use Rattle.keep_needs.specs.code.Loads.{AllOwn, seen}
 use Rattle.keep_needs.proofs.HandedUp.{handed_is_carried}
 use Rattle.keep_needs.proofs.carried.carry.Goals as goal
 

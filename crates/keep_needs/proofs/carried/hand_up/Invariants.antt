@@ -1,5 +1,5 @@
 use Rattle.std.proofs.Common.{◌≡◌, ℕ, length}
-use Rattle.keep_needs.specs.Loads.{AllOwn, IsHandedUp}
+use Rattle.keep_needs.specs.code.Loads.{AllOwn, IsHandedUp}
 use Rattle.keep_needs.proofs.carried.hand_up.Given as goal
 
 abbrev pub invariant-loop-index : goal.invariant-loop-index

@@ -1,7 +1,7 @@
 use Rattle.std.proofs.Common.{◌≡◌, ◌∙◌, ap, arith}
 use Rattle.std.proofs.lemmas.Grind.{common_steps}
 use Rattle.keep_tree.specs.Forest.{entry_at}
-use Rattle.keep_needs.specs.Loads.{need_after, nth}
+use Rattle.keep_needs.specs.code.Loads.{need_after, nth}
 use Rattle.keep_needs.proofs.carried.own_loads.Goals as goal
 
 pub loop-from-preserved : goal.loop-from-preserved

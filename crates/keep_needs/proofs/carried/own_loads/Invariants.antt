@@ -1,5 +1,5 @@
 use Rattle.std.proofs.Common.{◌≡◌, ℕ, ◌<◌, vec_len}
-use Rattle.keep_needs.specs.Loads.{nth, own_load}
+use Rattle.keep_needs.specs.code.Loads.{nth, own_load}
 use Rattle.keep_needs.proofs.carried.own_loads.Given as goal
 
 abbrev pub invariant-loop-from : goal.invariant-loop-from

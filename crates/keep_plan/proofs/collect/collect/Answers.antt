@@ -1,6 +1,6 @@
 use Rattle.std.proofs.Common.{◌-◌, ◌<◌, arith, subst, sym}
 use Rattle.keep_schedule.specs.Courses.{IsToCome}
-use Rattle.keep_plan.specs.Collecting.{IsTaken}
+use Rattle.keep_plan.specs.code.Collecting.{IsTaken}
 use Rattle.keep_plan.proofs.Collecting.{one_more, overlong, whole}
 use Rattle.keep_plan.proofs.collect.collect.Goals as goal
 

@@ -1,5 +1,5 @@
 use Rattle.keep_schedule.specs.Courses.{IsToCome}
-use Rattle.keep_plan.specs.Collecting.{IsTaken}
+use Rattle.keep_plan.specs.code.Collecting.{IsTaken}
 use Rattle.keep_plan.proofs.collect.collect.Given as goal
 
 abbrev pub invariant-loop-run : goal.invariant-loop-run

@@ -1,7 +1,7 @@
 use Rattle.std.proofs.Common.{ℕ, ◌<◌, ◌∙◌, ap, arith, length, subst, sym, ◌+◌, set}
 use Rattle.keep_tree.specs.declared.entry.Entry.{Entry}
 use Rattle.keep_tree.proofs.Placed.{parents_first}
-use Rattle.keep_rule.specs.Replay.{shown}
+use Rattle.keep_rule.specs.code.Replay.{shown}
 use Rattle.keep_rule.proofs.Rounds.{LastsBelow, lasts_child, lasts_root}
 use Rattle.keep_rule.proofs.replay.carry_lasts.Goals as goal
 use Rattle.keep_rule.proofs.replay.carry_lasts.Goals.{in-None, in-Some}

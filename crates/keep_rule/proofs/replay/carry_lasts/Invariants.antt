@@ -1,6 +1,6 @@
 use Rattle.std.proofs.Common.{◌≡◌, ℕ, ◌<◌, get_or, nat_le}
 use Rattle.keep_tree.specs.Renewal.{all_last}
-use Rattle.keep_rule.specs.Replay.{shown}
+use Rattle.keep_rule.specs.code.Replay.{shown}
 use Rattle.keep_rule.proofs.replay.carry_lasts.Given as goal
 
 abbrev pub invariant-loop-index : goal.invariant-loop-index

@@ -2,7 +2,7 @@ use Rattle.std.proofs.Common.{◌≡◌, ◌∙◌, ◌+◌, ◌∷◌, ap, arit
 use Rattle.std.proofs.lemmas.List.{drop_all}
 use Rattle.keep_tree.specs.Forest.{end_of}
 use Rattle.keep_rule.specs.Ends.{after, ends_after, listed}
-use Rattle.keep_rule.specs.Replay.{shown}
+use Rattle.keep_rule.specs.code.Replay.{shown}
 use Rattle.keep_rule.proofs.Lists.{listed_shown, rewritten, unrolled}
 use Rattle.keep_rule.proofs.Walk.{Rises, ends_after_cons, ends_after_nil, rises}
 use Rattle.keep_rule.proofs.replay.ends_after.Goals as goal

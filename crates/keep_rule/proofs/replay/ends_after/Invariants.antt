@@ -1,7 +1,7 @@
 use Rattle.std.proofs.Common.{◌≡◌, ℕ, drop, length, vec_len}
 use Rattle.keep_tree.specs.Forest.{end_of}
 use Rattle.keep_rule.specs.Ends.{ends_after}
-use Rattle.keep_rule.specs.Replay.{shown}
+use Rattle.keep_rule.specs.code.Replay.{shown}
 use Rattle.keep_rule.proofs.Walk.{Rises}
 use Rattle.keep_rule.proofs.replay.ends_after.Given as goal
 

@@ -3,7 +3,7 @@ use Rattle.std.proofs.lemmas.List.{drop_all}
 use Rattle.keep_tree.specs.Forest.{end_of}
 use Rattle.keep_rule.specs.Ends.{after}
 use Rattle.keep_rule.specs.Keeps.{Keeps}
-use Rattle.keep_rule.specs.Replay.{KeptBetween, Lasts, shown}
+use Rattle.keep_rule.specs.code.Replay.{KeptBetween, Lasts, shown}
 use Rattle.keep_rule.proofs.Lists.{need_within, rewritten, unrolled}
 use Rattle.keep_rule.proofs.Walk.{Rises, kept_first, kept_last, kept_more, rises}
 use Rattle.keep_rule.proofs.replay.keeps.Goals as goal

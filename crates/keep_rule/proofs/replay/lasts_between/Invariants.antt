@@ -1,7 +1,7 @@
 use Rattle.std.proofs.Common.{ℕ, ◌≤◌, ◌<◌}
 use Rattle.keep_tree.specs.Forest.{entry_at}
 use Rattle.keep_rule.specs.Keeps.{Alive}
-use Rattle.keep_rule.specs.Replay.{Lasts}
+use Rattle.keep_rule.specs.code.Replay.{Lasts}
 use Rattle.keep_rule.proofs.replay.lasts_between.Given as goal
 
 abbrev pub invariant-loop-index : goal.invariant-loop-index

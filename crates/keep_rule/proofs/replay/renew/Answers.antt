@@ -1,6 +1,6 @@
 use Rattle.std.proofs.Common.{◌<◌, ◌+◌, ℕ, ap, arith, get_or, length, refl, set, subst, sym}
 use Rattle.std.proofs.lemmas.List.{take_all}
-use Rattle.keep_rule.specs.Replay.{shown}
+use Rattle.keep_rule.specs.code.Replay.{shown}
 use Rattle.keep_rule.proofs.Lists.{read_within}
 use Rattle.keep_rule.proofs.Rounds.{ServedTo, served_all, served_more}
 use Rattle.keep_rule.proofs.replay.renew.Goals as goal

@@ -1,7 +1,7 @@
 use Rattle.std.proofs.Common.{◌≡◌, ◌==◌, ℕ, cond, get_or, take}
 use Rattle.std.specs.List.{list_any}
 use Rattle.keep_tree.specs.Renewal.{renewed}
-use Rattle.keep_rule.specs.Replay.{shown}
+use Rattle.keep_rule.specs.code.Replay.{shown}
 use Rattle.keep_rule.proofs.replay.renew.Given as goal
 
 -- those asked so far have their new ends, by the ends before the wake-up, and the others have theirs as they were

@@ -1,5 +1,5 @@
 use Rattle.std.proofs.Common.{◌+◌, ◌≤◌, length, subst, arith}
-use Rattle.keep_schedule.specs.Groups.{IsTurn}
+use Rattle.keep_schedule.specs.code.Groups.{IsTurn}
 use Rattle.keep_schedule.specs.Prospect.{terms_of}
 use Rattle.keep_schedule.proofs.Moves.{turn_joined, turn_left}
 use Rattle.keep_schedule.proofs.groups.settle.Goals as goal

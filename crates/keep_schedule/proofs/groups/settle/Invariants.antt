@@ -1,5 +1,5 @@
 use Rattle.std.proofs.Common.{length}
-use Rattle.keep_schedule.specs.Groups.{Shrinks, size}
+use Rattle.keep_schedule.specs.code.Groups.{Shrinks, size}
 use Rattle.keep_schedule.specs.Prospect.{terms_of}
 use Rattle.keep_schedule.proofs.groups.settle.Given as goal
 

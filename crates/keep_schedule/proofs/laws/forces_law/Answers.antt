@@ -1,5 +1,8 @@
-use Rattle.keep_schedule.proofs.Forces.{forces_are_best}
+use Rattle.keep_schedule.proofs.Forces.{forces_are_best, forces_are_lowest}
 use Rattle.keep_schedule.proofs.laws.forces_law.Goals as goal
 
-pub returns : goal.returns
-returns c = forces_are_best
+pub returns-clause-forces : goal.returns-clause-forces
+returns-clause-forces c = forces_are_best
+
+pub returns-clause-lowest : goal.returns-clause-lowest
+returns-clause-lowest c = forces_are_lowest

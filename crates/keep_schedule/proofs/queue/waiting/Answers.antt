@@ -1,7 +1,7 @@
 use Rattle.std.proofs.Common.{◌+◌, ◌∷◌, length, subst, sym, arith}
 use Rattle.std.proofs.lemmas.List.Sorted.{length_permutation}
 use Rattle.std.specs.List.Sorted.{IsPermutation}
-use Rattle.keep_schedule.specs.Line.{spot}
+use Rattle.keep_schedule.specs.code.Line.{spot}
 use Rattle.keep_schedule.specs.Prospect.{terms_of}
 use Rattle.keep_schedule.specs.Queues.{Fills}
 use Rattle.keep_schedule.proofs.Queueing.{fills_added, fills_kept}

@@ -1,6 +1,6 @@
 use Rattle.std.proofs.Common.{◌-◌, length}
 use Rattle.keep_schedule.specs.Prospect.{terms_of}
-use Rattle.keep_schedule.specs.Stretches.{Stretches}
+use Rattle.keep_schedule.specs.code.Stretches.{Stretches}
 use Rattle.keep_schedule.proofs.stretch.extend.Given as goal
 
 abbrev pub invariant-loop-more : goal.invariant-loop-more

@@ -1,5 +1,5 @@
 use Rattle.std.proofs.Common.{◌+◌, Some, length, subst, arith}
-use Rattle.keep_schedule.specs.Line.{FirstOf}
+use Rattle.keep_schedule.specs.code.Line.{FirstOf}
 use Rattle.keep_schedule.specs.Prospect.{terms_of}
 use Rattle.keep_schedule.proofs.Extending.{until_front}
 use Rattle.keep_schedule.proofs.Leading.{ahead}

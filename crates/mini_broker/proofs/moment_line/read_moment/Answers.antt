@@ -1,4 +1,4 @@
-use Rattle.std.proofs.Common.{◌≡◌, ◌≤◌, ◌∙◌, ◌++◌, ◌∷◌, [], ℕ, List, Option, Vec, Global, IfSome, Ok, ap, subst, sym}
+use Rattle.std.proofs.Common.{◌∙◌, ◌++◌, ◌∷◌, [], ℕ, List, Option, Vec, Global, IfSome, Ok, ap, subst}
 use Rattle.std.specs.Io.KnownBytes.{Consumes}
 use Rattle.mini_broker.specs.MomentLine.{IsOneLine}
 use Rattle.mini_broker.proofs.MomentLines.{no_line_no_moment, other_line}

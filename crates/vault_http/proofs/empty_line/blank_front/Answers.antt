@@ -1,5 +1,5 @@
 -- The bytes of line ends that were known, and those behind them.
-use Rattle.std.proofs.Common.{◌≡◌, ◌∙◌, length, take_while, ap}
+use Rattle.std.proofs.Common.{◌∙◌, length, take_while, ap}
 use Rattle.std.proofs.lemmas.List.{take_rest}
 use Rattle.vault_http.specs.EmptyLine.{is_blank}
 use Rattle.vault_http.proofs.EmptyLines.{blank_more}

@@ -1,5 +1,5 @@
 -- Where no byte may be read, the answer stands before any is.
-use Rattle.std.proofs.Common.{◌≡◌, ℕ, List, [], ◌++◌, Bool, false, IsTrue, ◌∙◌, refl, sym, subst}
+use Rattle.std.proofs.Common.{◌≡◌, ℕ, List, [], ◌++◌, false, IsTrue, ◌∙◌, refl, subst}
 use Rattle.std.proofs.KnownBytes.{Consumes-nil}
 use Rattle.vault_http.specs.Messages.{UnlessMemory}
 use Rattle.vault_http.proofs.MessageLemmas.{not_failed, settled}

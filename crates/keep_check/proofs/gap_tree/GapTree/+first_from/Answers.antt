@@ -1,5 +1,5 @@
 use Rattle.std.proofs.Common.{◌≡◌, ◌+◌, ◌-◌, ◌++◌, Some, None, ap, arith, length, subst, sym}
-use Rattle.keep_check.specs.Gaps.{AllNarrow, HasMarks, IsFirstFrom, gaps_in, mark}
+use Rattle.keep_check.specs.code.Gaps.{AllNarrow, HasMarks, IsFirstFrom, gaps_in, mark}
 use Rattle.keep_check.proofs.GapTrees.{found_nowhere, found_right, mark_bounds}
 use Rattle.keep_check.proofs.gap_tree.GapTree.+first_from.Goals as goal
 use Rattle.keep_check.proofs.gap_tree.GapTree.+first_from.Goals.{then-from-half+in-None, else-from-half}

@@ -1,7 +1,7 @@
 use Rattle.std.proofs.Common.{◌∙◌, ◌+◌, ◌++◌, List, [], ◌∷◌, ℕ, ap, append_assoc, arith, drop, sym}
 use Rattle.std.proofs.lemmas.List.{drop_more}
 use Rattle.keep_rule.specs.declared.run.Run.{Run}
-use Rattle.keep_check.specs.Gaps.{first_gap, gaps_of}
+use Rattle.keep_check.specs.code.Gaps.{first_gap, gaps_of}
 use Rattle.keep_check.proofs.OwnRuns.{blank}
 use Rattle.keep_check.proofs.gap_tree.GapTree.over.Goals as goal
 

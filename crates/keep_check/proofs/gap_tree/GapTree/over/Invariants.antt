@@ -1,5 +1,5 @@
 use Rattle.std.proofs.Common.{◌≡◌, ◌++◌, drop}
-use Rattle.keep_check.specs.Gaps.{gaps_of}
+use Rattle.keep_check.specs.code.Gaps.{gaps_of}
 use Rattle.keep_check.proofs.gap_tree.GapTree.over.Given as goal
 
 abbrev pub invariant-loop-at : goal.invariant-loop-at

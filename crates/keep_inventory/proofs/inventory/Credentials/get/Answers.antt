@@ -1,4 +1,4 @@
-use Rattle.std.proofs.Common.{◌≡◌, ◌∙◌, ◌<◌, ◌≤◌, ℕ, List, ◌++◌, ◌-◌, ap, length, arith, subst, sym}
+use Rattle.std.proofs.Common.{◌∙◌, ◌<◌, ◌≤◌, ℕ, List, ◌++◌, ◌-◌, ap, length, arith, subst, sym}
 use Rattle.keep_inventory.specs.Stock.{IsSendable, credential_at}
 use Rattle.keep_inventory.proofs.Stocks.{first_half, second_half, sendable_at}
 use Rattle.keep_inventory.proofs.inventory.Credentials.get.Goals as goal

@@ -1,6 +1,6 @@
 use Rattle.std.proofs.Common.{◌≡◌, ◌∙◌, [], ap, length, None, subst, sym}
 use Rattle.keep_schedule.specs.declared.groups.Groups.{Groups}
-use Rattle.keep_schedule.specs.Line.{FirstOf}
+use Rattle.keep_schedule.specs.code.Line.{FirstOf}
 use Rattle.keep_schedule.specs.Prospect.{terms_of}
 use Rattle.keep_schedule.specs.Queues.{IsReady}
 use Rattle.keep_schedule.proofs.Queueing.{new_done, new_due}

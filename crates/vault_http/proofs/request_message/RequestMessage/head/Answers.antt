@@ -1,11 +1,11 @@
 -- No head yet, or one that is refused, however the bytes go on.
 use Rattle.std.proofs.Common.{subst}
 use Rattle.httparse.specs.Spans.{RequestOverflows}
-use Rattle.vault_http.specs.Heads.{most_fields}
 use Rattle.vault_http.specs.Messages.{IsOpenRequest}
 use Rattle.vault_http.proofs.RequestLaws.{long_request, open_request}
 use Rattle.vault_http.proofs.RequestLemmas.{refused_request}
 use Rattle.vault_http.proofs.request_message.RequestMessage.head.Goals as goal
+use Rattle.vault_http.specs.declared.found_head.TheConstants.{MOST_FIELDS}
 
 pub returns-in-Open : goal.returns-in-Open
 returns-in-Open c = λ more. long_request c.args.max c.args.bytes.now more c.if-bytes-max.true (subst IsOpenRequest c.front_of.ensures c.in-Open.ensures)
@@ -16,4 +16,4 @@ returns-in-Open-2 c =
     (c.if-bytes-max.false, o.0, o.1)
 
 pub returns-in-Refused : goal.returns-in-Refused
-returns-in-Refused c = λ more. refused_request c.args.max c.args.bytes.now more (subst (RequestOverflows most_fields) c.front_of.ensures c.in-Refused.ensures)
+returns-in-Refused c = λ more. refused_request c.args.max c.args.bytes.now more (subst (RequestOverflows MOST_FIELDS) c.front_of.ensures c.in-Refused.ensures)

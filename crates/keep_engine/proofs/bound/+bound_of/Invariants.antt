@@ -1,0 +1,4 @@
+use Rattle.keep_engine.proofs.bound.+bound_of.Given as goal
+
+abbrev pub decreases-bound_of : goal.decreases-bound_of
+decreases-bound_of l = l.index

@@ -1,0 +1,8 @@
+use Rattle.keep_engine.proofs.Until.{until_law, whatever_is_needed}
+use Rattle.keep_engine.proofs.laws.until_law.Goals as goal
+
+pub returns-clause-until : goal.returns-clause-until
+returns-clause-until c = until_law
+
+pub returns-clause-whatever : goal.returns-clause-whatever
+returns-clause-whatever c = whatever_is_needed

@@ -1,0 +1,5 @@
+use Rattle.keep_engine.specs.ReachText.{AreReachLines}
+use Rattle.keep_engine.proofs.reach_text.push_lines.Given as goal
+
+abbrev pub invariant-loop-index : goal.invariant-loop-index
+invariant-loop-index l = AreReachLines l.forest l.start l.dates l.index l.text.items

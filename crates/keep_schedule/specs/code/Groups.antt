@@ -1,0 +1,87 @@
+-- The groups of a queue. No public clause cites them.
+-- Source: this project's own.
+use Rattle.std.specs.Prelude.{◌≡◌, ℕ, ◌+◌, ◌*◌, ◌≤◌, ◌<◌, ◌⊎◌, List, [], length, Option, Some, None}
+use Rattle.std.specs.List.{All, Contains}
+use Rattle.keep_schedule.specs.declared.groups.Groups.{Groups}
+use Rattle.keep_schedule.specs.declared.groups.Next.{Next}
+use Rattle.keep_schedule.specs.declared.groups.Next.TheVariants.{Done, Joined, Waiting}
+use Rattle.keep_schedule.specs.declared.groups.Turn.{Turn}
+use Rattle.keep_schedule.specs.declared.groups.Turn.TheVariants.{Comes, Empty, Leaves, Steady}
+use Rattle.keep_schedule.specs.code.Line.{IsFirst, Spot, spot}
+use Rattle.keep_schedule.specs.Terms.{Ahead, Terms, deadline}
+
+-- a wake-up at prev reaches the end that the entry has now
+abbrev pub HasJoined : Terms → Option ℕ → ℕ → Type 0
+HasJoined t None i = ⊥
+HasJoined t (Some v) i = t.end i ≤ v + t.step i
+
+-- after a wake-up at prev: what falls short waits, bound by its present end, or has joined, bound by its step
+pub record Grouped (t : Terms) (prev : Option ℕ) (wait join : ℕ → Type 0) : Type 0 where
+  pub all : (i : ℕ) → deadline t prev i < t.need i → wait i ⊎ join i
+  pub short : (i : ℕ) → wait i → t.end i < t.need i
+  pub joined : (i : ℕ) → join i → HasJoined t prev i
+
+-- g has joined, has the least step of those, of several the lowest index, and lasts no longer than any that waits
+pub record IsHead (t : Terms) (v : ℕ) (wait join : ℕ → Type 0) (g : ℕ) : Type 0 where
+  pub joined : join g
+  pub short : v + t.step g < t.need g
+  pub joins : (i : ℕ) → join i → Ahead (t.step g) g (t.step i) i
+  pub waits : (i : ℕ) → wait i → Ahead (v + t.step g) g (t.end i) i
+
+-- h waits, is the first to end of those, and ends no later than any that has joined lasts
+pub record IsFront (t : Terms) (v : ℕ) (wait join : ℕ → Type 0) (h : ℕ) : Type 0 where
+  pub waiting : wait h
+  pub unjoined : v + t.step h < t.end h
+  pub waits : (i : ℕ) → wait i → Ahead (t.end h) h (t.end i) i
+  pub joins : (i : ℕ) → join i → Ahead (t.end h) h (v + t.step i) i
+
+-- the entry stands in the line of those that wait, by its end
+abbrev pub Waits : Terms → Groups → ℕ → Type 0
+Waits t g i = Contains g.waits.spots (spot (t.end i) i)
+
+-- the entry stands in the line of those that have joined, by its step
+abbrev pub Joins : Terms → Groups → ℕ → Type 0
+Joins t g i = Contains g.joined.spots (spot (t.step i) i)
+
+-- each spot is that of one of n entries, with its key
+abbrev pub IsKeyed : (ℕ → ℕ) → ℕ → List Spot → Type 0
+IsKeyed key n spots = All (λ x. (x.0.0 ≡ key x.0.1) × (x.0.1 < n)) spots
+
+-- the lines are those of the entries, and what waits has room among what has joined
+pub record IsFiled (t : Terms) (n : ℕ) (g : Groups) : Type 0 where
+  pub waits : IsKeyed t.end n g.waits.spots
+  pub joined : IsKeyed t.step n g.joined.spots
+  pub room : length g.waits.spots + length g.joined.spots ≤ g.joined.room
+
+-- how often an entry can still change its group
+abbrev pub size : Groups → ℕ
+size g = 2 * length g.waits.spots + length g.joined.spots
+
+-- the groups are filed, and hold what falls short after a wake-up at prev
+pub record IsGrouped (t : Terms) (n : ℕ) (prev : Option ℕ) (g : Groups) : Type 0 where
+  pub filed : IsFiled t n g
+  pub grouped : Grouped t prev (Waits t g) (Joins t g)
+
+-- what is to be done with the groups after a wake-up at v
+abbrev pub IsTurn : Terms → ℕ → ℕ → Groups → Turn → Type 0
+IsTurn t n v g Empty = (g.waits.spots ≡ []) × (g.joined.spots ≡ [])
+IsTurn t n v g (Leaves f) = IsFirst g.joined.spots (spot (t.step f) f) × ((f < n) × (t.need f ≤ v + t.step f))
+IsTurn t n v g (Comes h) = IsFirst g.waits.spots (spot (t.end h) h) × ((h < n) × ((i : ℕ) → Joins t g i → Ahead (t.end h) h (v + t.step i) i))
+IsTurn t n v g (Steady f) = (f < n) × IsHead t v (Waits t g) (Joins t g) f
+
+-- what forces the wake-up behind the one at v
+abbrev pub IsSettled : Terms → ℕ → ℕ → Groups → Next → Type 0
+IsSettled t n v g Done = (g.waits.spots ≡ []) × (g.joined.spots ≡ [])
+IsSettled t n v g (Waiting h) = (h < n) × (IsFirst g.waits.spots (spot (t.end h) h) × IsFront t v (Waits t g) (Joins t g) h)
+IsSettled t n v g (Joined f) = (f < n) × IsHead t v (Waits t g) (Joins t g) f
+
+-- the groups after some changes: none has been put back, and where they are as large as before there was no change
+pub record Shrinks (t : Terms) (n v : ℕ) (old new : Groups) : Type 0 where
+  pub grouped : IsGrouped t n (Some v) new
+  pub fewer : size new ≤ size old
+  pub same : size new ≡ size old → (new.waits.spots ≡ old.waits.spots) × (new.joined.spots ≡ old.joined.spots)
+
+-- the groups settled after a wake-up at v
+pub record Settles (t : Terms) (n v : ℕ) (old new : Groups) (next : Next) : Type 0 where
+  pub shrinks : Shrinks t n v old new
+  pub settled : IsSettled t n v new next

@@ -1,0 +1,27 @@
+-- Stretches: wake-ups of one entry, one after the other. No public clause cites them.
+-- Source: this project's own.
+use Rattle.std.specs.Prelude.{◌≡◌, ℕ, ◌+◌, ◌-◌, ◌*◌, ◌≤◌, ◌<◌, Some}
+use Rattle.keep_moment.specs.declared.moment.TheConstants.{LAST}
+use Rattle.keep_schedule.specs.declared.groups.Groups.{Groups}
+use Rattle.keep_schedule.specs.declared.groups.Next.{Next}
+use Rattle.keep_schedule.specs.declared.groups.Next.TheVariants.{Done, Joined, Waiting}
+use Rattle.keep_schedule.specs.code.Groups.{Settles}
+use Rattle.keep_schedule.specs.Terms.{Leads, Terms}
+
+-- f leads after each of n wake-ups, the first at w, d apart
+abbrev pub LeadsAll : Terms → ℕ → ℕ → ℕ → ℕ → Type 0
+LeadsAll t w d f n = (k : ℕ) → k < n → Leads t (Some (w + k * d)) f
+
+-- behind a wake-up at first come `more` by f, of fewer than `most`, the last at `last`, after which the groups are settled
+pub record Stretches (t : Terms) (n f first most : ℕ) (old new : Groups) (more last : ℕ) (next : Next) : Type 0 where
+  pub within : more < most
+  pub ends : last ≡ first + more * (t.step f - t.margin)
+  pub moment : last ≤ LAST
+  pub leads : LeadsAll t first (t.step f - t.margin) f more
+  pub settles : Settles t n last old new next
+
+-- another entry forces the next wake-up, or none
+abbrev pub IsOther : ℕ → Next → Type 0
+IsOther f Done = Unit {0}
+IsOther f (Waiting h) = Unit {0}
+IsOther f (Joined g) = g ≡ f → ⊥
