@@ -20,13 +20,13 @@ use Rattle.keep_core.specs.LawsOfSteps.{IsShaped, ShapeLaw}
 abbrev Like : Entry → Entry → Type 0
 Like e f = f ≡ record e { end = f.end; renewable = f.renewable; need = f.need }
 
-same : (g : Grove) → IsShaped g g
+pub same : (g : Grove) → IsShaped g g
 same g = record { margin = refl; count = refl; each = λ i. refl }
 
 like_too : (d e f : Entry) → Like d e → Like e f → Like d f
 like_too d e f a b = b ∙ ap (λ (x : Entry). record x { end = f.end; renewable = f.renewable; need = f.need }) a
 
-both_shaped : (g h k : Grove) → IsShaped g h → IsShaped h k → IsShaped g k
+pub both_shaped : (g h k : Grove) → IsShaped g h → IsShaped h k → IsShaped g k
 both_shaped g h k a b = record {
   margin = b.margin ∙ a.margin;
   count = b.count ∙ a.count;
@@ -73,7 +73,7 @@ answer_like at (Lost i) e = refl
 answer_like at (Tick t) e = refl
 answer_like at (Need i until) e = refl
 
-replanned : (g : Grove) (old : State) (t : ℕ) (new : State) → IsShaped g old.forest → Replan old t new → IsShaped g new.forest
+pub replanned : (g : Grove) (old : State) (t : ℕ) (new : State) → IsShaped g old.forest → Replan old t new → IsShaped g new.forest
 replanned g old t new a r = subst (λ (s : State). IsShaped g s.forest) (sym r.is) (both_shaped g old.forest (shorten old.forest t) a (shortened old.forest t))
 
 tick_shaped : (old : State) (t : ℕ) (output : Output) (new : State) → StepTick old t output new → IsShaped old.forest new.forest

@@ -9,3 +9,14 @@ pub mod Whole
 pub mod Loops
 pub mod Refusing
 pub mod OneAnswer
+pub mod Wording
+pub mod Within
+pub mod Texts
+pub mod Opens
+pub mod Goes
+pub mod Rounds
+pub mod Written
+pub mod Short
+pub mod Rehearsed
+pub mod FaultWord
+pub mod PlannedRun

@@ -307,7 +307,7 @@ run_rests port cs (b ∷ bs) old new None next rests played = absurd played
 run_rests port cs (b ∷ bs) old new (Some t) next rests played =
     let mid = played.1.0 in
     let beat = played.1.1.0 in
-    let after = beat_rests port cs b.at b.output b.answers old.keeper beat.keeper (record { keeper = taken beat.keeper; table = old.table }) mid rests.0 refl beat.turn beat.asked beat.answered in
+    let after = beat_rests port cs b.at b.output b.answers old.keeper beat.keeper (record { keeper = taken beat.keeper; behind = old.behind }) mid rests.0 refl beat.turn beat.asked beat.answered in
     run_rests port cs bs mid new (next_tick b) next after played.1.1.1
 
 pub never_refused : NeverRefusedLaw
@@ -319,6 +319,6 @@ never_refused stock faults start port short opening final beats t late o played 
       free_taken final.keeper (Tick t) (tick_free final.keeper t rests),
       λ asked keeper turn xs now i others who answers event result new is.
           let opens = tick_opens final.keeper t asked keeper turn in
-          let waits = some_lead port stock.credentials t xs i others (record { keeper = taken keeper; table = final.table }) now (asks_taken keeper t _ (subst (Asks keeper t) (sym who) opens)) answers in
+          let waits = some_lead port stock.credentials t xs i others (record { keeper = taken keeper; behind = final.behind }) now (asks_taken keeper t _ (subst (Asks keeper t) (sym who) opens)) answers in
           free_taken now.keeper event (answer_free now.keeper t i others event waits is) result new,
     )

@@ -64,8 +64,8 @@ pub record AtRest (stock : Stock) (w : World) (t : ℕ) (ts : List ℕ) : Type 0
   pub late : t ≤ LAST
   pub same : SameBut stock.grove g
   pub supplied : IsStock (with_forest stock g)
-  pub mirrors : Mirrors (with_forest stock g) t w.table.rows
-  pub none : w.table.faults ≡ []
+  pub mirrors : Mirrors (with_forest stock g) t w.behind.table.rows
+  pub none : w.behind.table.faults ≡ []
 
 -- a round is open over g, and has led to h
 pub record InRound (stock : Stock) (w : World) (g h : Grove) (t : ℕ) (rest todo : List ℕ) : Type 0 where
@@ -77,8 +77,8 @@ pub record InRound (stock : Stock) (w : World) (g h : Grove) (t : ℕ) (rest tod
   pub late : t ≤ LAST
   pub same : SameBut stock.grove h
   pub supplied : IsStock (with_forest stock h)
-  pub mirrors : Mirrors (with_forest stock h) t w.table.rows
-  pub none : w.table.faults ≡ []
+  pub mirrors : Mirrors (with_forest stock h) t w.behind.table.rows
+  pub none : w.behind.table.faults ≡ []
 
 -- what one answer leaves
 pub record IsGranted (stock : Stock) (h : Grove) (t : ℕ) (rest : List ℕ) (i : ℕ) (todo : List ℕ) (x : Exchanged) (new : World) : Type 0 where
@@ -86,8 +86,8 @@ pub record IsGranted (stock : Stock) (h : Grove) (t : ℕ) (rest : List ℕ) (i 
   pub told : IsToldByRule stock t x
   pub keeper : new.keeper ≡ heard_state (ended h i (renewal (entry_at h.entries i) t)) t rest todo
   pub supplied : IsStock (with_forest stock (ended h i (renewal (entry_at h.entries i) t)))
-  pub mirrors : Mirrors (with_forest stock (ended h i (renewal (entry_at h.entries i) t))) t new.table.rows
-  pub none : new.table.faults ≡ []
+  pub mirrors : Mirrors (with_forest stock (ended h i (renewal (entry_at h.entries i) t))) t new.behind.table.rows
+  pub none : new.behind.table.faults ≡ []
 
 heard_short : (h : Grove) (t : ℕ) (rest todo : List ℕ) → (heard_state h t rest todo).shortened ≡ []
 heard_short h t rest [] = refl
@@ -120,7 +120,7 @@ grants stock port w new g h t rest i todo x r a here =
     let sums : t + n ≡ end = omega arith in
     let forest_is : w.keeper.forest ≡ h = ap (λ (q : State). q.forest) r.keeper in
     let request : request_of port cs w.keeper.forest x.entry ≡ request_of port cs h i = ap (λ f. request_of port cs f x.entry) forest_is ∙ ap (request_of port cs h) here in
-    let outcome = ap (step w.table t) request ∙ serves s r.supplied port t i w.table within due.able due.alive r.none (r.mirrors t (omega arith)) in
+    let outcome = ap (step w.behind.table t) request ∙ serves s r.supplied port t i w.behind.table within due.able due.alive r.none (r.mirrors t (omega arith)) in
     let says : Says t (tells (call_for e.kind) (renewed_row s t i)) x.sent = subst (λ (o : Outcome). Says t o.answer x.sent) outcome a.says in
     let told : event_for cs h i (reply_in x.sent) ≡ Told i n true = tells_rule s r.supplied t i late within due.able x.sent says in
     let event : event_in cs w.keeper.forest x ≡ Told i n true =
@@ -129,7 +129,7 @@ grants stock port w new g h t rest i todo x r a here =
     (subst (λ v. Turn w.keeper v (Ok x.output) a.keeper) event a.turn) in
     let known = told_turn g r.forest t rest i todo h r.plan r.few r.mid due n (omega arith) sums in
     let one = once (waiting h t rest (i ∷ todo)) a.keeper (heard_state k t rest todo) (Told i n true) (Ok x.output) (Ok (heard_as rest todo)) (λ bad. cc) (λ bad. cc) turn known in
-    let ledger : new.table ≡ record { rows = with_row (listed s t) (renewed_row s t i); faults = []; count = next_number w.table.count } = ap (λ (v : World). v.table) a.is ∙ ap (λ (o : Outcome). o.ledger) outcome in
+    let ledger : new.behind.table ≡ record { rows = with_row (listed s t) (renewed_row s t i); faults = []; count = next_number w.behind.table.count } = ap (λ (v : World). v.behind.table) a.is ∙ ap (λ (o : Outcome). o.ledger) outcome in
     let supplied = ended_supplied s r.supplied i end within (omega arith) in
     let rows = ap (λ (l : Ledger). l.rows) ledger ∙ with_row_listed s r.supplied.forest t i end within later (omega arith) in
     let kind : e.kind ≡ (entry_at stock.grove.entries i).kind = ap (λ (y : Entry). y.kind) (r.same i) in
@@ -179,8 +179,8 @@ round_goes stock port g t rest i [] (x ∷ []) w new h before r asked answers =
         late = r.late;
         same = same_after stock.grove h i (renewal (entry_at h.entries i) t) due.within r.same;
         supplied = e.supplied;
-        mirrors = subst (λ (v : World). Mirrors (with_forest stock k) t v.table.rows) (sym last) e.mirrors;
-        none = ap (λ (v : World). v.table.faults) last ∙ e.none;
+        mirrors = subst (λ (v : World). Mirrors (with_forest stock k) t v.behind.table.rows) (sym last) e.mirrors;
+        none = ap (λ (v : World). v.behind.table.faults) last ∙ e.none;
       };
       answered = after;
       told = All-cons (IsToldByRule stock t) x [] e.told (All-nil (IsToldByRule stock t));
@@ -248,7 +248,7 @@ part_goes stock port g t rest (x ∷ y ∷ xs) i others w now h r answers =
 -- what the reply to the next of them tells, and the turn that the keeper makes of it
 pub next_turn :
     (stock : Stock) (port : ℕ) (g : Grove) (t : ℕ) (rest : List ℕ) (i : ℕ) (todo : List ℕ) (w : World) (h : Grove) → InRound stock w g h t rest (i ∷ todo) → (sent : Served) →
-    Says t (step w.table t (request_of port stock.credentials w.keeper.forest i)).answer sent →
+    Says t (step w.behind.table t (request_of port stock.credentials w.keeper.forest i)).answer sent →
     (output : Output) × ((new : State) × Turn w.keeper (event_for stock.credentials w.keeper.forest i (reply_in sent)) (Ok output) new)
 next_turn stock port g t rest i todo w h r sent said =
     let s = with_forest stock h in
@@ -263,7 +263,7 @@ next_turn stock port g t rest i todo w h r sent said =
     let grows : e.end < end = due.grows in
     let later : t < e.end = due.later in
     let forest_is : w.keeper.forest ≡ h = ap (λ (q : State). q.forest) r.keeper in
-    let outcome = ap (step w.table t) (ap (λ f. request_of port cs f i) forest_is) ∙ serves s r.supplied port t i w.table within due.able due.alive r.none (r.mirrors t (omega arith)) in
+    let outcome = ap (step w.behind.table t) (ap (λ f. request_of port cs f i) forest_is) ∙ serves s r.supplied port t i w.behind.table within due.able due.alive r.none (r.mirrors t (omega arith)) in
     let says : Says t (tells (call_for e.kind) (renewed_row s t i)) sent = subst (λ (o : Outcome). Says t o.answer sent) outcome said in
     let event : event_for cs w.keeper.forest i (reply_in sent) ≡ Told i n true = ap (λ f. event_for cs f i (reply_in sent)) forest_is ∙ tells_rule s r.supplied t i late within due.able sent says in
     let known = told_turn g r.forest t rest i todo h r.plan r.few r.mid due n (omega arith) (let sums : t + n ≡ end = omega arith in sums) in (

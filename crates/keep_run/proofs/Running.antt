@@ -105,8 +105,8 @@ moved stock w v t ts r same = record {
   late = r.late;
   same = r.same;
   supplied = r.supplied;
-  mirrors = subst (λ (x : World). Mirrors (with_forest stock r.g) t x.table.rows) (sym same) r.mirrors;
-  none = ap (λ (x : World). x.table.faults) same ∙ r.none;
+  mirrors = subst (λ (x : World). Mirrors (with_forest stock r.g) t x.behind.table.rows) (sym same) r.mirrors;
+  none = ap (λ (x : World). x.behind.table.faults) same ∙ r.none;
 }
 
 nobody_answers : (xs : List Exchanged) → map (λ (x : Exchanged). x.entry) xs ≡ [] → xs ≡ []
@@ -131,8 +131,8 @@ still :
 unfolding rounds
 still stock port w new t ts b r le late all beat nobody quiet is awaits =
     let none = nobody_answers b.answers (beat.asked ∙ nobody) in
-    let stays : new ≡ record { keeper = taken beat.keeper; table = w.table } =
-    subst (λ xs. AreAnswered port stock.credentials b.at (record { keeper = taken beat.keeper; table = w.table }) xs new) none beat.answered in
+    let stays : new ≡ record { keeper = taken beat.keeper; behind = w.behind } =
+    subst (λ xs. AreAnswered port stock.credentials b.at (record { keeper = taken beat.keeper; behind = w.behind }) xs new) none beat.answered in
     record {
       rest = ts;
       rests = record {
@@ -143,8 +143,8 @@ still stock port w new t ts b r le late all beat nobody quiet is awaits =
         late = late;
         same = r.same;
         supplied = r.supplied;
-        mirrors = λ m from. ap (λ (x : World). swept m x.table.rows) stays ∙ r.mirrors m (omega arith);
-        none = ap (λ (x : World). x.table.faults) stays ∙ r.none;
+        mirrors = λ m from. ap (λ (x : World). swept m x.behind.table.rows) stays ∙ r.mirrors m (omega arith);
+        none = ap (λ (x : World). x.behind.table.faults) stays ∙ r.none;
       };
       awaits = awaits;
       moments = sym (ap (λ c. map (λ (d : Beat). d.at) (cond c (b ∷ []) []) ++ ts) quiet);
@@ -171,7 +171,7 @@ opens stock port w new t rest b r le late all beat asks_is is =
     let i = some.0 in
     let todo = some.1.0 in
     let first : asked ≡ i ∷ todo = some.1.1 in
-    let start : World = record { keeper = taken beat.keeper; table = w.table } in
+    let start : World = record { keeper = taken beat.keeper; behind = w.behind } in
     let open' : InRound stock start g g u rest asked = record {
       keeper = ap taken is;
       forest = r.supplied.forest;
@@ -253,10 +253,20 @@ beat_goes stock port w new t (v ∷ rest) b r awaits beat =
 same_asked : (a b : List ℕ) → ◌≡◌ {A = Result Output StepFault} (Ok (out.Ask a)) (Ok (out.Ask b)) → a ≡ b
 same_asked a b e = cc
 
+-- a tick that asks has a moment to come
+pub asks_left :
+    (stock : Stock) (w : World) (t : ℕ) (ts : List ℕ) (u : ℕ) (r : AtRest stock w t ts) → Awaits t ts (Some u) → (asked : List ℕ) (keeper : State) → Turn w.keeper (Tick u) (Ok (out.Ask asked)) keeper → 0 < length ts
+unfolding tick_says tick_leaves
+asks_left stock w t [] u r awaits asked keeper turn =
+    let now : Turn (settled r.g t []) (Tick u) (Ok (out.Ask asked)) keeper = subst (λ (q : State). Turn q (Tick u) (Ok (out.Ask asked)) keeper) r.keeper turn in
+    let one = once (settled r.g t []) keeper (settled r.g u []) (Tick u) (Ok (out.Ask asked)) (Ok out.Idle) (λ bad. cc) (λ bad. cc) now (tick_turn r.g t u [] r.plan r.few awaits.0 awaits.1.0 awaits.1.1) in
+    absurd (let bad = one.0 in cc)
+asks_left stock w t (v ∷ rest) u r awaits asked keeper turn = omega arith
+
 -- a tick that asks opens a round
 pub asks_open :
     (stock : Stock) (w : World) (t : ℕ) (ts : List ℕ) (u : ℕ) (r : AtRest stock w t ts) → Awaits t ts (Some u) → (asked : List ℕ) (keeper : State) → Turn w.keeper (Tick u) (Ok (out.Ask asked)) keeper →
-    (rest : List ℕ) × InRound stock (record { keeper = taken keeper; table = w.table }) r.g r.g u rest asked
+    (rest : List ℕ) × InRound stock (record { keeper = taken keeper; behind = w.behind }) r.g r.g u rest asked
 unfolding tick_says tick_leaves
 asks_open stock w t [] u r awaits asked keeper turn =
     let now : Turn (settled r.g t []) (Tick u) (Ok (out.Ask asked)) keeper = subst (λ (q : State). Turn q (Tick u) (Ok (out.Ask asked)) keeper) r.keeper turn in
@@ -281,7 +291,7 @@ asks_open stock w t (v ∷ rest) u r awaits asked keeper turn =
           let who : asked ≡ want = same_asked asked want says in
           let leaves = one.1 ∙ cond-false (nat_lt u v) (settled g u ts) (waiting g u rest want) no' in (
             rest,
-            subst (InRound stock (record { keeper = taken keeper; table = w.table }) g g u rest) (sym who) (record {
+            subst (InRound stock (record { keeper = taken keeper; behind = w.behind }) g g u rest) (sym who) (record {
               keeper = ap taken leaves;
               forest = r.supplied.forest;
               plan = subst (λ n. IsPlanOf g u (n ∷ rest)) same (tick g t u ts awaits.0 awaits.1.1 r.plan).1.1;

@@ -2,7 +2,7 @@
 use Rattle.std.proofs.Common.{◌≡◌, ℕ, ◌+◌, ◌<◌, ◌≤◌, true, false, List, [], ◌∷◌, ◌++◌, Option, Some, None, IfSome, Result, Ok, Err, filter, is_some, length, map, nat_le, refl, sym, ap, ◌∙◌, subst, arith}
 use Rattle.std.proofs.lemmas.Bool.{cond-false}
 use Rattle.std.proofs.lemmas.Bool.Decides.{nat_tests}
-use Rattle.std.proofs.lemmas.List.{append-nil, length-map}
+use Rattle.std.proofs.lemmas.List.{append-nil, length-append, length-map}
 use Rattle.std.proofs.lemmas.List.Elements.{All-cons, All-nil, All-head, All-tail}
 use Rattle.std.specs.List.{All, flat_map}
 use Rattle.keep_moment.specs.declared.moment.TheConstants.{LAST}
@@ -25,10 +25,11 @@ use Rattle.keep_plan.specs.Planned.{to_come}
 use Rattle.keep_rule.specs.Runs.{moments_of}
 use Rattle.keep_rule.specs.declared.force.Force.{Force}
 use Rattle.keep_core.specs.declared.event.Output.{Output}
+use Rattle.keep_core.specs.declared.event.Output.TheVariants as out
 use Rattle.keep_core.specs.declared.fault.StepFault.{StepFault}
 use Rattle.keep_core.specs.declared.fault.StepFault.TheVariants.{ClockBack, RoundOpen, NotAsked, BadIndex, OutOfRange, TooLong, OutOfMemory}
 use Rattle.keep_core.specs.declared.shortened.ShortNeed.{ShortNeed}
-use Rattle.keep_core.specs.Replan.{IsPlanOf}
+use Rattle.keep_core.specs.Replan.{IsPlanOf, ReplanTooLong}
 use Rattle.keep_core.specs.History.{Turn}
 use Rattle.keep_core.specs.Shorten.{pairs}
 use Rattle.keep_core.specs.State.{State}
@@ -46,7 +47,7 @@ use Rattle.keep_run.proofs.Midway.{settled}
 use Rattle.keep_run.proofs.Mirroring.{mirrors_first}
 use Rattle.keep_run.proofs.Round.{AtRest, InRound, next_turn, part_goes}
 use Rattle.keep_inventory.proofs.Inventoried.{inventory_law}
-use Rattle.keep_run.proofs.Running.{Awaits, asks_open, requests_from, run_goes, tick_leaves, tick_says, tick_turn}
+use Rattle.keep_run.proofs.Running.{Awaits, asks_left, asks_open, requests_from, run_goes, tick_leaves, tick_says, tick_turn}
 use Rattle.mini_broker.proofs.Sweeping.{named_among}
 
 -- ---- the opening
@@ -71,8 +72,8 @@ opening_rests stock start ts short w supplied late plan few o = record {
   late = late;
   same = λ i. refl;
   supplied = supplied;
-  mirrors = λ m from. ap (λ (x : World). swept m x.table.rows) o.is ∙ mirrors_first stock supplied.forest start m from;
-  none = ap (λ (x : World). x.table.faults) o.is;
+  mirrors = λ m from. ap (λ (x : World). swept m x.behind.table.rows) o.is ∙ mirrors_first stock supplied.forest start m from;
+  none = ap (λ (x : World). x.behind.table.faults) o.is;
 }
 
 -- ---- who stands
@@ -104,7 +105,7 @@ left_later t m rest (Some u) awaits later = all_later m u rest later awaits.1.1
 
 stands :
     (stock : Stock) (w : World) (t : ℕ) (rest : List ℕ) (next : Option ℕ) → AtRest stock w t rest → Awaits t rest next → (m i : ℕ) → t ≤ m → IfSome next (λ u. m < u) →
-    m < (entry_at stock.grove.entries i).need → is_some (row_named (swept m w.table.rows) (entry_at stock.grove.entries i).name) ≡ true
+    m < (entry_at stock.grove.entries i).need → is_some (row_named (swept m w.behind.table.rows) (entry_at stock.grove.entries i).name) ≡ true
 unfolding listed
 stands stock w t rest next r awaits m i from later needed =
     let g = r.g in
@@ -197,7 +198,7 @@ answers_taken stock start ts supplied late plan few short opening final beats t 
     let first : Awaits start ts (Some start) = (omega arith, (late, best_from stock.grove start ts plan)) in
     let done = run_goes stock 8200 beats opening final start ts begins (Some start) (Some t) first played in
     let r = done.rests in
-    let start' : World = record { keeper = taken keeper; table = final.table } in
+    let start' : World = record { keeper = taken keeper; behind = final.behind } in
     let open' = asks_open stock final done.last done.rest t r done.awaits asked keeper ticked in
     let part = part_goes stock 8200 r.g t open'.0 xs i others start' now r.g (subst (InRound stock start' r.g r.g t open'.0) (sym who) open'.1) answers in
     let next = next_turn stock 8200 r.g t open'.0 i others now part.0 part.1 sent says in
@@ -230,3 +231,28 @@ comes_later port cs w v (Some u) (b ∷ bs) m played later =
 pub all_stand : StandsLaw
 all_stand stock start ts supplied late plan few short opening mid final before after due o first then' m i from up later needed =
     (so_far stock start ts supplied late plan few short opening mid before due o first).1.stands m i from up (comes_later 8200 stock.credentials mid final due after m then' later) needed
+
+-- ---- one wake-up more than the plan has
+
+pub more_to_come :
+    (stock : Stock) (start : ℕ) (ts : List ℕ) → IsStock stock → start ≤ LAST → IsPlanOf stock.grove start ts → length ts ≤ LIMIT → (short : List ShortNeed) (opening final : World) (beats : List Beat) (t : ℕ) →
+    IsOpening stock [] start short opening → Played 8200 stock.credentials opening (Some start) beats final (Some t) → (asked : List ℕ) (keeper : State) → Turn final.keeper (Tick t) (Ok (out.Ask asked)) keeper →
+    length (rounds beats) < length ts
+unfolding opening_rests
+more_to_come stock start ts supplied late plan few short opening final beats t o played asked keeper turn =
+    let begins = opening_rests stock start ts short opening supplied late plan few o in
+    let first : Awaits start ts (Some start) = (omega arith, (late, best_from stock.grove start ts plan)) in
+    let done = run_goes stock 8200 beats opening final start ts begins (Some start) (Some t) first played in
+    let some = asks_left stock final done.last done.rest t done.rests done.awaits asked keeper turn in
+    let count = ap length done.moments ∙ length-append (map (λ (c : Beat). c.at) (rounds beats)) done.rest in
+    let same = length-map (rounds beats) (λ (b : Beat). b.at) in
+    omega arith
+
+-- nor is the opening too long
+pub opening_fits : (g : Grove) (start : ℕ) (ts : List ℕ) → IsPlanOf g start ts → length ts ≤ LIMIT → ReplanTooLong g start → ⊥
+opening_fits g start ts plan few long =
+    let same = keepable g start (best_keepable g start ts plan) in
+    let best : IsPlanOf g start long.moments = subst (λ h. IsPlanOf h start long.moments) same.0 long.best in
+    let moments_are = ap length (one_least g.entries g.margin start (end_of g.entries) long.moments ts best plan) in
+    let many = long.many in
+    omega arith

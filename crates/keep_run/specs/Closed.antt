@@ -1,16 +1,19 @@
 -- Closed run: the Keeper step and the Broker step in turn.
 -- Source: this project's own.
-use Rattle.std.specs.Prelude.{◌≡◌, ℕ, ◌≤◌, Bool, true, false, List, [], ◌∷◌, Option, Some, None, Ok, length, map}
+use Rattle.std.specs.Prelude.{◌≡◌, ℕ, ◌≤◌, Bool, true, false, if◌then◌else◌, List, [], ◌∷◌, ◌++◌, Option, Some, None, Ok, length, map, nat_le}
 use Rattle.std.specs.List.{filter, sum_by}
 use Rattle.keep_tree.specs.Forest.{Grove}
 use Rattle.keep_inventory.specs.Stock.{Stock}
 use Rattle.vault_http.specs.declared.reply.Reply.{Reply}
+use Rattle.vault_http.specs.Written.{reply_text, request_text}
+use Rattle.keep_exchange.specs.declared.exchange.TheConstants.{MOST_REPLY}
+use Rattle.keep_exchange.specs.Exchanges.{Behind}
 use Rattle.mini_broker.specs.declared.fault.NumberedFault.{NumberedFault}
 use Rattle.mini_broker.specs.declared.served.Served.{Served}
 use Rattle.mini_broker.specs.declared.served.Served.TheVariants as served
-use Rattle.mini_broker.specs.Ledger.{Ledger}
 use Rattle.mini_broker.specs.Rows.{rows_of}
 use Rattle.mini_broker.specs.Step.{Says, step}
+use Rattle.mini_broker.specs.Stream.{sent_of}
 use Rattle.keep_core.specs.declared.event.Event.{Event}
 use Rattle.keep_core.specs.declared.event.Event.TheVariants.{Tick}
 use Rattle.keep_core.specs.declared.event.Output.{Output}
@@ -21,10 +24,11 @@ use Rattle.keep_core.specs.History.{Turn}
 use Rattle.keep_core.specs.State.{State, unplanned}
 use Rattle.keep_run.specs.Renewing.{event_for, request_of}
 
--- both sides: the keeper, whose shortened needs were taken, and the broker's table
+-- both sides: the keeper, whose shortened needs were taken, and what stands behind the exchange: the broker's table, and the
+-- bytes of the last request and its reply
 pub record World : Type 0 where
   pub keeper : State
-  pub table : Ledger
+  pub behind : Behind
 
 -- one asked entry: what the broker sent for it, what the keeper put out, and the needs that it then shortened
 pub record Exchanged : Type 0 where
@@ -42,9 +46,9 @@ pub record Beat : Type 0 where
 
 -- ---- one answer
 
--- what of that is a reply
+-- what of that is received: nothing of a reply that is dropped, nor of one of more bytes than are read
 abbrev pub reply_in : Served → Option Reply
-reply_in (served.Reply reply) = Some reply
+reply_in (served.Reply reply) = if nat_le (length (reply_text reply)) MOST_REPLY then Some reply else None
 reply_in served.Dropped = None
 
 -- a keeper whose shortened needs are taken
@@ -55,13 +59,20 @@ taken s = record s { shortened = [] }
 unfoldable pub event_in : List (List ℕ) → Grove → Exchanged → Event
 event_in cs g x = event_for cs g x.entry (reply_in x.sent)
 
+-- the broker's table behind the request, and the bytes of both messages
+abbrev pub carried : ℕ → List (List ℕ) → ℕ → World → Exchanged → Behind
+carried port cs t old x = record {
+  table = (step old.behind.table t (request_of port cs old.keeper.forest x.entry)).ledger;
+  wire = request_text (request_of port cs old.keeper.forest x.entry) ++ sent_of x.sent;
+}
+
 -- the entry sends its request, is served at t, and its reply gives the keeper's event
 pub record IsAnswered (port : ℕ) (cs : List (List ℕ)) (t : ℕ) (old : World) (x : Exchanged) (new : World) : Type 0 where
-  pub says : Says t (step old.table t (request_of port cs old.keeper.forest x.entry)).answer x.sent
+  pub says : Says t (step old.behind.table t (request_of port cs old.keeper.forest x.entry)).answer x.sent
   pub keeper : State
   pub turn : Turn old.keeper (event_in cs old.keeper.forest x) (Ok x.output) keeper
   pub short : x.short ≡ keeper.shortened
-  pub is : new ≡ record { keeper = taken keeper; table = (step old.table t (request_of port cs old.keeper.forest x.entry)).ledger }
+  pub is : new ≡ record { keeper = taken keeper; behind = carried port cs t old x }
 
 -- one after another
 abbrev pub AreAnswered : ℕ → List (List ℕ) → ℕ → World → List Exchanged → World → Type 0
@@ -81,7 +92,7 @@ pub record IsBeat (port : ℕ) (cs : List (List ℕ)) (old : World) (b : Beat) (
   pub turn : Turn old.keeper (Tick b.at) (Ok b.output) keeper
   pub short : b.short ≡ keeper.shortened
   pub asked : map (λ x. x.entry) b.answers ≡ asked_in b.output
-  pub answered : AreAnswered port cs b.at (record { keeper = taken keeper; table = old.table }) b.answers new
+  pub answered : AreAnswered port cs b.at (record { keeper = taken keeper; behind = old.behind }) b.answers new
 
 -- the moment that closing a round told
 abbrev pub told_next : Option ℕ → Output → Option ℕ
@@ -114,7 +125,7 @@ pub record IsOpening (stock : Stock) (faults : List NumberedFault) (start : ℕ)
   pub keeper : State
   pub planned : Replan (unplanned stock.grove) start keeper
   pub short_is : short ≡ keeper.shortened
-  pub is : world ≡ record { keeper = taken keeper; table = record { rows = rows_of stock; faults = faults; count = 0 } }
+  pub is : world ≡ record { keeper = taken keeper; behind = record { table = record { rows = rows_of stock; faults = faults; count = 0 }; wire = [] } }
 
 -- whether entries were asked: a wake-up
 abbrev pub asks_some : Output → Bool

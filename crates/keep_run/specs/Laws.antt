@@ -62,7 +62,7 @@ pub record GoesAsPlanned (stock : Stock) (start : ℕ) (ts : List ℕ) (beats : 
   pub quiet : All (IsQuiet stock) beats
   pub taken : (t : ℕ) (result : Result Output StepFault) (new : State) → next ≡ Some t → Turn final.keeper (Tick t) result new → IsTaken result
   pub stands : (m i : ℕ) → start ≤ m → All (λ b. b.at ≤ m) beats → IfSome next (λ t. m < t) → m < (entry_at stock.grove.entries i).need
-      → is_some (row_named (swept m final.table.rows) (entry_at stock.grove.entries i).name) ≡ true
+      → is_some (row_named (swept m final.behind.table.rows) (entry_at stock.grove.entries i).name) ≡ true
 
 -- without faults, a run of an inventory that a plan keeps goes as planned, as far as it went
 abbrev pub SoFarLaw : Type 0
@@ -96,8 +96,8 @@ AnswersTakenLaw =
     Played 8200 stock.credentials opening (Some start) beats final (Some t) →
     (asked : List ℕ) (keeper : State) → Turn final.keeper (Tick t) (Ok (out.Ask asked)) keeper →
     (xs : List Exchanged) (now : World) (i : ℕ) (others : List ℕ) → map (λ x. x.entry) xs ++ (i ∷ others) ≡ asked →
-    AreAnswered 8200 stock.credentials t (record { keeper = taken keeper; table = final.table }) xs now →
-    (sent : Served) (result : Result Output StepFault) (new : State) → Says t (step now.table t (request_of 8200 stock.credentials now.keeper.forest i)).answer sent →
+    AreAnswered 8200 stock.credentials t (record { keeper = taken keeper; behind = final.behind }) xs now →
+    (sent : Served) (result : Result Output StepFault) (new : State) → Says t (step now.behind.table t (request_of 8200 stock.credentials now.keeper.forest i)).answer sent →
     Turn now.keeper (event_for stock.credentials now.keeper.forest i (reply_in sent)) result new → IsTaken result
 
 -- over the bytes of an inventory, and for the plan that `plan` gives: the run's text ends in its number of wake-ups and the
@@ -118,4 +118,4 @@ StandsLaw =
     (short : List ShortNeed) (opening mid final : World) (before after : List Beat) (due : Option ℕ) → IsOpening stock [] start short opening →
     Played 8200 stock.credentials opening (Some start) before mid due → Played 8200 stock.credentials mid due after final None →
     (m i : ℕ) → start ≤ m → All (λ b. b.at ≤ m) before → All (λ b. m < b.at) after → m < (entry_at stock.grove.entries i).need
-    → is_some (row_named (swept m mid.table.rows) (entry_at stock.grove.entries i).name) ≡ true
+    → is_some (row_named (swept m mid.behind.table.rows) (entry_at stock.grove.entries i).name) ≡ true

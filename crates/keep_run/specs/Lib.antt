@@ -4,3 +4,7 @@ pub mod Text
 pub mod Listed
 pub mod Laws
 pub mod Stops
+pub mod Playing
+pub mod FaultWords
+pub mod Rehearse
+pub mod PlannedRehearsal

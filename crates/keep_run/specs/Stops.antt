@@ -5,7 +5,7 @@ use Rattle.std.specs.List.{flat_map}
 use Rattle.keep_inventory.specs.Stock.{Stock}
 use Rattle.mini_broker.specs.declared.fault.NumberedFault.{NumberedFault}
 use Rattle.mini_broker.specs.declared.served.Served.{Served}
-use Rattle.mini_broker.specs.Ledger.{Ledger}
+use Rattle.keep_exchange.specs.Exchanges.{Behind}
 use Rattle.mini_broker.specs.Step.{Says, step}
 use Rattle.keep_moment.specs.declared.moment.TheConstants.{LAST}
 use Rattle.keep_core.specs.declared.event.Event.{Event}
@@ -15,7 +15,6 @@ use Rattle.keep_core.specs.declared.fault.StepFault.{StepFault}
 use Rattle.keep_core.specs.declared.event.Output.TheVariants as out
 use Rattle.keep_core.specs.declared.fault.StepFault.TheVariants.{OutOfMemory, TooLong}
 use Rattle.keep_core.specs.declared.shortened.ShortNeed.{ShortNeed}
-use Rattle.keep_core.specs.Replan.{ReplanTooLong}
 use Rattle.keep_core.specs.History.{Turn}
 use Rattle.keep_core.specs.State.{State}
 use Rattle.keep_run.specs.Renewing.{event_for, request_of}
@@ -35,49 +34,25 @@ pub record SoFar (stock : Stock) (faults : List NumberedFault) (start : ℕ) (fi
   pub asked_are : asked ≡ requests_of beats
   pub text_is : text ≡ short_lines stock.grove short ++ flat_map (beat_text stock) beats
 
--- the inner loop: a tick that asked these at t, and the answers of the first of them
-pub record InBeat (stock : Stock) (t : ℕ) (asked : List ℕ) (before now : World) (xs : List Exchanged) (next : Option ℕ) (text : List ℕ) : Type 0 where
-  pub short : List ShortNeed
-  pub keeper : State
-  pub turn : Turn before.keeper (Tick t) (Ok (out.Ask asked)) keeper
-  pub short_is : short ≡ keeper.shortened
-  pub left : List ℕ
-  pub who : map (λ (x : Exchanged). x.entry) xs ++ left ≡ asked
-  pub answered : AreAnswered 8200 stock.credentials t (record { keeper = taken keeper; table = before.table }) xs now
-  pub next_is : next ≡ closing None xs
-  pub text_is : text ≡ short_lines stock.grove short ++ (wake_line stock.grove t (out.Ask asked) ++ flat_map (answer_text stock) xs)
-
 -- ---- runs without an end: exit 5
 
--- an answer whose step would make the plan too long: it was served, and its line is written
-pub record IsCut (stock : Stock) (t : ℕ) (old : World) (i : ℕ) (line : List ℕ) : Type 0 where
-  pub sent : Served
-  pub says : Says t (step old.table t (request_of 8200 stock.credentials old.keeper.forest i)).answer sent
-  pub turn : Turn old.keeper (event_for stock.credentials old.keeper.forest i (reply_in sent)) (Err TooLong) old.keeper
-  pub line_is : line ≡ answer_line stock.grove (event_for stock.credentials stock.grove i (reply_in sent)) (reply_in sent)
+-- a wake-up is due: behind ticks that ask nobody, the first of them, if any, at t, there is one that asks
+pub record IsDue (cs : List (List ℕ)) (old : World) (t : ℕ) : Type 0 where
+  pub beats : List Beat
+  pub mid : World
+  pub at : ℕ
+  pub played : Played 8200 cs old (Some t) beats mid (Some at)
+  pub none_asked : rounds beats ≡ []
+  pub asked : List ℕ
+  pub keeper : State
+  pub turn : Turn mid.keeper (Tick at) (Ok (out.Ask asked)) keeper
 
--- the run stops after some ticks: 100,000 wake-ups were made and another is due; or the next tick is too long; or an answer
--- of its round is
-pub data Stop (stock : Stock) (t : ℕ) (final : World) (wakes : ℕ) (text : List ℕ) : Type 0 where
-  many : (asked : List ℕ) (keeper : State) → wakes ≡ 100000 → Turn final.keeper (Tick t) (Ok (out.Ask asked)) keeper → text ≡ [] → Stop stock t final wakes text
-  long_tick : Turn final.keeper (Tick t) (Err TooLong) final.keeper → text ≡ [] → Stop stock t final wakes text
-  long_answer : (asked : List ℕ) (now : World) (xs : List Exchanged) (next : Option ℕ) (before line : List ℕ) → (round : InBeat stock t asked final now xs next before) →
-      (i : ℕ) (others : List ℕ) → round.left ≡ i ∷ others → IsCut stock t now i line → text ≡ before ++ line → Stop stock t final wakes text
-
--- what is written where the run comes to no end
-pub record IsStopped (stock : Stock) (faults : List NumberedFault) (start : ℕ) (text : List ℕ) : Type 0 where
-  pub final : World
-  pub t : ℕ
-  pub wakes : ℕ
+-- a run that has made 100,000 wake-ups, of which another is due, and its text
+pub record IsStopped (stock : Stock) (faults : List NumberedFault) (start : ℕ) (final : World) (text : List ℕ) : Type 0 where
+  pub due : ℕ
   pub asked : ℕ
-  pub before : List ℕ
-  pub last : List ℕ
-  pub so_far : SoFar stock faults start final (Some t) wakes asked before
-  pub stop : Stop stock t final wakes last
-  pub text_is : text ≡ before ++ last
-
-abbrev pub StoppedAtOnce : Stock → ℕ → List ℕ → Type 0
-StoppedAtOnce stock start text = ReplanTooLong stock.grove start × (text ≡ [])
+  pub so_far : SoFar stock faults start final (Some due) 100000 asked text
+  pub more : IsDue stock.credentials final due
 
 -- ---- laws of the loops
 
@@ -123,17 +98,13 @@ NeverRefusedLaw =
     ((result : Result Output StepFault) (new : State) → Turn final.keeper (Tick t) result new → IsTakenOrLong result)
     × ((asked : List ℕ) (keeper : State) → Turn final.keeper (Tick t) (Ok (out.Ask asked)) keeper →
     (xs : List Exchanged) (now : World) (i : ℕ) (others : List ℕ) → map (λ (x : Exchanged). x.entry) xs ++ (i ∷ others) ≡ asked →
-    AreAnswered port stock.credentials t (record { keeper = taken keeper; table = final.table }) xs now →
+    AreAnswered port stock.credentials t (record { keeper = taken keeper; behind = final.behind }) xs now →
     (event : Event) (result : Result Output StepFault) (new : State) → IsAnswerFor i event → Turn now.keeper event result new → IsTakenOrLong result)
 
 -- ---- the code of one answer
 
-abbrev pub both : State → Ledger → World
-both keeper table = record { keeper = keeper; table = table }
-
--- the entry was answered, with this output
-abbrev pub Answers : List (List ℕ) → ℕ → World → ℕ → Output → World → Type 0
-Answers cs t old i output new = (x : Exchanged) × ((x.entry ≡ i) × ((x.output ≡ output) × IsAnswered 8200 cs t old x new))
+abbrev pub both : State → Behind → World
+both keeper behind = record { keeper = keeper; behind = behind }
 
 -- a run is cut anywhere
 abbrev pub SplitLaw : Type 0

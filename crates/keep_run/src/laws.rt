@@ -1,5 +1,6 @@
 //! Laws of the Closed run without faults.
 ghost use Rattle.keep_run.specs.Laws.{AnswersTakenLaw, LeastLaw, PlannedRunLaw, RehearsalLaw, SoFarLaw, StandsLaw};
+ghost use Rattle.keep_run.specs.PlannedRehearsal.{PlannedRehearsalLaw};
 ghost use Rattle.keep_run.specs.Stops.{AnswerMoreLaw, EndLaw, NeverRefusedLaw, SplitLaw, TickMoreLaw};
 
 /// The law of a run so far: without faults, the run of an inventory that a plan keeps has its rounds at the plan's moments,
@@ -57,4 +58,10 @@ pub fn split_law()
 /// The law of standing rows: each entry that is needed is listed at each moment before its need.
 pub fn stands_law()
     ensures { StandsLaw }
+{}
+
+/// The law of a planned rehearsal: where [`plan`](keep_plan::plan) keeps with at most 100,000 wake-ups, the rehearsal without
+/// FAULT words comes to its end but for a writer that fails and want of memory, and makes exactly these wake-ups.
+pub fn planned_rehearsal_law()
+    ensures { PlannedRehearsalLaw }
 {}

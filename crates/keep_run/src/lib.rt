@@ -1,11 +1,22 @@
-//! Runs of the executor: the keeper against a broker that renews what it asks for. Here is the closed run, in which the
-//! broker is a table in memory, with its text, and what it is where the broker has no faults. Begin with
-//! `specs/Closed.antt` and `specs/Text.antt`.
+//! Runs of the executor: the keeper against a broker that renews what it asks for. Here is the rehearsal, in which the broker
+//! is a table in memory behind an exchange that passes real messages.
+//!
+//! The contract for the program above is that of [`run_rehearse`]; the laws say what the run is where the broker has no faults.
+//! Begin with `specs/Closed.antt` and `specs/Text.antt`, then `rehearsal`, `playing` and `waking`.
 #![tactic(auto)]
 
+mod fault_words;
 pub mod laws;
+mod lines;
+mod opening;
+mod playing;
+mod rehearsal;
 mod renewing;
 mod served_entry;
+#[cfg(test)]
+mod tests;
+mod waking;
 
+pub use playing::MOST_WAKES;
+pub use rehearsal::run_rehearse;
 pub use renewing::{event_from, request_for};
-pub use served_entry::{Stop, answer};

@@ -27,7 +27,6 @@ pub fn request_for(
     requires within { i < length forest.now.entries }
     requires credentials { length credentials.now ≡ length forest.now.entries }
     requires text { (entry_at forest.now.entries i).kind ≡ Lease → IsUtf8 (credential_at credentials.now i) }
-    requires over { IfSome (entry_at forest.now.entries i).parent (λ p. p < length forest.now.entries) }
     ensures { IfOk result (λ r. r ≡ request_of port credentials.now forest.now i) }
 {
     let entry = forest.get(i);
@@ -60,9 +59,9 @@ pub fn event_from(
     kind: Kind,
     id: &[u8],
     i: u32,
-    reply: Option<Reply>,
+    reply: &Option<Reply>,
 ) -> Result<Event, AllocError>
-    ensures { IfOk result (λ event. event ≡ event_of kind id.now i reply) }
+    ensures { IfOk result (λ event. event ≡ event_of kind id.now i reply.now) }
 {
     let Some(reply) = reply else {
         return Ok(Event::Lost(i));

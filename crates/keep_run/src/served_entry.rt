@@ -1,66 +1,61 @@
 //! One asked entry: its request is served, and its reply handed in.
-ghost use Rattle.std.specs.Prelude.{◌≡◌, ◌<◌, IfOk, IfSome, IsUtf8, length};
-ghost use Rattle.keep_tree.specs.declared.entry.Kind.TheVariants.{Lease};
-ghost use Rattle.keep_tree.specs.Forest.{entry_at};
-ghost use Rattle.keep_inventory.specs.Stock.{credential_at};
-ghost use Rattle.keep_run.specs.Closed.{reply_in};
-ghost use Rattle.keep_run.specs.Stops.{Answers, both};
+ghost use Rattle.std.specs.Prelude.{◌≡◌, ◌≢◌, ◌<◌, [], Err, IfOk, length};
+ghost use Rattle.std.specs.Result.{IfErr};
+ghost use Rattle.keep_report.specs.declared.stop.Stop.TheVariants as stops;
+ghost use Rattle.keep_core.specs.LawsOfSteps.{IsShaped};
+ghost use Rattle.keep_exchange.specs.declared.fault.ExchangeFault.TheVariants.{OutOfMemory};
+ghost use Rattle.keep_run.specs.Playing.{Answers, Fits, heard_of};
+ghost use Rattle.keep_run.specs.Stops.{both};
 
+use crate::lines::{push_answer_line, push_short_lines};
 use crate::renewing::{event_from, request_for};
-use keep_core::{Keeper, Output, StepFault};
+use keep_report::Stop;
+use keep_core::{Keeper, Output};
+use keep_exchange::{Exchange, ExchangeFault, MemoryExchange};
 use keep_inventory::Credentials;
 use keep_moment::Moment;
-use mini_broker::{Served, Table};
 use std::alloc::Global;
 use vault_http::Reply;
 
-/// Why a rehearsal stops.
-#[derive(Clone, Copy, Debug, PartialEq, Eq)]
-pub enum Stop {
-    TooLong,
-    Memory,
-}
-
-fn reply_of(served: Served) -> Option<Reply>
-    ensures { result ≡ reply_in served }
+/// What was received, if anything. The only error is want of memory, which is no lost answer.
+fn heard_of(exchanged: Result<Reply, ExchangeFault>) -> Result<Option<Reply>, Stop>
+    ensures memory { IfErr result (λ stop. stop ≡ stops.Memory) }
+    ensures heard { IfOk result (λ reply. (reply ≡ heard_of exchanged) × (exchanged ≢ Err OutOfMemory)) }
 {
-    match served {
-        Served::Reply(reply) => Some(reply),
-        Served::Dropped => None,
+    match exchanged {
+        Ok(reply) => Ok(Some(reply)),
+        Err(ExchangeFault::OutOfMemory) => Err(Stop::Memory),
+        Err(_) => Ok(None),
     }
 }
 
-/// The entry `i` sends its request at `t`, and the keeper is handed what the reply means.
-pub fn answer(
+/// The entry `i` sends its request at `t`, and the keeper is handed what the reply means; the lines of it are appended.
+pub(crate) fn answer(
     alloc: Global,
     keeper: &mut Keeper,
-    table: &mut Table,
+    exchange: &mut MemoryExchange,
     credentials: &Credentials,
     t: Moment,
     i: u32,
+    text: &mut Vec<u8>,
 ) -> Result<Output, Stop>
     requires within { i < length keeper.old.forest.entries }
-    requires credentials { length credentials.now ≡ length keeper.old.forest.entries }
-    requires text { (entry_at keeper.old.forest.entries i).kind ≡ Lease → IsUtf8 (credential_at credentials.now i) }
-    requires over { IfSome (entry_at keeper.old.forest.entries i).parent (λ p. p < length keeper.old.forest.entries) }
-    ensures { IfOk result (λ output. Answers credentials.now t (both keeper.old table.old) i output (both keeper.new table.new)) }
+    requires fits { Fits credentials.now keeper.old.forest }
+    requires quiet { keeper.old.shortened ≡ [] }
+    ensures memory { IfErr result (λ stop. stop ≡ stops.Memory) }
+    ensures answers { IfOk result (λ output. Answers credentials.now t (both keeper.old exchange.old) i output (both keeper.new exchange.new) text.old.items text.new.items) }
+    ensures shaped { IfOk result (λ _. IsShaped keeper.old.forest keeper.new.forest) }
+    ensures taken { IfOk result (λ _. keeper.new.shortened ≡ []) }
 {
-    let Ok(request) = request_for(alloc, 8200, credentials, keeper.forest(), i) else {
-        return Err(Stop::Memory);
-    };
+    let request = request_for(alloc, 8200, credentials, keeper.forest(), i)?;
     let kind = keeper.forest().get(i).kind;
-    let Ok(served) = table.serve(t, &request) else {
+    let reply = heard_of(exchange.exchange(alloc, t, &request))?;
+    let event = event_from(alloc, kind, credentials.get(i), i, &reply)?;
+    push_answer_line(alloc, keeper.forest(), i, event, &reply, text)?;
+    let Ok(output) = keeper.step(event) else {
         return Err(Stop::Memory);
     };
-    let Ok(event) = event_from(alloc, kind, credentials.get(i), i, reply_of(served)) else {
-        return Err(Stop::Memory);
-    };
-    match keeper.step(event) {
-        Ok(output) => {
-            let _short = keeper.take_shortened();
-            Ok(output)
-        }
-        Err(StepFault::TooLong) => Err(Stop::TooLong),
-        Err(_) => Err(Stop::Memory),
-    }
+    let short = keeper.take_shortened();
+    push_short_lines(alloc, keeper.forest(), short.list(), text)?;
+    Ok(output)
 }

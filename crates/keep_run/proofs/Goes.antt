@@ -1,0 +1,158 @@
+-- Goes: a run goes on, by a wake-up and by another run.
+use Rattle.std.proofs.Common.{◌≡◌, ℕ, ◌+◌, ◌≤◌, true, cond, List, [], ◌∷◌, ◌++◌, Option, Some, None, Result, Ok, length, refl, sym, ap, ◌∙◌, subst, map, flat_map, arith}
+use Rattle.std.proofs.lemmas.Grind.{flat_map-append}
+use Rattle.std.proofs.lemmas.List.{append-nil, append_assoc, length-append, length-map}
+use Rattle.std.proofs.lemmas.List.Elements.{filter-append}
+use Rattle.std.proofs.lemmas.List.Sums.{sum_by-append}
+use Rattle.keep_tree.specs.Forest.{Grove}
+use Rattle.keep_inventory.specs.Stock.{Stock}
+use Rattle.keep_exchange.specs.Exchanges.{Behind}
+use Rattle.keep_core.specs.LawsOfSteps.{IsShaped}
+use Rattle.keep_core.specs.declared.event.Event.TheVariants.{Tick}
+use Rattle.keep_core.specs.declared.event.Output.TheVariants as out
+use Rattle.keep_core.specs.State.{State}
+use Rattle.keep_run.specs.Closed.{AreAnswered, Beat, Exchanged, IsBeat, Played, World, asks_some, closing, next_tick, requests_of, rounds, taken}
+use Rattle.keep_run.specs.Playing.{AnswersAll, Ends, Goes, Opens, stock_of}
+use Rattle.keep_run.specs.Stops.{IsDue, both}
+use Rattle.keep_run.specs.Text.{answer_text, beat_text, short_lines, wake_line}
+use Rattle.keep_run.proofs.Texts.{same_answer_texts, same_beat_texts, same_shorts, same_wake}
+
+-- ---- one run behind another
+
+pub joins :
+    (port : ℕ) (cs : List (List ℕ)) (old mid new : World) (due then' next : Option ℕ) (bs more : List Beat) → Played port cs old due bs mid then' → Played port cs mid then' more new next →
+    Played port cs old due (bs ++ more) new next
+joins port cs old mid new due then' next [] more first second =
+    subst (λ w. Played port cs w due more new next) first.0 (subst (λ d. Played port cs mid d more new next) first.1 second)
+joins port cs old mid new None then' next (b ∷ bs) more first second = absurd first
+joins port cs old mid new (Some t) then' next (b ∷ bs) more first second =
+    (first.0, (first.1.0, (first.1.1.0, joins port cs first.1.0 mid new (next_tick b) then' next bs more first.1.1.1 second)))
+
+pub wakes_join : (bs more : List Beat) → length (rounds (bs ++ more)) ≡ length (rounds bs) + length (rounds more)
+unfolding rounds
+wakes_join bs more = ap length (filter-append (λ (b : Beat). asks_some b.output) bs more) ∙ length-append (rounds bs) (rounds more)
+
+requests_join : (bs more : List Beat) → requests_of (bs ++ more) ≡ requests_of bs + requests_of more
+unfolding requests_of
+requests_join bs more = sum_by-append (λ (b : Beat). length b.answers) bs more
+
+pub goes_on :
+    (s : Stock) (old mid new : World) (due then' next : Option ℕ) (w v a c : ℕ) (x y : List ℕ) → Goes s old due mid then' w a x → Goes s mid then' new next v c y → Goes s old due new next (w + v) (a + c) (x ++ y)
+goes_on s old mid new due then' next w v a c x y g h = record {
+  beats = g.beats ++ h.beats;
+  played = joins 8200 s.credentials old mid new due then' next g.beats h.beats g.played h.played;
+  wakes_are = (let e = wakes_join g.beats h.beats in let l = g.wakes_are in let r = h.wakes_are in omega arith);
+  asked_are = (let e = requests_join g.beats h.beats in let l = g.asked_are in let r = h.asked_are in omega arith);
+  text_is = ap (λ l. l ++ y) g.text_is ∙ ap (λ l. flat_map (beat_text s) g.beats ++ l) h.text_is ∙ sym (flat_map-append (beat_text s) g.beats h.beats);
+}
+
+-- nothing yet
+pub goes_nowhere : (s : Stock) (old : World) (due : Option ℕ) → Goes s old due old due 0 0 []
+unfolding rounds requests_of
+goes_nowhere s old due = record { beats = []; played = (refl, refl); wakes_are = refl; asked_are = refl; text_is = refl }
+
+-- of another forest of that shape
+pub goes_as :
+    (s u : Stock) (old new : World) (due next : Option ℕ) (w a : ℕ) (x : List ℕ) → IsShaped s.grove u.grove → u.credentials ≡ s.credentials → Goes u old due new next w a x → Goes s old due new next w a x
+goes_as s u old new due next w a x like credentials g = record {
+  beats = g.beats;
+  played = subst (λ cs. Played 8200 cs old due g.beats new next) credentials g.played;
+  wakes_are = g.wakes_are;
+  asked_are = g.asked_are;
+  text_is = g.text_is ∙ same_beat_texts s u like credentials g.beats;
+}
+
+-- ---- to the end without a round
+
+pub ends_go : (cs : List (List ℕ)) (behind : Behind) (old new : State) (due : ℕ) (before after : List ℕ) → Ends cs behind old due new before after →
+    (text : List ℕ) × (Goes (stock_of cs old.forest) (both old behind) (Some due) (both new behind) None 0 0 text × (after ≡ before ++ text))
+ends_go cs behind old new due before after e = (
+  flat_map (beat_text (stock_of cs old.forest)) e.beats,
+  (
+    record { beats = e.beats; played = e.quiet.played; wakes_are = sym (ap length e.quiet.none_asked); asked_are = sym e.quiet.none_sent; text_is = refl },
+    e.text_is,
+  ),
+)
+
+-- ---- to the end of the first round
+
+module _ (cs : List (List ℕ)) (behind : Behind) (old k : State) (new : World) (due t : ℕ) (asked before mid after : List ℕ) (next : Option ℕ) (like : IsShaped old.forest k.forest)
+    (o : Opens cs behind old due t asked k before mid) (a : AnswersAll cs t (both k behind) asked next new mid after) where
+  s : Stock
+  s = stock_of cs old.forest
+
+  u : Stock
+  u = stock_of cs k.forest
+
+  round_of : Beat
+  round_of = record { at = t; output = out.Ask asked; short = o.ticks.keeper.shortened; answers = a.xs }
+
+  is_round : IsBeat 8200 cs (both o.mid behind) round_of new
+  unfolding round_of
+  is_round = record {
+    keeper = o.ticks.keeper;
+    turn = o.ticks.turn;
+    short = refl;
+    asked = a.who;
+    answered = subst (λ q. AreAnswered 8200 cs t (both q behind) a.xs new) o.ticks.is a.answered;
+  }
+
+  all_beats : List Beat
+  all_beats = o.beats ++ round_of ∷ []
+
+  played : Played 8200 cs (both old behind) (Some due) all_beats new next
+  unfolding all_beats round_of
+  played = joins 8200 cs (both old behind) (both o.mid behind) new (Some due) (Some t) next o.beats (round_of ∷ []) o.quiet.played (refl, (new, (is_round, (refl, a.next_is))))
+
+  one_wake : 1 ≡ length (rounds all_beats)
+  unfolding all_beats rounds round_of
+  one_wake = sym (wakes_join o.beats (round_of ∷ []) ∙ ap (λ bs. length bs + 1) o.quiet.none_asked)
+
+  all_requests : length asked ≡ requests_of all_beats
+  unfolding all_beats requests_of round_of
+  all_requests =
+      let count : length (map (λ (x : Exchanged). x.entry) a.xs) ≡ length a.xs = length-map a.xs (λ (x : Exchanged). x.entry) in
+      let join : requests_of all_beats ≡ requests_of o.beats + (0 + length a.xs) = requests_join o.beats (round_of ∷ []) in
+      let none = o.quiet.none_sent in
+      let who = ap length a.who in
+      omega arith
+
+  round_text : beat_text s round_of ≡ (short_lines k.forest o.ticks.keeper.shortened ++ wake_line k.forest t (out.Ask asked)) ++ flat_map (answer_text u) a.xs
+  unfolding beat_text round_of s u
+  round_text = sym (
+      ap (λ l. (l ++ wake_line k.forest t (out.Ask asked)) ++ flat_map (answer_text u) a.xs) (same_shorts old.forest k.forest like o.ticks.keeper.shortened)
+      ∙ ap (λ l. (short_lines old.forest o.ticks.keeper.shortened ++ l) ++ flat_map (answer_text u) a.xs) (same_wake old.forest k.forest like t (out.Ask asked))
+      ∙ ap (λ l. (short_lines old.forest o.ticks.keeper.shortened ++ wake_line old.forest t (out.Ask asked)) ++ l) (same_answer_texts s u like refl a.xs)
+      ∙ append_assoc (short_lines old.forest o.ticks.keeper.shortened) (wake_line old.forest t (out.Ask asked)) (flat_map (answer_text s) a.xs))
+
+  texts : after ≡ before ++ flat_map (beat_text s) all_beats
+  unfolding all_beats s u
+  texts =
+      let quiet = flat_map (beat_text s) o.beats in
+      let lines = short_lines k.forest o.ticks.keeper.shortened ++ wake_line k.forest t (out.Ask asked) in
+      let answers = flat_map (answer_text u) a.xs in
+      a.text_is
+      ∙ ap (λ l. l ++ answers) (o.ticks.text_is ∙ ap (λ l. l ++ lines) o.quiet_text ∙ append_assoc before quiet lines)
+      ∙ append_assoc before (quiet ++ lines) answers
+      ∙ ap (λ l. before ++ l) (append_assoc quiet lines answers
+      ∙ ap (λ l. quiet ++ l) (sym round_text ∙ sym (append-nil (beat_text s round_of)))
+      ∙ sym (flat_map-append (beat_text s) o.beats (round_of ∷ [])))
+
+  pub round_goes_on : (text : List ℕ) × (Goes (stock_of cs old.forest) (both old behind) (Some due) new next 1 (length asked) text × (after ≡ before ++ text))
+  unfolding s u
+  round_goes_on = (
+    flat_map (beat_text s) all_beats,
+    (record { beats = all_beats; played = played; wakes_are = one_wake; asked_are = all_requests; text_is = refl }, texts),
+  )
+
+pub due_of : (cs : List (List ℕ)) (behind : Behind) (old k : State) (due t : ℕ) (asked before after : List ℕ) → Opens cs behind old due t asked k before after → IsDue cs (both old behind) due
+due_of cs behind old k due t asked before after o = record {
+  beats = o.beats;
+  mid = both o.mid behind;
+  at = t;
+  played = o.quiet.played;
+  none_asked = o.quiet.none_asked;
+  asked = asked;
+  keeper = o.ticks.keeper;
+  turn = o.ticks.turn;
+}

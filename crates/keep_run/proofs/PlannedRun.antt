@@ -1,0 +1,100 @@
+-- The planned rehearsal: it comes to its end, and makes the plan's wake-ups.
+use Rattle.std.proofs.Common.{◌≡◌, ◌∙◌, ℕ, ◌+◌, ◌<◌, ◌≤◌, List, [], ◌++◌, Some, None, Result, Ok, Err, ap, arith, inl, inr, length, refl, subst, sym, ◌⊎◌}
+use Rattle.std.proofs.lemmas.List.{append-nil, length-append, length-map}
+use Rattle.std.specs.Io.KnownBytes.{Appends}
+use Rattle.keep_moment.specs.declared.moment.TheConstants.{LAST}
+use Rattle.keep_rule.specs.declared.force.Force.{Force}
+use Rattle.keep_rule.specs.Runs.{moments_of}
+use Rattle.keep_plan.specs.declared.decision.Decision.TheVariants.{Keep}
+use Rattle.keep_plan.specs.Decides.{Decides}
+use Rattle.keep_plan.specs.Planned.{Planned, to_come}
+use Rattle.keep_core.specs.Replan.{IsPlanOf, ReplanTooLong}
+use Rattle.keep_inventory.specs.Inventory.{inventory}
+use Rattle.keep_inventory.specs.Stock.{Stock}
+use Rattle.keep_inventory.proofs.Inventoried.{inventory_law}
+use Rattle.mini_broker.specs.declared.fault.NumberedFault.{NumberedFault}
+use Rattle.keep_exchange.specs.Exchanges.{Behind}
+use Rattle.keep_report.specs.declared.exit.Exit.TheVariants as exits
+use Rattle.keep_report.specs.Sent.{IsAll, Sent}
+use Rattle.keep_run.specs.Closed.{Course, IsClosedRun, World, rounds}
+use Rattle.keep_run.specs.FaultWords.{faults_from, faults_of}
+use Rattle.keep_run.specs.PlannedRehearsal.{IsPlannedRun, PlannedRehearsalLaw}
+use Rattle.keep_run.specs.Rehearse.{IsCalled, RehearseRun, RunsLong}
+use Rattle.keep_run.specs.Stops.{IsStopped}
+use Rattle.keep_run.specs.Text.{course_text}
+use Rattle.keep_run.proofs.Goes.{joins, wakes_join}
+use Rattle.keep_run.proofs.Whole.{more_to_come, opening_fits, planned_run, rehearsal}
+
+none_written : (faults : List NumberedFault) → faults_of [] ≡ Ok faults → faults ≡ []
+unfolding faults_from
+none_written faults e = (let same : ◌≡◌ {A = Result (List NumberedFault) ℕ} (Ok []) (Ok faults) = e in cc)
+
+none_bad : (position : ℕ) → faults_of [] ≡ Err position → ⊥
+unfolding faults_from
+none_bad position e = (let bad : ◌≡◌ {A = Result (List NumberedFault) ℕ} (Ok []) (Err position) = e in cc)
+
+one_stock : (bytes : List ℕ) (a b : Stock) → inventory bytes ≡ Ok a → inventory bytes ≡ Ok b → b ≡ a
+one_stock bytes a b x y = (let same = sym y ∙ x in cc)
+
+no_round : (n m : ℕ) → n < m → m ≤ 100000 → n ≡ 100000 → ⊥
+no_round n m less most is = omega (arith, less, most, is)
+
+-- the run as it is done
+done_as_planned :
+    (bytes : List ℕ) (stock : Stock) (start : ℕ) (p : Planned) (course : Course) (final : World) (out : Sent) (new : Behind) → inventory bytes ≡ Ok stock → start ≤ LAST → Decides stock.grove start (Keep p) → length (to_come p) ≤ 100000 →
+    IsClosedRun stock [] start course final → IsAll (course_text stock course) out → new ≡ final.behind → IsPlannedRun stock start p out new
+done_as_planned bytes stock start p course final out new read late decides few run sent left =
+    let ts = moments_of (to_come p) in
+    let plan : IsPlanOf stock.grove start ts = decides.best.least in
+    let count : length ts ≡ length (to_come p) = length-map (to_come p) (λ (x : Force). x.at) in
+    let is = rehearsal stock start ts (inventory_law bytes stock read) late plan (omega arith) course final run in
+    let text = planned_run bytes stock start p read late decides few course final run in
+    record {
+      course = course;
+      final = final;
+      run = run;
+      moments = is.0;
+      quiet = is.1.1.1;
+      sent = (subst (Appends out.old out.new) text.1 sent.0, sent.1);
+      left = left;
+    }
+
+-- it does not stop
+not_long :
+    (bytes : List ℕ) (stock : Stock) (start : ℕ) (p : Planned) (out : Sent) (behind : Behind) → inventory bytes ≡ Ok stock → start ≤ LAST → Decides stock.grove start (Keep p) → length (to_come p) ≤ 100000 → RunsLong stock [] start out behind → ⊥
+not_long bytes stock start p out behind read late decides few (inl long) =
+    let ts = moments_of (to_come p) in
+    let plan : IsPlanOf stock.grove start ts = decides.best.least in
+    let count : length ts ≡ length (to_come p) = length-map (to_come p) (λ (x : Force). x.at) in
+    opening_fits stock.grove start ts plan (omega arith) long.0
+not_long bytes stock start p out behind read late decides few (inr long) =
+    let ts = moments_of (to_come p) in
+    let plan : IsPlanOf stock.grove start ts = decides.best.least in
+    let count : length ts ≡ length (to_come p) = length-map (to_come p) (λ (x : Force). x.at) in
+    let stopped = long.2 in
+    let so_far = stopped.so_far in
+    let more = stopped.more in
+    let beats = so_far.beats ++ more.beats in
+    let played = joins 8200 stock.credentials so_far.opening long.0 more.mid (Some start) (Some stopped.due) (Some more.at) so_far.beats more.beats so_far.played more.played in
+    let less = more_to_come stock start ts (inventory_law bytes stock read) late plan (omega arith) so_far.short so_far.opening more.mid beats more.at so_far.opened played more.asked more.keeper more.turn in
+    let all : length (rounds beats) ≡ length (rounds so_far.beats) + length (rounds more.beats) = wakes_join so_far.beats more.beats in
+    let none = ap length more.none_asked in
+    let made = so_far.wakes_are in
+    no_round (length (rounds beats)) (length ts) less (omega arith) (omega arith)
+
+pub planned_rehearsal : PlannedRehearsalLaw
+planned_rehearsal bytes stock start p exits.Done out old new read late decides few run =
+    let same = one_stock bytes stock run.0 read run.2.read in
+    let none = none_written run.1 run.2.faults_are in
+    let closed : IsClosedRun stock [] start run.3 run.4 = subst (λ s. IsClosedRun s [] start run.3 run.4) same (subst (λ fs. IsClosedRun run.0 fs start run.3 run.4) none run.5) in
+    done_as_planned bytes stock start p run.3 run.4 out new read late decides few closed (subst (λ s. IsAll (course_text s run.3) out) same run.6) run.7
+planned_rehearsal bytes stock start p exits.Inventory out old new read late decides few run = absurd (let bad = sym read ∙ run.1 in cc)
+planned_rehearsal bytes stock start p exits.CommandLine out old new read late decides few run = none_bad run.2 run.3
+planned_rehearsal bytes stock start p exits.TooLong out old new read late decides few run =
+    let same = one_stock bytes stock run.0 read run.2.read in
+    let none = none_written run.1 run.2.faults_are in
+    not_long bytes stock start p out new read late decides few (subst (λ s. RunsLong s [] start out new) same (subst (λ fs. RunsLong run.0 fs start out new) none run.3))
+planned_rehearsal bytes stock start p exits.Device out old new read late decides few run = tt
+planned_rehearsal bytes stock start p exits.Memory out old new read late decides few run = tt
+planned_rehearsal bytes stock start p exits.Unkeepable out old new read late decides few run = absurd run
+planned_rehearsal bytes stock start p exits.No out old new read late decides few run = absurd run

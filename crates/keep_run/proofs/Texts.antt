@@ -1,0 +1,73 @@
+-- Texts: the lines of a run are those of its inventory's names, also by a forest as it was told.
+use Rattle.std.proofs.Common.{◌≡◌, ℕ, List, [], ◌∷◌, ◌++◌, Option, codes, decimal, flat_map, refl, sym, ap, ◌∙◌, subst}
+use Rattle.keep_tree.specs.declared.entry.Entry.{Entry}
+use Rattle.keep_tree.specs.Forest.{Grove, entry_at}
+use Rattle.keep_inventory.specs.Stock.{Stock, credential_at}
+use Rattle.vault_http.specs.declared.reply.Reply.{Reply}
+use Rattle.keep_core.specs.LawsOfSteps.{IsShaped}
+use Rattle.keep_core.specs.declared.event.Event.{Event}
+use Rattle.keep_core.specs.declared.event.Event.TheVariants.{Tick, Told, Refused, Lost, Need}
+use Rattle.keep_core.specs.declared.event.Output.{Output}
+use Rattle.keep_core.specs.declared.event.Output.TheVariants as out
+use Rattle.keep_core.specs.declared.shortened.ShortNeed.{ShortNeed}
+use Rattle.keep_run.specs.Closed.{Beat, Exchanged, event_in, reply_in}
+use Rattle.keep_run.specs.Renewing.{event_of}
+use Rattle.keep_run.specs.Text.{answer_line, answer_text, beat_text, line, name_of, names_of, short_line, short_lines, status_in, wake_line}
+
+module _ (g h : Grove) (like : IsShaped g h) where
+  same_name : (i : ℕ) → name_of h i ≡ name_of g i
+  same_name i = ap (λ (e : Entry). e.name) (like.each i)
+
+  same_names : (is : List ℕ) → names_of h is ≡ names_of g is
+  same_names [] = refl
+  same_names (i ∷ is) = ap (λ n. n ∷ names_of h is) (same_name i) ∙ ap (λ ns. name_of g i ∷ ns) (same_names is)
+
+  pub same_shorts : (ps : List ShortNeed) → short_lines h ps ≡ short_lines g ps
+  unfolding short_lines
+  same_shorts [] = refl
+  same_shorts (p ∷ ps) = ap (λ n. line (codes "short" ∷ n ∷ decimal p.need ∷ []) ++ flat_map (short_line h) ps) (same_name p.entry) ∙ ap (λ xs. short_line g p ++ xs) (same_shorts ps)
+
+  pub same_wake : (t : ℕ) (output : Output) → wake_line h t output ≡ wake_line g t output
+  same_wake t (out.Ask asked) = ap (λ ns. line (codes "wake" ∷ decimal t ∷ ns)) (same_names asked)
+  same_wake t out.Idle = refl
+  same_wake t (out.Sleep w) = refl
+  same_wake t out.Waiting = refl
+  same_wake t (out.Round next) = refl
+  same_wake t out.Planned = refl
+
+  same_event : (cs : List (List ℕ)) (x : Exchanged) → event_in cs h x ≡ event_in cs g x
+  unfolding event_in
+  same_event cs x = ap (λ (e : Entry). event_of e.kind (credential_at cs x.entry) x.entry (reply_in x.sent)) (like.each x.entry)
+
+  same_answer : (event : Event) (reply : Option Reply) → answer_line h event reply ≡ answer_line g event reply
+  same_answer (Told i seconds renewable) reply = ap (λ n. line (codes "told" ∷ n ∷ decimal seconds ∷ [])) (same_name i)
+  same_answer (Refused i) reply = ap (λ n. line (codes "refused" ∷ n ∷ decimal (status_in reply) ∷ [])) (same_name i)
+  same_answer (Lost i) reply = ap (λ n. line (codes "lost" ∷ n ∷ [])) (same_name i)
+  same_answer (Tick t) reply = refl
+  same_answer (Need i until) reply = refl
+
+-- of two inventories with the same credentials, and forests of one shape
+module _ (s u : Stock) (like : IsShaped s.grove u.grove) (credentials : u.credentials ≡ s.credentials) where
+  pub same_answer_text : (x : Exchanged) → answer_text u x ≡ answer_text s x
+  unfolding answer_text
+  same_answer_text x =
+      let event : event_in u.credentials u.grove x ≡ event_in s.credentials s.grove x = ap (λ cs. event_in cs u.grove x) credentials ∙ same_event s.grove u.grove like s.credentials x in
+      let reply = reply_in x.sent in
+      ap (λ e. answer_line u.grove e reply ++ short_lines u.grove x.short) event
+      ∙ ap (λ xs. xs ++ short_lines u.grove x.short) (same_answer s.grove u.grove like (event_in s.credentials s.grove x) reply)
+      ∙ ap (λ xs. answer_line s.grove (event_in s.credentials s.grove x) reply ++ xs) (same_shorts s.grove u.grove like x.short)
+
+  pub same_answer_texts : (xs : List Exchanged) → flat_map (answer_text u) xs ≡ flat_map (answer_text s) xs
+  same_answer_texts [] = refl
+  same_answer_texts (x ∷ xs) = ap (λ l. l ++ flat_map (answer_text u) xs) (same_answer_text x) ∙ ap (λ l. answer_text s x ++ l) (same_answer_texts xs)
+
+  same_beat_text : (b : Beat) → beat_text u b ≡ beat_text s b
+  unfolding beat_text
+  same_beat_text b =
+      ap (λ l. l ++ (wake_line u.grove b.at b.output ++ flat_map (answer_text u) b.answers)) (same_shorts s.grove u.grove like b.short)
+      ∙ ap (λ l. short_lines s.grove b.short ++ (l ++ flat_map (answer_text u) b.answers)) (same_wake s.grove u.grove like b.at b.output)
+      ∙ ap (λ l. short_lines s.grove b.short ++ (wake_line s.grove b.at b.output ++ l)) (same_answer_texts b.answers)
+
+  pub same_beat_texts : (bs : List Beat) → flat_map (beat_text u) bs ≡ flat_map (beat_text s) bs
+  same_beat_texts [] = refl
+  same_beat_texts (b ∷ bs) = ap (λ l. l ++ flat_map (beat_text u) bs) (same_beat_text b) ∙ ap (λ l. beat_text s b ++ l) (same_beat_texts bs)

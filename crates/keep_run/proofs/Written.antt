@@ -1,0 +1,327 @@
+-- Written: what a run has written so far, and what it has written at its end.
+use Rattle.std.proofs.Common.{◌≡◌, ◌∙◌, ℕ, ◌+◌, ◌*◌, ◌<◌, ◌≤◌, IsTrue, List, [], ◌++◌, Option, Some, None, Result, Ok, Err, ap, arith, inl, inr, length, refl, subst, sym, take}
+use Rattle.std.specs.Result.{IsErr, IsErrAnd}
+use Rattle.std.specs.Io.KnownBytes.{Appends, Keeps}
+use Rattle.std.proofs.KnownBytes.{Appends-kept}
+use Rattle.std.proofs.Math.Seq.{take-append-add, take-append_seam}
+use Rattle.std.proofs.lemmas.List.{append-nil, append_assoc}
+use Rattle.keep_device.specs.Failures.{Counts, HasFailed, one_more}
+use Rattle.keep_device.specs.Front.{AppendsFront}
+use Rattle.keep_device.specs.declared.fault.SinkFault.{SinkFault}
+use Rattle.keep_device.specs.declared.fault.SinkFault.TheVariants as sink
+use Rattle.keep_inventory.specs.Stock.{Stock}
+use Rattle.keep_exchange.specs.Exchanges.{Behind}
+use Rattle.keep_core.specs.LawsOfSteps.{IsShaped}
+use Rattle.keep_core.specs.State.{State}
+use Rattle.keep_core.proofs.Shaped.{both_shaped, same}
+use Rattle.keep_report.specs.declared.stop.Stop.{Stop}
+use Rattle.keep_report.specs.declared.stop.Stop.TheVariants as stops
+use Rattle.keep_report.specs.Exits.{stop_of_sink}
+use Rattle.keep_report.proofs.Counting.{failed_once}
+use Rattle.keep_report.specs.Sent.{IsAll, Sent}
+use Rattle.keep_run.specs.Closed.{World}
+use Rattle.keep_run.specs.Playing.{Ends, Finishes, Fits, Goes, IsText, LastFront, LastPlays, Plays, PlaysFront, stock_of}
+use Rattle.keep_run.specs.Stops.{both}
+use Rattle.keep_run.specs.Text.{done_text}
+use Rattle.keep_run.proofs.Goes.{ends_go, goes_as, goes_nowhere, goes_on}
+use Rattle.keep_run.proofs.Rounds.{fits_as}
+
+-- ---- one text behind another
+
+appends_then : (a b c : Option (List ℕ)) (x y : List ℕ) → Appends a b x → Appends b c y → Appends a c (x ++ y)
+appends_then None b c x y first second = tt
+appends_then (Some p) None c x y first second = absurd first
+appends_then (Some p) (Some q) None x y first second = absurd second
+appends_then (Some p) (Some q) (Some r) x y first second = second ∙ ap (λ l. l ++ y) first ∙ append_assoc p x y
+
+front_then : (a b c : Option (List ℕ)) (x y : List ℕ) → Appends a b x → AppendsFront b c y → AppendsFront a c (x ++ y)
+front_then a b c x y first second = (length x + second.0, subst (Appends a c) (sym (take-append-add x y second.0)) (appends_then a b c x (take second.0 y) first second.1))
+
+whole_front : (a b : Option (List ℕ)) (x y : List ℕ) → Appends a b x → AppendsFront a b (x ++ y)
+whole_front a b x y all = (length x, subst (Appends a b) (sym (take-append_seam x y)) all)
+
+-- a run's text so far, and with its last line
+so_far : (s : Stock) (old new : World) (start : ℕ) (next : Option ℕ) (w a : ℕ) (lines : List ℕ) → Goes s old (Some start) new next w a lines → IsText s old start lines
+so_far s old new start next w a lines goes = record { new = new; next = next; wakes = w; asked = a; lines = lines; goes = goes; text_is = inl refl }
+
+with_done : (s : Stock) (old new : World) (start : ℕ) (w a : ℕ) (lines : List ℕ) → Goes s old (Some start) new None w a lines → IsText s old start (lines ++ done_text w a)
+with_done s old new start w a lines goes = record { new = new; next = None; wakes = w; asked = a; lines = lines; goes = goes; text_is = inr (refl, refl) }
+
+-- ---- the loop
+
+-- a run that has come so far: its lines were written behind those before it, and no write has failed
+pub record Going (cs : List (List ℕ)) (old : World) (start : ℕ) (before : List ℕ) (first : Option (List ℕ)) (failed : ℕ) (now : World) (due wakes asked : ℕ) (written : Option (List ℕ)) (failed_now : ℕ) : Type 0 where
+  pub lines : List ℕ
+  pub goes : Goes (stock_of cs old.keeper.forest) old (Some start) now (Some due) wakes asked lines
+  pub all : Appends first written (before ++ lines)
+  pub count : failed_now ≡ failed
+  pub fits : Fits cs now.keeper.forest
+  pub like : IsShaped old.keeper.forest now.keeper.forest
+  pub quiet : now.keeper.shortened ≡ []
+  pub few : asked ≤ wakes * 4096
+
+pub going_first :
+    (cs : List (List ℕ)) (old : World) (start : ℕ) (before : List ℕ) (first : Option (List ℕ)) (failed : ℕ) (written : Option (List ℕ)) (failed_now : ℕ) → Fits cs old.keeper.forest → old.keeper.shortened ≡ [] →
+    Appends first written before → failed_now ≡ failed → Going cs old start before first failed old start 0 0 written failed_now
+going_first cs old start before first failed written failed_now fits quiet all count = record {
+  lines = [];
+  goes = goes_nowhere (stock_of cs old.keeper.forest) old (Some start);
+  all = subst (Appends first written) (sym (append-nil before)) all;
+  count = count;
+  fits = fits;
+  like = same old.keeper.forest;
+  quiet = quiet;
+  few = omega arith;
+}
+
+module _ (cs : List (List ℕ)) (old : World) (start : ℕ) (before : List ℕ) (first : Option (List ℕ)) (failed : ℕ) (now : World) (due wakes asked : ℕ) (written : Option (List ℕ)) (failed_now : ℕ)
+    (g : Going cs old start before first failed now due wakes asked written failed_now) where
+  s : Stock
+  s = stock_of cs old.keeper.forest
+
+  on : (new : World) (next : Option ℕ) (w a : ℕ) (text : List ℕ) → Goes (stock_of cs now.keeper.forest) now (Some due) new next w a text → Goes (stock_of cs old.keeper.forest) old (Some start) new next (wakes + w) (asked + a) (g.lines ++ text)
+  unfolding s
+  on new next w a text more =
+      goes_on s old now new (Some start) (Some due) next wakes w asked a g.lines text g.goes (goes_as s (stock_of cs now.keeper.forest) now new (Some due) next w a text g.like refl more)
+
+  -- a wake-up more, and its lines were written
+  pub going_more :
+      (new : World) (then' a : ℕ) (text : List ℕ) (after : Option (List ℕ)) (failed_after : ℕ) → Goes (stock_of cs now.keeper.forest) now (Some due) new (Some then') 1 a text → IsShaped now.keeper.forest new.keeper.forest →
+      new.keeper.shortened ≡ [] → a ≤ 4096 → Appends written after text → failed_after ≡ failed_now → Going cs old start before first failed new then' (wakes + 1) (asked + a) after failed_after
+  unfolding on
+  going_more new then' a text after failed_after more like quiet few all count = record {
+    lines = g.lines ++ text;
+    goes = on new (Some then') 1 a text more;
+    all = subst (Appends first after) (append_assoc before g.lines text) (appends_then first written after (before ++ g.lines) text g.all all);
+    count = count ∙ g.count;
+    fits = fits_as cs now.keeper.forest new.keeper.forest like g.fits;
+    like = both_shaped old.keeper.forest now.keeper.forest new.keeper.forest g.like like;
+    quiet = quiet;
+    few = (let f = g.few in omega arith);
+  }
+
+  -- memory was wanting: what was written stands
+  pub going_stops : (new : World) (out : Sent) → out.old ≡ first → out.new ≡ written → Plays cs old start before (Err stops.Memory) new out
+  going_stops new out old_is new_is = (
+    g.lines,
+    so_far (stock_of cs old.keeper.forest) old now start (Some due) wakes asked g.lines g.goes,
+    subst (λ o. AppendsFront o out.new (before ++ g.lines)) (sym old_is)
+    (subst (λ o. AppendsFront first o (before ++ g.lines)) (sym new_is) (subst (AppendsFront first written) (append-nil (before ++ g.lines)) (whole_front first written (before ++ g.lines) [] g.all))),
+  )
+
+  -- the lines of a wake-up were not written whole
+  pub going_unwritten :
+      (answer : Result (Unit {0}) Stop) (fault : SinkFault) (new final : World) (next : Option ℕ) (w a : ℕ) (text : List ℕ) (out : Sent) → IsErr answer × IsErrAnd answer (λ stop. stop ≡ stop_of_sink fault) →
+      Goes (stock_of cs now.keeper.forest) now (Some due) new next w a text → out.old ≡ first → out.failed_before ≡ failed → AppendsFront written out.new text → Counts {X = Unit {0}} (Err fault) failed_now out.failed_after →
+      Plays cs old start before answer final out
+  unfolding on
+  going_unwritten (Ok u) fault new final next w a text out is more old_is failed_is front count = absurd (let no = is.0 in cc)
+  going_unwritten (Err stop) sink.Failed new final next w a text out is more old_is failed_is front count =
+      subst (λ (q : Stop). Plays cs old start before (Err q) final out) (sym is.1)
+      (failed_once out.failed_before out.failed_after (count ∙ ap one_more (g.count ∙ sym failed_is)), cut) where
+        cut : PlaysFront (stock_of cs old.keeper.forest) old start before out
+        cut = (
+          g.lines ++ text,
+          so_far (stock_of cs old.keeper.forest) old new start next (wakes + w) (asked + a) (g.lines ++ text) (on new next w a text more),
+          subst (λ o. AppendsFront o out.new (before ++ (g.lines ++ text))) (sym old_is)
+          (subst (AppendsFront first out.new) (append_assoc before g.lines text) (front_then first written out.new (before ++ g.lines) text g.all front)),
+        )
+  going_unwritten (Err stop) sink.OutOfMemory new final next w a text out is more old_is failed_is front count =
+      subst (λ (q : Stop). Plays cs old start before (Err q) final out) (sym is.1) cut where
+        cut : PlaysFront (stock_of cs old.keeper.forest) old start before out
+        cut = (
+          g.lines ++ text,
+          so_far (stock_of cs old.keeper.forest) old new start next (wakes + w) (asked + a) (g.lines ++ text) (on new next w a text more),
+          subst (λ o. AppendsFront o out.new (before ++ (g.lines ++ text))) (sym old_is)
+          (subst (AppendsFront first out.new) (append_assoc before g.lines text) (front_then first written out.new (before ++ g.lines) text g.all front)),
+        )
+
+-- ---- the end
+
+regroup : (a b c d : List ℕ) → (a ++ b) ++ (c ++ d) ≡ a ++ ((b ++ c) ++ d)
+regroup a b c d = append_assoc a b (c ++ d) ∙ ap (λ l. a ++ l) (sym (append_assoc b c d))
+
+-- only a front of what was left was sent
+cut_at :
+    (cs : List (List ℕ)) (old : World) (start : ℕ) (before : List ℕ) (new : World) (w a : ℕ) (front rest : List ℕ) (written : Option (List ℕ)) (last out : Sent) →
+    Goes (stock_of cs old.keeper.forest) old (Some start) new None w a (front ++ rest) → Appends out.old written (before ++ front) → AppendsFront last.old last.new (rest ++ done_text w a) → last.old ≡ written → last.new ≡ out.new →
+    PlaysFront (stock_of cs old.keeper.forest) old start before out
+cut_at cs old start before new w a front rest written last out goes all ends old_is new_is =
+    let part : AppendsFront written out.new (rest ++ done_text w a) = subst (λ o. AppendsFront o out.new (rest ++ done_text w a)) old_is (subst (λ o. AppendsFront last.old o (rest ++ done_text w a)) new_is ends) in (
+      (front ++ rest) ++ done_text w a,
+      with_done (stock_of cs old.keeper.forest) old new start w a (front ++ rest) goes,
+      subst (AppendsFront out.old out.new) (regroup before front rest (done_text w a)) (front_then out.old written out.new (before ++ front) (rest ++ done_text w a) all part),
+    )
+
+-- the run has come to its end; front of its lines is written, and what is left of them is sent with the last line
+pub finished :
+    (cs : List (List ℕ)) (old : World) (start : ℕ) (before : List ℕ) (new : World) (w a : ℕ) (front rest : List ℕ) (written : Option (List ℕ)) (failed_now : ℕ) (result : Result (Unit {0}) Stop) (last out : Sent) →
+    Goes (stock_of cs old.keeper.forest) old (Some start) new None w a (front ++ rest) → Appends out.old written (before ++ front) → w ≤ 100000 → Finishes (rest ++ done_text w a) result last → last.old ≡ written → last.new ≡ out.new →
+    last.failed_before ≡ out.failed_before → last.failed_after ≡ out.failed_after → last.flushed ≡ out.flushed → Plays cs old start before result new out
+finished cs old start before new w a front rest written failed_now (Ok u) last out goes all few ends old_is new_is failed_is failed_after_is flushed_is =
+    let whole : Appends written out.new (rest ++ done_text w a) = subst (λ o. Appends o out.new (rest ++ done_text w a)) old_is (subst (λ o. Appends last.old o (rest ++ done_text w a)) new_is ends.0) in
+    record {
+      wakes = w;
+      asked = a;
+      lines = front ++ rest;
+      goes = goes;
+      few = few;
+      sent = (subst (Appends out.old out.new) (regroup before front rest (done_text w a)) (appends_then out.old written out.new (before ++ front) (rest ++ done_text w a) all whole), subst IsTrue flushed_is ends.1);
+    }
+finished cs old start before new w a front rest written failed_now (Err stops.Write) last out goes all few ends old_is new_is failed_is failed_after_is flushed_is = (
+  subst (λ n. HasFailed n out.failed_after) failed_is (subst (HasFailed last.failed_before) failed_after_is ends.0),
+  cut_at cs old start before new w a front rest written last out goes all ends.1 old_is new_is,
+)
+finished cs old start before new w a front rest written failed_now (Err stops.Memory) last out goes all few ends old_is new_is failed_is failed_after_is flushed_is = cut_at cs old start before new w a front rest written last out goes all ends old_is new_is
+finished cs old start before new w a front rest written failed_now (Err stops.TooLong) last out goes all few ends old_is new_is failed_is failed_after_is flushed_is = absurd ends
+finished cs old start before new w a front rest written failed_now (Err stops.Read) last out goes all few ends old_is new_is failed_is failed_after_is flushed_is = absurd ends
+finished cs old start before new w a front rest written failed_now (Err (stops.Inventory fault)) last out goes all few ends old_is new_is failed_is failed_after_is flushed_is = absurd ends
+finished cs old start before new w a front rest written failed_now (Err (stops.Moments fault)) last out goes all few ends old_is new_is failed_is failed_after_is flushed_is = absurd ends
+finished cs old start before new w a front rest written failed_now (Err (stops.FaultWord n)) last out goes all few ends old_is new_is failed_is failed_after_is flushed_is = absurd ends
+finished cs old start before new w a front rest written failed_now (Err (stops.Broker name)) last out goes all few ends old_is new_is failed_is failed_after_is flushed_is = absurd ends
+finished cs old start before new w a front rest written failed_now (Err (stops.Line n)) last out goes all few ends old_is new_is failed_is failed_after_is flushed_is = absurd ends
+
+last_cut :
+    (cs : List (List ℕ)) (old : World) (start : ℕ) (before : List ℕ) (first : Option (List ℕ)) (failed : ℕ) (now : World) (due asked : ℕ) (written : Option (List ℕ)) (failed_now : ℕ) (last out : Sent) →
+    Going cs old start before first failed now due 100000 asked written failed_now → LastFront cs now.behind now.keeper due asked last → out.old ≡ first → last.old ≡ written → last.new ≡ out.new →
+    PlaysFront (stock_of cs old.keeper.forest) old start before out
+last_cut cs old start before first failed now due asked written failed_now last out g (inl kept) old_is last_old_is new_is =
+    let stays : Keeps written out.new = subst (λ o. Keeps o out.new) last_old_is (subst (λ o. Keeps last.old o) new_is kept) in (
+      g.lines,
+      so_far (stock_of cs old.keeper.forest) old now start (Some due) 100000 asked g.lines g.goes,
+      subst (λ o. AppendsFront o out.new (before ++ g.lines)) (sym old_is)
+      (subst (AppendsFront first out.new) (append-nil (before ++ g.lines)) (whole_front first out.new (before ++ g.lines) [] (Appends-kept first written out.new (before ++ g.lines) g.all stays))),
+    )
+last_cut cs old start before first failed now due asked written failed_now last out g (inr part) old_is last_old_is new_is =
+    cut_at cs old start before part.0 100000 asked g.lines part.1 written last out
+    (subst (λ n. Goes (stock_of cs old.keeper.forest) old (Some start) part.0 None 100000 n (g.lines ++ part.1)) (let z : asked + 0 ≡ asked = omega arith in z)
+    (goes_on (stock_of cs old.keeper.forest) old now part.0 (Some start) (Some due) None 100000 0 asked 0 g.lines part.1 g.goes
+    (goes_as (stock_of cs old.keeper.forest) (stock_of cs now.keeper.forest) now part.0 (Some due) None 0 0 part.1 g.like refl part.2)))
+    (subst (λ o. Appends o written (before ++ g.lines)) (sym old_is) g.all) part.3 last_old_is new_is
+
+-- behind the last wake-up that a run may have
+pub last_played :
+    (cs : List (List ℕ)) (old : World) (start : ℕ) (before : List ℕ) (first : Option (List ℕ)) (failed : ℕ) (now : World) (due asked : ℕ) (written : Option (List ℕ)) (failed_now : ℕ) (result : Result (Unit {0}) Stop)
+    (keeper : State) (last out : Sent) → Going cs old start before first failed now due 100000 asked written failed_now → LastPlays cs now.behind now.keeper due asked result keeper last → out.old ≡ first → last.old ≡ written →
+    last.new ≡ out.new → last.failed_before ≡ out.failed_before → last.failed_after ≡ out.failed_after → last.flushed ≡ out.flushed → Plays cs old start before result (both keeper now.behind) out
+last_played cs old start before first failed now due asked written failed_now (Ok u) keeper last out g ends old_is last_old_is new_is failed_is failed_after_is flushed_is =
+    finished cs old start before (both keeper now.behind) 100000 asked g.lines ends.0 written failed_now (Ok u) last out
+    (subst (λ n. Goes (stock_of cs old.keeper.forest) old (Some start) (both keeper now.behind) None 100000 n (g.lines ++ ends.0)) (let z : asked + 0 ≡ asked = omega arith in z)
+    (goes_on (stock_of cs old.keeper.forest) old now (both keeper now.behind) (Some start) (Some due) None 100000 0 asked 0 g.lines ends.0 g.goes
+    (goes_as (stock_of cs old.keeper.forest) (stock_of cs now.keeper.forest) now (both keeper now.behind) (Some due) None 0 0 ends.0 g.like refl ends.1)))
+    (subst (λ o. Appends o written (before ++ g.lines)) (sym old_is) g.all) (omega arith) ends.2 last_old_is new_is failed_is failed_after_is flushed_is
+last_played cs old start before first failed now due asked written failed_now (Err stops.TooLong) keeper last out g ends old_is last_old_is new_is failed_is failed_after_is flushed_is =
+    let none : Appends written out.new [] = subst (λ o. Appends o out.new []) last_old_is (subst (λ o. Appends last.old o []) new_is ends.1.0) in
+    record {
+      keeper = now.keeper;
+      due = due;
+      asked = asked;
+      lines = g.lines;
+      goes = g.goes;
+      more = ends.0;
+      sent = (
+        subst (λ o. Appends o out.new (before ++ g.lines)) (sym old_is) (subst (Appends first out.new) (append-nil (before ++ g.lines)) (appends_then first written out.new (before ++ g.lines) [] g.all none)),
+        subst IsTrue flushed_is ends.1.1,
+      );
+    }
+last_played cs old start before first failed now due asked written failed_now (Err stops.Write) keeper last out g ends old_is last_old_is new_is failed_is failed_after_is flushed_is = (
+  subst (λ n. HasFailed n out.failed_after) failed_is (subst (HasFailed last.failed_before) failed_after_is ends.0),
+  last_cut cs old start before first failed now due asked written failed_now last out g ends.1 old_is last_old_is new_is,
+)
+last_played cs old start before first failed now due asked written failed_now (Err stops.Memory) keeper last out g ends old_is last_old_is new_is failed_is failed_after_is flushed_is =
+    last_cut cs old start before first failed now due asked written failed_now last out g ends old_is last_old_is new_is
+last_played cs old start before first failed now due asked written failed_now (Err stops.Read) keeper last out g ends old_is last_old_is new_is failed_is failed_after_is flushed_is = absurd ends
+last_played cs old start before first failed now due asked written failed_now (Err (stops.Inventory fault)) keeper last out g ends old_is last_old_is new_is failed_is failed_after_is flushed_is = absurd ends
+last_played cs old start before first failed now due asked written failed_now (Err (stops.Moments fault)) keeper last out g ends old_is last_old_is new_is failed_is failed_after_is flushed_is = absurd ends
+last_played cs old start before first failed now due asked written failed_now (Err (stops.FaultWord n)) keeper last out g ends old_is last_old_is new_is failed_is failed_after_is flushed_is = absurd ends
+last_played cs old start before first failed now due asked written failed_now (Err (stops.Broker name)) keeper last out g ends old_is last_old_is new_is failed_is failed_after_is flushed_is = absurd ends
+last_played cs old start before first failed now due asked written failed_now (Err (stops.Line n)) keeper last out g ends old_is last_old_is new_is failed_is failed_after_is flushed_is = absurd ends
+
+-- what `last` comes to, where the run is at its end
+pub last_ends :
+    (cs : List (List ℕ)) (behind : Behind) (old new : State) (due asked : ℕ) (before text : List ℕ) (result : Result (Unit {0}) Stop) (out : Sent) → before ≡ [] → Ends cs behind old due new before text →
+    Finishes (text ++ done_text 100000 asked) result out → LastPlays cs behind old due asked result new out
+last_ends cs behind old new due asked before text result out none e ends = by_result result ends where
+  goes : (piece : List ℕ) × (Goes (stock_of cs old.forest) (both old behind) (Some due) (both new behind) None 0 0 piece × (text ≡ before ++ piece))
+  goes = ends_go cs behind old new due before text e
+
+  here : Goes (stock_of cs old.forest) (both old behind) (Some due) (both new behind) None 0 0 text
+  here = subst (Goes (stock_of cs old.forest) (both old behind) (Some due) (both new behind) None 0 0) (sym (goes.1.1 ∙ ap (λ l. l ++ goes.0) none)) goes.1.0
+
+  by_result : (r : Result (Unit {0}) Stop) → Finishes (text ++ done_text 100000 asked) r out → LastPlays cs behind old due asked r new out
+  by_result (Ok u) is = (text, here, is)
+  by_result (Err stops.Write) is = (is.0, inr (both new behind, text, here, is.1))
+  by_result (Err stops.Memory) is = inr (both new behind, text, here, is)
+  by_result (Err stops.TooLong) is = absurd is
+  by_result (Err stops.Read) is = absurd is
+  by_result (Err (stops.Inventory fault)) is = absurd is
+  by_result (Err (stops.Moments fault)) is = absurd is
+  by_result (Err (stops.FaultWord n)) is = absurd is
+  by_result (Err (stops.Broker name)) is = absurd is
+  by_result (Err (stops.Line n)) is = absurd is
+
+pub keeps_appends : (a b : Option (List ℕ)) → Keeps a b → Appends a b []
+keeps_appends None b kept = tt
+keeps_appends (Some p) None kept = absurd kept
+keeps_appends (Some p) (Some q) kept = kept ∙ sym (append-nil p)
+
+-- the lines before the run were not written whole
+pub unwritten_before :
+    (cs : List (List ℕ)) (old new : World) (start : ℕ) (before : List ℕ) (answer : Result (Unit {0}) Stop) (fault : SinkFault) (out : Sent) → IsErr answer × IsErrAnd answer (λ stop. stop ≡ stop_of_sink fault) →
+    AppendsFront out.old out.new before → Counts {X = Unit {0}} (Err fault) out.failed_before out.failed_after → Plays cs old start before answer new out
+unwritten_before cs old new start before answer fault out is front count = by_answer answer fault is count where
+  cut : PlaysFront (stock_of cs old.keeper.forest) old start before out
+  cut = (
+    [],
+    so_far (stock_of cs old.keeper.forest) old old start (Some start) 0 0 [] (goes_nowhere (stock_of cs old.keeper.forest) old (Some start)),
+    subst (AppendsFront out.old out.new) (sym (append-nil before)) front,
+  )
+
+  by_answer : (r : Result (Unit {0}) Stop) (f : SinkFault) → IsErr r × IsErrAnd r (λ stop. stop ≡ stop_of_sink f) → Counts {X = Unit {0}} (Err f) out.failed_before out.failed_after → Plays cs old start before r new out
+  by_answer (Ok u) f one counts = absurd (let no = one.0 in cc)
+  by_answer (Err stop) sink.Failed one counts = subst (λ (q : Stop). Plays cs old start before (Err q) new out) (sym one.1) (failed_once out.failed_before out.failed_after counts, cut)
+  by_answer (Err stop) sink.OutOfMemory one counts = subst (λ (q : Stop). Plays cs old start before (Err q) new out) (sym one.1) cut
+
+-- ---- the turns of the loop
+
+-- a piece of text that a wake-up made
+abbrev pub Piece : (cs : List (List ℕ)) → World → ℕ → World → Option ℕ → ℕ → ℕ → List ℕ → List ℕ → Type 0
+Piece cs now due new next w a before after = (text : List ℕ) × (Goes (stock_of cs now.keeper.forest) now (Some due) new next w a text × (after ≡ before ++ text))
+
+pub piece_goes : (cs : List (List ℕ)) (now new : World) (due : ℕ) (next : Option ℕ) (w a : ℕ) (before after : List ℕ) → before ≡ [] → Piece cs now due new next w a before after → Goes (stock_of cs now.keeper.forest) now (Some due) new next w a after
+piece_goes cs now new due next w a before after none piece =
+    subst (Goes (stock_of cs now.keeper.forest) now (Some due) new next w a) (sym (piece.1.1 ∙ ap (λ l. l ++ piece.0) none)) piece.1.0
+
+-- no wake-up was left, and the lines behind the last one are sent with the last line
+pub going_to_end :
+    (cs : List (List ℕ)) (old : World) (start : ℕ) (before : List ℕ) (first : Option (List ℕ)) (failed : ℕ) (now : World) (due wakes asked : ℕ) (written : Option (List ℕ)) (failed_now : ℕ) (new : World) (text : List ℕ)
+    (result : Result (Unit {0}) Stop) (last out : Sent) → Going cs old start before first failed now due wakes asked written failed_now → Goes (stock_of cs now.keeper.forest) now (Some due) new None 0 0 text → wakes ≤ 100000 →
+    Finishes (text ++ done_text wakes asked) result last → out.old ≡ first → last.old ≡ written → last.new ≡ out.new → last.failed_before ≡ out.failed_before → last.failed_after ≡ out.failed_after → last.flushed ≡ out.flushed →
+    Plays cs old start before result new out
+going_to_end cs old start before first failed now due wakes asked written failed_now new text result last out g more few ends old_is last_old_is new_is failed_is failed_after_is flushed_is =
+    let s = stock_of cs old.keeper.forest in
+    let goes = goes_on s old now new (Some start) (Some due) None wakes 0 asked 0 g.lines text g.goes (goes_as s (stock_of cs now.keeper.forest) now new (Some due) None 0 0 text g.like refl more) in
+    let goes' = subst (λ n. Goes s old (Some start) new None n (asked + 0) (g.lines ++ text)) (let z : wakes + 0 ≡ wakes = omega arith in z) goes in
+    let goes'' = subst (λ n. Goes s old (Some start) new None wakes n (g.lines ++ text)) (let z : asked + 0 ≡ asked = omega arith in z) goes' in
+    finished cs old start before new wakes asked g.lines text written failed_now result last out goes'' (subst (λ o. Appends o written (before ++ g.lines)) (sym old_is) g.all) few ends last_old_is new_is failed_is failed_after_is flushed_is
+
+-- a wake-up was the last, its lines are written, and the last line is sent
+pub going_done :
+    (cs : List (List ℕ)) (old : World) (start : ℕ) (before : List ℕ) (first : Option (List ℕ)) (failed : ℕ) (now : World) (due wakes asked : ℕ) (written : Option (List ℕ)) (failed_now : ℕ) (new : World) (a : ℕ) (text rest : List ℕ)
+    (after : Option (List ℕ)) (result : Result (Unit {0}) Stop) (last out : Sent) → Going cs old start before first failed now due wakes asked written failed_now → Goes (stock_of cs now.keeper.forest) now (Some due) new None 1 a text →
+    wakes < 100000 → Appends written after text → rest ≡ [] → Finishes (rest ++ done_text (wakes + 1) (asked + a)) result last → out.old ≡ first → last.old ≡ after → last.new ≡ out.new → last.failed_before ≡ out.failed_before →
+    last.failed_after ≡ out.failed_after → last.flushed ≡ out.flushed → Plays cs old start before result new out
+going_done cs old start before first failed now due wakes asked written failed_now new a text rest after result last out g more few all none ends old_is last_old_is new_is failed_is failed_after_is flushed_is =
+    let s = stock_of cs old.keeper.forest in
+    let goes = goes_on s old now new (Some start) (Some due) None wakes 1 asked a g.lines text g.goes (goes_as s (stock_of cs now.keeper.forest) now new (Some due) None 1 a text g.like refl more) in
+    let whole = g.lines ++ text in
+    finished cs old start before new (wakes + 1) (asked + a) whole rest after failed_now result last out
+    (subst (Goes s old (Some start) new None (wakes + 1) (asked + a)) (sym (ap (λ l. whole ++ l) none ∙ append-nil whole)) goes)
+    (subst (λ o. Appends o after (before ++ whole)) (sym old_is) (subst (Appends first after) (append_assoc before g.lines text) (appends_then first written after (before ++ g.lines) text g.all all)))
+    (omega arith) ends last_old_is new_is failed_is failed_after_is flushed_is
+
+pub for_memory :
+    (cs : List (List ℕ)) (old : World) (start : ℕ) (before : List ℕ) (new : World) (out : Sent) (answer : Result (Unit {0}) Stop) (stop : Stop) → IsErr answer × IsErrAnd answer (λ (q : Stop). q ≡ stop) → stop ≡ stops.Memory →
+    Plays cs old start before (Err stops.Memory) new out → Plays cs old start before answer new out
+for_memory cs old start before new out (Ok u) stop is memory plays = absurd (let no = is.0 in cc)
+for_memory cs old start before new out (Err q) stop is memory plays = subst (λ (r : Stop). Plays cs old start before (Err r) new out) (sym (is.1 ∙ memory)) plays

@@ -1,0 +1,35 @@
+use Rattle.std.proofs.Common.{ap, ◌∙◌, ◌<◌, ◌≤◌, Ok, arith, length, sym, subst}
+use Rattle.std.specs.List.{All}
+use Rattle.keep_tree.specs.Forest.{Grove}
+use Rattle.keep_core.specs.State.{State}
+use Rattle.keep_run.specs.Closed.{asked_in}
+use Rattle.keep_core.specs.declared.event.Event.TheVariants.{Tick}
+use Rattle.keep_core.proofs.Shaped.{shape}
+use Rattle.keep_run.proofs.Within.{AreOf, short_within, asked_few, asked_within}
+use Rattle.keep_run.proofs.opening.tick.Goals as goal
+
+pub push_short_lines-requires : goal.push_short_lines-requires
+push_short_lines-requires c =
+    let all = short_within c.args.keeper.now c.step.new.self (Tick c.args.t) c.in-Ok.output c.requires.quiet c.in-Ok.ensures in
+    subst (λ n. AreOf n c.list.result.now) (sym (ap (λ g. length g.entries) (c.forest-2.ensures ∙ ap (λ (s : State). s.forest) c.take_shortened-short.ensures.after)))
+    (subst (AreOf (length c.step.new.self.forest.entries)) (sym (c.list.ensures ∙ c.take_shortened-short.ensures.value)) all)
+
+pub push_wake_line-requires : goal.push_wake_line-requires
+push_wake_line-requires c =
+    let all = asked_within c.args.keeper.now c.step.new.self c.args.t c.in-Ok.output c.in-Ok.ensures in
+    let count = ap (λ (g : Grove). length g.entries) (c.forest-in-Ask.ensures ∙ ap (λ (s : State). s.forest) c.take_shortened-short.ensures.after) in
+    let who = ap asked_in c.in-Ask.is ∙ sym c.list-in-Ask.ensures in
+    subst (λ n. All (λ i. i < n) c.list-in-Ask.result.now) (sym count) (subst (All (λ i. i < length c.step.new.self.forest.entries)) who all)
+
+pub returns-clause-within : goal.returns-clause-within
+returns-clause-within c =
+    let all = asked_within c.args.keeper.now c.step.new.self c.args.t c.in-Ok.output c.in-Ok.ensures in
+    subst (λ n. All (λ i. i < n) (asked_in c.in-Ok.output)) (sym (ap (λ (s : State). length s.forest.entries) c.take_shortened-short.ensures.after)) all
+
+pub returns-clause-few : goal.returns-clause-few
+returns-clause-few c =
+    let asked = asked_few c.args.keeper.now c.step.new.self c.args.t c.in-Ok.output c.in-Ok.ensures in
+    let like = shape c.args.keeper.now c.step.new.self (Tick c.args.t) (Ok c.in-Ok.output) c.in-Ok.ensures in
+    let count = like.count in
+    let few : length c.args.keeper.now.forest.entries ≤ 4096 = subst (λ (g : Grove). length g.entries ≤ 4096) c.forest.ensures c.len-entries.ensures.sound.few in
+    omega arith

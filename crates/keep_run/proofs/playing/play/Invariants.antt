@@ -1,0 +1,7 @@
+use Rattle.keep_run.specs.Stops.{both}
+use Rattle.keep_run.proofs.Written.{Going}
+use Rattle.keep_run.proofs.playing.play.Given as goal
+
+abbrev pub invariant-loop-wakes : goal.invariant-loop-wakes
+invariant-loop-wakes g l =
+    Going l.credentials (both l.fn.keeper l.fn.exchange) l.fn.start l.fn.lines (g.W.Device.written l.fn.out) (g.W.Device.failed_calls l.fn.out) (both l.keeper l.exchange) l.due l.wakes l.requests (g.W.Device.written l.out) (g.W.Device.failed_calls l.out)

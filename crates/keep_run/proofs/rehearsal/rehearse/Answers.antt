@@ -1,0 +1,55 @@
+use Rattle.std.proofs.Common.{◌≡◌, ◌∙◌, ◌++◌, [], ap, length, refl, sym, subst}
+use Rattle.keep_tree.specs.Forest.{Grove}
+use Rattle.keep_core.specs.State.{State}
+use Rattle.mini_broker.specs.Ledger.{Ledger}
+use Rattle.keep_exchange.specs.Exchanges.{Behind}
+use Rattle.keep_run.specs.Stops.{both}
+use Rattle.keep_run.specs.Text.{short_lines}
+use Rattle.keep_run.proofs.Rehearsed.{fits_opened, memory_stopped, opening_stopped, plays_on, words_stopped}
+use Rattle.keep_run.proofs.Within.{AreOf, replan_within}
+use Rattle.keep_run.proofs.rehearsal.rehearse.Goals as goal
+
+pub returns-in_err-set_faults : goal.returns-in_err-set_faults
+returns-in_err-set_faults g c =
+    words_stopped c.args.inventory.now c.args.start c.args.words.now c.in_ok-inventory.inventory c.from_residual-in_err-set_faults.result c.in_err-set_faults.field-0.0 c.in_ok-table.table c.set_faults.new.table _ _ _ _ c.args.exchange.now
+    c.in_ok-inventory.ensures c.from_residual-in_err-set_faults.ensures c.in_err-set_faults.ensures
+
+pub returns-in_err-keeper : goal.returns-in_err-keeper
+returns-in_err-keeper g c =
+    let sets = c.in_ok-set_faults.ensures in
+    let table = sets.2 ∙ ap (λ (t : Ledger). record t { faults = sets.0 }) c.in_ok-table.ensures in
+    let behind = c.give.ensures ∙ ap (λ (t : Ledger). record { table = t; wire = [] }) table in
+    opening_stopped c.args.inventory.now c.args.start c.args.words.now c.in_ok-inventory.inventory sets.0 c.into_parts-forest.result.0 c.from_residual-in_err-keeper.result c.in_err-keeper.field-0.0 _ _ _ _ c.args.exchange.now c.give.new.self
+    c.in_ok-inventory.ensures sets.1 c.into_parts-forest.ensures.forest behind c.from_residual-in_err-keeper.ensures c.in_err-keeper.ensures.long
+
+pub push_short_lines-requires : goal.push_short_lines-requires
+push_short_lines-requires g c =
+    let k = c.in_ok-keeper.keeper in
+    let all = replan_within _ c.args.start k refl c.in_ok-keeper.ensures.opened in
+    subst (λ n. AreOf n c.list.result.now) (sym (ap (λ (h : Grove). length h.entries) (c.forest.ensures ∙ ap (λ (s : State). s.forest) c.take_shortened-short.ensures.after)))
+    (subst (AreOf (length k.forest.entries)) (sym (c.list.ensures ∙ c.take_shortened-short.ensures.value)) all)
+
+pub returns-in_err-push_short_lines : goal.returns-in_err-push_short_lines
+returns-in_err-push_short_lines g c =
+    memory_stopped c.args.inventory.now c.args.start c.args.words.now c.from_residual-in_err-push_short_lines.result _ _ _ _ c.args.exchange.now c.give.new.self c.from_residual-in_err-push_short_lines.ensures
+
+pub play-requires-clause-fits : goal.play-requires-clause-fits
+play-requires-clause-fits g c =
+    fits_opened c.in_ok-inventory.inventory c.into_parts-forest.result.0 c.into_parts-forest.result.1 c.args.start c.in_ok-keeper.keeper c.take_shortened-short.new.self c.into_parts-forest.ensures.sound
+    c.into_parts-forest.ensures.forest c.into_parts-forest.ensures.credentials c.in_ok-keeper.ensures.opened c.take_shortened-short.ensures.after
+
+pub returns : goal.returns
+returns g c =
+    let sets = c.in_ok-set_faults.ensures in
+    let table = sets.2 ∙ ap (λ (t : Ledger). record t { faults = sets.0 }) c.in_ok-table.ensures in
+    let behind = c.give.ensures ∙ ap (λ (t : Ledger). record { table = t; wire = [] }) table in
+    let k = c.in_ok-keeper.keeper in
+    let now = c.take_shortened-short.new.self in
+    let lines : c.deref.result.now ≡ short_lines k.forest k.shortened =
+        c.deref.ensures.value ∙ c.in_ok-push_short_lines.ensures
+        ∙ ap (λ l. l ++ short_lines c.forest.result.now c.list.result.now) c.new-lines.ensures.items
+        ∙ ap (λ h. short_lines h c.list.result.now) (c.forest.ensures ∙ ap (λ (s : State). s.forest) c.take_shortened-short.ensures.after)
+        ∙ ap (short_lines k.forest) (c.list.ensures ∙ c.take_shortened-short.ensures.value) in
+    plays_on c.args.inventory.now c.args.words.now c.in_ok-inventory.inventory sets.0 c.args.start c.get.result c.into_parts-forest.result.0 c.into_parts-forest.result.1 k now c.give.new.self c.deref.result.now c.play.result
+    (both c.play.new.keeper c.play.new.exchange) _ c.args.exchange.now c.in_ok-inventory.ensures sets.1 c.into_parts-forest.ensures.forest c.into_parts-forest.ensures.credentials behind c.in_ok-keeper.ensures.opened
+    c.take_shortened-short.ensures.after c.get.ensures.value lines c.play.ensures

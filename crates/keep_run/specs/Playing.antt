@@ -1,0 +1,189 @@
+-- Playing: words for the parts of a rehearsal. No public clause cites them.
+-- Source: this project's own.
+use Rattle.std.specs.Prelude.{◌≡◌, ℕ, ◌<◌, ◌≤◌, ◌++◌, ◌⊎◌, IsUtf8, List, [], Option, Some, None, Result, Ok, Err, length, map}
+use Rattle.std.specs.Io.KnownBytes.{Keeps}
+use Rattle.std.specs.List.{flat_map}
+use Rattle.keep_tree.specs.declared.entry.Kind.TheVariants.{Lease}
+use Rattle.keep_tree.specs.Forest.{Grove, entry_at}
+use Rattle.keep_inventory.specs.Stock.{Stock, credential_at}
+use Rattle.keep_exchange.specs.Exchanges.{Behind}
+use Rattle.keep_core.specs.declared.event.Event.{Event}
+use Rattle.keep_core.specs.declared.event.Event.TheVariants.{Tick, Told, Refused, Lost, Need}
+use Rattle.keep_core.specs.declared.event.Output.{Output}
+use Rattle.keep_core.specs.declared.event.Output.TheVariants as out
+use Rattle.keep_core.specs.History.{Turn}
+use Rattle.keep_core.specs.State.{State}
+use Rattle.vault_http.specs.declared.request.Request.{Request}
+use Rattle.vault_http.specs.declared.reply.Reply.{Reply}
+use Rattle.keep_exchange.specs.declared.fault.ExchangeFault.{ExchangeFault}
+use Rattle.vault_http.specs.RoundTripRequest.{IsWritable}
+use Rattle.vault_http.specs.Written.{request_text}
+use Rattle.mini_broker.specs.declared.stream.TheConstants.{MOST_REQUEST}
+use Rattle.keep_run.specs.Renewing.{request_of}
+use Rattle.keep_run.specs.declared.opening.Opened.{Opened}
+use Rattle.keep_run.specs.declared.waking.Woken.{Woken}
+use Rattle.keep_run.specs.Closed.{AreAnswered, Beat, Exchanged, IsAnswered, Played, World, closing, requests_of, rounds, taken}
+use Rattle.keep_device.specs.Failures.{HasFailed}
+use Rattle.keep_device.specs.Front.{AppendsFront}
+use Rattle.keep_report.specs.declared.stop.Stop.{Stop}
+use Rattle.keep_report.specs.declared.stop.Stop.TheVariants as stops
+use Rattle.keep_report.specs.Sent.{IsAll, Sent}
+use Rattle.keep_run.specs.Stops.{IsDue, both}
+use Rattle.keep_run.specs.Text.{answer_text, beat_text, done_text, short_lines, wake_line}
+
+-- an answer for i
+abbrev pub IsAnswerOf : ℕ → Event → Type 0
+IsAnswerOf i (Told j seconds renewable) = j ≡ i
+IsAnswerOf i (Refused j) = j ≡ i
+IsAnswerOf i (Lost j) = j ≡ i
+IsAnswerOf i event = ⊥
+
+-- an inventory of these credentials and this forest
+abbrev pub stock_of : List (List ℕ) → Grove → Stock
+stock_of cs g = record { grove = g; credentials = cs; terms = [] }
+
+-- a request that can be sent, and is no longer than what is read
+pub record IsAsking (r : Request) : Type 0 where
+  pub writable : IsWritable r
+  pub short : length (request_text r) ≤ MOST_REQUEST
+
+-- credentials that the entries of a forest can be asked with
+pub record Fits (cs : List (List ℕ)) (g : Grove) : Type 0 where
+  pub count : length cs ≡ length g.entries
+  pub texts : (i : ℕ) → i < length g.entries → (entry_at g.entries i).kind ≡ Lease → IsUtf8 (credential_at cs i)
+  pub asked : (i : ℕ) → i < length g.entries → IsAsking (request_of 8200 cs g i)
+
+-- one answer and its text, which follows before
+pub record Answers (cs : List (List ℕ)) (t : ℕ) (old : World) (i : ℕ) (output : Output) (new : World) (before after : List ℕ) : Type 0 where
+  pub x : Exchanged
+  pub entry : x.entry ≡ i
+  pub output_is : x.output ≡ output
+  pub answered : IsAnswered 8200 cs t old x new
+  pub text_is : after ≡ before ++ answer_text (stock_of cs old.keeper.forest) x
+
+-- the answers of these, one after another, and their text
+pub record AnswersAll (cs : List (List ℕ)) (t : ℕ) (old : World) (asked : List ℕ) (next : Option ℕ) (new : World) (before after : List ℕ) : Type 0 where
+  pub xs : List Exchanged
+  pub who : map (λ x. x.entry) xs ≡ asked
+  pub answered : AreAnswered 8200 cs t old xs new
+  pub next_is : next ≡ closing None xs
+  pub text_is : after ≡ before ++ flat_map (answer_text (stock_of cs old.keeper.forest)) xs
+
+-- one tick, without the answers, and its text
+pub record Ticks (t : ℕ) (old : State) (output : Output) (new : State) (before after : List ℕ) : Type 0 where
+  pub keeper : State
+  pub turn : Turn old (Tick t) (Ok output) keeper
+  pub is : new ≡ taken keeper
+  pub text_is : after ≡ before ++ (short_lines new.forest keeper.shortened ++ wake_line new.forest t output)
+
+-- ticks that ask nobody
+pub record IsQuietTo (cs : List (List ℕ)) (old : World) (due : Option ℕ) (new : World) (next : Option ℕ) (beats : List Beat) : Type 0 where
+  pub played : Played 8200 cs old due beats new next
+  pub none_asked : rounds beats ≡ []
+  pub none_sent : requests_of beats ≡ 0
+
+-- ticks from due on, until one asks these, or none is next
+pub record Opens (cs : List (List ℕ)) (behind : Behind) (old : State) (due : ℕ) (t : ℕ) (asked : List ℕ) (new : State) (before after : List ℕ) : Type 0 where
+  pub beats : List Beat
+  pub mid : State
+  pub quiet : IsQuietTo cs (both old behind) (Some due) (both mid behind) (Some t) beats
+  pub middle : List ℕ
+  pub quiet_text : middle ≡ before ++ flat_map (beat_text (stock_of cs old.forest)) beats
+  pub ticks : Ticks t mid (out.Ask asked) new middle after
+
+pub record Ends (cs : List (List ℕ)) (behind : Behind) (old : State) (due : ℕ) (new : State) (before after : List ℕ) : Type 0 where
+  pub beats : List Beat
+  pub quiet : IsQuietTo cs (both old behind) (Some due) (both new behind) None beats
+  pub text_is : after ≡ before ++ flat_map (beat_text (stock_of cs old.forest)) beats
+
+-- what opening a wake-up gave: the moment and who is asked, or that none is next
+abbrev pub OpensOrEnds : List (List ℕ) → Behind → State → ℕ → Option Opened → State → List ℕ → List ℕ → Type 0
+OpensOrEnds cs behind old due None new before after = Ends cs behind old due new before after
+OpensOrEnds cs behind old due (Some o) new before after = Opens cs behind old due o.at o.asked new before after
+
+abbrev pub asked_of : Option Opened → List ℕ
+asked_of None = []
+asked_of (Some o) = o.asked
+
+-- a run that goes on from a world with a tick at due, if there is one: where it led and when the next tick is; how many
+-- wake-ups and requests it made, and its text
+pub record Goes (s : Stock) (old : World) (due : Option ℕ) (new : World) (next : Option ℕ) (wakes asked : ℕ) (text : List ℕ) : Type 0 where
+  pub beats : List Beat
+  pub played : Played 8200 s.credentials old due beats new next
+  pub wakes_are : wakes ≡ length (rounds beats)
+  pub asked_are : asked ≡ requests_of beats
+  pub text_is : text ≡ flat_map (beat_text s) beats
+
+abbrev pub requests_in : Option Woken → ℕ
+requests_in None = 0
+requests_in (Some w) = w.requests
+
+-- to the end of the first round, or to the end of the run where there is none
+abbrev pub Wakes : List (List ℕ) → World → ℕ → Option Woken → World → List ℕ → List ℕ → Type 0
+Wakes cs old due None new before after = (text : List ℕ) × (Goes (stock_of cs old.keeper.forest) old (Some due) new None 0 0 text × (after ≡ before ++ text))
+Wakes cs old due (Some w) new before after = (text : List ℕ) × (Goes (stock_of cs old.keeper.forest) old (Some due) new w.next 1 w.requests text × (after ≡ before ++ text))
+
+-- ---- what is written
+
+-- what sending these last lines came to
+abbrev pub Finishes : List ℕ → Result (Unit {0}) Stop → Sent → Type 0
+Finishes text (Ok u) out = IsAll text out
+Finishes text (Err stops.Write) out = HasFailed out.failed_before out.failed_after × AppendsFront out.old out.new text
+Finishes text (Err stops.Memory) out = AppendsFront out.old out.new text
+Finishes text (Err stop) out = ⊥
+
+-- behind 100,000 wake-ups: no more than a front of the last lines was written
+abbrev pub LastFront : List (List ℕ) → Behind → State → ℕ → ℕ → Sent → Type 0
+LastFront cs behind old due asked out =
+    Keeps out.old out.new ⊎ ((new : World) × (text : List ℕ) × Goes (stock_of cs old.forest) (both old behind) (Some due) new None 0 0 text × AppendsFront out.old out.new (text ++ done_text 100000 asked))
+
+abbrev pub LastPlays : List (List ℕ) → Behind → State → ℕ → ℕ → Result (Unit {0}) Stop → State → Sent → Type 0
+LastPlays cs behind old due asked (Ok u) new out = (text : List ℕ) × Goes (stock_of cs old.forest) (both old behind) (Some due) (both new behind) None 0 0 text × IsAll (text ++ done_text 100000 asked) out
+LastPlays cs behind old due asked (Err stops.TooLong) new out = IsDue cs (both old behind) due × IsAll [] out
+LastPlays cs behind old due asked (Err stops.Write) new out = HasFailed out.failed_before out.failed_after × LastFront cs behind old due asked out
+LastPlays cs behind old due asked (Err stops.Memory) new out = LastFront cs behind old due asked out
+LastPlays cs behind old due asked (Err stop) new out = ⊥
+
+-- the lines of a run so far, or all of them with the last one
+pub record IsText (s : Stock) (old : World) (start : ℕ) (text : List ℕ) : Type 0 where
+  pub new : World
+  pub next : Option ℕ
+  pub wakes : ℕ
+  pub asked : ℕ
+  pub lines : List ℕ
+  pub goes : Goes s old (Some start) new next wakes asked lines
+  pub text_is : (text ≡ lines) ⊎ ((next ≡ None) × (text ≡ lines ++ done_text wakes asked))
+
+pub record PlaysWhole (s : Stock) (old : World) (start : ℕ) (before : List ℕ) (new : World) (out : Sent) : Type 0 where
+  pub wakes : ℕ
+  pub asked : ℕ
+  pub lines : List ℕ
+  pub goes : Goes s old (Some start) new None wakes asked lines
+  pub few : wakes ≤ 100000
+  pub sent : IsAll (before ++ (lines ++ done_text wakes asked)) out
+
+pub record PlaysLong (s : Stock) (old : World) (start : ℕ) (before : List ℕ) (behind : Behind) (out : Sent) : Type 0 where
+  pub keeper : State
+  pub due : ℕ
+  pub asked : ℕ
+  pub lines : List ℕ
+  pub goes : Goes s old (Some start) (both keeper behind) (Some due) 100000 asked lines
+  pub more : IsDue s.credentials (both keeper behind) due
+  pub sent : IsAll (before ++ lines) out
+
+-- no more than a front of the lines was written
+abbrev pub PlaysFront : Stock → World → ℕ → List ℕ → Sent → Type 0
+PlaysFront s old start before out = (text : List ℕ) × IsText s old start text × AppendsFront out.old out.new (before ++ text)
+
+-- what playing a run came to
+abbrev pub Plays : List (List ℕ) → World → ℕ → List ℕ → Result (Unit {0}) Stop → World → Sent → Type 0
+Plays cs old start before (Ok u) new out = PlaysWhole (stock_of cs old.keeper.forest) old start before new out
+Plays cs old start before (Err stops.TooLong) new out = PlaysLong (stock_of cs old.keeper.forest) old start before new.behind out
+Plays cs old start before (Err stops.Write) new out = HasFailed out.failed_before out.failed_after × PlaysFront (stock_of cs old.keeper.forest) old start before out
+Plays cs old start before (Err stops.Memory) new out = PlaysFront (stock_of cs old.keeper.forest) old start before out
+Plays cs old start before (Err stop) new out = ⊥
+
+-- what an exchange came to for who asked: what was received, if anything; want of memory is no lost answer
+abbrev pub heard_of : Result Reply ExchangeFault → Option Reply
+heard_of (Ok reply) = Some reply
+heard_of (Err fault) = None

@@ -1,0 +1,81 @@
+-- The run `rehearse`: what it has written, the table and the wire that it leaves, and when it gives which exit.
+-- Source: this project's own.
+use Rattle.std.specs.Prelude.{◌≡◌, ℕ, ◌⊎◌, List, [], ◌++◌, Option, None, Result, Ok, Err, codes}
+use Rattle.keep_device.specs.Failures.{HasFailed}
+use Rattle.keep_device.specs.Front.{AppendsFront}
+use Rattle.keep_inventory.specs.declared.fault.InvFault.{InvFault}
+use Rattle.keep_inventory.specs.Inventory.{inventory}
+use Rattle.keep_inventory.specs.Stock.{Stock}
+use Rattle.mini_broker.specs.declared.fault.NumberedFault.{NumberedFault}
+use Rattle.keep_exchange.specs.Exchanges.{Behind}
+use Rattle.mini_broker.specs.Rows.{rows_of}
+use Rattle.keep_core.specs.Replan.{ReplanTooLong}
+use Rattle.keep_report.specs.declared.exit.Exit.{Exit}
+use Rattle.keep_report.specs.declared.exit.Exit.TheVariants as exits
+use Rattle.keep_report.specs.declared.stop.Stop.{Stop}
+use Rattle.keep_report.specs.declared.stop.Stop.TheVariants as stops
+use Rattle.keep_report.specs.FaultLine.{fault_line}
+use Rattle.keep_report.specs.Sent.{IsAll, IsUntouched, Sent}
+use Rattle.keep_report.specs.Told.{Reports, Told}
+use Rattle.keep_run.specs.Closed.{Course, IsClosedRun, World}
+use Rattle.keep_run.specs.FaultWords.{faults_of}
+use Rattle.keep_run.specs.Stops.{IsStopped, SoFar}
+use Rattle.keep_run.specs.Text.{course_text, done_text}
+
+-- the inventory and the FAULT words are read
+pub record IsCalled (bytes : List ℕ) (words : List (List ℕ)) (stock : Stock) (faults : List NumberedFault) : Type 0 where
+  pub read : inventory bytes ≡ Ok stock
+  pub faults_are : faults_of words ≡ Ok faults
+
+-- the lines of a run so far, or all of them with the last one
+pub record IsRunText (stock : Stock) (faults : List NumberedFault) (start : ℕ) (text : List ℕ) : Type 0 where
+  pub final : World
+  pub next : Option ℕ
+  pub wakes : ℕ
+  pub asked : ℕ
+  pub lines : List ℕ
+  pub so_far : SoFar stock faults start final next wakes asked lines
+  pub text_is : (text ≡ lines) ⊎ ((next ≡ None) × (text ≡ lines ++ done_text wakes asked))
+
+-- no more than a front of the lines of the run was written
+abbrev pub WritesFront : List ℕ → ℕ → List (List ℕ) → Sent → Type 0
+WritesFront bytes start words out =
+    (stock : Stock) × (faults : List NumberedFault) × IsCalled bytes words stock faults × (text : List ℕ) × IsRunText stock faults start text × AppendsFront out.old out.new text
+
+-- the inventory's table with these faults, and nothing carried yet
+abbrev pub fresh : Stock → List NumberedFault → Behind
+fresh stock faults = record { table = record { rows = rows_of stock; faults = faults; count = 0 }; wire = [] }
+
+-- the plan of the opening is too long, and nothing was written; or the lines of 100,000 wake-ups were, and another is due
+abbrev pub RunsLong : Stock → List NumberedFault → ℕ → Sent → Behind → Type 0
+RunsLong stock faults start out behind =
+    (ReplanTooLong stock.grove start × IsUntouched out × (behind ≡ fresh stock faults))
+    ⊎ ((final : World) × (text : List ℕ) × IsStopped stock faults start final text × IsAll text out × (behind ≡ final.behind))
+
+-- `rehearse` over the bytes of an inventory, a start and FAULT words, by exit
+abbrev pub RehearseRun : List ℕ → ℕ → List (List ℕ) → Exit → Sent → Behind → Behind → Type 0
+RehearseRun bytes start words exits.Done out old new =
+    (stock : Stock) × (faults : List NumberedFault) × IsCalled bytes words stock faults
+    × (course : Course) × (final : World) × IsClosedRun stock faults start course final × IsAll (course_text stock course) out × (new ≡ final.behind)
+RehearseRun bytes start words exits.Inventory out old new = (fault : InvFault) × (inventory bytes ≡ Err fault) × IsUntouched out × (new ≡ old)
+RehearseRun bytes start words exits.CommandLine out old new =
+    (stock : Stock) × (inventory bytes ≡ Ok stock) × (position : ℕ) × (faults_of words ≡ Err position) × IsUntouched out × (new ≡ old)
+RehearseRun bytes start words exits.TooLong out old new = (stock : Stock) × (faults : List NumberedFault) × IsCalled bytes words stock faults × RunsLong stock faults start out new
+RehearseRun bytes start words exits.Device out old new = HasFailed out.failed_before out.failed_after × WritesFront bytes start words out
+RehearseRun bytes start words exits.Memory out old new = IsUntouched out ⊎ WritesFront bytes start words out
+RehearseRun bytes start words exit out old new = ⊥
+
+-- what it has told of its end, by exit
+abbrev pub RehearseTold : List ℕ → List (List ℕ) → Exit → Sent → Type 0
+RehearseTold bytes words exits.CommandLine errors = (position : ℕ) × (faults_of words ≡ Err position) × Reports (fault_line (codes "leasekeep") (stops.FaultWord position)) errors
+RehearseTold bytes words exit errors = Told (codes "leasekeep") bytes exit errors
+
+-- the same without its fault line, by what stops it
+abbrev pub Rehearses : List ℕ → ℕ → List (List ℕ) → Result (Unit {0}) Stop → Sent → Behind → Behind → Type 0
+Rehearses bytes start words (Ok u) out old new = RehearseRun bytes start words exits.Done out old new
+Rehearses bytes start words (Err (stops.Inventory fault)) out old new = (inventory bytes ≡ Err fault) × IsUntouched out × (new ≡ old)
+Rehearses bytes start words (Err (stops.FaultWord position)) out old new = (stock : Stock) × (inventory bytes ≡ Ok stock) × (faults_of words ≡ Err position) × IsUntouched out × (new ≡ old)
+Rehearses bytes start words (Err stops.TooLong) out old new = RehearseRun bytes start words exits.TooLong out old new
+Rehearses bytes start words (Err stops.Write) out old new = RehearseRun bytes start words exits.Device out old new
+Rehearses bytes start words (Err stops.Memory) out old new = RehearseRun bytes start words exits.Memory out old new
+Rehearses bytes start words (Err stop) out old new = ⊥

@@ -1,0 +1,81 @@
+//! FAULT words: what is to go wrong at which renewal request.
+ghost use Rattle.std.specs.Prelude.{◌≡◌, [], option_map};
+ghost use Rattle.keep_words.specs.Pieces.{pieces, two};
+ghost use Rattle.keep_run.specs.FaultWords.{SetsFaults, fault_word, kind_of, stop_at};
+
+use keep_moment::Text;
+use keep_report::Stop;
+use keep_words::{cut, number_up_to};
+use mini_broker::{Fault, NumberedFault, SetFault, Table};
+
+/// Gives a table the faults that these words write. `FaultWord`: the place of the first, from 1 on, that writes none or one
+/// whose number an earlier one has.
+pub(crate) fn set_faults(table: &mut Table, words: &[Text]) -> Result<(), Stop>
+    requires fresh { table.old.faults ≡ [] }
+    requires uncounted { table.old.count ≡ 0 }
+    ensures { SetsFaults words.now table.old result table.new }
+{
+    let mut place: u64 = 0;
+    for word in words {
+        place += 1;
+        let Some(fault) = fault_of(word.list()) else {
+            return Err(Stop::FaultWord(place));
+        };
+        match table.set_fault(fault.number, fault.fault) {
+            Ok(()) => (),
+            Err(why) => return Err(stop_at(why, place)),
+        }
+    }
+    Ok(())
+}
+
+/// Why the words are not taken, where the table does not take the fault of the one at this place.
+fn stop_at(why: SetFault, place: u64) -> Stop
+    ensures { result ≡ stop_at why place }
+{
+    match why {
+        SetFault::BadNumber | SetFault::Twice => Stop::FaultWord(place),
+        SetFault::OutOfMemory => Stop::Memory,
+    }
+}
+
+/// The fault that a word writes; `None` where it writes none.
+#[tactic(auto, unfolding(crate::specs::FaultWords::fault_word))]
+fn fault_of(word: &[u8]) -> Option<NumberedFault>
+    ensures { result ≡ fault_word word.now }
+{
+    let (number, kind) = two_pieces(word, b'=')?;
+    let number = number_up_to(number, 1000000)?;
+    let fault = kind_of(kind)?;
+    Some(NumberedFault { number, fault })
+}
+
+/// What goes wrong: `short:SECONDS`, `drop` or `deny`.
+#[tactic(auto, unfolding(crate::specs::FaultWords::kind_of))]
+fn kind_of(text: &[u8]) -> Option<Fault>
+    ensures { result ≡ kind_of text.now }
+{
+    if text == b"drop".as_slice() {
+        return Some(Fault::Drop);
+    }
+    if text == b"deny".as_slice() {
+        return Some(Fault::Deny);
+    }
+    let (kind, seconds) = two_pieces(text, b':')?;
+    if kind != b"short".as_slice() {
+        return None;
+    }
+    let seconds = number_up_to(seconds, 4294967295)?;
+    Some(Fault::Short(seconds as u32))
+}
+
+/// The pieces of a text between bytes of this value, where it has two.
+fn two_pieces(text: &[u8], byte: u8) -> Option<(&[u8], &[u8])>
+    ensures { option_map (λ w. (w.0.now, w.1.now)) result ≡ two (pieces byte text.now) }
+{
+    let (first, rest) = cut(text, byte)?;
+    match cut(rest, byte) {
+        Some(_) => None,
+        None => Some((first, rest)),
+    }
+}

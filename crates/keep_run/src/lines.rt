@@ -1,0 +1,155 @@
+//! The lines that a run is written as.
+ghost use Rattle.std.specs.Prelude.{◌≡◌, ◌++◌, ◌∷◌, [], ◌<◌, OnOk, decimal, flat_map, length};
+ghost use Rattle.std.specs.List.{All};
+ghost use Rattle.keep_run.specs.Text.{answer_line, done_text, name_of, short_line, short_lines, wake_line};
+ghost use Rattle.keep_core.specs.declared.event.Output.TheVariants as out;
+ghost use Rattle.keep_run.specs.Playing.{IsAnswerOf};
+
+use keep_core::{Event, ShortNeed};
+use keep_tree::Forest;
+use std::alloc::{AllocError, Global};
+use vault_http::Reply;
+
+/// Appends the line of each need that was shortened.
+#[tactic(auto, unfolding(crate::specs::Text::short_lines))]
+pub(crate) fn push_short_lines(
+    alloc: Global,
+    forest: &Forest,
+    short: &[ShortNeed],
+    text: &mut Vec<u8>,
+) -> Result<(), AllocError>
+    requires { All (λ p. p.entry < length forest.now.entries) short.now }
+    ensures { OnOk result (text.new.items ≡ text.old.items ++ short_lines forest.now short.now) }
+{
+    for pair in short {
+        push_short_line(alloc, forest, *pair, text)?;
+    }
+    Ok(())
+}
+
+/// Appends `short NAME NEED` and a line feed.
+fn push_short_line(
+    alloc: Global,
+    forest: &Forest,
+    pair: ShortNeed,
+    text: &mut Vec<u8>,
+) -> Result<(), AllocError>
+    requires { pair.entry < length forest.now.entries }
+    ensures { OnOk result (text.new.items ≡ text.old.items ++ short_line forest.now pair) }
+{
+    let need = pair.need.to_string(alloc)?;
+    text.extend_from_slice(b"short ")?;
+    text.extend_from_slice(forest.get(pair.entry).name.list())?;
+    text.push(b' ')?;
+    text.extend_from_slice(need.as_bytes())?;
+    text.push(b'\n')?;
+    Ok(())
+}
+
+/// Appends `wake T NAME..` and a line feed, of the entries that are asked.
+pub(crate) fn push_wake_line(
+    alloc: Global,
+    forest: &Forest,
+    t: u64,
+    asked: &[u32],
+    text: &mut Vec<u8>,
+) -> Result<(), AllocError>
+    requires { All (λ i. i < length forest.now.entries) asked.now }
+    ensures { OnOk result (text.new.items ≡ text.old.items ++ wake_line forest.now t (out.Ask asked.now)) }
+{
+    let t = t.to_string(alloc)?;
+    text.extend_from_slice(b"wake ")?;
+    text.extend_from_slice(t.as_bytes())?;
+    push_names(alloc, forest, asked, text)?;
+    text.push(b'\n')?;
+    Ok(())
+}
+
+/// Appends a blank and the name of each of these entries.
+fn push_names(
+    alloc: Global,
+    forest: &Forest,
+    asked: &[u32],
+    text: &mut Vec<u8>,
+) -> Result<(), AllocError>
+    requires { All (λ i. i < length forest.now.entries) asked.now }
+    ensures { OnOk result (text.new.items ≡ text.old.items ++ flat_map (λ i. 32 ∷ name_of forest.now i) asked.now) }
+{
+    for i in asked {
+        text.push(b' ')?;
+        text.extend_from_slice(forest.get(*i).name.list())?;
+    }
+    Ok(())
+}
+
+/// Appends the line of the answer of the entry `i`: `told NAME SECONDS`, `refused NAME STATUS` or `lost NAME`.
+pub(crate) fn push_answer_line(
+    alloc: Global,
+    forest: &Forest,
+    i: u32,
+    event: Event,
+    reply: &Option<Reply>,
+    text: &mut Vec<u8>,
+) -> Result<(), AllocError>
+    requires within { i < length forest.now.entries }
+    requires answers { IsAnswerOf i event }
+    ensures { OnOk result (text.new.items ≡ text.old.items ++ answer_line forest.now event reply.now) }
+{
+    let name = forest.get(i).name.list();
+    match event {
+        Event::Told { seconds, .. } => push_numbered(alloc, b"told ", name, seconds, text),
+        Event::Refused(_) => {
+            let status = match reply {
+                Some(reply) => reply.status,
+                None => 0,
+            };
+            push_numbered(alloc, b"refused ", name, status as u64, text)
+        }
+        Event::Lost(_) => {
+            text.extend_from_slice(b"lost ")?;
+            text.extend_from_slice(name)?;
+            text.push(b'\n')?;
+            Ok(())
+        }
+        Event::Tick(_) | Event::Need { .. } => Ok(()),
+    }
+}
+
+/// Appends these words, a name, a blank, a number and a line feed.
+fn push_numbered(
+    alloc: Global,
+    words: &[u8],
+    name: &[u8],
+    number: u64,
+    text: &mut Vec<u8>,
+) -> Result<(), AllocError>
+    ensures { OnOk result (text.new.items ≡ text.old.items ++ (words.now ++ (name.now ++ (32 ∷ (decimal number ++ (10 ∷ [])))))) }
+{
+    let number = number.to_string(alloc)?;
+    text.extend_from_slice(words)?;
+    text.extend_from_slice(name)?;
+    text.push(b' ')?;
+    text.extend_from_slice(number.as_bytes())?;
+    text.push(b'\n')?;
+    Ok(())
+}
+
+/// Appends `done WAKES REQUESTS` and a line feed.
+#[tactic(auto, unfolding(crate::specs::Text::done_text))]
+pub(crate) fn push_done(
+    alloc: Global,
+    wakes: u64,
+    requests: u64,
+    text: &mut Vec<u8>,
+) -> Result<(), AllocError>
+    ensures { OnOk result (text.new.items ≡ text.old.items ++ done_text wakes requests) }
+{
+    let wakes = wakes.to_string(alloc)?;
+    let requests = requests.to_string(alloc)?;
+    text.extend_from_slice(b"done ")?;
+    text.extend_from_slice(wakes.as_bytes())?;
+    text.push(b' ')?;
+    text.extend_from_slice(requests.as_bytes())?;
+    text.push(b'\n')?;
+    Ok(())
+}

@@ -1,0 +1,72 @@
+//! Ticks, until one asks.
+ghost use Rattle.std.specs.Prelude.{◌≡◌, ◌<◌, ◌≤◌, [], IfOk, List, ℕ, length};
+ghost use Rattle.std.specs.List.{All};
+ghost use Rattle.std.specs.Result.{IfErr};
+ghost use Rattle.keep_report.specs.declared.stop.Stop.TheVariants as stops;
+ghost use Rattle.keep_core.specs.LawsOfSteps.{IsShaped};
+ghost use Rattle.keep_exchange.specs.Exchanges.{Behind};
+ghost use Rattle.keep_run.specs.Closed.{asked_in};
+ghost use Rattle.keep_run.specs.Playing.{OpensOrEnds, Ticks, asked_of};
+
+use crate::lines::{push_short_lines, push_wake_line};
+use keep_report::Stop;
+use keep_core::{Event, Keeper, Output};
+use keep_tree::Indices;
+use std::alloc::Global;
+
+/// A wake-up that is opened: its moment, and the entries that are asked.
+#[derive(Debug, Drop)]
+pub(crate) struct Opened {
+    pub at: u64,
+    pub asked: Indices,
+}
+
+/// Tells the keeper that it is `t`, and appends the lines of what it then shortened and of whom it asks.
+pub(crate) fn tick(
+    alloc: Global,
+    keeper: &mut Keeper,
+    t: u64,
+    text: &mut Vec<u8>,
+) -> Result<Output, Stop>
+    requires quiet { keeper.old.shortened ≡ [] }
+    ensures memory { IfErr result (λ stop. stop ≡ stops.Memory) }
+    ensures ticks { IfOk result (λ output. Ticks t keeper.old output keeper.new text.old.items text.new.items) }
+    ensures within { IfOk result (λ output. All (λ i. i < length keeper.new.forest.entries) (asked_in output)) }
+    ensures few { IfOk result (λ output. length (asked_in output) ≤ 4096) }
+{
+    let _entries = keeper.forest().len();
+    let Ok(output) = keeper.step(Event::Tick(t)) else {
+        return Err(Stop::Memory);
+    };
+    let short = keeper.take_shortened();
+    push_short_lines(alloc, keeper.forest(), short.list(), text)?;
+    if let Output::Ask(asked) = &output {
+        push_wake_line(alloc, keeper.forest(), t, asked.list(), text)?;
+    }
+    Ok(output)
+}
+
+/// Tells the keeper the moments from `t` on, until it asks; `None` where it has nothing to do any more.
+pub(crate) fn open(
+    alloc: Global,
+    keeper: &mut Keeper,
+    t: u64,
+    text: &mut Vec<u8>,
+) -> Result<Option<Opened>, Stop>
+    requires quiet { keeper.old.shortened ≡ [] }
+    ensures memory { IfErr result (λ stop. stop ≡ stops.Memory) }
+    ensures opens { IfOk result (λ opened. (cs : List (List ℕ)) (behind : Behind) → OpensOrEnds cs behind keeper.old t opened keeper.new text.old.items text.new.items) }
+    ensures within { IfOk result (λ opened. All (λ i. i < length keeper.new.forest.entries) (asked_of opened)) }
+    ensures few { IfOk result (λ opened. length (asked_of opened) ≤ 4096) }
+    ensures taken { IfOk result (λ _. keeper.new.shortened ≡ []) }
+    ensures shaped { IfOk result (λ _. IsShaped keeper.old.forest keeper.new.forest) }
+{
+    match tick(alloc, keeper, t, text)? {
+        Output::Ask(asked) => Ok(Some(Opened { at: t, asked })),
+        Output::Sleep(later) => match tick(alloc, keeper, later, text)? {
+            Output::Ask(asked) => Ok(Some(Opened { at: later, asked })),
+            _ => unreachable!(),
+        },
+        _ => Ok(None),
+    }
+}

@@ -1,0 +1,88 @@
+//! The wake-ups of a run, one after another, with their lines.
+ghost use Rattle.std.specs.Prelude.{◌≡◌, ◌++◌, [], List, ℕ};
+ghost use Rattle.keep_exchange.specs.Exchanges.{Behind};
+ghost use Rattle.keep_run.specs.Text.{done_text};
+ghost use Rattle.keep_run.specs.Playing.{Finishes, Fits, LastPlays, Plays};
+ghost use Rattle.keep_run.specs.Stops.{both};
+
+use crate::lines::push_done;
+use crate::opening::open;
+use crate::waking::wake;
+use keep_core::Keeper;
+use keep_device::{Sink, write_all};
+use keep_inventory::Credentials;
+use keep_report::{Stop, Watched, send};
+use keep_exchange::MemoryExchange;
+use std::alloc::Global;
+
+/// The most wake-ups of a rehearsal.
+pub const MOST_WAKES: u64 = 100000;
+
+/// Plays a run from a tick at `start`, writes these lines before and the run's lines as it goes, wake-up by wake-up, and
+/// flushes them at the end.
+pub(crate) fn play<W: Sink>(
+    alloc: Global,
+    keeper: &mut Keeper,
+    exchange: &mut MemoryExchange,
+    credentials: &Credentials,
+    start: u64,
+    lines: &[u8],
+    out: &mut W,
+) -> Result<(), Stop>
+    requires fits { Fits credentials.now keeper.old.forest }
+    requires quiet { keeper.old.shortened ≡ [] }
+    ensures { Plays credentials.now (both keeper.old exchange.old) start lines.now result (both keeper.new exchange.new) (⟦<W as Watched>⟧.sent out.old out.new) }
+{
+    write_all(out, lines)?;
+    let mut due = start;
+    let mut requests = 0;
+    for wakes in 0..MOST_WAKES {
+        let mut text = Vec::new(alloc);
+        let Some(woken) = wake(alloc, keeper, exchange, credentials, due, &mut text)? else {
+            return finish(alloc, wakes, requests, text, out);
+        };
+        write_all(out, &text)?;
+        requests += woken.requests;
+        let Some(next) = woken.next else {
+            return finish(alloc, wakes + 1, requests, Vec::new(alloc), out);
+        };
+        due = next;
+    }
+    last(alloc, keeper, due, requests, out)
+}
+
+/// Behind the last wake-up that a run may have: its end, or that it would have another.
+fn last<W: Sink>(
+    alloc: Global,
+    keeper: &mut Keeper,
+    due: u64,
+    requests: u64,
+    out: &mut W,
+) -> Result<(), Stop>
+    requires quiet { keeper.old.shortened ≡ [] }
+    ensures { (cs : List (List ℕ)) (behind : Behind) → LastPlays cs behind keeper.old due requests result keeper.new (⟦<W as Watched>⟧.sent out.old out.new) }
+{
+    let mut text = Vec::new(alloc);
+    match open(alloc, keeper, due, &mut text)? {
+        None => finish(alloc, MOST_WAKES, requests, text, out),
+        Some(_) => {
+            out.flush()?;
+            Err(Stop::TooLong)
+        }
+    }
+}
+
+/// Writes the last lines with the line `done`, and flushes.
+fn finish<W: Sink>(
+    alloc: Global,
+    wakes: u64,
+    requests: u64,
+    text: Vec<u8>,
+    out: &mut W,
+) -> Result<(), Stop>
+    ensures { Finishes (text.items ++ done_text wakes requests) result (⟦<W as Watched>⟧.sent out.old out.new) }
+{
+    let mut text = text;
+    push_done(alloc, wakes, requests, &mut text)?;
+    send(out, &text)
+}

@@ -1,0 +1,283 @@
+//! Rehearsals over whole inventories: exit, output, fault line and wire.
+use crate::run_rehearse;
+use keep_device::MemorySink;
+use keep_exchange::MemoryExchange;
+use keep_inventory::read;
+use keep_moment::{Moment, Text};
+use keep_report::Exit;
+use mini_broker::Table;
+use std::alloc::Global;
+use std::process::Abort;
+use std::test::Fail;
+
+const WEB: &str =
+    "[[token]]\nname = \"web\"\nissued = 1000\nend = 1060\nincrement = 60\nmax_ttl = 9000\nneed = 1200\n";
+
+const TOKEN_AND_LEASE: &str =
+    "[[token]]\nname = \"T\"\nissued = 1000\nend = 1100\nincrement = 100\nmax_ttl = 9000\n\n\
+    [[lease]]\nname = \"L\"\ntoken = \"T\"\nissued = 1000\nend = 1060\nincrement = 60\nmax_ttl = 9000\nneed = 1200\n";
+
+const LOW_CEILING: &str =
+    "[[token]]\nname = \"T\"\nissued = 1000\nend = 1100\nincrement = 100\nmax_ttl = 150\n\n\
+    [[lease]]\nname = \"L\"\ntoken = \"T\"\nissued = 1000\nend = 1060\nincrement = 60\nmax_ttl = 9000\nneed = 1200\n";
+
+const PAY: &str =
+    "[[token]]\nname = \"pay\"\nissued = 900\nend = 1060\nperiod = 60\nexplicit_max_ttl = 200\nneed = 1100\n";
+
+const WEB_BASE_AND_BIG: &str =
+    "[[token]]\nname = \"web\"\nissued = 1000\nend = 1060\nincrement = 60\nmax_ttl = 9000\nneed = 1200\n\n\
+    [[token]]\nname = \"base\"\nissued = 1000\nend = 6000\nincrement = 60\nmax_ttl = 9000\n\n\
+    [[lease]]\nname = \"big\"\ntoken = \"base\"\nissued = 1000\nend = 5000\nincrement = 60\nmax_ttl = 9000\nneed = 4000\n";
+
+// The web example with a margin of ten seconds.
+const WIDE: &str = "margin = 10\n[[token]]\nname = \"web\"\nissued = 1000\nend = 1060\nincrement = 60\nmax_ttl = 9000\nneed = 1200\n";
+
+// Token and lease, of which the token is longer alive.
+const TOKEN_LATER: &str =
+    "[[token]]\nname = \"T\"\nissued = 1000\nend = 1130\nincrement = 100\nmax_ttl = 9000\n\n\
+    [[lease]]\nname = \"L\"\ntoken = \"T\"\nissued = 1000\nend = 1060\nincrement = 60\nmax_ttl = 9000\nneed = 1200\n";
+
+const AS_PLANNED: &str =
+    "wake 1059 web\ntold web 60\nwake 1118 web\ntold web 60\nwake 1177 web\ntold web 60\ndone 3 3\n";
+
+// Inventories, FAULT words and the lines of their rehearsals from 1000 on.
+const REHEARSED: [(&str, &str, &str); 28] = [
+    (WEB, "", AS_PLANNED),
+    (WEB_BASE_AND_BIG, "", AS_PLANNED),
+    ("", "", "done 0 0\n"),
+    (
+        TOKEN_AND_LEASE,
+        "",
+        "wake 1059 T L\ntold T 100\ntold L 60\nwake 1118 T L\ntold T 100\ntold L 60\nwake 1177 L\ntold L 60\ndone 3 5\n",
+    ),
+    (
+        TOKEN_LATER,
+        "",
+        "wake 1059 L\ntold L 60\nwake 1118 T L\ntold T 100\ntold L 60\nwake 1177 L\ntold L 60\ndone 3 4\n",
+    ),
+    (
+        LOW_CEILING,
+        "",
+        "short L 1150\nwake 1059 T L\ntold T 91\ntold L 60\nwake 1118 L\ntold L 60\ndone 2 3\n",
+    ),
+    (PAY, "", "wake 1059 pay\ntold pay 41\ndone 1 1\n"),
+    (
+        WEB,
+        "1=short:30",
+        "wake 1059 web\ntold web 30\nwake 1088 web\ntold web 60\nwake 1147 web\ntold web 60\ndone 3 3\n",
+    ),
+    (
+        WEB,
+        "1=drop",
+        "wake 1059 web\nlost web\nwake 1059 web\ntold web 60\nwake 1118 web\ntold web 60\nwake 1177 web\ntold web 60\ndone 4 4\n",
+    ),
+    (
+        WEB,
+        "1=deny",
+        "wake 1059 web\nrefused web 403\nshort web 1060\ndone 1 1\n",
+    ),
+    (
+        WEB,
+        "2=drop",
+        "wake 1059 web\ntold web 60\nwake 1118 web\nlost web\nwake 1118 web\ntold web 60\nwake 1177 web\ntold web 60\ndone 4 4\n",
+    ),
+    (
+        WEB,
+        "3=drop",
+        "wake 1059 web\ntold web 60\nwake 1118 web\ntold web 60\nwake 1177 web\nlost web\nwake 1177 web\ntold web 60\ndone 4 4\n",
+    ),
+    (
+        WEB,
+        "2=short:30",
+        "wake 1059 web\ntold web 60\nwake 1118 web\ntold web 30\nwake 1147 web\ntold web 60\ndone 3 3\n",
+    ),
+    (
+        WEB,
+        "2=deny",
+        "wake 1059 web\ntold web 60\nwake 1118 web\nrefused web 403\nshort web 1119\ndone 2 2\n",
+    ),
+    (
+        WEB,
+        "1=short:0",
+        "wake 1059 web\ntold web 0\nshort web 1059\ndone 1 1\n",
+    ),
+    (
+        WEB,
+        "1=short:1",
+        "wake 1059 web\ntold web 1\nwake 1059 web\ntold web 60\nwake 1118 web\ntold web 60\nwake 1177 web\ntold web 60\ndone 4 4\n",
+    ),
+    (
+        TOKEN_AND_LEASE,
+        "1=deny",
+        "wake 1059 T L\nrefused T 403\ntold L 60\nshort L 1100\ndone 1 2\n",
+    ),
+    (
+        TOKEN_AND_LEASE,
+        "2=deny",
+        "wake 1059 T L\ntold T 100\nrefused L 403\nshort L 1060\ndone 1 2\n",
+    ),
+    (
+        TOKEN_AND_LEASE,
+        "1=drop",
+        "wake 1059 T L\nlost T\ntold L 60\nwake 1099 T L\ntold T 100\ntold L 60\nwake 1158 T L\ntold T 100\ntold L 60\ndone 3 6\n",
+    ),
+    (
+        WIDE,
+        "1=drop",
+        "wake 1050 web\nlost web\nwake 1050 web\ntold web 60\nwake 1100 web\ntold web 60\nwake 1150 web\ntold web 60\ndone 4 4\n",
+    ),
+    (
+        WIDE,
+        "1=short:5",
+        "wake 1050 web\ntold web 5\nshort web 1055\ndone 1 1\n",
+    ),
+    // a grant that is longer than the rule's is the rule's; a request that is not made has no fault
+    (WEB, "1=short:100", AS_PLANNED),
+    (WEB, "1=short:4294967295", AS_PLANNED),
+    (WEB, "4=deny", AS_PLANNED),
+    (WEB, "1000000=drop 4=deny", AS_PLANNED),
+    // the parent's grant is short, the lease's is not
+    (
+        TOKEN_AND_LEASE,
+        "1=short:10",
+        "wake 1059 T L\ntold T 10\ntold L 60\nwake 1068 T L\ntold T 100\ntold L 60\nwake 1127 T L\ntold T 100\ntold L 60\nwake 1186 L\ntold L 60\ndone 4 7\n",
+    ),
+    // the lease's reply is dropped
+    (
+        TOKEN_AND_LEASE,
+        "2=drop",
+        "wake 1059 T L\ntold T 100\nlost L\nwake 1059 L\ntold L 60\nwake 1118 T L\ntold T 100\ntold L 60\nwake 1177 L\ntold L 60\ndone 4 6\n",
+    ),
+    // two faults in one round, told in the other order
+    (
+        TOKEN_AND_LEASE,
+        "2=deny 1=drop",
+        "wake 1059 T L\nlost T\nrefused L 403\nshort L 1060\ndone 1 2\n",
+    ),
+];
+
+// FAULT words of which one is at fault, and its place.
+const BAD_WORDS: [(&str, u64); 17] = [
+    ("drop", 1),
+    ("1=", 1),
+    ("=drop", 1),
+    ("0=drop", 1),
+    ("01=drop", 1),
+    ("+1=drop", 1),
+    ("1000001=drop", 1),
+    ("1=Drop", 1),
+    ("1=drop=", 1),
+    ("1=short", 1),
+    ("1=short:", 1),
+    ("1=short:030", 1),
+    ("1=short:4294967296", 1),
+    ("1=short:3:0", 1),
+    ("1=drop 2=deny 1=short:30", 3),
+    ("2=drop 2=drop", 2),
+    ("1=drop x 1=drop", 2),
+];
+
+fn start() -> Result<Moment, Fail> {
+    Ok(Moment::new(1000).ok_or("a moment")?)
+}
+
+// The words of a line, one after another.
+fn words_of(alloc: Global, line: &str) -> Result<Vec<Text>, Fail> {
+    let mut words = Vec::new(alloc);
+    if !line.is_empty() {
+        for word in line.as_bytes().split(|byte| *byte == b' ') {
+            words.push(Text::of(alloc, word)?)?;
+        }
+    }
+    Ok(words)
+}
+
+// An exchange over the table of an empty inventory.
+fn nobody(alloc: Global) -> Result<MemoryExchange, Fail> {
+    let inventory = read(alloc, b"").ok().ok_or("an inventory")?;
+    Ok(MemoryExchange::new(alloc, Table::load(alloc, &inventory)?))
+}
+
+// `rehearse` from 1000 on: its exit, its output and its fault line.
+fn rehearses<R: AllocGlobal + Abort>(
+    rt: &R,
+    inventory: &str,
+    words: &str,
+    exit: Exit,
+    text: &str,
+    fault: &str,
+) -> Result<(), Fail> {
+    let alloc = rt.alloc();
+    let mut out = MemorySink::new(alloc, None);
+    let mut errors = MemorySink::new(alloc, None);
+    let mut exchange = nobody(alloc)?;
+    let faults = words_of(alloc, words)?;
+    let got = run_rehearse(
+        alloc,
+        inventory.as_bytes(),
+        start()?,
+        &faults,
+        &mut out,
+        &mut errors,
+        &mut exchange,
+    );
+    assert_eq!(rt; got, exit, "{words} {text}{fault}");
+    assert!(rt; out.bytes() == text.as_bytes(), "{words} {text}{fault}");
+    assert!(rt; errors.bytes() == fault.as_bytes(), "{words} {text}{fault}");
+    Ok(())
+}
+
+#[test]
+fn rehearsals_are_written(rt: HostRuntime) -> Result<(), Fail> {
+    for (inventory, words, text) in REHEARSED {
+        rehearses(&rt, inventory, words, Exit::Done, text, "")?;
+    }
+    Ok(())
+}
+
+#[test]
+fn a_fault_word_at_fault_is_told(rt: HostRuntime) -> Result<(), Fail> {
+    for (words, place) in BAD_WORDS {
+        let fault = format!(in rt.alloc(); "leasekeep: fault word {place}\n")?;
+        rehearses(&rt, WEB, words, Exit::CommandLine, "", fault.as_str())?;
+    }
+    Ok(())
+}
+
+// The inventory is judged before the FAULT words.
+#[test]
+fn an_inventory_at_fault_is_told_first(rt: HostRuntime) -> Result<(), Fail> {
+    rehearses(
+        &rt,
+        "x",
+        "drop",
+        Exit::Inventory,
+        "",
+        "leasekeep: inventory: not-toml\n",
+    )
+}
+
+// The wire is the last request and its reply.
+#[test]
+fn the_wire_of_a_rehearsal_is_its_last_exchange(rt: HostRuntime) -> Result<(), Fail> {
+    let alloc = rt.alloc();
+    let mut out = MemorySink::new(alloc, None);
+    let mut errors = MemorySink::new(alloc, None);
+    let mut exchange = nobody(alloc)?;
+    run_rehearse(
+        alloc,
+        WEB.as_bytes(),
+        start()?,
+        &[],
+        &mut out,
+        &mut errors,
+        &mut exchange,
+    );
+    let wire: &[u8] = b"POST /v1/auth/token/renew-self HTTP/1.1\r\nHost: 127.0.0.1:8200\r\nX-Vault-Token: web\r\n\
+        Content-Type: application/json\r\nContent-Length: 16\r\nConnection: close\r\n\r\n{\"increment\":60}\
+        HTTP/1.1 200 OK\r\nContent-Type: application/json\r\nContent-Length: 47\r\nConnection: close\r\n\r\n\
+        {\"auth\":{\"lease_duration\":60,\"renewable\":true}}";
+    assert!(rt; exchange.wire() == wire, "the wire");
+    assert!(rt; exchange.table().end_of(b"web") == Some(1237), "the end");
+    Ok(())
+}

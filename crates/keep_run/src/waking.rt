@@ -1,0 +1,91 @@
+//! One wake-up: ticks until one asks, and the answers of those who are asked.
+ghost use Rattle.std.specs.Prelude.{◌≡◌, ◌<◌, ◌≤◌, [], IfOk, length};
+ghost use Rattle.std.specs.List.{All};
+ghost use Rattle.std.specs.Result.{IfErr};
+ghost use Rattle.keep_report.specs.declared.stop.Stop.TheVariants as stops;
+ghost use Rattle.keep_core.specs.LawsOfSteps.{IsShaped};
+ghost use Rattle.keep_run.specs.Playing.{AnswersAll, Fits, Wakes, requests_in};
+ghost use Rattle.keep_run.specs.Closed.{told_next};
+ghost use Rattle.keep_run.specs.Stops.{both};
+
+use crate::opening::open;
+use crate::served_entry::answer;
+use keep_core::{Keeper, Output};
+use keep_inventory::Credentials;
+use keep_moment::Moment;
+use keep_report::Stop;
+use keep_exchange::MemoryExchange;
+use std::alloc::Global;
+
+/// What a wake-up came to: how many requests it made, and the moment of the next tick, if there is one.
+#[derive(Clone, Copy, Debug, PartialEq, Eq)]
+pub(crate) struct Woken {
+    pub requests: u64,
+    pub next: Option<u64>,
+}
+
+/// Goes on from a tick at `due` to the end of the first round from there; `None` where nothing is to be done any more.
+pub(crate) fn wake(
+    alloc: Global,
+    keeper: &mut Keeper,
+    exchange: &mut MemoryExchange,
+    credentials: &Credentials,
+    due: u64,
+    text: &mut Vec<u8>,
+) -> Result<Option<Woken>, Stop>
+    requires fits { Fits credentials.now keeper.old.forest }
+    requires quiet { keeper.old.shortened ≡ [] }
+    ensures memory { IfErr result (λ stop. stop ≡ stops.Memory) }
+    ensures wakes { IfOk result (λ woken. Wakes credentials.now (both keeper.old exchange.old) due woken (both keeper.new exchange.new) text.old.items text.new.items) }
+    ensures few { IfOk result (λ woken. requests_in woken ≤ 4096) }
+    ensures shaped { IfOk result (λ _. IsShaped keeper.old.forest keeper.new.forest) }
+    ensures taken { IfOk result (λ _. keeper.new.shortened ≡ []) }
+{
+    let Some(opened) = open(alloc, keeper, due, text)? else {
+        return Ok(None);
+    };
+    let Some(at) = Moment::new(opened.at) else {
+        unreachable!()
+    };
+    let next = round(alloc, keeper, exchange, credentials, at, opened.asked.list(), text)?;
+    Ok(Some(Woken {
+        requests: opened.asked.list().len() as u64,
+        next,
+    }))
+}
+
+/// The asked entries send their requests at `t`, one after another; the moment of the next tick, if there is one.
+fn round(
+    alloc: Global,
+    keeper: &mut Keeper,
+    exchange: &mut MemoryExchange,
+    credentials: &Credentials,
+    t: Moment,
+    asked: &[u32],
+    text: &mut Vec<u8>,
+) -> Result<Option<u64>, Stop>
+    requires within { All (λ i. i < length keeper.old.forest.entries) asked.now }
+    requires fits { Fits credentials.now keeper.old.forest }
+    requires quiet { keeper.old.shortened ≡ [] }
+    ensures memory { IfErr result (λ stop. stop ≡ stops.Memory) }
+    ensures answers { IfOk result (λ next. AnswersAll credentials.now t (both keeper.old exchange.old) asked.now next (both keeper.new exchange.new) text.old.items text.new.items) }
+    ensures shaped { IfOk result (λ _. IsShaped keeper.old.forest keeper.new.forest) }
+    ensures taken { IfOk result (λ _. keeper.new.shortened ≡ []) }
+{
+    let mut next = None;
+    for i in asked {
+        let output = answer(alloc, keeper, exchange, credentials, t, *i, text)?;
+        next = told_next(next, &output);
+    }
+    Ok(next)
+}
+
+/// The moment of the next tick, once closing a round has told one.
+fn told_next(before: Option<u64>, output: &Output) -> Option<u64>
+    ensures { result ≡ told_next before output.now }
+{
+    match output {
+        Output::Round { next } => *next,
+        _ => before,
+    }
+}
