@@ -8,6 +8,7 @@ use Rattle.keep_inventory.proofs.Stocks.{text_law}
 use Rattle.keep_exchange.specs.Requests.{IsFit, lease_looked, lease_renewal, token_looked, token_renewal}
 use Rattle.keep_exchange.proofs.Answered.{lease_fits, token_fits}
 use Rattle.keep_exchange.proofs.Lengths.{lease_short, lookup_short, renew_short, request_short}
+use Rattle.vault_http.specs.declared.request.Request.{Request}
 use Rattle.vault_http.specs.RoundTripRequest.{IsSentToken, IsWritable, is_path_byte, is_token_value_byte}
 use Rattle.vault_http.specs.Written.{is_get, request_text}
 use Rattle.vault_json.specs.Written.{lease_text, lookup_text, renew_text}
@@ -59,3 +60,12 @@ lease_look port owner id owned = record { method = refl; slash = (codes "v1/sys/
 
 pub lease_look_short : (port : ℕ) (owner : Option (List ℕ)) (id : List ℕ) → port < 2 ^ 16 → IfSome owner IsSendable → IsSendable id → length (request_text (lease_looked port owner id)) ≤ 1048576
 lease_look_short port owner id small owned sendable = request_short (lease_looked port owner id) (omega arith) (omega arith) (some_short owner owned) small (lookup_short id sendable.1)
+
+-- ---- any request
+
+sent_short : (token : Option (List ℕ)) → IsSentToken token → IfSome token (λ t. length t ≤ 256)
+sent_short None sent = tt
+sent_short (Some t) sent = sent.1
+
+pub carried : (r : Request) → IsWritable r → length r.method ≤ 4 → r.port < 2 ^ 16 → length r.body ≤ 2000 → length (request_text r) ≤ 1048576
+carried r writable method port body = request_short r method writable.path.1 (sent_short r.token writable.token) port body

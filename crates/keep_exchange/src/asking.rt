@@ -1,6 +1,5 @@
 ghost use Rattle.std.specs.Prelude.{◌≡◌, ◌<◌, IfSome, length};
 ghost use Rattle.keep_exchange.specs.Requests.{Asks, request_of};
-ghost use Rattle.keep_tree.specs.Forest.{entry_at};
 
 use crate::exchange::Exchange;
 use crate::fault::ExchangeFault;
@@ -26,7 +25,6 @@ pub fn ask<E: Exchange>(
 ) -> Result<Option<Reply>, AllocError>
     requires within { i < length forest.now.entries }
     requires credentials { length credentials.now ≡ length forest.now.entries }
-    requires over { IfSome (entry_at forest.now.entries i).parent (λ p. p < length forest.now.entries) }
     ensures { IfSome (E.behind exchange.old) (λ old. Asks old t (request_of port credentials.now forest.now i) result (E.behind exchange.new)) }
 {
     let request = request_for(alloc, port, credentials, forest, i)?;

@@ -1,10 +1,11 @@
-ghost use Rattle.std.specs.Prelude.{◌≡◌, ◌≤◌, ℕ, Option, IfSome, length};
+ghost use Rattle.std.specs.Prelude.{◌≡◌, ◌≤◌, ℕ, Option, IfSome, IsTrue, length};
 ghost use Rattle.mini_broker.specs.declared.stream.TheConstants.{MOST_REQUEST};
 ghost use Rattle.vault_http.specs.RoundTripRequest.{IsWritable};
 ghost use Rattle.vault_http.specs.Written.{request_text};
 ghost use Rattle.keep_exchange.specs.Exchanges.{Behind, Exchanges, CountsExchange};
 
 use crate::ExchangeFault;
+use crate::texts::is_port;
 use keep_moment::Moment;
 use std::alloc::Global;
 use vault_http::{Device, Reply, Request};
@@ -46,4 +47,17 @@ pub trait Exchange: Device {
         requires short { length (request_text request.now) ≤ MOST_REQUEST }
         ensures exchanged { IfSome (Self.behind self.old) (λ old. Exchanges old.table t request.now result (Self.behind self.new)) }
         ensures count { CountsExchange result (Self.failed_calls self.old) (Self.failed_calls self.new) };
+}
+
+/// Whether [`Exchange::exchange`] may be asked to carry the request. It is so of every request with a body of at most 2,000
+/// bytes that can be written.
+#[tactic(auto, using(crate::proofs::Sendable::carried))]
+pub fn can_carry(request: &Request) -> bool
+    ensures writable { IsTrue result → IsWritable request.now }
+    ensures short { IsTrue result → length (request_text request.now) ≤ MOST_REQUEST }
+{
+    is_port(request.port);
+    request.is_writable()
+        && request.method.as_str().len() <= 4
+        && request.body.list().len() <= 2000
 }

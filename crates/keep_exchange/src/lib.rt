@@ -16,11 +16,13 @@ mod requests;
 mod self_served;
 mod sure;
 mod tcp;
+#[cfg(test)]
+mod tests;
 mod texts;
 mod unix;
 
 pub use asking::ask;
-pub use exchange::{Exchange, MOST_REPLY};
+pub use exchange::{Exchange, MOST_REPLY, can_carry};
 pub use fault::ExchangeFault;
 pub use looking::look_up;
 pub use memory::MemoryExchange;

@@ -1,7 +1,6 @@
 ghost use Rattle.std.specs.Prelude.{◌≡◌, ◌<◌, ◌≤◌, ◌^◌, IfOk, IfSome, IsUtf8, length};
 ghost use Rattle.keep_exchange.specs.Requests.{IsFit, lease_renewal, request_of, token_renewal};
 ghost use Rattle.keep_inventory.specs.Stock.{IsSendable};
-ghost use Rattle.keep_tree.specs.Forest.{entry_at};
 
 use http::Method;
 use keep_inventory::{Credentials, credentials_are_sendable};
@@ -23,7 +22,6 @@ pub fn request_for(
 ) -> Result<Request, AllocError>
     requires within { i < length forest.now.entries }
     requires credentials { length credentials.now ≡ length forest.now.entries }
-    requires over { IfSome (entry_at forest.now.entries i).parent (λ p. p < length forest.now.entries) }
     ensures is { IfOk result (λ r. r ≡ request_of port credentials.now forest.now i) }
     ensures fit { IfOk result IsFit }
 {
