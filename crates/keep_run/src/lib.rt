@@ -5,9 +5,12 @@
 //! Begin with `specs/Closed.antt` and `specs/Text.antt`, then `rehearsal`, `playing` and `waking`.
 #![tactic(auto)]
 
+mod event_line;
 mod fault_words;
+mod hearing;
 pub mod laws;
 mod lines;
+mod live;
 mod opening;
 mod playing;
 mod rehearsal;
@@ -17,6 +20,8 @@ mod served_entry;
 mod tests;
 mod waking;
 
+pub use event_line::{Heard, MOST_LINE, heard_in};
+pub use live::{MOST_EVENTS, MOST_EVENT_READS, run_live};
 pub use playing::MOST_WAKES;
 pub use rehearsal::run_rehearse;
 pub use renewing::{event_from, request_for};
