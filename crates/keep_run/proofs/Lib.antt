@@ -20,3 +20,5 @@ pub mod Short
 pub mod Rehearsed
 pub mod FaultWord
 pub mod PlannedRun
+pub mod LiveTicks
+pub mod LiveEnding

@@ -8,3 +8,6 @@ pub mod Playing
 pub mod FaultWords
 pub mod Rehearse
 pub mod PlannedRehearsal
+pub mod EventLines
+pub mod Live
+pub mod LiveRun

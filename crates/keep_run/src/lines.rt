@@ -3,6 +3,7 @@ ghost use Rattle.std.specs.Prelude.{◌≡◌, ◌++◌, ◌∷◌, [], ◌<◌,
 ghost use Rattle.std.specs.List.{All};
 ghost use Rattle.keep_run.specs.Text.{answer_line, done_text, name_of, short_line, short_lines, wake_line};
 ghost use Rattle.keep_core.specs.declared.event.Output.TheVariants as out;
+ghost use Rattle.keep_run.specs.Live.{entry_line, next_line, sleep_line};
 ghost use Rattle.keep_run.specs.Playing.{IsAnswerOf};
 
 use keep_core::{Event, ShortNeed};
@@ -152,4 +153,46 @@ pub(crate) fn push_done(
     text.extend_from_slice(requests.as_bytes())?;
     text.push(b'\n')?;
     Ok(())
+}
+
+/// Appends `sleep T` and a line feed.
+pub(crate) fn push_sleep(alloc: Global, t: u64, text: &mut Vec<u8>) -> Result<(), AllocError>
+    ensures { OnOk result (text.new.items ≡ text.old.items ++ sleep_line t) }
+{
+    let t = t.to_string(alloc)?;
+    text.extend_from_slice(b"sleep ")?;
+    text.extend_from_slice(t.as_bytes())?;
+    text.push(b'\n')?;
+    Ok(())
+}
+
+/// Appends `next T`, or `next none`, and a line feed.
+pub(crate) fn push_next(
+    alloc: Global,
+    next: Option<u64>,
+    text: &mut Vec<u8>,
+) -> Result<(), AllocError>
+    ensures { OnOk result (text.new.items ≡ text.old.items ++ next_line next) }
+{
+    let Some(t) = next else {
+        text.extend_from_slice(b"next none\n")?;
+        return Ok(());
+    };
+    let t = t.to_string(alloc)?;
+    text.extend_from_slice(b"next ")?;
+    text.extend_from_slice(t.as_bytes())?;
+    text.push(b'\n')?;
+    Ok(())
+}
+
+/// Appends `entry NAME END` and a line feed.
+pub(crate) fn push_entry(
+    alloc: Global,
+    name: &[u8],
+    end: u64,
+    text: &mut Vec<u8>,
+) -> Result<(), AllocError>
+    ensures { OnOk result (text.new.items ≡ text.old.items ++ entry_line name.now end) }
+{
+    push_numbered(alloc, b"entry ", name, end, text)
 }

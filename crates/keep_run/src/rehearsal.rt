@@ -77,7 +77,7 @@ fn rehearse<W: Sink>(
 }
 
 /// The keeper of a forest from `start` on.
-fn opened(alloc: Global, forest: Forest, start: Moment) -> Result<Keeper, Stop>
+pub(crate) fn opened(alloc: Global, forest: Forest, start: Moment) -> Result<Keeper, Stop>
     ensures opened { IfOk result (λ keeper. Replan (unplanned forest) start keeper) }
     ensures long { IfErr result (λ stop. (stop ≡ stops.Memory) ⊎ ((stop ≡ stops.TooLong) × ReplanTooLong forest start)) }
 {

@@ -18,7 +18,7 @@ use std::alloc::Global;
 use vault_http::Reply;
 
 /// What was received, if anything. The only error is want of memory, which is no lost answer.
-fn heard_of(exchanged: Result<Reply, ExchangeFault>) -> Result<Option<Reply>, Stop>
+pub(crate) fn heard_of(exchanged: Result<Reply, ExchangeFault>) -> Result<Option<Reply>, Stop>
     ensures memory { IfErr result (λ stop. stop ≡ stops.Memory) }
     ensures heard { IfOk result (λ reply. (reply ≡ heard_of exchanged) × (exchanged ≢ Err OutOfMemory)) }
 {

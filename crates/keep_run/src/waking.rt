@@ -81,7 +81,7 @@ fn round(
 }
 
 /// The moment of the next tick, once closing a round has told one.
-fn told_next(before: Option<u64>, output: &Output) -> Option<u64>
+pub(crate) fn told_next(before: Option<u64>, output: &Output) -> Option<u64>
     ensures { result ≡ told_next before output.now }
 {
     match output {

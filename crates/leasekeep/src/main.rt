@@ -5,10 +5,11 @@
 use std::process::ExitCode;
 
 mod files;
+mod live;
 mod parser;
 mod run;
 mod words;
 
 fn main(rt: HostRuntime) -> ExitCode {
-    ExitCode::from(run::run(&rt, rt.stderr()).code())
+    ExitCode::from(run::run(&rt, rt.stdin(), rt.stderr()).code())
 }

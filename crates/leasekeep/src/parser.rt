@@ -1,3 +1,4 @@
+use clap::error::ErrorKind;
 use clap::{Arg, ArgAction, ArgMatches, Command, Error};
 use keep_moment::LAST;
 use std::alloc::{AllocError, Global};
@@ -53,9 +54,41 @@ Example:
 
 Exit status: 0 yes, 1 inventory, 2 command line, 4 no or unreadable, 6 read or write, 7 memory";
 
+const RUN_ABOUT: &str =
+    "Keeps the entries alive against a broker: looks each of them up, then renews as event lines on standard input say";
+
+const RUN_AFTER: &str = "\
+Nothing here reads a clock: each line of standard input gives the moment, `tick T`, or a new need, `need NAME T`, in whole
+seconds since 1970-01-01T00:00:00Z. A line is answered before the next is read:
+  entry NAME END    a lookup: NAME ends at END
+  wake T NAME..     these are asked now, and each is answered: `told NAME SECONDS`, `refused NAME STATUS` or `lost NAME`
+  next T            then the next wake-up is due at T; `next none`: there is none
+  sleep T, idle     nothing is due before T, or nothing at all
+  short NAME NEED   NAME cannot be kept longer than NEED, which is now its need
+  planned           the new need is in force
+  fault clock-back, fault unknown-name    the line was not taken
+docs/running.md says what to do about each. A lost answer is no end: `next` is then the same moment, and a tick at it asks again.
+The broker is asked over plain HTTP on 127.0.0.1, or over a UNIX socket, which keeps strangers out.
+
+Example (lines that begin with > are typed):
+  leasekeep run web.toml 8200 1000
+  entry web 1060
+  > tick 1059
+  wake 1059 web
+  told web 60
+  next 1118
+
+Exit status: 0 the lines have ended, 1 inventory, 2 command line, 5 more than 10000000 wake-ups, 6 read, write, a lookup or a
+line that is none, 7 memory";
+
 /// The command line's words, read.
 pub fn parse<'a>(alloc: Global, words: &'a [String]) -> Result<ArgMatches<'a>, Error> {
     leasekeep(alloc)?.try_get_matches_from(words)
+}
+
+/// The mistake of a value that the parser takes as a word.
+pub fn mistake(alloc: Global, message: &str) -> Result<Error, AllocError> {
+    leasekeep(alloc)?.error(ErrorKind::ValueValidation, message)
 }
 
 fn leasekeep<'a>(alloc: Global) -> Result<Command<'a>, AllocError> {
@@ -67,7 +100,8 @@ fn leasekeep<'a>(alloc: Global) -> Result<Command<'a>, AllocError> {
         .subcommand(ends(alloc)?)?
         .subcommand(plan(alloc)?)?
         .subcommand(reach(alloc)?)?
-        .subcommand(check(alloc)?)
+        .subcommand(check(alloc)?)?
+        .subcommand(run(alloc)?)
 }
 
 /// `ends FILE START [MOMENT..]`
@@ -123,6 +157,28 @@ fn check<'a>(alloc: Global) -> Result<Command<'a>, AllocError> {
                 .help("The certificate, at most 16 MiB")
                 .required(true)
                 .action(ArgAction::Set),
+        )
+}
+
+/// `run FILE PORT START [--timeout SECONDS]`
+fn run<'a>(alloc: Global) -> Result<Command<'a>, AllocError> {
+    Command::new(alloc, "run")
+        .about(RUN_ABOUT)
+        .after_help(RUN_AFTER)
+        .arg(file(alloc)?)?
+        .arg(
+            Arg::new(alloc, "PORT")
+                .help("The broker's port of 127.0.0.1; or the path of its UNIX socket, with a `/` in it")
+                .required(true)
+                .action(ArgAction::Set),
+        )?
+        .arg(moment(alloc, "START", "The moment of the lookups, from which entries are kept")?.required(true))?
+        .arg(
+            Arg::new(alloc, "timeout")
+                .long("timeout")
+                .value_name("SECONDS")
+                .help("How long one connect, read or write may take, 1 to 60 seconds; 5 unless given")
+                .value_parser(clap::value_parser!(u64).range(1..=60)),
         )
 }
 

@@ -1,19 +1,23 @@
 use crate::files::Disk;
-use crate::words::read_command;
+use crate::live::keep;
+use crate::words::{Job, read_command};
 use keep_device::Counted;
 use keep_engine::{Exit, obey};
 use std::io;
-use std::io::Write;
+use std::io::{Read, Write};
+use std::net::Net;
 use std::rt::{Env, Files};
 
 /// Runs the command that the words of the command line ask, and gives the exit.
-pub fn run<R: Env + Files + AllocGlobal + Print + Eprint, E: Write + Drop>(
+pub fn run<R: Env + Files + AllocGlobal + Print + Eprint + Net, I: Read + Drop, E: Write + Drop>(
     rt: &R,
+    input: I,
     errors: E,
 ) -> Exit {
     let mut errors = Counted::new(errors);
     match read_command(rt, &mut errors) {
-        Ok(command) => {
+        Ok(Job::Live(live)) => keep(rt, &live, input, &mut errors),
+        Ok(Job::Offline(command)) => {
             let mut out = Counted::new(io::writer(rt));
             obey(
                 rt.alloc(),

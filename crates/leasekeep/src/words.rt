@@ -1,8 +1,10 @@
-use crate::parser::parse;
+use crate::live::{Live, Place};
+use crate::parser::{mistake, parse};
 use clap::error::ErrorKind;
 use clap::{ArgMatches, Error};
 use keep_device::Sink;
 use keep_engine::{Command, Exit, PROGRAM, Stop, tell};
+use keep_exchange::PATIENCE;
 use keep_moment::Moment;
 use std::alloc::{AllocError, AllocFailed, Global};
 use std::rt::Env;
@@ -10,13 +12,26 @@ use std::{env, io};
 
 const NOT_UTF8: &[u8] = b"error: a word of the command line is not UTF-8\n";
 
+const PORT_MISTAKE: &str =
+    "invalid value for '<PORT>': a port is 1 to 65535, and the path of a UNIX socket has a `/` in it";
 const UNREADABLE: &[u8] = b"error: a value of the command line is unreadable\n";
+
+/// What the words of the command line ask.
+#[derive(Debug, Drop)]
+pub enum Job {
+    /// A command over files alone.
+    Offline(Command),
+    /// `run`, the agent.
+    Live(Live),
+}
 
 /// Why the matches of a command line give no command.
 #[derive(Clone, Copy, Debug)]
 enum Unread {
     /// A value is not there, or is not of its kind.
     Value,
+    /// The port is none, and no path.
+    Port,
     /// Memory was refused.
     Memory,
 }
@@ -37,7 +52,7 @@ impl<T: Drop> From<AllocFailed<T>> for Unread {
 pub fn read_command<R: Env + AllocGlobal + Print + Eprint, E: Sink>(
     rt: &R,
     errors: &mut E,
-) -> Result<Command, Exit> {
+) -> Result<Job, Exit> {
     let alloc = rt.alloc();
     let words = match words(rt) {
         Ok(words) => words,
@@ -50,8 +65,12 @@ pub fn read_command<R: Env + AllocGlobal + Print + Eprint, E: Sink>(
         Ok(matches) => matches,
         Err(error) => return Err(show(rt, &error, errors)),
     };
-    match command_of(alloc, &matches) {
-        Ok(command) => Ok(command),
+    match job_of(alloc, &matches) {
+        Ok(job) => Ok(job),
+        Err(Unread::Port) => match mistake(alloc, PORT_MISTAKE) {
+            Ok(error) => Err(show(rt, &error, errors)),
+            Err(_) => Err(Stop::Memory.report(alloc, PROGRAM, errors)),
+        },
         Err(Unread::Value) => Err(refuse(UNREADABLE, errors)),
         Err(Unread::Memory) => Err(Stop::Memory.report(alloc, PROGRAM, errors)),
     }
@@ -80,6 +99,40 @@ fn show<R: AllocGlobal + Print + Eprint, E: Sink>(rt: &R, error: &Error, errors:
         Exit::Done
     } else {
         Stop::Write.report(rt.alloc(), PROGRAM, errors)
+    }
+}
+
+/// What is asked, with all its values.
+fn job_of(alloc: Global, matches: &ArgMatches<'_>) -> Result<Job, Unread> {
+    match matches.subcommand() {
+        Some(("run", matches)) => Ok(Job::Live(Live {
+            file: word(alloc, matches, "FILE")?,
+            place: place(alloc, matches)?,
+            start: start(matches)?,
+            patience: patience(matches)?,
+        })),
+        _ => Ok(Job::Offline(command_of(alloc, matches)?)),
+    }
+}
+
+/// A word with a slash is a path, and every other one has to be a port from 1 on.
+fn place(alloc: Global, matches: &ArgMatches<'_>) -> Result<Place, Unread> {
+    let word = matches.get_str("PORT").ok_or(Unread::Value)?;
+    if word.contains('/') {
+        return Ok(Place::Path(String::from_str(alloc, word)?));
+    }
+    match word.parse::<u16>() {
+        Ok(port) if port > 0 => Ok(Place::Port(port)),
+        _ => Err(Unread::Port),
+    }
+}
+
+/// The time that is given, or the one that stands for it where it is absent. One that is given and unreadable is a fault.
+fn patience(matches: &ArgMatches<'_>) -> Result<u64, Unread> {
+    match matches.try_get_one::<u64>("timeout") {
+        Ok(Some(seconds)) => Ok(seconds),
+        Ok(None) => Ok(PATIENCE),
+        Err(_) => Err(Unread::Value),
     }
 }
 

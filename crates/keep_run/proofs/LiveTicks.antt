@@ -1,0 +1,197 @@
+-- LiveTicks: what an event line comes to over an exchange, from what the calls of its code say.
+use Rattle.std.specs.Prelude.{◌≢◌}
+use Rattle.std.proofs.Common.{◌≡◌, ℕ, ◌<◌, ◌⊎◌, inl, inr, codes, List, [], ◌∷◌, ◌++◌, Option, Some, None, IfSome, OnOk, Result, Ok, Err, refl, sym, ap, ◌∙◌, subst, flat_map}
+use Rattle.std.proofs.lemmas.List.{append-nil, append_assoc}
+use Rattle.keep_core.specs.declared.event.Event.{Event}
+use Rattle.keep_core.specs.declared.event.Event.TheVariants.{Tick}
+use Rattle.keep_core.specs.declared.event.Output.{Output}
+use Rattle.keep_core.specs.declared.event.Output.TheVariants as out
+use Rattle.keep_core.specs.History.{Turn}
+use Rattle.keep_core.specs.LawsOfSteps.{IsShaped}
+use Rattle.keep_core.specs.State.{State}
+use Rattle.keep_core.proofs.Shaped.{shape}
+use Rattle.keep_exchange.specs.declared.fault.ExchangeFault.{ExchangeFault}
+use Rattle.keep_exchange.specs.declared.fault.ExchangeFault.TheVariants.{OutOfMemory}
+use Rattle.keep_exchange.specs.Exchanges.{Behind, Exchanges}
+use Rattle.keep_exchange.specs.Requests.{asked_as as asked_by, request_of as request_by}
+use Rattle.keep_tree.specs.declared.entry.Entry.{Entry}
+use Rattle.keep_tree.specs.declared.entry.Kind.{Kind}
+use Rattle.keep_tree.specs.declared.entry.Kind.TheVariants.{Token, Lease}
+use Rattle.keep_tree.specs.Forest.{Grove, entry_at}
+use Rattle.keep_inventory.specs.Stock.{Stock}
+use Rattle.mini_broker.specs.Step.{step}
+use Rattle.mini_broker.specs.Stream.{sent_of}
+use Rattle.vault_http.specs.declared.reply.Reply.{Reply}
+use Rattle.vault_http.specs.declared.request.Request.{Request}
+use Rattle.vault_http.specs.Written.{request_text}
+use Rattle.keep_run.specs.Closed.{AreAnswered, Beat, IsBeat, World, asked_in, closing, reply_in, taken}
+use Rattle.keep_run.specs.Live.{Between, IsHeard, IsLate, IsNeeded, IsReady, TicksLive, last_line, next_line, tick_text}
+use Rattle.keep_run.specs.declared.event_line.Heard.{Heard}
+use Rattle.keep_run.specs.declared.event_line.Heard.TheVariants.{Need}
+use Rattle.keep_run.specs.Playing.{Answers, AnswersAll, Ticks, heard_of, stock_of}
+use Rattle.keep_run.specs.Renewing.{asked_as, event_for, request_of}
+use Rattle.keep_run.specs.Stops.{both}
+use Rattle.keep_run.specs.Text.{answer_line, answer_text, beat_text, short_lines, wake_line}
+use Rattle.keep_run.proofs.OneAnswer.{heard, heard_is, one_answer}
+use Rattle.keep_run.proofs.Opens.{ticks_shaped}
+use Rattle.keep_run.proofs.Texts.{same_answer_texts, same_shorts, same_wake}
+
+-- ---- what stands behind an exchange
+
+pub between_none : (o : Option Behind) (P : Behind → Behind → Type 0) → ((b : Behind) → P b b) → Between o o P
+between_none None P f = tt
+between_none (Some b) P f = (b, (refl, f b))
+
+pub between_more :
+    (o mid new : Option Behind) (P Q R : Behind → Behind → Type 0) → ((b m a : Behind) → P b m → Q m a → R b a) → Between o mid P → Between mid new Q → Between o new R
+between_more None mid new P Q R f first second = tt
+between_more (Some b) mid new P Q R f first second =
+    let m = first.0 in
+    let rest : Between (Some m) new Q = subst (λ u. Between u new Q) first.1.0 second in
+    (rest.0, (rest.1.0, f b m rest.0 first.1.1 rest.1.1))
+
+pub between_as : (o new : Option Behind) (P Q : Behind → Behind → Type 0) → ((b a : Behind) → P b a → Q b a) → Between o new P → Between o new Q
+between_as None new P Q f is = tt
+between_as (Some b) new P Q f is = (is.0, (is.1.0, f b is.0 is.1.1))
+
+-- ---- what a keeper stays
+
+pub ready_as : (cs : List (List ℕ)) (old new : State) → IsShaped old.forest new.forest → IsReady cs old → new.shortened ≡ [] → IsReady cs new
+ready_as cs old new like ready quiet = record { count = ready.count ∙ sym like.count; quiet = quiet }
+
+pub ready_on :
+    (cs : List (List ℕ)) (old k new : State) (event : Event) (output : Output) → IsReady cs old → Turn old event (Ok output) k → new ≡ taken k → IsReady cs new
+ready_on cs old k new event output ready turn quiet =
+    ready_as cs old new (subst (λ (s : State). IsShaped old.forest s.forest) (sym quiet) (shape old k event (Ok output) turn)) ready (ap (λ (s : State). s.shortened) quiet)
+
+pub ticks_ready : (cs : List (List ℕ)) (t : ℕ) (old new : State) (output : Output) (before after : List ℕ) → Ticks t old output new before after → IsReady cs old → IsReady cs new
+ticks_ready cs t old new output before after ticks ready = ready_on cs old ticks.keeper new (Tick t) output ready ticks.turn ticks.is
+
+-- a tick that neither asks nor sleeps has nothing to do
+pub only_idle : (t : ℕ) (old new : State) (output : Output) → Turn old (Tick t) (Ok output) new → ((asked : List ℕ) → output ≡ out.Ask asked → ⊥) → ((w : ℕ) → output ≡ out.Sleep w → ⊥) → output ≡ out.Idle
+only_idle t old new (out.Ask asked) turn no_ask no_sleep = absurd (no_ask asked refl)
+only_idle t old new (out.Sleep w) turn no_ask no_sleep = absurd (no_sleep w refl)
+only_idle t old new out.Idle turn no_ask no_sleep = refl
+only_idle t old new out.Waiting turn no_ask no_sleep = absurd turn.1
+only_idle t old new (out.Round next) turn no_ask no_sleep = absurd turn.1
+only_idle t old new out.Planned turn no_ask no_sleep = absurd turn.1
+
+-- ---- one answer
+
+by_kind : (k : Kind) (port : ℕ) (cs : List (List ℕ)) (i : ℕ) (e : Entry) → asked_by k port cs i e ≡ asked_as k port cs i e
+by_kind Token port cs i e = refl
+by_kind Lease port cs i e = refl
+
+pub request_is : (port : ℕ) (cs : List (List ℕ)) (g : Grove) (i : ℕ) → request_by port cs g i ≡ request_of port cs g i
+unfolding request_by request_of
+request_is port cs g i = by_kind (entry_at g.entries i).kind port cs i (entry_at g.entries i)
+
+pub answer_between :
+    (o new : Option Behind) (cs : List (List ℕ)) (t i : ℕ) (old : State) (request : Request) (result : Result Reply ExchangeFault) (reply : Option Reply) (event : Event) (output : Output) (k after' : State) (before mid after : List ℕ) →
+    result ≢ Err OutOfMemory → reply ≡ heard_of result → IfSome o (λ b. Exchanges b.table t request result new) → request ≡ request_of 8200 cs old.forest i →
+    event ≡ event_for cs old.forest i reply → Turn old event (Ok output) k → after' ≡ taken k → mid ≡ before ++ answer_line old.forest event reply → after ≡ mid ++ short_lines after'.forest k.shortened →
+    Between o new (λ b a. Answers cs t (both old b) i output (both after' a) before after)
+answer_between None new cs t i old request result reply event output k after' before mid after some is exchanged asked means turn quiet told short = tt
+answer_between (Some b) new cs t i old request result reply event output k after' before mid after some is exchanged asked means turn quiet told short =
+    let e = heard b.table t request result new some exchanged in
+    let got : reply ≡ reply_in e.sent = is ∙ ap heard_of e.received_as ∙ heard_is e.sent in
+    let a : Behind = record { table = (step b.table t request).ledger; wire = request_text request ++ sent_of e.sent } in
+    (a, (e.is, one_answer cs t i (both old b) e.sent output request event k after' a before mid after asked e.says refl
+      (means ∙ ap (event_for cs old.forest i) got) turn quiet (told ∙ ap (λ r. before ++ answer_line old.forest event r) got) short))
+
+-- ---- a tick
+
+module _ (cs : List (List ℕ)) (t : ℕ) (old : State) where
+  s : Stock
+  s = stock_of cs old.forest
+
+  -- that asks nobody
+  pub quiet_heard :
+      (b : Behind) (new : State) (output : Output) (before mid after : List ℕ) → Ticks t old output new before mid → asked_in output ≡ [] → after ≡ mid ++ last_line output [] →
+      (lines : List ℕ) × (TicksLive cs t (both old b) (both new b) lines × (after ≡ before ++ lines))
+  unfolding s beat_text
+  quiet_heard b new output before mid after ticks none last =
+      let beat : Beat = record { at = t; output = output; short = ticks.keeper.shortened; answers = [] } in
+      let like = ticks_shaped t old new output before mid ticks in
+      let shorts = short_lines old.forest ticks.keeper.shortened in
+      let wake = wake_line old.forest t output in
+      let text : mid ≡ before ++ beat_text s beat =
+          ticks.text_is
+          ∙ ap (λ l. before ++ (l ++ wake_line new.forest t output)) (same_shorts old.forest new.forest like ticks.keeper.shortened)
+          ∙ ap (λ l. before ++ (shorts ++ l)) (same_wake old.forest new.forest like t output ∙ sym (append-nil wake)) in
+      let is : IsBeat 8200 cs (both old b) beat (both new b) = record { keeper = ticks.keeper; turn = ticks.turn; short = refl; asked = sym none; answered = ap (λ k. both k b) ticks.is } in
+      (tick_text s beat, ((beat, (refl, (is, refl))), last ∙ ap (λ l. l ++ last_line output []) text ∙ append_assoc before (beat_text s beat) (last_line output [])))
+
+  -- that asks these
+  pub round_heard :
+      (b : Behind) (k : State) (new : World) (asked : List ℕ) (next : Option ℕ) (before mid told after : List ℕ) → Ticks t old (out.Ask asked) k before mid → AnswersAll cs t (both k b) asked next new mid told →
+      after ≡ told ++ next_line next → (lines : List ℕ) × (TicksLive cs t (both old b) new lines × (after ≡ before ++ lines))
+  unfolding s beat_text
+  round_heard b k new asked next before mid told after ticks a last =
+      let u = stock_of cs k.forest in
+      let beat : Beat = record { at = t; output = out.Ask asked; short = ticks.keeper.shortened; answers = a.xs } in
+      let like = ticks_shaped t old k (out.Ask asked) before mid ticks in
+      let shorts = short_lines old.forest ticks.keeper.shortened in
+      let wake = wake_line old.forest t (out.Ask asked) in
+      let answers = flat_map (answer_text s) a.xs in
+      let text : told ≡ before ++ beat_text s beat =
+          a.text_is
+          ∙ ap (λ l. mid ++ l) (same_answer_texts s u like refl a.xs)
+          ∙ ap (λ l. l ++ answers) (ticks.text_is
+            ∙ ap (λ l. before ++ (l ++ wake_line k.forest t (out.Ask asked))) (same_shorts old.forest k.forest like ticks.keeper.shortened)
+            ∙ ap (λ l. before ++ (shorts ++ l)) (same_wake old.forest k.forest like t (out.Ask asked)))
+          ∙ append_assoc before (shorts ++ wake) answers
+          ∙ ap (λ l. before ++ l) (append_assoc shorts wake answers) in
+      let is : IsBeat 8200 cs (both old b) beat new = record {
+        keeper = ticks.keeper;
+        turn = ticks.turn;
+        short = refl;
+        asked = a.who;
+        answered = subst (λ q. AreAnswered 8200 cs t (both q b) a.xs new) ticks.is a.answered;
+      } in
+      (tick_text s beat, ((beat, (refl, (is, refl))),
+        last ∙ ap (λ n. told ++ next_line n) a.next_is ∙ ap (λ l. l ++ next_line (closing None a.xs)) text ∙ append_assoc before (beat_text s beat) (next_line (closing None a.xs))))
+
+-- ---- over an exchange
+
+-- what a tick comes to
+abbrev pub Ticking : List (List ℕ) → ℕ → State → State → List ℕ → List ℕ → Behind → Behind → Type 0
+Ticking cs t old new before after b a =
+    (lines : List ℕ) × ((IsLate t (both old b) (both new a) lines ⊎ TicksLive cs t (both old b) (both new a) lines) × (after ≡ before ++ lines))
+
+pub late_lines :
+    (o : Option Behind) (cs : List (List ℕ)) (t : ℕ) (old : State) (before after : List ℕ) → t < old.last → after ≡ before ++ codes "fault clock-back\n" → Between o o (Ticking cs t old old before after)
+late_lines o cs t old before after late text = between_none o (Ticking cs t old old before after) (λ b. (codes "fault clock-back\n", (inl (late, (refl, refl)), text)))
+
+pub quiet_lines :
+    (o : Option Behind) (cs : List (List ℕ)) (t : ℕ) (old new : State) (output : Output) (before mid after : List ℕ) → Ticks t old output new before mid → asked_in output ≡ [] → after ≡ mid ++ last_line output [] →
+    Between o o (Ticking cs t old new before after)
+quiet_lines o cs t old new output before mid after ticks none last =
+    between_none o (Ticking cs t old new before after) (λ b. let h = quiet_heard cs t old b new output before mid after ticks none last in (h.0, (inr h.1.0, h.1.1)))
+
+pub round_lines :
+    (o new : Option Behind) (cs : List (List ℕ)) (t : ℕ) (old k final : State) (asked : List ℕ) (next : Option ℕ) (before mid told after : List ℕ) → Ticks t old (out.Ask asked) k before mid →
+    Between o new (λ b a. AnswersAll cs t (both k b) asked next (both final a) mid told) → after ≡ told ++ next_line next → Between o new (Ticking cs t old final before after)
+round_lines o new cs t old k final asked next before mid told after ticks answers last =
+    between_as o new (λ b a. AnswersAll cs t (both k b) asked next (both final a) mid told) (Ticking cs t old final before after)
+      (λ b a all. let h = round_heard cs t old b k (both final a) asked next before mid told after ticks all last in (h.0, (inr h.1.0, h.1.1))) answers
+
+-- a tick by the names that its code has for the moment and the output
+pub ticks_as :
+    (at t : ℕ) (old new : State) (output is : Output) (before after : List ℕ) → at ≡ t → output ≡ is → Ticks at old output new before after → Ticks t old is new before after
+ticks_as at t old new output is before after same says ticks =
+    subst (λ n. Ticks n old is new before after) same (subst (λ (o : Output). Ticks at old o new before after) says ticks)
+
+pub round_of :
+    (o new : Option Behind) (cs : List (List ℕ)) (t : ℕ) (k final : State) (lent asked : List ℕ) (next : Option ℕ) (mid told : List ℕ) → lent ≡ asked →
+    Between o new (λ b a. AnswersAll cs t (both k b) lent next (both final a) mid told) → Between o new (λ b a. AnswersAll cs t (both k b) asked next (both final a) mid told)
+round_of o new cs t k final lent asked next mid told same answers = subst (λ (is : List ℕ). Between o new (λ b a. AnswersAll cs t (both k b) is next (both final a) mid told)) same answers
+
+-- a need, by the name that its code has for the line
+pub need_lines :
+    {X E : Type 0} (o : Option Behind) (cs : List (List ℕ)) (i until : ℕ) (heard : Heard) (port : ℕ) (old new : State) (before after : List ℕ) (result : Result X E) → heard ≡ Need i until →
+    OnOk result ((b : Behind) → (lines : List ℕ) × (IsNeeded i until (both old b) (both new b) lines × (after ≡ before ++ lines))) →
+    OnOk result (port ≡ 8200 → Between o o (λ b a. (lines : List ℕ) × (IsHeard cs (both old b) heard (both new a) lines × (after ≡ before ++ lines))))
+need_lines o cs i until heard port old new before after (Err e) is needed = tt
+need_lines o cs i until heard port old new before after (Ok x) is needed = λ port'.
+    between_none o _ (λ b. let n = needed b in (n.0, (subst (λ (h : Heard). IsHeard cs (both old b) h (both new b) n.0) (sym is) n.1.0, n.1.1)))

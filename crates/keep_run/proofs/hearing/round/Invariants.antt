@@ -1,0 +1,14 @@
+use Rattle.std.proofs.Common.{◌≡◌, [], take}
+use Rattle.keep_core.specs.LawsOfSteps.{IsShaped}
+use Rattle.keep_run.specs.Live.{Between, IsReady}
+use Rattle.keep_run.specs.Playing.{AnswersAll}
+use Rattle.keep_run.specs.Stops.{both}
+use Rattle.keep_run.proofs.hearing.round.Given as goal
+
+abbrev pub invariant-loop-i : goal.invariant-loop-i
+invariant-loop-i g l = record {
+  answers : l.port ≡ 8200 → Between (g.E.Exchange.behind l.fn.exchange) (g.E.Exchange.behind l.exchange)
+      (λ b a. AnswersAll l.credentials l.t (both l.fn.keeper b) (take l.i-index l.asked) l.next (both l.keeper a) l.fn.text.items l.text.items);
+  shaped : IsShaped l.fn.keeper.forest l.keeper.forest;
+  ready : IsReady l.credentials l.keeper;
+}

@@ -1,0 +1,177 @@
+//! Event lines, one after another: each is heard by the keeper, and whom it then asks is asked.
+ghost use Rattle.std.specs.Prelude.{◌≡◌, ◌++◌, ◌⊎◌, ◌<◌, ◌≤◌, List, ℕ, [], IfOk, OnOk, codes, length};
+ghost use Rattle.std.specs.List.{All};
+ghost use Rattle.std.specs.Result.{IfErr};
+ghost use Rattle.keep_core.specs.LawsOfSteps.{IsShaped};
+ghost use Rattle.keep_exchange.specs.Exchanges.{Behind};
+ghost use Rattle.keep_report.specs.declared.stop.Stop.TheVariants as stops;
+ghost use Rattle.keep_run.specs.EventLines.{IsWithin};
+ghost use Rattle.keep_run.specs.Live.{Between, IsHeard, IsHearingStop, IsLate, IsNeeded, IsReady, TicksLive};
+ghost use Rattle.keep_run.specs.Playing.{Answers, AnswersAll};
+ghost use Rattle.keep_run.specs.Stops.{both};
+
+use crate::event_line::Heard;
+use crate::lines::{push_answer_line, push_next, push_short_lines, push_sleep};
+use crate::opening::tick;
+use crate::renewing::event_from;
+use crate::served_entry::heard_of;
+use crate::waking::told_next;
+use keep_core::{Event, Keeper, Output, StepFault};
+use keep_exchange::{Exchange, request_for};
+use keep_inventory::Credentials;
+use keep_moment::Moment;
+use keep_report::Stop;
+use std::alloc::Global;
+
+/// Hears an event line, and appends its lines: whom the keeper asks, by index, is asked over the exchange before this answers.
+///
+/// A tick before the last moment is `fault clock-back`, and an unknown name `fault unknown-name`; both change nothing. Errors:
+/// `TooLong`, the plan with a new need would have more than 10,000,000 wake-ups; `Memory`.
+pub fn hear<E: Exchange>(
+    alloc: Global,
+    keeper: &mut Keeper,
+    exchange: &mut E,
+    credentials: &Credentials,
+    port: u16,
+    heard: Heard,
+    text: &mut Vec<u8>,
+) -> Result<(), Stop>
+    requires ready { IsReady credentials.now keeper.old }
+    requires within { IsWithin (length keeper.old.forest.entries) heard }
+    ensures stops { IfErr result IsHearingStop }
+    ensures heard { OnOk result (port ≡ 8200 → Between (E.behind exchange.old) (E.behind exchange.new) (λ b a. (lines : List ℕ) × (IsHeard credentials.now (both keeper.old b) heard (both keeper.new a) lines × (text.new.items ≡ text.old.items ++ lines)))) }
+    ensures ready { OnOk result (IsReady credentials.now keeper.new) }
+{
+    match heard {
+        Heard::Tick(t) => hear_tick(alloc, keeper, exchange, credentials, port, t, text),
+        Heard::Need { i, until } => hear_need(alloc, keeper, credentials, i, until, text),
+        Heard::Unknown => {
+            text.extend_from_slice(b"fault unknown-name\n")?;
+            Ok(())
+        }
+    }
+}
+
+/// A new need: its line, behind those of the needs that it shortens.
+fn hear_need(
+    alloc: Global,
+    keeper: &mut Keeper,
+    credentials: &Credentials,
+    i: u32,
+    until: Moment,
+    text: &mut Vec<u8>,
+) -> Result<(), Stop>
+    requires ready { IsReady credentials.now keeper.old }
+    requires within { i < length keeper.old.forest.entries }
+    ensures stops { IfErr result IsHearingStop }
+    ensures needed { OnOk result ((b : Behind) → (lines : List ℕ) × (IsNeeded i until (both keeper.old b) (both keeper.new b) lines × (text.new.items ≡ text.old.items ++ lines))) }
+    ensures ready { OnOk result (IsReady credentials.now keeper.new) }
+{
+    let _credentials = credentials;
+    let event = Event::Need {
+        i,
+        until: until.get(),
+    };
+    match keeper.step(event) {
+        Ok(_) => {}
+        Err(StepFault::TooLong) => return Err(Stop::TooLong),
+        Err(_) => return Err(Stop::Memory),
+    }
+    let short = keeper.take_shortened();
+    push_short_lines(alloc, keeper.forest(), short.list(), text)?;
+    text.extend_from_slice(b"planned\n")?;
+    Ok(())
+}
+
+/// It is `t`: whom the keeper then asks, by index, is asked.
+fn hear_tick<E: Exchange>(
+    alloc: Global,
+    keeper: &mut Keeper,
+    exchange: &mut E,
+    credentials: &Credentials,
+    port: u16,
+    t: Moment,
+    text: &mut Vec<u8>,
+) -> Result<(), Stop>
+    requires ready { IsReady credentials.now keeper.old }
+    ensures stops { IfErr result IsHearingStop }
+    ensures heard { OnOk result (port ≡ 8200 → Between (E.behind exchange.old) (E.behind exchange.new) (λ b a. (lines : List ℕ) × ((IsLate t (both keeper.old b) (both keeper.new a) lines ⊎ TicksLive credentials.now t (both keeper.old b) (both keeper.new a) lines) × (text.new.items ≡ text.old.items ++ lines)))) }
+    ensures ready { OnOk result (IsReady credentials.now keeper.new) }
+{
+    if t.get() < keeper.now().get() {
+        text.extend_from_slice(b"fault clock-back\n")?;
+        return Ok(());
+    }
+    match tick(alloc, keeper, t.get(), text)? {
+        Output::Ask(asked) => {
+            let next = round(alloc, keeper, exchange, credentials, port, t, asked.list(), text)?;
+            push_next(alloc, next, text)?;
+            Ok(())
+        }
+        Output::Sleep(later) => {
+            push_sleep(alloc, later, text)?;
+            Ok(())
+        }
+        _ => {
+            text.extend_from_slice(b"idle\n")?;
+            Ok(())
+        }
+    }
+}
+
+/// The asked entries send their requests at `t`, one after another; the moment of the next wake-up, if there is one.
+fn round<E: Exchange>(
+    alloc: Global,
+    keeper: &mut Keeper,
+    exchange: &mut E,
+    credentials: &Credentials,
+    port: u16,
+    t: Moment,
+    asked: &[u32],
+    text: &mut Vec<u8>,
+) -> Result<Option<u64>, Stop>
+    requires within { All (λ i. i < length keeper.old.forest.entries) asked.now }
+    requires ready { IsReady credentials.now keeper.old }
+    ensures memory { IfErr result (λ stop. stop ≡ stops.Memory) }
+    ensures answers { IfOk result (λ next. port ≡ 8200 → Between (E.behind exchange.old) (E.behind exchange.new) (λ b a. AnswersAll credentials.now t (both keeper.old b) asked.now next (both keeper.new a) text.old.items text.new.items)) }
+    ensures shaped { IfOk result (λ _. IsShaped keeper.old.forest keeper.new.forest) }
+    ensures ready { IfOk result (λ _. IsReady credentials.now keeper.new) }
+{
+    let mut next = None;
+    for i in asked {
+        let output = answer(alloc, keeper, exchange, credentials, port, t, *i, text)?;
+        next = told_next(next, &output);
+    }
+    Ok(next)
+}
+
+/// The entry `i` sends its request at `t`, and the keeper is handed what the reply means; the lines of it are appended.
+fn answer<E: Exchange>(
+    alloc: Global,
+    keeper: &mut Keeper,
+    exchange: &mut E,
+    credentials: &Credentials,
+    port: u16,
+    t: Moment,
+    i: u32,
+    text: &mut Vec<u8>,
+) -> Result<Output, Stop>
+    requires within { i < length keeper.old.forest.entries }
+    requires ready { IsReady credentials.now keeper.old }
+    ensures memory { IfErr result (λ stop. stop ≡ stops.Memory) }
+    ensures answers { IfOk result (λ output. port ≡ 8200 → Between (E.behind exchange.old) (E.behind exchange.new) (λ b a. Answers credentials.now t (both keeper.old b) i output (both keeper.new a) text.old.items text.new.items)) }
+    ensures shaped { IfOk result (λ _. IsShaped keeper.old.forest keeper.new.forest) }
+    ensures ready { IfOk result (λ _. IsReady credentials.now keeper.new) }
+{
+    let request = request_for(alloc, port, credentials, keeper.forest(), i)?;
+    let kind = keeper.forest().get(i).kind;
+    let reply = heard_of(exchange.exchange(alloc, t, &request))?;
+    let event = event_from(alloc, kind, credentials.get(i), i, &reply)?;
+    push_answer_line(alloc, keeper.forest(), i, event, &reply, text)?;
+    let Ok(output) = keeper.step(event) else {
+        return Err(Stop::Memory);
+    };
+    let short = keeper.take_shortened();
+    push_short_lines(alloc, keeper.forest(), short.list(), text)?;
+    Ok(output)
+}
