@@ -5,7 +5,7 @@ from __future__ import annotations
 import asyncio
 from typing import Callable, Coroutine
 
-from .book import Book
+from .book import CLOSE, Book
 from .broker import Heard, Verdict
 from .inventory import Entry, Inventory
 from .parts import Parts
@@ -91,6 +91,7 @@ class OwnWork:
         pauses = Pauses(self._chance)
         since = self._clock.elapsed()
         if not (entry.renewable if standing.facts is None else standing.renewable):
+            self._tell_short(entry)
             return
         if standing.end is not None:
             await asyncio.sleep(self._before_first(standing.end - self._clock.elapsed(), standing.real_step(entry)))
@@ -101,12 +102,27 @@ class OwnWork:
                 pauses, since = Pauses(self._chance), self._clock.elapsed()
                 if standing.at_ceiling:
                     self._log.note("ceiling", entry.name)
+                    self._tell_short(entry)
                     return
                 await asyncio.sleep(min(max(heard.grant.seconds / PART_OF_GRANT, 1.0), MOST_BETWEEN))
             else:
                 self._log.note("not-renewed", entry.name, heard.why)
                 left = time_left(standing.end, self._clock.elapsed(), since, self.inventory.margin)
+                if left is None:
+                    self._tell_short(entry)
                 await asyncio.sleep(pauses.next(left))
+
+    def _tell_short(self, entry: Entry) -> None:
+        """Tells that the entry lives no longer than to its known end, where it is needed beyond that."""
+        standing = self._book[entry.name]
+        if standing.end is None:
+            return
+        until = int(self._moment() + standing.end - self._clock.elapsed())
+        needed = self.inventory.carried[entry.name]
+        standing.cut_to = until if until < needed else None
+        if until < needed and (standing.short_told is None or abs(standing.short_told - until) > CLOSE):
+            standing.short_told = until
+            self._log.warn("short", entry.name, until)
 
     def _before_first(self, left: float, step: int) -> float:
         """Seconds before the first renewal of an entry that has so long left: a third of that, but within the margin

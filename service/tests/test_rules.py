@@ -223,6 +223,21 @@ class Beginnings(Scenario):
             await stage.finish(HOUR)
         self.play(fleet(2, 600, 60, 400), scene, {"e0": {"ceiling": BEGAN + 1500}})
         self.assertLess(self.stage.vault.named("e0").renewals, 20)
+        warned = [line for line in self.stage.lines("short") if "warning" in line]
+        self.assertEqual([line.split("short ")[1] for line in warned], [f"e0 {START + 1500}"])
+
+    def test_9_what_ends_aside_is_told(self) -> None:
+        for what in ("500 renewals", "not renewable"):
+            async def scene(stage: Stage) -> None:
+                stage.vault.faults.append(fault(0, HOUR, on=both(lookups, about("root"))))
+                if what == "500 renewals":
+                    stage.vault.faults.append(fault(0, HOUR, on=both(renewals, about("e0"))))
+                await stage.finish(1000)
+            with self.subTest(what=what):
+                self.play(fleet(3, 600, 60, 400, root=True), scene,
+                          {"e0": {"renewable": what != "not renewable"}})
+                warned = [line for line in self.stage.lines("short") if "warning: short e0" in line]
+                self.assertEqual(len(warned), 1)
 
 
 class Retries(Scenario):
