@@ -23,8 +23,11 @@ use keep_moment::Moment;
 use keep_report::Stop;
 use std::alloc::Global;
 
-/// Hears an event, and appends its lines: whom the keeper asks is asked before this answers.
-pub(crate) fn hear<E: Exchange>(
+/// Hears an event line, and appends its lines: whom the keeper asks, by index, is asked over the exchange before this answers.
+///
+/// A tick before the last moment is `fault clock-back`, and an unknown name `fault unknown-name`; both change nothing. Errors:
+/// `TooLong`, the plan with a new need would have more than 10,000,000 wake-ups; `Memory`.
+pub fn hear<E: Exchange>(
     alloc: Global,
     keeper: &mut Keeper,
     exchange: &mut E,

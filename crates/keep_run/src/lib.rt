@@ -1,8 +1,9 @@
 //! Runs of the executor: the keeper against a broker that renews what it asks for. Here is the rehearsal, in which the broker
-//! is a table in memory behind an exchange that passes real messages.
+//! is a table in memory behind an exchange that passes real messages, and the live run, in which event lines hand in the time.
 //!
 //! The contract for the program above is that of [`run_rehearse`]; the laws say what the run is where the broker has no faults.
-//! Begin with `specs/Closed.antt` and `specs/Text.antt`, then `rehearsal`, `playing` and `waking`.
+//! Begin with `specs/Closed.antt` and `specs/Text.antt`, then `rehearsal`, `playing` and `waking`. Of the live run [`hear`]
+//! says what one event line comes to (`specs/Live.antt`), and [`run_live`] how it ends.
 #![tactic(auto)]
 
 mod event_line;
@@ -21,6 +22,7 @@ mod tests;
 mod waking;
 
 pub use event_line::{Heard, MOST_LINE, heard_in};
+pub use hearing::hear;
 pub use live::{MOST_EVENTS, MOST_EVENT_READS, run_live};
 pub use playing::MOST_WAKES;
 pub use rehearsal::run_rehearse;
