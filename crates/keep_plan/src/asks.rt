@@ -45,13 +45,7 @@ fn waits_until(margin: u32, next: Option<Moment>) -> Option<u64>
 
 /// Whether the entry is to be asked at `at`: it ends before the need that it carries, cannot wait, since it ends before
 /// `until`, and gains by a renewal; so it can be renewed, and is alive.
-fn is_wanted(
-    forest: &Forest,
-    carried: &Carried,
-    index: u32,
-    at: Moment,
-    until: Option<u64>,
-) -> bool
+fn is_wanted(forest: &Forest, carried: &Carried, index: u32, at: Moment, until: Option<u64>) -> bool
     requires within { index < length forest.now.entries }
     requires carried { length carried.now ≡ length forest.now.entries }
     ensures { result ≡ is_test forest.now carried.now at until index }

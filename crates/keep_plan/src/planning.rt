@@ -6,9 +6,9 @@ ghost use Rattle.keep_plan.specs.Decides.{AreBest, Decides, IsTooLong};
 
 use crate::collect::collect;
 use crate::decision::Decision;
+use crate::falling_short::shortfall;
 use crate::fault::PlanFault;
 use crate::plans::Plan;
-use crate::falling_short::shortfall;
 use keep_moment::Moment;
 use keep_needs::{Carried, carry};
 use keep_schedule::{QueueSchedule, Run};

@@ -1,19 +1,15 @@
 -- Timely moments: bounds alone tell that a list of moments is kept with its Asks.
-use Rattle.std.proofs.Common.{◌≡◌, ℕ, ◌+◌, ◌<◌, ◌≤◌, ◌⊎◌, ◌&&◌, Bool, true, false, cond, List, [], ◌∷◌, Option, Some, None, length, max, nat_lt, refl, sym, ap, ◌∙◌, subst, arith, inl, inr}
-use Rattle.std.proofs.lemmas.Bool.{cases_Bool, cond-true, cond-false}
-use Rattle.std.proofs.lemmas.Bool.Decides.{nat_tests}
+use Rattle.std.proofs.Common.{ℕ, ◌+◌, ◌<◌, ◌≤◌, List, [], ◌∷◌, Option, Some, None, length, arith, inl, inr}
 use Rattle.keep_moment.specs.declared.moment.TheConstants.{LAST}
 use Rattle.keep_tree.specs.declared.entry.Entry.{Entry}
 use Rattle.keep_tree.specs.Carried.{carried}
-use Rattle.keep_tree.specs.Forest.{Grove, entry_at}
-use Rattle.keep_tree.specs.Over.{Over}
+use Rattle.keep_tree.specs.Forest.{Grove}
 use Rattle.keep_tree.specs.Push.{IsForest}
-use Rattle.keep_tree.specs.Renewal.{all_last, is_granted, renewal, renewed}
 use Rattle.keep_tree.proofs.Carrying.{carried_at_least, carried_up}
 use Rattle.keep_tree.proofs.Chains.{ParentsFirst}
 use Rattle.keep_tree.proofs.Placed.{parents_first}
-use Rattle.keep_rule.specs.Asks.{asking, asks, first_of, is_due, is_wanted, with_asks}
-use Rattle.keep_rule.specs.Ends.{after, is_asked}
+use Rattle.keep_rule.specs.Asks.{asking, asks, first_of, is_wanted, with_asks}
+use Rattle.keep_rule.specs.Ends.{after}
 use Rattle.keep_rule.specs.Forced.{bound, latest_end}
 use Rattle.keep_rule.specs.Keeps.{Keeps}
 use Rattle.keep_rule.specs.code.Replay.{KeptBetween}

@@ -144,13 +144,13 @@ forces_lowest g s ends keepable prev (x ∷ xs) forces =
     let room : s + g.margin ≤ ends x.entry = led.room in
     let moment = first.moment in (
       λ i f other.
-      let carries = carried_at_least es s i f other.over other.later in
-      let lacks = other.short in
-      let falls : bound es ends prev i < carried es s i = omega arith in
-      let near = first.least i falls in
-      let due = other.due in
-      let same : bound es ends prev i ≡ bound es ends prev x.entry = omega arith in
-      first.lowest i falls same,
+          let carries = carried_at_least es s i f other.over other.later in
+          let lacks = other.short in
+          let falls : bound es ends prev i < carried es s i = omega arith in
+          let near = first.least i falls in
+          let due = other.due in
+          let same : bound es ends prev i ≡ bound es ends prev x.entry = omega arith in
+          first.lowest i falls same,
       (first.from, forces_lowest g s ends keepable (Some x.at) xs forces.1),
     )
 

@@ -2,7 +2,8 @@
 //!
 //! The contract for the layers above: what [`write_request`] and [`write_reply`] append is one definition's text
 //! (`specs/Written.antt`), and what [`read_request`] and [`read_reply`] answer is one relation between all the bytes and
-//! the answer (`specs/Messages.antt`), however a source cuts them. Begin with `request` and `reply`.
+//! the answer (`specs/Messages.antt`), however a source cuts them. Begin with `request` and `reply`;
+//! then `message` has what a kind of message is, `known` how its bytes are judged, and `receive` how it is read.
 #![tactic(auto)]
 
 mod body;
