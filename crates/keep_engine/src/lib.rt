@@ -31,10 +31,10 @@ pub use deliver::PROGRAM;
 pub use ends::run_ends;
 pub use inputs::Inputs;
 pub use keep_report::{Exit, Stop, tell};
+pub use keep_run::{MOST_WAKES, run_rehearse};
 pub use laws::{
     limits_law, no_secret_shows, own_certificates_are_accepted, secrets_change_no_run, until_law,
 };
 pub use limits::MOST_CERTIFICATE;
 pub use plan::run_plan;
-pub use keep_run::{MOST_WAKES, run_rehearse};
 pub use reach::run_reach;

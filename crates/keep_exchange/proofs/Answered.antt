@@ -108,9 +108,10 @@ of_subject :
     (rows : List Row) (r : Request) (call c : Call) (row : Row) → call ≡ c → (s : Subject) × ((subject rows call r ≡ Ok s) × (s.row.credential ≡ row.credential)) →
     Names r (Some call) c row
 of_subject rows r call c row same found =
-    let s = found.0 in
-    (ap (λ (x : Call). Some x) same,
-      λ id increment is. sym found.1.1 ∙ subject_names rows call r id increment s (ap (λ (x : Call). asked x r.body) same ∙ is) found.1.0)
+    let s = found.0 in (
+      ap (λ (x : Call). Some x) same,
+      λ id increment is. sym found.1.1 ∙ subject_names rows call r id increment s (ap (λ (x : Call). asked x r.body) same ∙ is) found.1.0,
+    )
 
 split : (b : Bool) (x y : Outcome) (c : Call) (row : Row) → (if b then x else y).answer ≡ tells c row → (x.answer ≡ tells c row) ⊎ (y.answer ≡ tells c row)
 split true x y c row e = inl e
@@ -122,12 +123,12 @@ by_call_names l t r None c row e = absurd cc
 by_call_names l t r (Some call) c row e =
     elim (split (allows call r.method) _ _ c row e) [
       | inl e' ↦ elim (split (is_renewal call) _ _ c row e') [
-          | inl e'' ↦
+        | inl e'' ↦
             let fault = fault_at l.faults (next_number l.count) in
             let is = renewed_tells call c fault (renewal l.rows t call r fault) row e'' in
             of_subject l.rows r call c row is.0 (renewal_names l.rows t call r fault row is.1)
-          | inr e'' ↦ let is = looked_tells call c (subject l.rows call r) row e'' in of_subject l.rows r call c row is.0 is.1
-        ]
+        | inr e'' ↦ let is = looked_tells call c (subject l.rows call r) row e'' in of_subject l.rows r call c row is.0 is.1
+      ]
       | inr e' ↦ absurd cc
     ]
 
@@ -145,7 +146,7 @@ fits :
     (sent : Served) → Says t answer sent → Fits sent
 fits t (refuses refusal) short (served.Reply reply) says =
     reply_short reply (status_short reply.status _ says.0 (refused_short refusal))
-      (subst (λ bs. length bs ≤ 2000) (sym says.1) (errors_short _ (refusal_short refusal)))
+    (subst (λ bs. length bs ≤ 2000) (sym says.1) (errors_short _ (refusal_short refusal)))
 fits t (tells c row) short (served.Reply reply) says = reply_short reply (status_short reply.status 200 says.0 ok_short) (short c row reply.body refl says.1)
 fits t drops short (served.Reply reply) says = absurd says
 fits t answer short served.Dropped says = tt
@@ -190,6 +191,6 @@ unfolding call_of
 lease_fits port owner id step' short utf8 small l t sent says =
     let r = lease_renewal port owner id step' in
     fits t (step l t r).answer (λ c row body e is.
-      let names = answer_names l t r c row e in
-      lease_body t id short c row body names.0
-        (λ same. names.1 id (Some step') (ap (λ (x : Call). asked x (lease_text id step')) same ∙ lease_renew_asked id step' utf8 small)) is) sent says
+    let names = answer_names l t r c row e in
+    lease_body t id short c row body names.0
+    (λ same. names.1 id (Some step') (ap (λ (x : Call). asked x (lease_text id step')) same ∙ lease_renew_asked id step' utf8 small)) is) sent says

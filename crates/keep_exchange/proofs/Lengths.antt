@@ -132,7 +132,7 @@ unfolding length_lines
 length_lines_short n small =
     let front : length (codes "Content-Type: application/json\r\nContent-Length: ") ≡ 48 = refl in
     let long : length (length_lines n) ≡ length (codes "Content-Type: application/json\r\nContent-Length: ") + length (decimal n ++ codes "\r\n") =
-        sum2 (codes "Content-Type: application/json\r\nContent-Length: ") (decimal n ++ codes "\r\n") in
+    sum2 (codes "Content-Type: application/json\r\nContent-Length: ") (decimal n ++ codes "\r\n") in
     let end : length (decimal n ++ codes "\r\n") ≡ length (decimal n) + 2 = sum2 (decimal n) (codes "\r\n") in
     let short = digits n (omega (arith, small)) in
     omega (arith, front, long, end, short)
@@ -146,7 +146,7 @@ unfolding host_lines
 host_short port small =
     let front : length (codes " HTTP/1.1\r\nHost: 127.0.0.1:") ≡ 27 = refl in
     let long : length (host_lines port) ≡ length (codes " HTTP/1.1\r\nHost: 127.0.0.1:") + length (decimal port ++ codes "\r\n") =
-        sum2 (codes " HTTP/1.1\r\nHost: 127.0.0.1:") (decimal port ++ codes "\r\n") in
+    sum2 (codes " HTTP/1.1\r\nHost: 127.0.0.1:") (decimal port ++ codes "\r\n") in
     let end : length (decimal port ++ codes "\r\n") ≡ length (decimal port) + 2 = sum2 (decimal port) (codes "\r\n") in
     let short = digits port (omega (arith, small)) in
     omega (arith, front, long, end, short)
@@ -175,7 +175,7 @@ unfolding status_line
 line_short status small words =
     let front : length (codes "HTTP/1.1 ") ≡ 9 = refl in
     let long : length (status_line status) ≡ length (codes "HTTP/1.1 ") + length (decimal status ++ (codes " " ++ (phrase status ++ codes "\r\n"))) =
-        sum2 (codes "HTTP/1.1 ") (decimal status ++ (codes " " ++ (phrase status ++ codes "\r\n"))) in
+    sum2 (codes "HTTP/1.1 ") (decimal status ++ (codes " " ++ (phrase status ++ codes "\r\n"))) in
     let long1 = length-append (decimal status) (codes " " ++ (phrase status ++ codes "\r\n")) in
     let long2 : length (codes " " ++ (phrase status ++ codes "\r\n")) ≡ 1 + length (phrase status ++ codes "\r\n") = sum2 (codes " ") (phrase status ++ codes "\r\n") in
     let long3 : length (phrase status ++ codes "\r\n") ≡ length (phrase status) + 2 = sum2 (phrase status) (codes "\r\n") in
@@ -218,7 +218,7 @@ reply_short r status body =
     let long1 = length-append (status_line r.status) (length_lines (length r.body)) in
     let long2 = length-append (status_line r.status ++ length_lines (length r.body)) last_lines in
     let long : length (reply_text r) ≡ length (status_line r.status ++ length_lines (length r.body) ++ last_lines) + length r.body =
-        length-append (status_line r.status ++ length_lines (length r.body) ++ last_lines) r.body in
+    length-append (status_line r.status ++ length_lines (length r.body) ++ last_lines) r.body in
     omega (arith, lines, long1, long2, long, last_short, status, body)
 
 pub request_short :
@@ -226,7 +226,7 @@ pub request_short :
 unfolding request_text
 request_short r method path token port body =
     let long : length (request_text r) ≡ length r.method + length (codes " ") + length r.path + length (host_lines r.port) + length (token_line r.token) + length (body_lines r.method (length r.body)) + length last_lines + length r.body =
-        sum8 r.method (codes " ") r.path (host_lines r.port) (token_line r.token) (body_lines r.method (length r.body)) last_lines r.body in
+    sum8 r.method (codes " ") r.path (host_lines r.port) (token_line r.token) (body_lines r.method (length r.body)) last_lines r.body in
     let space : length (codes " ") ≡ 1 = refl in
     let host = host_short r.port port in
     let line = token_short r.token token in

@@ -46,7 +46,7 @@ pub few_reads : (bytes text : List ℕ) (pieces : List ℕ) → bytes ≡ text �
 unfolding reads_of
 few_reads bytes text pieces all none short =
     let reads : reads_of pieces (length bytes) ≡ (length text + 65535) / 65536 =
-        ap (λ ps. reads_of ps (length bytes)) none ∙ ap (λ (bs : List ℕ). (length bs + 65535) / 65536) all in
+    ap (λ ps. reads_of ps (length bytes)) none ∙ ap (λ (bs : List ℕ). (length bs + 65535) / 65536) all in
     omega (arith, reads, short)
 
 -- ---- a body within a text
@@ -72,9 +72,9 @@ request_read source now r law writable port short is none result count said =
     let within = body_in_request r in
     let sendable : IsSendable r = record { writable = writable; short = omega (arith, within, short); port = port } in
     let one : (answer : Result Request HttpFault) → IsRequest 1048576 source.bytes answer → answer ≡ Ok (without_port r) =
-        λ answer h. law sendable [] 1048576 short answer (subst (λ bs. IsRequest 1048576 bs answer) (is ∙ sym (append-nil (request_text r))) h) in
+    λ answer h. law sendable [] 1048576 short answer (subst (λ bs. IsRequest 1048576 bs answer) (is ∙ sym (append-nil (request_text r))) h) in
     read_back _ (IsRequest 1048576) source.bytes (Some now.bytes) (reads_needed source) (reads_needed now) (without_port r)
-      (few_reads source.bytes (request_text r) source.pieces is none short) one result count said
+    (few_reads source.bytes (request_text r) source.pieces is none short) one result count said
 
 pub reply_read :
     (source now : Supply) (r : Reply) → ReadsBackReply r → IsTrue (is_sent r.status) → length (reply_text r) ≤ 1048576 → source.bytes ≡ reply_text r → source.pieces ≡ [] →
@@ -83,9 +83,9 @@ pub reply_read :
 reply_read source now r law sent short is none result count said =
     let within = body_in_reply r in
     let one : (answer : Result Reply HttpFault) → IsReply 1048576 source.bytes answer → answer ≡ Ok r =
-        λ answer h. law sent (omega (arith, within, short)) [] 1048576 short answer (subst (λ bs. IsReply 1048576 bs answer) (is ∙ sym (append-nil (reply_text r))) h) in
+    λ answer h. law sent (omega (arith, within, short)) [] 1048576 short answer (subst (λ bs. IsReply 1048576 bs answer) (is ∙ sym (append-nil (reply_text r))) h) in
     read_back _ (IsReply 1048576) source.bytes (Some now.bytes) (reads_needed source) (reads_needed now) r
-      (few_reads source.bytes (reply_text r) source.pieces is none short) one result count said
+    (few_reads source.bytes (reply_text r) source.pieces is none short) one result count said
 
 -- want of memory, as the fault of an exchange
 pub memory_of : {X : Type 0} (fault : HttpFault) → fault ≡ https.OutOfMemory → (result : Result X ExchangeFault) → IsErrAnd result (λ e. e ≡ exchange_fault fault) → IsOkUnless result OutOfMemory

@@ -18,8 +18,12 @@ both_bounds b low high = grind (arith, low, high)
 
 -- a credential is a token that is sent
 pub sent_token : (credential : List ℕ) → IsSendable credential → IsSentToken (Some credential)
-sent_token credential sendable = (sendable.0, sendable.1, All-from_get_or (λ b. IsTrue (is_token_value_byte b)) credential 0
-    (λ i h. let fine = All-get_or (λ b. (0x21 ≤ b) × (b ≤ 0x7E)) credential i 0 h sendable.2 in both_bounds _ fine.0 fine.1))
+sent_token credential sendable = (
+  sendable.0,
+  sendable.1,
+  All-from_get_or (λ b. IsTrue (is_token_value_byte b)) credential 0
+      (λ i h. let fine = All-get_or (λ b. (0x21 ≤ b) × (b ≤ 0x7E)) credential i 0 h sendable.2 in both_bounds _ fine.0 fine.1),
+)
 
 path_bytes : (path : List ℕ) → list_all is_path_byte path ≡ true → All (λ b. IsTrue (is_path_byte b)) path
 path_bytes path all = AllPass-from_list_all is_path_byte path all

@@ -57,7 +57,5 @@ pub fn can_carry(request: &Request) -> bool
     ensures short { IsTrue result → length (request_text request.now) ≤ MOST_REQUEST }
 {
     is_port(request.port);
-    request.is_writable()
-        && request.method.as_str().len() <= 4
-        && request.body.list().len() <= 2000
+    request.is_writable() && request.method.as_str().len() <= 4 && request.body.list().len() <= 2000
 }

@@ -25,7 +25,11 @@ impl<'a, R: Net> SelfServed<'a, R> {
     /// Listens on 127.0.0.1 at a port that the system chooses.
     ///
     /// `ConnectFailed`: it could not listen, and the table is dropped.
-    pub fn bind(rt: &'a R, _alloc: Global, table: Table) -> Result<SelfServed<'a, R>, ExchangeFault> {
+    pub fn bind(
+        rt: &'a R,
+        _alloc: Global,
+        table: Table,
+    ) -> Result<SelfServed<'a, R>, ExchangeFault> {
         let any = SocketAddr::new(IpAddr::V4(Ipv4Addr::LOCALHOST), 0);
         let Ok(listener) = TcpListener::bind(rt, any) else {
             return Err(ExchangeFault::ConnectFailed);

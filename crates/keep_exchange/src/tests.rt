@@ -1,7 +1,9 @@
 //! Exchanges over real sockets, in one thread, and what each fault of a broker comes to.
 use crate::over::exchange_over;
 use crate::patience::Patience;
-use crate::{Exchange, ExchangeFault, MemoryExchange, SelfServed, TcpExchange, UnixExchange, can_carry};
+use crate::{
+    Exchange, ExchangeFault, MemoryExchange, SelfServed, TcpExchange, UnixExchange, can_carry,
+};
 use http::Method;
 use keep_inventory::read;
 use keep_moment::{Moment, Text};
@@ -15,12 +17,14 @@ use std::test::Fail;
 use std::time::Duration;
 use vault_http::{Device, HttpFault, Reply, Request};
 
-const WEB: &[u8] = b"[[token]]\nname = \"web\"\nissued = 1000\nend = 1060\nincrement = 60\nmax_ttl = 9000\nneed = 1200\n";
+const WEB: &[u8] =
+    b"[[token]]\nname = \"web\"\nissued = 1000\nend = 1060\nincrement = 60\nmax_ttl = 9000\nneed = 1200\n";
 
 const RENEWED: &[u8] = b"{\"auth\":{\"lease_duration\":60,\"renewable\":true}}";
 
 /// What the first renewal and its reply are as bytes: formats.md, "HTTP messages", with the token `web`.
-const WIRE: &[u8] = b"POST /v1/auth/token/renew-self HTTP/1.1\r\nHost: 127.0.0.1:8200\r\nX-Vault-Token: web\r\n\
+const WIRE: &[u8] =
+    b"POST /v1/auth/token/renew-self HTTP/1.1\r\nHost: 127.0.0.1:8200\r\nX-Vault-Token: web\r\n\
 Content-Type: application/json\r\nContent-Length: 16\r\nConnection: close\r\n\r\n{\"increment\":60}\
 HTTP/1.1 200 OK\r\nContent-Type: application/json\r\nContent-Length: 47\r\nConnection: close\r\n\r\n\
 {\"auth\":{\"lease_duration\":60,\"renewable\":true}}";
@@ -38,9 +42,7 @@ fn renewal(alloc: Global) -> Result<Request, Fail> {
             .ok()
             .ok_or("a path")?,
         token: Some(Text::of(alloc, b"web").ok().ok_or("a token")?),
-        body: Text::of(alloc, b"{\"increment\":60}")
-            .ok()
-            .ok_or("a body")?,
+        body: Text::of(alloc, b"{\"increment\":60}").ok().ok_or("a body")?,
         port: 8200,
     })
 }

@@ -95,9 +95,14 @@ answer_between None new cs t i old request result reply event output k after' be
 answer_between (Some b) new cs t i old request result reply event output k after' before mid after some is exchanged asked means turn quiet told short =
     let e = heard b.table t request result new some exchanged in
     let got : reply ≡ reply_in e.sent = is ∙ ap heard_of e.received_as ∙ heard_is e.sent in
-    let a : Behind = record { table = (step b.table t request).ledger; wire = request_text request ++ sent_of e.sent } in
-    (a, (e.is, one_answer cs t i (both old b) e.sent output request event k after' a before mid after asked e.says refl
-      (means ∙ ap (event_for cs old.forest i) got) turn quiet (told ∙ ap (λ r. before ++ answer_line old.forest event r) got) short))
+    let a : Behind = record { table = (step b.table t request).ledger; wire = request_text request ++ sent_of e.sent } in (
+      a,
+      (
+        e.is,
+        one_answer cs t i (both old b) e.sent output request event k after' a before mid after asked e.says refl
+            (means ∙ ap (event_for cs old.forest i) got) turn quiet (told ∙ ap (λ r. before ++ answer_line old.forest event r) got) short,
+      ),
+    )
 
 -- ---- a tick
 
@@ -116,9 +121,9 @@ module _ (cs : List (List ℕ)) (t : ℕ) (old : State) where
       let shorts = short_lines old.forest ticks.keeper.shortened in
       let wake = wake_line old.forest t output in
       let text : mid ≡ before ++ beat_text s beat =
-          ticks.text_is
-          ∙ ap (λ l. before ++ (l ++ wake_line new.forest t output)) (same_shorts old.forest new.forest like ticks.keeper.shortened)
-          ∙ ap (λ l. before ++ (shorts ++ l)) (same_wake old.forest new.forest like t output ∙ sym (append-nil wake)) in
+      ticks.text_is
+      ∙ ap (λ l. before ++ (l ++ wake_line new.forest t output)) (same_shorts old.forest new.forest like ticks.keeper.shortened)
+      ∙ ap (λ l. before ++ (shorts ++ l)) (same_wake old.forest new.forest like t output ∙ sym (append-nil wake)) in
       let is : IsBeat 8200 cs (both old b) beat (both new b) = record { keeper = ticks.keeper; turn = ticks.turn; short = refl; asked = sym none; answered = ap (λ k. both k b) ticks.is } in
       (tick_text s beat, ((beat, (refl, (is, refl))), last ∙ ap (λ l. l ++ last_line output []) text ∙ append_assoc before (beat_text s beat) (last_line output [])))
 
@@ -135,22 +140,26 @@ module _ (cs : List (List ℕ)) (t : ℕ) (old : State) where
       let wake = wake_line old.forest t (out.Ask asked) in
       let answers = flat_map (answer_text s) a.xs in
       let text : told ≡ before ++ beat_text s beat =
-          a.text_is
-          ∙ ap (λ l. mid ++ l) (same_answer_texts s u like refl a.xs)
-          ∙ ap (λ l. l ++ answers) (ticks.text_is
-            ∙ ap (λ l. before ++ (l ++ wake_line k.forest t (out.Ask asked))) (same_shorts old.forest k.forest like ticks.keeper.shortened)
-            ∙ ap (λ l. before ++ (shorts ++ l)) (same_wake old.forest k.forest like t (out.Ask asked)))
-          ∙ append_assoc before (shorts ++ wake) answers
-          ∙ ap (λ l. before ++ l) (append_assoc shorts wake answers) in
+      a.text_is
+      ∙ ap (λ l. mid ++ l) (same_answer_texts s u like refl a.xs)
+      ∙ ap (λ l. l ++ answers) (ticks.text_is
+      ∙ ap (λ l. before ++ (l ++ wake_line k.forest t (out.Ask asked))) (same_shorts old.forest k.forest like ticks.keeper.shortened)
+      ∙ ap (λ l. before ++ (shorts ++ l)) (same_wake old.forest k.forest like t (out.Ask asked)))
+      ∙ append_assoc before (shorts ++ wake) answers
+      ∙ ap (λ l. before ++ l) (append_assoc shorts wake answers) in
       let is : IsBeat 8200 cs (both old b) beat new = record {
         keeper = ticks.keeper;
         turn = ticks.turn;
         short = refl;
         asked = a.who;
         answered = subst (λ q. AreAnswered 8200 cs t (both q b) a.xs new) ticks.is a.answered;
-      } in
-      (tick_text s beat, ((beat, (refl, (is, refl))),
-        last ∙ ap (λ n. told ++ next_line n) a.next_is ∙ ap (λ l. l ++ next_line (closing None a.xs)) text ∙ append_assoc before (beat_text s beat) (next_line (closing None a.xs))))
+      } in (
+        tick_text s beat,
+        (
+          (beat, (refl, (is, refl))),
+          last ∙ ap (λ n. told ++ next_line n) a.next_is ∙ ap (λ l. l ++ next_line (closing None a.xs)) text ∙ append_assoc before (beat_text s beat) (next_line (closing None a.xs)),
+        ),
+      )
 
 -- ---- over an exchange
 
@@ -174,7 +183,7 @@ pub round_lines :
     Between o new (λ b a. AnswersAll cs t (both k b) asked next (both final a) mid told) → after ≡ told ++ next_line next → Between o new (Ticking cs t old final before after)
 round_lines o new cs t old k final asked next before mid told after ticks answers last =
     between_as o new (λ b a. AnswersAll cs t (both k b) asked next (both final a) mid told) (Ticking cs t old final before after)
-      (λ b a all. let h = round_heard cs t old b k (both final a) asked next before mid told after ticks all last in (h.0, (inr h.1.0, h.1.1))) answers
+    (λ b a all. let h = round_heard cs t old b k (both final a) asked next before mid told after ticks all last in (h.0, (inr h.1.0, h.1.1))) answers
 
 -- a tick by the names that its code has for the moment and the output
 pub ticks_as :

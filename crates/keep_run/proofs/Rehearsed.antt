@@ -105,8 +105,8 @@ rehearsed bytes words stock faults start k lines (Ok u) new out old called r lin
     let so_far = so_far_of stock faults start k r new None p.wakes p.asked p.lines p.goes in
     let whole = at_end stock faults start new p.wakes p.asked (short_lines stock.grove k.shortened ++ p.lines) so_far p.few in
     let text = ap (λ l. l ++ (p.lines ++ done_text p.wakes p.asked)) (shorts_are stock faults start k r lines lines_are)
-        ∙ sym (append_assoc (short_lines stock.grove k.shortened) p.lines (done_text p.wakes p.asked))
-        ∙ whole.1.1 in
+    ∙ sym (append_assoc (short_lines stock.grove k.shortened) p.lines (done_text p.wakes p.asked))
+    ∙ whole.1.1 in
     (stock, faults, called, whole.0, new, whole.1.0, (subst (Appends out.old out.new) text p.sent.0, p.sent.1), refl)
 rehearsed bytes words stock faults start k lines (Err stops.TooLong) new out old called r lines_are p =
     let final = both p.keeper new.behind in

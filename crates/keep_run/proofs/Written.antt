@@ -106,7 +106,7 @@ module _ (cs : List (List ℕ)) (old : World) (start : ℕ) (before : List ℕ) 
     g.lines,
     so_far (stock_of cs old.keeper.forest) old now start (Some due) wakes asked g.lines g.goes,
     subst (λ o. AppendsFront o out.new (before ++ g.lines)) (sym old_is)
-    (subst (λ o. AppendsFront first o (before ++ g.lines)) (sym new_is) (subst (AppendsFront first written) (append-nil (before ++ g.lines)) (whole_front first written (before ++ g.lines) [] g.all))),
+        (subst (λ o. AppendsFront first o (before ++ g.lines)) (sym new_is) (subst (AppendsFront first written) (append-nil (before ++ g.lines)) (whole_front first written (before ++ g.lines) [] g.all))),
   )
 
   -- the lines of a wake-up were not written whole
@@ -124,7 +124,7 @@ module _ (cs : List (List ℕ)) (old : World) (start : ℕ) (before : List ℕ) 
           g.lines ++ text,
           so_far (stock_of cs old.keeper.forest) old new start next (wakes + w) (asked + a) (g.lines ++ text) (on new next w a text more),
           subst (λ o. AppendsFront o out.new (before ++ (g.lines ++ text))) (sym old_is)
-          (subst (AppendsFront first out.new) (append_assoc before g.lines text) (front_then first written out.new (before ++ g.lines) text g.all front)),
+              (subst (AppendsFront first out.new) (append_assoc before g.lines text) (front_then first written out.new (before ++ g.lines) text g.all front)),
         )
   going_unwritten (Err stop) sink.OutOfMemory new final next w a text out is more old_is failed_is front count =
       subst (λ (q : Stop). Plays cs old start before (Err q) final out) (sym is.1) cut where
@@ -133,7 +133,7 @@ module _ (cs : List (List ℕ)) (old : World) (start : ℕ) (before : List ℕ) 
           g.lines ++ text,
           so_far (stock_of cs old.keeper.forest) old new start next (wakes + w) (asked + a) (g.lines ++ text) (on new next w a text more),
           subst (λ o. AppendsFront o out.new (before ++ (g.lines ++ text))) (sym old_is)
-          (subst (AppendsFront first out.new) (append_assoc before g.lines text) (front_then first written out.new (before ++ g.lines) text g.all front)),
+              (subst (AppendsFront first out.new) (append_assoc before g.lines text) (front_then first written out.new (before ++ g.lines) text g.all front)),
         )
 
 -- ---- the end
@@ -190,7 +190,7 @@ last_cut cs old start before first failed now due asked written failed_now last 
       g.lines,
       so_far (stock_of cs old.keeper.forest) old now start (Some due) 100000 asked g.lines g.goes,
       subst (λ o. AppendsFront o out.new (before ++ g.lines)) (sym old_is)
-      (subst (AppendsFront first out.new) (append-nil (before ++ g.lines)) (whole_front first out.new (before ++ g.lines) [] (Appends-kept first written out.new (before ++ g.lines) g.all stays))),
+          (subst (AppendsFront first out.new) (append-nil (before ++ g.lines)) (whole_front first out.new (before ++ g.lines) [] (Appends-kept first written out.new (before ++ g.lines) g.all stays))),
     )
 last_cut cs old start before first failed now due asked written failed_now last out g (inr part) old_is last_old_is new_is =
     cut_at cs old start before part.0 100000 asked g.lines part.1 written last out

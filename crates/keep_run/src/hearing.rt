@@ -104,7 +104,16 @@ fn hear_tick<E: Exchange>(
     }
     match tick(alloc, keeper, t.get(), text)? {
         Output::Ask(asked) => {
-            let next = round(alloc, keeper, exchange, credentials, port, t, asked.list(), text)?;
+            let next = round(
+                alloc,
+                keeper,
+                exchange,
+                credentials,
+                port,
+                t,
+                asked.list(),
+                text,
+            )?;
             push_next(alloc, next, text)?;
             Ok(())
         }

@@ -23,7 +23,7 @@ mod waking;
 
 pub use event_line::{Heard, MOST_LINE, heard_in};
 pub use hearing::hear;
-pub use live::{MOST_EVENTS, MOST_EVENT_READS, run_live};
+pub use live::{MOST_EVENT_READS, MOST_EVENTS, run_live};
 pub use playing::MOST_WAKES;
 pub use rehearsal::run_rehearse;
 pub use renewing::{event_from, request_for};

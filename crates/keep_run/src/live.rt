@@ -15,8 +15,8 @@ use keep_device::{Sink, Source, zeros};
 use keep_exchange::{Exchange, look_up};
 use keep_inventory::{Credentials, Inventory, read};
 use keep_moment::{Moment, Text};
-use keep_tree::MAX_ENTRIES;
 use keep_report::{Exit, Stop, Watched, send};
+use keep_tree::MAX_ENTRIES;
 use std::alloc::Global;
 
 /// The most bytes of all event lines of a run.
@@ -72,7 +72,15 @@ fn live<R: Source, E: Exchange, W: Sink>(
     push_short_lines(alloc, keeper.forest(), short.list(), &mut text)?;
     send(out, &text)?;
     let port = exchange.port();
-    listen(alloc, &mut keeper, &credentials, port, events, exchange, out)
+    listen(
+        alloc,
+        &mut keeper,
+        &credentials,
+        port,
+        events,
+        exchange,
+        out,
+    )
 }
 
 /// Looks each entry up, by index, and writes its line.
@@ -133,7 +141,17 @@ fn listen<R: Source, E: Exchange, W: Sink>(
 {
     let mut room = zeros(alloc, EVENT_ROOM)?;
     let mut pending = Vec::new(alloc);
-    listen_to(alloc, keeper, credentials, port, events, exchange, &mut room, &mut pending, out)
+    listen_to(
+        alloc,
+        keeper,
+        credentials,
+        port,
+        events,
+        exchange,
+        &mut room,
+        &mut pending,
+        out,
+    )
 }
 
 /// Hears event lines behind `pending`, which is empty, until they end.
@@ -163,7 +181,16 @@ fn listen_to<R: Source, E: Exchange, W: Sink>(
         let taken = n.min(left);
         pending.extend_from_slice(&room[..taken])?;
         left -= taken;
-        hear_whole(alloc, keeper, credentials, port, exchange, pending, &mut lines, out)?;
+        hear_whole(
+            alloc,
+            keeper,
+            credentials,
+            port,
+            exchange,
+            pending,
+            &mut lines,
+            out,
+        )?;
         if taken < n {
             return Err(Stop::Read);
         }
@@ -204,7 +231,16 @@ fn hear_whole<E: Exchange, W: Sink>(
         };
         *lines = lines.saturating_add(1);
         let line = &pending[at..at + feed];
-        hear_line(alloc, keeper, credentials, port, exchange, line, *lines, out)?;
+        hear_line(
+            alloc,
+            keeper,
+            credentials,
+            port,
+            exchange,
+            line,
+            *lines,
+            out,
+        )?;
         at += feed + 1;
     }
     leave(pending, at, *lines)

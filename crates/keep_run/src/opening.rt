@@ -9,8 +9,8 @@ ghost use Rattle.keep_run.specs.Closed.{asked_in};
 ghost use Rattle.keep_run.specs.Playing.{OpensOrEnds, Ticks, asked_of};
 
 use crate::lines::{push_short_lines, push_wake_line};
-use keep_report::Stop;
 use keep_core::{Event, Keeper, Output};
+use keep_report::Stop;
 use keep_tree::Indices;
 use std::alloc::Global;
 

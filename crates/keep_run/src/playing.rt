@@ -10,9 +10,9 @@ use crate::opening::open;
 use crate::waking::wake;
 use keep_core::Keeper;
 use keep_device::{Sink, write_all};
+use keep_exchange::MemoryExchange;
 use keep_inventory::Credentials;
 use keep_report::{Stop, Watched, send};
-use keep_exchange::MemoryExchange;
 use std::alloc::Global;
 
 /// The most wake-ups of a rehearsal.

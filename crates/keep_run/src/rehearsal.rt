@@ -5,7 +5,6 @@ ghost use Rattle.keep_core.specs.State.{unplanned};
 ghost use Rattle.keep_report.specs.declared.stop.Stop.TheVariants as stops;
 ghost use Rattle.keep_run.specs.Rehearse.{RehearseRun, RehearseTold, Rehearses};
 
-
 use crate::fault_words::set_faults;
 use crate::lines::push_short_lines;
 use crate::playing::play;
@@ -14,8 +13,8 @@ use keep_device::Sink;
 use keep_exchange::MemoryExchange;
 use keep_inventory::read;
 use keep_moment::{Moment, Text};
-use keep_tree::Forest;
 use keep_report::{Exit, Stop, Watched};
+use keep_tree::Forest;
 use mini_broker::Table;
 use std::alloc::Global;
 
@@ -73,7 +72,15 @@ fn rehearse<W: Sink>(
     let short = keeper.take_shortened();
     let mut lines = Vec::new(alloc);
     push_short_lines(alloc, keeper.forest(), short.list(), &mut lines)?;
-    play(alloc, &mut keeper, exchange, &credentials, start.get(), &lines, out)
+    play(
+        alloc,
+        &mut keeper,
+        exchange,
+        &credentials,
+        start.get(),
+        &lines,
+        out,
+    )
 }
 
 /// The keeper of a forest from `start` on.

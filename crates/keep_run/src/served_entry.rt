@@ -9,11 +9,11 @@ ghost use Rattle.keep_run.specs.Stops.{both};
 
 use crate::lines::{push_answer_line, push_short_lines};
 use crate::renewing::{event_from, request_for};
-use keep_report::Stop;
 use keep_core::{Keeper, Output};
 use keep_exchange::{Exchange, ExchangeFault, MemoryExchange};
 use keep_inventory::Credentials;
 use keep_moment::Moment;
+use keep_report::Stop;
 use std::alloc::Global;
 use vault_http::Reply;
 

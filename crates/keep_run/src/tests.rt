@@ -30,7 +30,8 @@ const WEB_BASE_AND_BIG: &str =
     [[lease]]\nname = \"big\"\ntoken = \"base\"\nissued = 1000\nend = 5000\nincrement = 60\nmax_ttl = 9000\nneed = 4000\n";
 
 // The web example with a margin of ten seconds.
-const WIDE: &str = "margin = 10\n[[token]]\nname = \"web\"\nissued = 1000\nend = 1060\nincrement = 60\nmax_ttl = 9000\nneed = 1200\n";
+const WIDE: &str =
+    "margin = 10\n[[token]]\nname = \"web\"\nissued = 1000\nend = 1060\nincrement = 60\nmax_ttl = 9000\nneed = 1200\n";
 
 // Token and lease, of which the token is longer alive.
 const TOKEN_LATER: &str =
@@ -273,7 +274,8 @@ fn the_wire_of_a_rehearsal_is_its_last_exchange(rt: HostRuntime) -> Result<(), F
         &mut errors,
         &mut exchange,
     );
-    let wire: &[u8] = b"POST /v1/auth/token/renew-self HTTP/1.1\r\nHost: 127.0.0.1:8200\r\nX-Vault-Token: web\r\n\
+    let wire: &[u8] =
+        b"POST /v1/auth/token/renew-self HTTP/1.1\r\nHost: 127.0.0.1:8200\r\nX-Vault-Token: web\r\n\
         Content-Type: application/json\r\nContent-Length: 16\r\nConnection: close\r\n\r\n{\"increment\":60}\
         HTTP/1.1 200 OK\r\nContent-Type: application/json\r\nContent-Length: 47\r\nConnection: close\r\n\r\n\
         {\"auth\":{\"lease_duration\":60,\"renewable\":true}}";

@@ -11,10 +11,10 @@ ghost use Rattle.keep_run.specs.Stops.{both};
 use crate::opening::open;
 use crate::served_entry::answer;
 use keep_core::{Keeper, Output};
+use keep_exchange::MemoryExchange;
 use keep_inventory::Credentials;
 use keep_moment::Moment;
 use keep_report::Stop;
-use keep_exchange::MemoryExchange;
 use std::alloc::Global;
 
 /// What a wake-up came to: how many requests it made, and the moment of the next tick, if there is one.
@@ -47,7 +47,15 @@ pub(crate) fn wake(
     let Some(at) = Moment::new(opened.at) else {
         unreachable!()
     };
-    let next = round(alloc, keeper, exchange, credentials, at, opened.asked.list(), text)?;
+    let next = round(
+        alloc,
+        keeper,
+        exchange,
+        credentials,
+        at,
+        opened.asked.list(),
+        text,
+    )?;
     Ok(Some(Woken {
         requests: opened.asked.list().len() as u64,
         next,

@@ -4,4 +4,4 @@ use Rattle.keep_exchange.proofs.looking.look_up.Goals as goal
 pub returns-in-Ok-clause-looked : goal.returns-in-Ok-clause-looked
 returns-in-Ok-clause-looked g c =
     looked_up (g.E.Exchange.behind c.args.exchange.now) (g.E.Exchange.behind c.exchange.new.self) c.args.port c.args.t c.args.i c.args.inventory.now c.apply.new.inventory c.in_ok-request.request c.in-Ok.reply c.apply.result
-      c.in_ok-request.ensures.is c.in-Ok.ensures.exchanged c.apply.ensures.applied
+    c.in_ok-request.ensures.is c.in-Ok.ensures.exchanged c.apply.ensures.applied

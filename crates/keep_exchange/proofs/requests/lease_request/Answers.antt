@@ -9,4 +9,4 @@ lease_message-requires c = c.credentials_are_sendable.ensures.text c.args.id.now
 pub returns-clause-fit : goal.returns-clause-fit
 returns-clause-fit c =
     subst IsFit (sym c.in_ok-request.ensures)
-      (lease_fit c.args.port c.args.owner c.args.id.now c.args.step c.are_bounded.ensures.port c.are_bounded.ensures.step c.requires.owner c.requires.id)
+    (lease_fit c.args.port c.args.owner c.args.id.now c.args.step c.are_bounded.ensures.port c.are_bounded.ensures.step c.requires.owner c.requires.id)

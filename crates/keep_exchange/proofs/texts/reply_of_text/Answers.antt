@@ -7,11 +7,11 @@ use Rattle.keep_exchange.proofs.texts.reply_of_text.Goals as goal
 pub returns-in_err-read_reply-clause-memory : goal.returns-in_err-read_reply-clause-memory
 returns-in_err-read_reply-clause-memory c =
     let fault : c.in_err-read_reply.field-0.0 ≡ https.OutOfMemory =
-        reply_read c.in_ok-source.source c.read_reply.new.reader c.args.reply.now c.reply_reads_back.ensures c.requires.status c.requires.short
-          (c.in_ok-source.ensures.bytes ∙ c.requires.text) c.in_ok-source.ensures.pieces (Err c.in_err-read_reply.field-0.0) c.in_err-read_reply.ensures.count c.in_err-read_reply.ensures.answer in
+    reply_read c.in_ok-source.source c.read_reply.new.reader c.args.reply.now c.reply_reads_back.ensures c.requires.status c.requires.short
+    (c.in_ok-source.ensures.bytes ∙ c.requires.text) c.in_ok-source.ensures.pieces (Err c.in_err-read_reply.field-0.0) c.in_err-read_reply.ensures.count c.in_err-read_reply.ensures.answer in
     memory_of c.in_err-read_reply.field-0.0 fault c.from_residual-in_err-read_reply.result c.from_residual-in_err-read_reply.ensures.1
 
 pub returns-clause-read : goal.returns-clause-read
 returns-clause-read c =
     reply_read c.in_ok-source.source c.read_reply.new.reader c.args.reply.now c.reply_reads_back.ensures c.requires.status c.requires.short
-      (c.in_ok-source.ensures.bytes ∙ c.requires.text) c.in_ok-source.ensures.pieces (Ok c.in_ok-read_reply.field-0) c.in_ok-read_reply.ensures.count c.in_ok-read_reply.ensures.answer
+    (c.in_ok-source.ensures.bytes ∙ c.requires.text) c.in_ok-source.ensures.pieces (Ok c.in_ok-read_reply.field-0) c.in_ok-read_reply.ensures.count c.in_ok-read_reply.ensures.answer

@@ -35,7 +35,7 @@ returns-in-Err c =
     subst (λ (q : Stop). SetsFaults words c.args.table.now (Err q) c.set_fault.new.self) (sym c.stop_at.ensures)
     (set_stopped c.in-Err.why (c.loop-word.place + 1) words c.args.table.now c.set_fault.new.self (fault_refusal before c.loop-word.table.count c.in-Some.fault.number) c.set_fault.result c.in-Err.is c.set_fault.ensures.memory
     (λ fault is. c.loop-word.invariant.rest ∙ ap (faults_from before (c.loop-word.place + 1)) left
-        ∙ word_refused before (c.loop-word.place + 1) w (drop (c.loop-word.word-index + 1) words) c.in-Some.fault fault says (ap (λ n. fault_refusal before n c.in-Some.fault.number) (sym none) ∙ is)))
+    ∙ word_refused before (c.loop-word.place + 1) w (drop (c.loop-word.word-index + 1) words) c.in-Some.fault fault says (ap (λ n. fault_refusal before n c.in-Some.fault.number) (sym none) ∙ is)))
 
 pub loop-word-preserved : goal.loop-word-preserved
 loop-word-preserved c =

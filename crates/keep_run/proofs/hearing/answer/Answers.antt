@@ -30,20 +30,20 @@ returns-clause-answers g c =
     let event = c.in_ok-event.event in
     let reply = c.in_ok-reply.reply in
     let means : event ≡ event_for cs old.forest i reply =
-        c.in_ok-event.ensures
-        ∙ ap (λ (q : Entry). event_of q.kind c.get-2.result.now i reply) (c.get.ensures.value ∙ ap (λ (h : Grove). entry_at h.entries i) c.forest-2.ensures)
-        ∙ ap (λ id. event_of (entry_at old.forest.entries i).kind id i reply) c.get-2.ensures.value in
+    c.in_ok-event.ensures
+    ∙ ap (λ (q : Entry). event_of q.kind c.get-2.result.now i reply) (c.get.ensures.value ∙ ap (λ (h : Grove). entry_at h.entries i) c.forest-2.ensures)
+    ∙ ap (λ id. event_of (entry_at old.forest.entries i).kind id i reply) c.get-2.ensures.value in
     λ port. answer_between (g.E.Exchange.behind c.args.exchange.now) (g.E.Exchange.behind c.exchange.new.self) cs c.args.t i old c.in_ok-request.request c.exchange.result reply event c.in-Ok.output c.step.new.self c.take_shortened-short.new.self
-      c.args.text.now.items c.push_answer_line.new.text.items c.push_short_lines.new.text.items
-      c.in_ok-reply.ensures.heard.1 c.in_ok-reply.ensures.heard.0 c.exchange.ensures.exchanged
-      (c.in_ok-request.ensures.is ∙ request_is c.args.port cs c.forest.result.now i ∙ ap (λ (h : Grove). request_of c.args.port cs h i) c.forest.ensures ∙ ap (λ p. request_of p cs old.forest i) port)
-      means
-      c.in-Ok.ensures
-      c.take_shortened-short.ensures.after
-      (c.in_ok-push_answer_line.ensures ∙ ap (λ (h : Grove). c.args.text.now.items ++ answer_line h event reply) c.forest-3.ensures)
-      (c.in_ok-push_short_lines.ensures
-      ∙ ap (λ (h : Grove). c.push_answer_line.new.text.items ++ short_lines h c.list.result.now) c.forest-4.ensures
-      ∙ ap (λ ps. c.push_answer_line.new.text.items ++ short_lines c.take_shortened-short.new.self.forest ps) (c.list.ensures ∙ c.take_shortened-short.ensures.value))
+    c.args.text.now.items c.push_answer_line.new.text.items c.push_short_lines.new.text.items
+    c.in_ok-reply.ensures.heard.1 c.in_ok-reply.ensures.heard.0 c.exchange.ensures.exchanged
+    (c.in_ok-request.ensures.is ∙ request_is c.args.port cs c.forest.result.now i ∙ ap (λ (h : Grove). request_of c.args.port cs h i) c.forest.ensures ∙ ap (λ p. request_of p cs old.forest i) port)
+    means
+    c.in-Ok.ensures
+    c.take_shortened-short.ensures.after
+    (c.in_ok-push_answer_line.ensures ∙ ap (λ (h : Grove). c.args.text.now.items ++ answer_line h event reply) c.forest-3.ensures)
+    (c.in_ok-push_short_lines.ensures
+    ∙ ap (λ (h : Grove). c.push_answer_line.new.text.items ++ short_lines h c.list.result.now) c.forest-4.ensures
+    ∙ ap (λ ps. c.push_answer_line.new.text.items ++ short_lines c.take_shortened-short.new.self.forest ps) (c.list.ensures ∙ c.take_shortened-short.ensures.value))
 
 pub returns-clause-shaped : goal.returns-clause-shaped
 returns-clause-shaped g c =

@@ -26,14 +26,14 @@ loop-i-preserved g c =
     let after = c.answer.new.text.items in
     record {
       answers = λ port. between_more (g.E.Exchange.behind c.args.exchange.now) (g.E.Exchange.behind c.loop-i.exchange) (g.E.Exchange.behind c.answer.new.exchange)
-        (λ b m. AnswersAll cs c.args.t (both start b) (take k asked) c.loop-i.next (both c.loop-i.keeper m) before middle)
-        (λ m a. Answers cs c.args.t (both c.loop-i.keeper m) (get_or asked k 0) c.in_ok-output.output (both c.answer.new.keeper a) middle after)
-        _
-        (λ b m a first second.
+          (λ b m. AnswersAll cs c.args.t (both start b) (take k asked) c.loop-i.next (both c.loop-i.keeper m) before middle)
+          (λ m a. Answers cs c.args.t (both c.loop-i.keeper m) (get_or asked k 0) c.in_ok-output.output (both c.answer.new.keeper a) middle after)
+          _
+          (λ b m a first second.
           subst (λ is. AnswersAll cs c.args.t (both start b) is c.told_next-next.result (both c.answer.new.keeper a) before after) (sym (take_more asked k 0 c.loop-i-test.true))
           (subst (λ n. AnswersAll cs c.args.t (both start b) (take k asked ++ get_or asked k 0 ∷ []) n (both c.answer.new.keeper a) before after) (sym c.told_next-next.ensures)
           (answers_more cs c.args.t (both start b) (both c.loop-i.keeper m) (both c.answer.new.keeper a) (take k asked) (get_or asked k 0) c.loop-i.next c.in_ok-output.output before middle after c.loop-i.invariant.shaped first second)))
-        (c.loop-i.invariant.answers port) (c.in_ok-output.ensures.answers port);
+          (c.loop-i.invariant.answers port) (c.in_ok-output.ensures.answers port);
       shaped = both_shaped c.args.keeper.now.forest c.loop-i.keeper.forest c.answer.new.keeper.forest c.loop-i.invariant.shaped c.in_ok-output.ensures.shaped;
       ready = c.in_ok-output.ensures.ready;
     }

@@ -15,5 +15,5 @@ push_short_lines-requires g c =
 pub listen-requires : goal.listen-requires
 listen-requires g c =
     let fits = fits_opened c.look_all_up.new.inventory c.into_parts-forest.result.0 c.into_parts-forest.result.1 c.args.start c.in_ok-keeper.keeper c.take_shortened-short.new.self c.into_parts-forest.ensures.sound
-        c.into_parts-forest.ensures.forest c.into_parts-forest.ensures.credentials c.in_ok-keeper.ensures.opened c.take_shortened-short.ensures.after in
+    c.into_parts-forest.ensures.forest c.into_parts-forest.ensures.credentials c.in_ok-keeper.ensures.opened c.take_shortened-short.ensures.after in
     record { count = fits.count; quiet = ap (λ (s : State). s.shortened) c.take_shortened-short.ensures.after }

@@ -64,7 +64,7 @@ returns-in_default-next g c =
     let new = both c.wake.new.keeper c.wake.new.exchange in
     let piece = subst (λ w. Wakes cs now c.loop-wakes.due w new c.new-text.result.items c.wake.new.text.items) c.in-Some.is c.in_ok-woken.ensures.wakes in
     let more = subst (λ n. Goes (stock_of cs now.keeper.forest) now (Some c.loop-wakes.due) new n 1 c.in-Some.woken.requests c.wake.new.text.items) c.in_default-next.is
-        (piece_goes cs now new c.loop-wakes.due c.in-Some.woken.next 1 c.in-Some.woken.requests c.new-text.result.items c.wake.new.text.items c.new-text.ensures.items piece) in
+    (piece_goes cs now new c.loop-wakes.due c.in-Some.woken.next 1 c.in-Some.woken.requests c.new-text.result.items c.wake.new.text.items c.new-text.ensures.items piece) in
     let all = subst (Appends (g.W.Device.written c.loop-wakes.out) (g.W.Device.written c.write_all-in-loop-wakes.new.sink)) c.deref.ensures.value c.in_ok-write_all-2.ensures.written in
     going_done cs (both c.args.keeper.now c.args.exchange.now) c.args.start c.args.lines.now _ _ now c.loop-wakes.due c.loop-wakes.wakes c.loop-wakes.requests _ _ new c.in-Some.woken.requests c.wake.new.text.items c.new.result.items _
     c.finish-in_default-next.result _ _ c.loop-wakes.invariant more c.loop-wakes-test.true all c.new.ensures.items c.finish-in_default-next.ensures refl refl refl (c.in_ok-write_all-2.ensures.count ∙ c.loop-wakes.invariant.count) refl refl
@@ -76,7 +76,7 @@ loop-wakes-preserved g c =
     let new = both c.wake.new.keeper c.wake.new.exchange in
     let piece = subst (λ w. Wakes cs now c.loop-wakes.due w new c.new-text.result.items c.wake.new.text.items) c.in-Some.is c.in_ok-woken.ensures.wakes in
     let more = subst (λ n. Goes (stock_of cs now.keeper.forest) now (Some c.loop-wakes.due) new n 1 c.in-Some.woken.requests c.wake.new.text.items) c.in-Some-next.is
-        (piece_goes cs now new c.loop-wakes.due c.in-Some.woken.next 1 c.in-Some.woken.requests c.new-text.result.items c.wake.new.text.items c.new-text.ensures.items piece) in
+    (piece_goes cs now new c.loop-wakes.due c.in-Some.woken.next 1 c.in-Some.woken.requests c.new-text.result.items c.wake.new.text.items c.new-text.ensures.items piece) in
     let few = subst (λ w. requests_in w ≤ 4096) c.in-Some.is c.in_ok-woken.ensures.few in
     let all = subst (Appends (g.W.Device.written c.loop-wakes.out) (g.W.Device.written c.write_all-in-loop-wakes.new.sink)) c.deref.ensures.value c.in_ok-write_all-2.ensures.written in
     going_more cs (both c.args.keeper.now c.args.exchange.now) c.args.start c.args.lines.now _ _ now c.loop-wakes.due c.loop-wakes.wakes c.loop-wakes.requests _ _ c.loop-wakes.invariant new c.in-Some-next.next c.in-Some.woken.requests

@@ -46,10 +46,10 @@ returns g c =
     let k = c.in_ok-keeper.keeper in
     let now = c.take_shortened-short.new.self in
     let lines : c.deref.result.now ≡ short_lines k.forest k.shortened =
-        c.deref.ensures.value ∙ c.in_ok-push_short_lines.ensures
-        ∙ ap (λ l. l ++ short_lines c.forest.result.now c.list.result.now) c.new-lines.ensures.items
-        ∙ ap (λ h. short_lines h c.list.result.now) (c.forest.ensures ∙ ap (λ (s : State). s.forest) c.take_shortened-short.ensures.after)
-        ∙ ap (short_lines k.forest) (c.list.ensures ∙ c.take_shortened-short.ensures.value) in
+    c.deref.ensures.value ∙ c.in_ok-push_short_lines.ensures
+    ∙ ap (λ l. l ++ short_lines c.forest.result.now c.list.result.now) c.new-lines.ensures.items
+    ∙ ap (λ h. short_lines h c.list.result.now) (c.forest.ensures ∙ ap (λ (s : State). s.forest) c.take_shortened-short.ensures.after)
+    ∙ ap (short_lines k.forest) (c.list.ensures ∙ c.take_shortened-short.ensures.value) in
     plays_on c.args.inventory.now c.args.words.now c.in_ok-inventory.inventory sets.0 c.args.start c.get.result c.into_parts-forest.result.0 c.into_parts-forest.result.1 k now c.give.new.self c.deref.result.now c.play.result
     (both c.play.new.keeper c.play.new.exchange) _ c.args.exchange.now c.in_ok-inventory.ensures sets.1 c.into_parts-forest.ensures.forest c.into_parts-forest.ensures.credentials behind c.in_ok-keeper.ensures.opened
     c.take_shortened-short.ensures.after c.get.ensures.value lines c.play.ensures

@@ -49,10 +49,10 @@ returns-clause-answers c =
     let behind : c.exchange.new.self ≡ record { table = (step c.args.exchange.now.table c.args.t request).ledger; wire = request_text request ++ sent_of e.sent } = (let is = e.is in cc) in
     let reply : c.in_ok-reply.reply ≡ reply_in e.sent = c.in_ok-reply.ensures.heard.0 ∙ ap heard_of e.received_as ∙ heard_is e.sent in
     let means : event ≡ event_for cs old.forest i (reply_in e.sent) =
-        c.in_ok-event.ensures
-        ∙ ap (λ (q : Entry). event_of q.kind c.get-2.result.now i c.in_ok-reply.reply) (c.get.ensures.value ∙ ap (λ (g : Grove). entry_at g.entries i) c.forest-2.ensures)
-        ∙ ap (λ id. event_of (entry_at old.forest.entries i).kind id i c.in_ok-reply.reply) c.get-2.ensures.value
-        ∙ ap (event_of (entry_at old.forest.entries i).kind _ i) reply in
+    c.in_ok-event.ensures
+    ∙ ap (λ (q : Entry). event_of q.kind c.get-2.result.now i c.in_ok-reply.reply) (c.get.ensures.value ∙ ap (λ (g : Grove). entry_at g.entries i) c.forest-2.ensures)
+    ∙ ap (λ id. event_of (entry_at old.forest.entries i).kind id i c.in_ok-reply.reply) c.get-2.ensures.value
+    ∙ ap (event_of (entry_at old.forest.entries i).kind _ i) reply in
     one_answer cs c.args.t i (both old c.args.exchange.now) e.sent c.in-Ok.output request event c.step.new.self c.take_shortened-short.new.self c.exchange.new.self
     c.args.text.now.items c.push_answer_line.new.text.items c.push_short_lines.new.text.items
     (c.in_ok-request.ensures ∙ ap (λ (g : Grove). request_of 8200 cs g i) c.forest.ensures)
