@@ -1,6 +1,7 @@
 use keep_device::{Counted, Sink, read_file};
-use keep_engine::{Exit, MOST_INVENTORY, PROGRAM, Stop};
+use keep_engine::{Exit, PROGRAM, Stop};
 use keep_exchange::{TcpExchange, UnixExchange};
+use keep_inventory::MOST_INVENTORY;
 use keep_moment::Moment;
 use keep_run::run_live;
 use std::io;
