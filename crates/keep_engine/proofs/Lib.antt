@@ -9,3 +9,4 @@ pub mod Obeying
 pub mod Reaching
 mod Until
 mod SameRun
+pub mod Unheard

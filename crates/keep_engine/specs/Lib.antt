@@ -9,6 +9,7 @@ pub mod CheckText
 pub mod CheckRun
 pub mod CheckAnswers
 pub mod From
+pub mod RehearseFrom
 pub mod Obeys
 pub mod Making
 pub mod Laws

@@ -8,6 +8,7 @@ ghost use Rattle.keep_engine.specs.EndsRun.{EndsRun};
 ghost use Rattle.keep_engine.specs.Obeys.{Obeys};
 ghost use Rattle.keep_engine.specs.PlanRun.{PlanRun};
 ghost use Rattle.keep_engine.specs.ReachRun.{ReachRun};
+ghost use Rattle.keep_engine.specs.RehearseFrom.{Rehearses};
 
 use crate::check::run_check;
 use crate::deliver::PROGRAM;
@@ -16,9 +17,10 @@ use crate::inputs::Inputs;
 use crate::limits::MOST_CERTIFICATE;
 use crate::plan::run_plan;
 use crate::reach::run_reach;
+use crate::rehearse::rehearse;
 use keep_device::{InputFault, Sink};
 use keep_inventory::MOST_INVENTORY;
-use keep_moment::Moment;
+use keep_moment::{Moment, Text};
 use keep_report::{Exit, Stop, Watched};
 use std::alloc::Global;
 
@@ -42,6 +44,12 @@ pub enum Command {
         start: Moment,
         dates: bool,
     },
+    /// The rehearsal of an inventory from a start on, with the FAULT words.
+    Rehearse {
+        file: String,
+        start: Moment,
+        words: Vec<Text>,
+    },
     /// The judgement of a certificate by an inventory.
     Check {
         file: String,
@@ -49,7 +57,7 @@ pub enum Command {
     },
 }
 
-/// Does what a command asks: [`run_ends`], [`run_plan`], [`run_reach`] or [`run_check`] over the bytes of its files.
+/// Does what a command asks: [`run_ends`], [`run_plan`], [`run_reach`], [`run_rehearse`](keep_run::run_rehearse) or [`run_check`] over the bytes of its files.
 ///
 /// The inventory is read first, at most [`MOST_INVENTORY`] bytes, and for `check` the certificate behind it, at most
 /// [`MOST_CERTIFICATE`]. Exit 6, with the line of a read: a file was not read to its end, or is longer. Exit 7: memory for
@@ -72,6 +80,9 @@ pub fn obey<I: Inputs, W: Sink, E: Sink>(
         Command::Plan { file, start } => plan_from(alloc, file, *start, inputs, out, errors),
         Command::Reach { file, start, dates } => {
             reach_from(alloc, file, *start, *dates, inputs, out, errors)
+        }
+        Command::Rehearse { file, start, words } => {
+            rehearse_from(alloc, file, *start, words, inputs, out, errors)
         }
         Command::Check { file, certificate } => {
             check_from(alloc, file, certificate, inputs, out, errors)
@@ -125,6 +136,23 @@ fn reach_from<I: Inputs, W: Sink, E: Sink>(
 {
     match inputs.read(alloc, file, MOST_INVENTORY) {
         Ok(inventory) => run_reach(alloc, inventory.list(), start, dates, out, errors),
+        Err(fault) => tell_unread(alloc, fault, errors),
+    }
+}
+
+fn rehearse_from<I: Inputs, W: Sink, E: Sink>(
+    alloc: Global,
+    file: &str,
+    start: Moment,
+    words: &[Text],
+    inputs: &mut I,
+    out: &mut W,
+    errors: &mut E,
+) -> Exit
+    ensures { RunFrom (I.bytes_at inputs.old file.now) MOST_INVENTORY (λ bytes. Rehearses bytes start words.now) result (⟦<W as Watched>⟧.sent out.old out.new) (⟦<E as Watched>⟧.sent errors.old errors.new) }
+{
+    match inputs.read(alloc, file, MOST_INVENTORY) {
+        Ok(inventory) => rehearse(alloc, inventory.list(), start, words, out, errors),
         Err(fault) => tell_unread(alloc, fault, errors),
     }
 }

@@ -21,6 +21,7 @@ mod plan;
 mod plan_text;
 mod reach;
 mod reach_text;
+mod rehearse;
 #[cfg(test)]
 mod tests;
 
@@ -35,4 +36,5 @@ pub use laws::{
 };
 pub use limits::MOST_CERTIFICATE;
 pub use plan::run_plan;
+pub use keep_run::{MOST_WAKES, run_rehearse};
 pub use reach::run_reach;

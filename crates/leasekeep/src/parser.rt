@@ -43,6 +43,22 @@ Example:
 
 Exit status: 0 done, 1 inventory, 2 command line, 6 read or write, 7 memory";
 
+const REHEARSE_ABOUT: &str =
+    "Plays an inventory from a start on against a broker in memory, with faults if wanted, and shows what happens";
+
+const REHEARSE_AFTER: &str = "\
+A FAULT word is what goes wrong at the renewal request number K: `K=short:SECONDS`, it is granted so many seconds at most;
+`K=drop`, its reply is lost; `K=deny`, it is refused.
+
+A line `wake T NAME..` is a wake-up at T that asks these entries; then one for each of them: `told NAME SECONDS`, granted so
+many seconds from T on; `refused NAME STATUS`; or `lost NAME`, no reply came. `short NAME NEED` is a need that no plan keeps
+any more, and until when it is kept. The last line is `done WAKES REQUESTS`.
+
+Example:
+  leasekeep rehearse web.toml 1000 1=drop
+
+Exit status: 0 done, 1 inventory, 2 command line or FAULT words, 5 more than 100000 wake-ups, 6 read or write, 7 memory";
+
 const CHECK_ABOUT: &str = "Judges a certificate by an inventory, whoever wrote it";
 
 const CHECK_AFTER: &str = "\
@@ -100,6 +116,7 @@ fn leasekeep<'a>(alloc: Global) -> Result<Command<'a>, AllocError> {
         .subcommand(ends(alloc)?)?
         .subcommand(plan(alloc)?)?
         .subcommand(reach(alloc)?)?
+        .subcommand(rehearse(alloc)?)?
         .subcommand(check(alloc)?)?
         .subcommand(run(alloc)?)
 }
@@ -143,6 +160,21 @@ fn reach<'a>(alloc: Global) -> Result<Command<'a>, AllocError> {
                 .long("dates")
                 .help("Shows moments as dates of RFC 3339, as far as they have one")
                 .action(ArgAction::SetTrue),
+        )
+}
+
+/// `rehearse FILE START [FAULT..]`
+fn rehearse<'a>(alloc: Global) -> Result<Command<'a>, AllocError> {
+    Command::new(alloc, "rehearse")
+        .about(REHEARSE_ABOUT)
+        .after_help(REHEARSE_AFTER)
+        .arg(file(alloc)?)?
+        .arg(moment(alloc, "START", "The moment from which entries are kept")?.required(true))?
+        .arg(
+            Arg::new(alloc, "FAULT")
+                .help("What goes wrong at a renewal request: K=short:SECONDS, K=drop or K=deny")
+                .action(ArgAction::Append)
+                .num_args(0..),
         )
 }
 

@@ -5,7 +5,7 @@ use clap::{ArgMatches, Error};
 use keep_device::Sink;
 use keep_engine::{Command, Exit, PROGRAM, Stop, tell};
 use keep_exchange::PATIENCE;
-use keep_moment::Moment;
+use keep_moment::{Moment, Text};
 use std::alloc::{AllocError, AllocFailed, Global};
 use std::rt::Env;
 use std::{env, io};
@@ -153,6 +153,11 @@ fn command_of(alloc: Global, matches: &ArgMatches<'_>) -> Result<Command, Unread
             start: start(matches)?,
             dates: matches.get_flag("dates"),
         }),
+        Some(("rehearse", matches)) => Ok(Command::Rehearse {
+            file: word(alloc, matches, "FILE")?,
+            start: start(matches)?,
+            words: faults(alloc, matches)?,
+        }),
         Some(("check", matches)) => Ok(Command::Check {
             file: word(alloc, matches, "FILE")?,
             certificate: word(alloc, matches, "CERT")?,
@@ -187,4 +192,15 @@ fn moments(alloc: Global, matches: &ArgMatches<'_>) -> Result<Vec<Moment>, Unrea
         }
     }
     Ok(moments)
+}
+
+/// The FAULT words, as they were given.
+fn faults(alloc: Global, matches: &ArgMatches<'_>) -> Result<Vec<Text>, Unread> {
+    let mut words = Vec::new(alloc);
+    if let Some(values) = matches.get_strs("FAULT") {
+        for word in values {
+            words.push(Text::of(alloc, word.as_bytes())?)?;
+        }
+    }
+    Ok(words)
 }

@@ -1,0 +1,44 @@
+ghost use Rattle.std.specs.Prelude.{◌≡◌};
+ghost use Rattle.std.specs.Result.{IfErr};
+ghost use Rattle.keep_report.specs.declared.stop.Stop.TheVariants as stops;
+ghost use Rattle.keep_engine.specs.RehearseFrom.{Rehearses};
+
+use crate::deliver::PROGRAM;
+use keep_device::Sink;
+use keep_exchange::MemoryExchange;
+use keep_inventory::read;
+use keep_moment::{Moment, Text};
+use keep_report::{Exit, Stop, Watched};
+use keep_run::run_rehearse;
+use mini_broker::Table;
+use std::alloc::Global;
+
+/// The command `rehearse` over an exchange of its own, which goes with it: [`run_rehearse`] says what it writes, and which
+/// exit comes when.
+pub(crate) fn rehearse<W: Sink, E: Sink>(
+    alloc: Global,
+    inventory: &[u8],
+    start: Moment,
+    words: &[Text],
+    out: &mut W,
+    errors: &mut E,
+) -> Exit
+    ensures { Rehearses inventory.now start words.now result (⟦<W as Watched>⟧.sent out.old out.new) (⟦<E as Watched>⟧.sent errors.old errors.new) }
+{
+    match nobody(alloc) {
+        Ok(mut exchange) => {
+            run_rehearse(alloc, inventory, start, words, out, errors, &mut exchange)
+        }
+        Err(stop) => stop.report(alloc, PROGRAM, errors),
+    }
+}
+
+/// An exchange with a table that lists nobody.
+fn nobody(alloc: Global) -> Result<MemoryExchange, Stop>
+    ensures { IfErr result (λ stop. stop ≡ stops.Memory) }
+{
+    let Ok(inventory) = read(alloc, b"") else {
+        return Err(Stop::Memory);
+    };
+    Ok(MemoryExchange::new(alloc, Table::load(alloc, &inventory)?))
+}
