@@ -1,0 +1,182 @@
+use http::Method;
+use keep_check::{Answer, check};
+use keep_core::{Event, Keeper, Output};
+use keep_inventory::{Inventory, read};
+use keep_moment::{Moment, Text};
+use keep_needs::carry;
+use keep_plan::{Decision, plan, shortfall};
+use keep_rule::{Wake, ends_after};
+use keep_schedule::QueueSchedule;
+use keep_tree::Indices;
+use mini_broker::{Served, Table};
+use std::alloc::Global;
+use std::test::Fail;
+use vault_http::Request;
+
+// As many entries as an inventory may have: tokens that all end at 1060, of which each is needed until 1200 and renewed by
+// 60 seconds. All are due at 1059, 1118 and 1177, as the one token of the web example is.
+const ENTRIES: u32 = 4096;
+
+const PLAN: &str = "leasekeep-plan 2\nstart 1000\nrun 1059 59 3 e0 e0\nend 3\n";
+
+fn moment(seconds: u64) -> Result<Moment, Fail> {
+    Ok(Moment::new(seconds).ok_or("a moment")?)
+}
+
+fn fleet(alloc: Global) -> Result<Inventory, Fail> {
+    let mut text = String::new(alloc);
+    for i in 0..ENTRIES {
+        let token = format!(in alloc;
+            "[[token]]\nname = \"e{i}\"\nissued = 1000\nend = 1060\nincrement = 60\nmax_ttl = 9000\nneed = 1200\n"
+        )?;
+        text.push_str(&token)?;
+    }
+    Ok(read(alloc, text.as_bytes()).ok().ok_or("an inventory")?)
+}
+
+// Whether these are the indices of all entries, in order.
+fn are_all(indices: &Indices) -> bool {
+    indices.list().len() == ENTRIES as usize
+        && indices
+            .list()
+            .iter()
+            .enumerate()
+            .all(|(i, index)| *index as usize == i)
+}
+
+#[test]
+#[tactic(auto, using(keep_cert::proofs::Printing::decided_is_of))]
+fn every_entry_is_asked(rt: HostRuntime) -> Result<(), Fail> {
+    let alloc = rt.alloc();
+    let inventory = fleet(alloc)?;
+    let forest = inventory.forest();
+    assert_eq!(rt; forest.len(), ENTRIES);
+    let start = moment(1000)?;
+    let Ok(decision) = plan(alloc, forest, start) else {
+        return Err("a decision".into());
+    };
+    let text = keep_cert::print(alloc, forest, start, &decision)
+        .ok()
+        .ok_or("a text")?;
+    assert!(rt; text.list() == PLAN.as_bytes());
+    let Decision::Keep(plan) = decision else {
+        return Err("a plan".into());
+    };
+    let asked = plan.asks(forest, moment(1059)?).ok().ok_or("asks")?;
+    assert!(rt; are_all(&asked));
+    Ok(())
+}
+
+// Every entry, asked at 1059, 1118 and 1177, ends 60 seconds after the last of them.
+#[test]
+fn every_end_is_told(rt: HostRuntime) -> Result<(), Fail> {
+    let alloc = rt.alloc();
+    let inventory = fleet(alloc)?;
+    let forest = inventory.forest();
+    let mut wakes = Vec::new(alloc);
+    for at in [1059, 1118, 1177] {
+        let mut asked = Vec::new(alloc);
+        for index in 0..ENTRIES {
+            asked.push(index)?;
+        }
+        wakes.push(Wake {
+            at: moment(at)?,
+            asked: Indices::from_vec(asked),
+        })?;
+    }
+    let ends = ends_after(alloc, forest, moment(1000)?, &wakes)
+        .ok()
+        .ok_or("ends")?;
+    assert_eq!(rt; ends.list().len(), ENTRIES as usize);
+    assert!(rt; ends.list().iter().all(|end| *end == 1237));
+    Ok(())
+}
+
+// The first run of wake-ups is forced by the first of the entries that are due together, for its own need.
+#[test]
+fn the_queue_takes_every_entry(rt: HostRuntime) -> Result<(), Fail> {
+    let alloc = rt.alloc();
+    let inventory = fleet(alloc)?;
+    let forest = inventory.forest();
+    let start = moment(1000)?;
+    let Ok(carried) = carry(alloc, forest, start) else {
+        return Err("needs".into());
+    };
+    if let Some(_) = shortfall(forest, &carried, start) {
+        return Err("no shortfall".into());
+    }
+    let mut schedule = QueueSchedule::new(alloc, forest, &carried, start)
+        .ok()
+        .ok_or("a schedule")?;
+    let run = schedule.next_run(1000).ok_or("a run")?;
+    assert_eq!(rt; run.first, 1059);
+    assert_eq!(rt; run.count, 3);
+    assert_eq!(rt; run.entry, 0);
+    assert!(rt; schedule.next_run(1000).is_none());
+    Ok(())
+}
+
+// The last of the tokens is renewed by its own value.
+#[test]
+fn the_broker_serves_the_last(rt: HostRuntime) -> Result<(), Fail> {
+    let alloc = rt.alloc();
+    let inventory = fleet(alloc)?;
+    let mut table = Table::load(alloc, &inventory)?;
+    let request = Request {
+        method: Method::POST,
+        path: Text::of(alloc, b"/v1/auth/token/renew-self")?,
+        token: Some(Text::of(alloc, b"e4095")?),
+        body: Text::of(alloc, b"{\"increment\":60}")?,
+        port: 0,
+    };
+    let served = table.serve(moment(1059)?, &request).ok().ok_or("served")?;
+    let Served::Reply(reply) = served else {
+        return Err("a reply".into());
+    };
+    assert_eq!(rt; reply.status, 200);
+    assert!(rt;
+        reply.body.list() == b"{\"auth\":{\"lease_duration\":60,\"renewable\":true}}".as_slice()
+    );
+    Ok(())
+}
+
+#[test]
+fn the_keeper_asks_every_entry(rt: HostRuntime) -> Result<(), Fail> {
+    let alloc = rt.alloc();
+    let (forest, _) = fleet(alloc)?.into_parts();
+    let mut keeper = Keeper::new(alloc, forest, moment(1000)?)
+        .ok()
+        .ok_or("a keeper")?;
+    let output = keeper.step(Event::Tick(1059)).ok().ok_or("an output")?;
+    let Output::Ask(asked) = output else {
+        return Err("asked".into());
+    };
+    assert!(rt; are_all(&asked));
+    Ok(())
+}
+
+// A certificate of 100,000 lines, as many as there may be: a token of two seconds that is renewed each second, 99,997 times,
+// the last time when it would end one second before its need.
+#[test]
+#[tactic(auto, using(keep_check::proofs::Written::written_fits))]
+fn a_certificate_may_have_100000_lines(rt: HostRuntime) -> Result<(), Fail> {
+    let alloc = rt.alloc();
+    let inventory =
+        b"[[token]]\nname = \"web\"\nissued = 1000\nend = 1002\nincrement = 2\nmax_ttl = 200000\nneed = 100999\n".as_slice();
+    let inventory = read(alloc, inventory).ok().ok_or("an inventory")?;
+    let mut text = String::from_str(alloc, "leasekeep-plan 1\nstart 1000\n")?;
+    for at in 1001..=100997u64 {
+        let wake = format!(in alloc; "wake {at} web web\n")?;
+        text.push_str(&wake)?;
+    }
+    text.push_str("end 99997\n")?;
+    let forest = inventory.forest();
+    // (the contract of `len` says that it is a forest, as that of `read` wants to know)
+    assert_eq!(rt; forest.len(), 1);
+    let Ok(certificate) = keep_cert::read(alloc, forest, text.as_bytes()) else {
+        return Err("a certificate".into());
+    };
+    let answer = check(alloc, forest, &certificate).ok().ok_or("an answer")?;
+    assert_eq!(rt; answer, Answer::Yes);
+    Ok(())
+}
