@@ -51,12 +51,28 @@ pub fn keep<R: Files + AllocGlobal + Print + Net, I: Read + Drop, E: Sink>(
         Place::Port(port) => {
             let mut exchange = TcpExchange::patient(rt, *port, longest);
             let (start, list) = (live.start, text.list());
-            run_live(alloc, list, start, &mut events, &mut exchange, &mut out, errors)
+            run_live(
+                alloc,
+                list,
+                start,
+                &mut events,
+                &mut exchange,
+                &mut out,
+                errors,
+            )
         }
         Place::Path(path) => {
             let mut exchange = UnixExchange::patient(rt, path, longest);
             let (start, list) = (live.start, text.list());
-            run_live(alloc, list, start, &mut events, &mut exchange, &mut out, errors)
+            run_live(
+                alloc,
+                list,
+                start,
+                &mut events,
+                &mut exchange,
+                &mut out,
+                errors,
+            )
         }
     }
 }

@@ -116,8 +116,8 @@ fn leasekeep<'a>(alloc: Global) -> Result<Command<'a>, AllocError> {
         .subcommand(ends(alloc)?)?
         .subcommand(plan(alloc)?)?
         .subcommand(reach(alloc)?)?
-        .subcommand(rehearse(alloc)?)?
         .subcommand(check(alloc)?)?
+        .subcommand(rehearse(alloc)?)?
         .subcommand(run(alloc)?)
 }
 
@@ -200,16 +200,25 @@ fn run<'a>(alloc: Global) -> Result<Command<'a>, AllocError> {
         .arg(file(alloc)?)?
         .arg(
             Arg::new(alloc, "PORT")
-                .help("The broker's port of 127.0.0.1; or the path of its UNIX socket, with a `/` in it")
+                .help(
+                    "The broker's port of 127.0.0.1; or the path of its UNIX socket, with a `/` in it",
+                )
                 .required(true)
                 .action(ArgAction::Set),
         )?
-        .arg(moment(alloc, "START", "The moment of the lookups, from which entries are kept")?.required(true))?
+        .arg(moment(
+            alloc,
+            "START",
+            "The moment of the lookups, from which entries are kept",
+        )?
+        .required(true))?
         .arg(
             Arg::new(alloc, "timeout")
                 .long("timeout")
                 .value_name("SECONDS")
-                .help("How long one connect, read or write may take, 1 to 60 seconds; 5 unless given")
+                .help(
+                    "How long one connect, read or write may take, 1 to 60 seconds; 5 unless given",
+                )
                 .value_parser(clap::value_parser!(u64).range(1..=60)),
         )
 }

@@ -14,6 +14,7 @@ const NOT_UTF8: &[u8] = b"error: a word of the command line is not UTF-8\n";
 
 const PORT_MISTAKE: &str =
     "invalid value for '<PORT>': a port is 1 to 65535, and the path of a UNIX socket has a `/` in it";
+
 const UNREADABLE: &[u8] = b"error: a value of the command line is unreadable\n";
 
 /// What the words of the command line ask.
