@@ -1,12 +1,16 @@
--- What a lookup comes to, by what the exchange answers: for `look_up`.
-use Rattle.std.proofs.Common.{◌≡◌, ℕ, ◌⊎◌, inl, inr, Bool, refl, sym, subst, ap, ◌∙◌, Option, Some, None, IfSome, IfOk, Result, Ok, Err}
+-- What a lookup comes to, by what the exchange answers: for `look_up` and `apply`.
+use Rattle.std.proofs.Common.{◌≡◌, ℕ, length, ◌⊎◌, inl, inr, Bool, refl, sym, subst, ap, ◌∙◌, Option, Some, None, IfSome, IfOk, Result, Ok, Err}
+use Rattle.std.proofs.lemmas.List.{length-set}
 use Rattle.keep_exchange.specs.declared.fault.ExchangeFault.{ExchangeFault}
 use Rattle.keep_exchange.specs.Exchanges.{Behind, IsExchanged}
 use Rattle.keep_exchange.specs.Lookups.{LooksUp, behind_if, looked}
 use Rattle.keep_exchange.specs.Requests.{lookup_of}
+use Rattle.keep_inventory.specs.declared.lookup.LookupFault.{LookupFault}
+use Rattle.keep_inventory.specs.Lookup.{lookup_fault, told}
 use Rattle.keep_inventory.specs.Stock.{Stock}
 use Rattle.vault_http.specs.declared.reply.Reply.{Reply}
 use Rattle.vault_http.specs.declared.request.Request.{Request}
+use Rattle.vault_json.specs.declared.lookup.Lookup.{Lookup}
 
 of_lookup :
     {E : Type 0} (before new : Option Behind) (port t i : ℕ) (s after : Stock) (reply : Reply) (result : Result Bool E) →
@@ -23,3 +27,17 @@ pub looked_up :
     IfSome before (λ old. LooksUp port old t s i result after new)
 looked_up before new port t i s after request reply result same done applied =
     of_lookup before new port t i s after reply result (subst (λ (r : Request). IfSome before (λ old. IsExchanged old.table t r (Ok reply) new)) same done) applied
+
+-- ---- a lookup changes no number of entries
+
+told_count : (s : Stock) (i t : ℕ) (lookup : Lookup) → length (told s i lookup t).grove.entries ≡ length s.grove.entries
+unfolding told
+told_count s i t lookup = length-set s.grove.entries i _
+
+pub same_count :
+    (s new : Stock) (i t : ℕ) (lookup : Lookup) (result : Result (Unit {0}) LookupFault) → IfSome (lookup_fault s i lookup) (λ fault. (result ≡ Err fault) × (new ≡ s)) →
+    (lookup_fault s i lookup ≡ None → (result ≡ Ok tt) × (new ≡ told s i lookup t)) → length new.grove.entries ≡ length s.grove.entries
+same_count s new i t lookup result refused applied = by_fault (lookup_fault s i lookup) refl where
+  by_fault : (fault : Option LookupFault) → lookup_fault s i lookup ≡ fault → length new.grove.entries ≡ length s.grove.entries
+  by_fault None is = ap (λ (u : Stock). length u.grove.entries) (applied is).1 ∙ told_count s i t lookup
+  by_fault (Some fault) is = ap (λ (u : Stock). length u.grove.entries) (subst (λ (o : Option LookupFault). IfSome o (λ fault. (result ≡ Err fault) × (new ≡ s))) is refused).1

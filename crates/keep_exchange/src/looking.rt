@@ -21,7 +21,7 @@ use vault_json::{Lookup, ReplyFault, lookup_body, read_lookup_lease, read_lookup
 
 /// Looks an entry up at `t` with the broker at that port, and makes of it what the broker says. `false`: no reply came, or
 /// none with status 200 that can be read, or it says what is not applied to this entry; the inventory is then as it was. The
-/// only error is want of memory.
+/// only error is want of memory. No lookup changes the number of entries.
 ///
 /// Where the broker's table is known, the reply is that of the Broker step, and the table is as that step leaves it.
 pub fn look_up<E: Exchange>(
@@ -35,6 +35,7 @@ pub fn look_up<E: Exchange>(
     requires { i < length inventory.old.grove.entries }
     ensures looked { IfSome (E.behind exchange.old) (λ old. LooksUp port old t inventory.old i result inventory.new (E.behind exchange.new)) }
     ensures unapplied { result ≢ Ok true → inventory.new ≡ inventory.old }
+    ensures count { length inventory.new.grove.entries ≡ length inventory.old.grove.entries }
 {
     let request = lookup_for(alloc, port, inventory, i)?;
     match exchange.exchange(alloc, t, &request) {
@@ -83,6 +84,7 @@ fn apply(
     requires { i < length inventory.old.grove.entries }
     ensures applied { IfOk result (λ is. looked inventory.old i t (Ok reply.now) ≡ behind_if is inventory.new) }
     ensures unapplied { result ≢ Ok true → inventory.new ≡ inventory.old }
+    ensures count { length inventory.new.grove.entries ≡ length inventory.old.grove.entries }
 {
     if reply.status != 200 {
         return Ok(false);

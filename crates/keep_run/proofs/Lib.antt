@@ -22,3 +22,5 @@ pub mod FaultWord
 pub mod PlannedRun
 pub mod LiveTicks
 pub mod LiveEnding
+pub mod LookedUp
+pub mod LiveOpening

@@ -28,16 +28,16 @@ use Rattle.keep_run.proofs.Rounds.{fits_as}
 
 -- ---- one text behind another
 
-appends_then : (a b c : Option (List ℕ)) (x y : List ℕ) → Appends a b x → Appends b c y → Appends a c (x ++ y)
+pub appends_then : (a b c : Option (List ℕ)) (x y : List ℕ) → Appends a b x → Appends b c y → Appends a c (x ++ y)
 appends_then None b c x y first second = tt
 appends_then (Some p) None c x y first second = absurd first
 appends_then (Some p) (Some q) None x y first second = absurd second
 appends_then (Some p) (Some q) (Some r) x y first second = second ∙ ap (λ l. l ++ y) first ∙ append_assoc p x y
 
-front_then : (a b c : Option (List ℕ)) (x y : List ℕ) → Appends a b x → AppendsFront b c y → AppendsFront a c (x ++ y)
+pub front_then : (a b c : Option (List ℕ)) (x y : List ℕ) → Appends a b x → AppendsFront b c y → AppendsFront a c (x ++ y)
 front_then a b c x y first second = (length x + second.0, subst (Appends a c) (sym (take-append-add x y second.0)) (appends_then a b c x (take second.0 y) first second.1))
 
-whole_front : (a b : Option (List ℕ)) (x y : List ℕ) → Appends a b x → AppendsFront a b (x ++ y)
+pub whole_front : (a b : Option (List ℕ)) (x y : List ℕ) → Appends a b x → AppendsFront a b (x ++ y)
 whole_front a b x y all = (length x, subst (Appends a b) (sym (take-append_seam x y)) all)
 
 -- a run's text so far, and with its last line

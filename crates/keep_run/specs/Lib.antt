@@ -10,4 +10,5 @@ pub mod Rehearse
 pub mod PlannedRehearsal
 pub mod EventLines
 pub mod Live
+pub mod Looking
 pub mod LiveRun

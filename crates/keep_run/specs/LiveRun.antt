@@ -1,6 +1,12 @@
--- LiveRun: how a live run ends.
+-- LiveRun: the live run: each entry is looked up, the keeper is planned from the start, and event lines are heard; and how it
+-- ends.
 -- Source: this project's own.
-use Rattle.std.specs.Prelude.{◌≡◌, ℕ, List, Err, codes}
+use Rattle.std.specs.Prelude.{◌≡◌, ℕ, ◌⊎◌, List, ◌++◌, Option, Some, Err, codes, length}
+use Rattle.keep_core.specs.Replan.{Replan, ReplanTooLong}
+use Rattle.keep_core.specs.State.{State, unplanned}
+use Rattle.keep_device.specs.Failures.{HasFailed}
+use Rattle.keep_device.specs.Front.{AppendsFront}
+use Rattle.keep_exchange.specs.Exchanges.{Behind}
 use Rattle.keep_inventory.specs.declared.fault.InvFault.{InvFault}
 use Rattle.keep_inventory.specs.Inventory.{inventory}
 use Rattle.keep_report.specs.declared.exit.Exit.{Exit}
@@ -9,8 +15,58 @@ use Rattle.keep_report.specs.declared.stop.Stop.{Stop}
 use Rattle.keep_report.specs.declared.stop.Stop.TheVariants as stops
 use Rattle.keep_report.specs.Exits.{exit_of}
 use Rattle.keep_report.specs.FaultLine.{fault_line}
-use Rattle.keep_report.specs.Sent.{IsUntouched, Sent}
+use Rattle.keep_report.specs.Sent.{IsAll, IsUntouched, Sent}
 use Rattle.keep_report.specs.Told.{Reports}
+use Rattle.keep_run.specs.Closed.{World, taken}
+use Rattle.keep_run.specs.Looking.{AreLookedUp, IsCut, IsLeft, IsSaid, IsUnlooked, Looked, first, looked_text}
+use Rattle.keep_run.specs.Stops.{both}
+use Rattle.keep_run.specs.Text.{short_lines}
+
+-- ---- the opening
+
+-- each entry was looked up at the start, and the keeper planned from there: the lines of all entries, and of the needs that
+-- were shortened
+pub record IsLiveOpening (port start : ℕ) (old : Looked) (opening : World) (text : List ℕ) : Type 0 where
+  pub looked : Looked
+  pub all : AreLookedUp port start old (first (length old.stock.grove.entries)) looked
+  pub keeper : State
+  pub planned : Replan (unplanned looked.stock.grove) start keeper
+  pub is : opening ≡ both (taken keeper) looked.behind
+  pub text_is : text ≡ looked_text looked.stock (first (length old.stock.grove.entries)) ++ short_lines looked.stock.grove keeper.shortened
+
+-- a run that was opened, with these credentials: its lines were written and flushed, and no write failed
+pub record IsOpened (port start : ℕ) (old : Looked) (credentials : List (List ℕ)) (keeper : State) (new : Option Behind) (out : Sent) : Type 0 where
+  pub same : credentials ≡ old.stock.credentials
+  pub behind : Behind
+  pub is : new ≡ Some behind
+  pub text : List ℕ
+  pub opened : IsLiveOpening port start old (both keeper behind) text
+  pub sent : IsAll text out
+  pub kept : out.failed_after ≡ out.failed_before
+
+-- all entries were looked up, and their lines written and flushed; the plan from the start is too long
+pub record IsUnplanned (port start : ℕ) (old : Looked) (out : Sent) (new : Option Behind) : Type 0 where
+  pub looked : Looked
+  pub all : AreLookedUp port start old (first (length old.stock.grove.entries)) looked
+  pub long : ReplanTooLong looked.stock.grove start
+  pub said : IsSaid (looked_text looked.stock (first (length old.stock.grove.entries))) out
+  pub left : new ≡ Some looked.behind
+
+-- no more than a front of the lines of the opening was written
+abbrev pub WritesOpening : ℕ → ℕ → Looked → Sent → Option Behind → Type 0
+WritesOpening port start old out new = (opening : World) × (text : List ℕ) × IsLiveOpening port start old opening text × AppendsFront out.old out.new text × (new ≡ Some opening.behind)
+
+-- why a run ends before it listens: a lookup is not applied; the plan is too long; or, behind some lookups or at the opening,
+-- the writer failed or memory was wanting
+abbrev pub EndsEarly : ℕ → ℕ → Looked → Stop → Sent → Option Behind → Type 0
+EndsEarly port start old (stops.Broker name) out new = IsUnlooked port start old name out new
+EndsEarly port start old stops.TooLong out new = IsUnplanned port start old out new
+EndsEarly port start old stops.Write out new =
+    HasFailed out.failed_before out.failed_after
+    × (((n : ℕ) × (now : Looked) × IsCut port start old now n out × (new ≡ Some now.behind)) ⊎ WritesOpening port start old out new)
+EndsEarly port start old stops.Memory out new =
+    ((n : ℕ) × (now : Looked) × IsCut port start old now n out × IsLeft port start now n new) ⊎ WritesOpening port start old out new
+EndsEarly port start old stop out new = ⊥
 
 -- why a run stops behind its inventory
 abbrev pub IsListenStop : Stop → Type 0

@@ -1,14 +1,17 @@
 //! The live run: lookups, and then event lines as they come.
+ghost use Rattle.std.specs.Prelude.{IfOk, IfSome, IsTrue, OnOk};
 ghost use Rattle.std.specs.Result.{IfErr};
-ghost use Rattle.keep_run.specs.LiveRun.{IsLiveStop, LiveEnds};
+ghost use Rattle.keep_run.specs.Live.{IsReady};
+ghost use Rattle.keep_run.specs.LiveRun.{EndsEarly, IsListenStop, IsLiveStop, IsOpened, LiveEnds};
 
 use crate::lines::push_short_lines;
 use crate::listening::listen;
 use crate::looking::look_all_up;
 use crate::rehearsal::opened;
+use keep_core::Keeper;
 use keep_device::{Sink, Source};
 use keep_exchange::Exchange;
-use keep_inventory::read;
+use keep_inventory::{Credentials, Inventory, read};
 use keep_moment::Moment;
 use keep_report::{Exit, Stop, Watched, send};
 use std::alloc::Global;
@@ -48,15 +51,9 @@ fn live<R: Source, E: Exchange, W: Sink>(
 ) -> Result<(), Stop>
     ensures { IfErr result (IsLiveStop bytes.now) }
 {
-    let mut inventory = read(alloc, bytes)?;
+    let inventory = read(alloc, bytes)?;
     let port = exchange.port();
-    look_all_up(alloc, &mut inventory, start, port, exchange, out)?;
-    let (forest, credentials) = inventory.into_parts();
-    let mut keeper = opened(alloc, forest, start)?;
-    let short = keeper.take_shortened();
-    let mut text = Vec::new(alloc);
-    push_short_lines(alloc, keeper.forest(), short.list(), &mut text)?;
-    send(out, &text)?;
+    let (mut keeper, credentials) = begin(alloc, inventory, start, port, exchange, out)?;
     listen(
         alloc,
         &mut keeper,
@@ -66,4 +63,31 @@ fn live<R: Source, E: Exchange, W: Sink>(
         exchange,
         out,
     )
+}
+
+/// Looks all entries up, plans from `start`, and writes and flushes the lines of both: the keeper, and the credentials that it
+/// asks with.
+fn begin<E: Exchange, W: Sink>(
+    alloc: Global,
+    inventory: Inventory,
+    start: Moment,
+    port: u16,
+    exchange: &mut E,
+    out: &mut W,
+) -> Result<(Keeper, Credentials), Stop>
+    ensures stops { IfErr result IsListenStop }
+    ensures early { IfErr result (λ stop. IfSome (E.behind exchange.old) (λ b. EndsEarly port start (record { stock = inventory; behind = b }) stop (⟦<W as Watched>⟧.sent out.old out.new) (E.behind exchange.new))) }
+    ensures opened { IfOk result (λ begun. IfSome (E.behind exchange.old) (λ b. IsOpened port start (record { stock = inventory; behind = b }) begun.1 begun.0 (E.behind exchange.new) (⟦<W as Watched>⟧.sent out.old out.new))) }
+    ensures ready { IfOk result (λ begun. IsReady begun.1 begun.0) }
+    ensures flushed { OnOk result (IsTrue (W.is_flushed out.new)) }
+{
+    let mut inventory = inventory;
+    look_all_up(alloc, &mut inventory, start, port, exchange, out)?;
+    let (forest, credentials) = inventory.into_parts();
+    let mut keeper = opened(alloc, forest, start)?;
+    let short = keeper.take_shortened();
+    let mut text = Vec::new(alloc);
+    push_short_lines(alloc, keeper.forest(), short.list(), &mut text)?;
+    send(out, &text)?;
+    Ok((keeper, credentials))
 }

@@ -1,18 +1,21 @@
 //! Looking the entries of an inventory up, one after another.
-ghost use Rattle.std.specs.Prelude.{◌<◌, length};
+ghost use Rattle.std.specs.Prelude.{◌≡◌, ◌<◌, IfSome, OnOk, length};
 ghost use Rattle.std.specs.Result.{IfErr};
 ghost use Rattle.keep_run.specs.LiveRun.{IsListenStop};
+ghost use Rattle.keep_run.specs.Looking.{LooksAllUp, LooksOneUp, looked_line};
+ghost use Rattle.keep_run.specs.Playing.{Finishes};
 
 use crate::lines::push_entry;
 use keep_device::Sink;
 use keep_exchange::{Exchange, look_up};
 use keep_inventory::Inventory;
 use keep_moment::{Moment, Text};
-use keep_report::{Stop, send};
-use keep_tree::MAX_ENTRIES;
+use keep_report::{Stop, Watched, send};
 use std::alloc::Global;
 
-/// Looks each entry up, by index, and writes its line.
+/// Looks each entry up at `start`, by index, and writes and flushes its line before the next is looked up.
+///
+/// Errors: `Broker`, with the name of the first entry whose lookup got no answer that can be applied; `Write`; `Memory`.
 pub(crate) fn look_all_up<E: Exchange, W: Sink>(
     alloc: Global,
     inventory: &mut Inventory,
@@ -21,22 +24,36 @@ pub(crate) fn look_all_up<E: Exchange, W: Sink>(
     exchange: &mut E,
     out: &mut W,
 ) -> Result<(), Stop>
-    ensures { IfErr result IsListenStop }
+    ensures stops { IfErr result IsListenStop }
+    ensures looked { IfSome (E.behind exchange.old) (λ b. LooksAllUp port start (record { stock = inventory.old; behind = b }) result (⟦<W as Watched>⟧.sent out.old out.new) inventory.new (E.behind exchange.new)) }
 {
-    for i in 0..MAX_ENTRIES as u32 {
-        if i >= inventory.forest().len() {
-            return Ok(());
-        }
-        let name = Text::of(alloc, inventory.forest().get(i).name.list())?;
-        if !look_up(alloc, exchange, start, port, inventory, i)? {
-            return Err(Stop::Broker(name));
-        }
-        // A lookup changes no number of entries.
-        if i < inventory.forest().len() {
-            write_entry(alloc, inventory, i, out)?;
-        }
+    let mut i = 0;
+    while i < inventory.forest().len() {
+        look_one_up(alloc, inventory, i, start, port, exchange, out)?;
+        i += 1;
     }
     Ok(())
+}
+
+/// Looks the entry `i` up, and writes and flushes its line.
+fn look_one_up<E: Exchange, W: Sink>(
+    alloc: Global,
+    inventory: &mut Inventory,
+    i: u32,
+    start: Moment,
+    port: u16,
+    exchange: &mut E,
+    out: &mut W,
+) -> Result<(), Stop>
+    requires { i < length inventory.old.grove.entries }
+    ensures stops { IfErr result IsListenStop }
+    ensures looked { IfSome (E.behind exchange.old) (λ b. LooksOneUp port start (record { stock = inventory.old; behind = b }) i result (⟦<W as Watched>⟧.sent out.old out.new) inventory.new (E.behind exchange.new)) }
+{
+    let name = Text::of(alloc, inventory.forest().get(i).name.list())?;
+    if !look_up(alloc, exchange, start, port, inventory, i)? {
+        return Err(Stop::Broker(name));
+    }
+    write_entry(alloc, inventory, i, out)
 }
 
 /// Writes and flushes the line of an entry that was looked up.
@@ -47,7 +64,9 @@ fn write_entry<W: Sink>(
     out: &mut W,
 ) -> Result<(), Stop>
     requires { i < length inventory.now.grove.entries }
-    ensures { IfErr result IsListenStop }
+    ensures stops { IfErr result IsListenStop }
+    ensures written { Finishes (looked_line inventory.now i) result (⟦<W as Watched>⟧.sent out.old out.new) }
+    ensures kept { OnOk result (W.failed_calls out.new ≡ W.failed_calls out.old) }
 {
     let entry = inventory.forest().get(i);
     let mut text = Vec::new(alloc);

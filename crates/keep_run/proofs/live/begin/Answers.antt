@@ -1,0 +1,65 @@
+use Rattle.std.proofs.Common.{◌≡◌, ◌∙◌, ◌++◌, ap, length, refl, sym, subst}
+use Rattle.keep_report.specs.declared.stop.Stop.TheVariants as stops
+use Rattle.keep_tree.specs.Forest.{Grove}
+use Rattle.keep_core.specs.State.{State}
+use Rattle.keep_run.specs.Text.{short_lines}
+use Rattle.keep_run.proofs.Rehearsed.{fits_opened}
+use Rattle.keep_run.proofs.LiveOpening.{for_err, memory_ends, opens, planning_ends, sending_ends}
+use Rattle.keep_run.proofs.Within.{AreOf, replan_within}
+use Rattle.keep_run.proofs.live.begin.Goals as goal
+
+pub push_short_lines-requires : goal.push_short_lines-requires
+push_short_lines-requires g c =
+    let k = c.in_ok-keeper.keeper in
+    let all = replan_within _ c.args.start k refl c.in_ok-keeper.ensures.opened in
+    subst (λ n. AreOf n c.list.result.now) (sym (ap (λ (h : Grove). length h.entries) (c.forest.ensures ∙ ap (λ (s : State). s.forest) c.take_shortened-short.ensures.after)))
+    (subst (AreOf (length k.forest.entries)) (sym (c.list.ensures ∙ c.take_shortened-short.ensures.value)) all)
+
+pub returns-clause-ready : goal.returns-clause-ready
+returns-clause-ready g c =
+    let fits = fits_opened c.look_all_up.new.inventory c.into_parts-forest.result.0 c.into_parts-forest.result.1 c.args.start c.in_ok-keeper.keeper c.take_shortened-short.new.self c.into_parts-forest.ensures.sound
+    c.into_parts-forest.ensures.forest c.into_parts-forest.ensures.credentials c.in_ok-keeper.ensures.opened c.take_shortened-short.ensures.after in
+    record { count = fits.count; quiet = ap (λ (s : State). s.shortened) c.take_shortened-short.ensures.after }
+
+pub returns-in_err-keeper-clause-early : goal.returns-in_err-keeper-clause-early
+returns-in_err-keeper-clause-early g c =
+    for_err c.from_residual-in_err-keeper.result c.in_err-keeper.field-0.0 _ c.from_residual-in_err-keeper.ensures
+    (planning_ends c.args.port c.args.start (g.E.Exchange.behind c.args.exchange.now) c.args.inventory c.look_all_up.new.inventory (g.E.Exchange.behind c.look_all_up.new.exchange)
+    (g.W.Device.written c.args.out.now) (g.W.Device.written c.look_all_up.new.out) (g.W.Device.written c.look_all_up.new.out) (g.W.Device.failed_calls c.args.out.now) (g.W.Device.failed_calls c.look_all_up.new.out) (g.W.Device.failed_calls c.look_all_up.new.out)
+    (g.W.Device.is_flushed c.args.out.now) (g.W.Device.is_flushed c.look_all_up.new.out) (g.W.Device.is_flushed c.look_all_up.new.out) g.W.Device.is_in_memory c.in_ok-look_all_up.ensures.looked
+    c.into_parts-forest.result.0 c.in_err-keeper.field-0.0 c.into_parts-forest.ensures.forest c.in_err-keeper.ensures.long)
+
+pub returns-in_err-push_short_lines-clause-early : goal.returns-in_err-push_short_lines-clause-early
+returns-in_err-push_short_lines-clause-early g c =
+    for_err c.from_residual-in_err-push_short_lines.result stops.Memory _ c.from_residual-in_err-push_short_lines.ensures
+    (memory_ends c.args.port c.args.start (g.E.Exchange.behind c.args.exchange.now) c.args.inventory c.look_all_up.new.inventory (g.E.Exchange.behind c.look_all_up.new.exchange)
+    (g.W.Device.written c.args.out.now) (g.W.Device.written c.look_all_up.new.out) (g.W.Device.written c.look_all_up.new.out) (g.W.Device.failed_calls c.args.out.now) (g.W.Device.failed_calls c.look_all_up.new.out) (g.W.Device.failed_calls c.look_all_up.new.out)
+    (g.W.Device.is_flushed c.args.out.now) (g.W.Device.is_flushed c.look_all_up.new.out) (g.W.Device.is_flushed c.look_all_up.new.out) g.W.Device.is_in_memory c.in_ok-look_all_up.ensures.looked stops.Memory refl)
+
+pub returns-in_err-send-clause-early : goal.returns-in_err-send-clause-early
+returns-in_err-send-clause-early g c =
+    let k = c.in_ok-keeper.keeper in
+    let lines : c.deref.result.now ≡ short_lines k.forest k.shortened =
+    c.deref.ensures.value ∙ c.in_ok-push_short_lines.ensures
+    ∙ ap (λ l. l ++ short_lines c.forest.result.now c.list.result.now) c.new-text.ensures.items
+    ∙ ap (λ h. short_lines h c.list.result.now) (c.forest.ensures ∙ ap (λ (s : State). s.forest) c.take_shortened-short.ensures.after)
+    ∙ ap (short_lines k.forest) (c.list.ensures ∙ c.take_shortened-short.ensures.value) in
+    for_err c.from_residual-in_err-send.result c.in_err-send.field-0.0 _ c.from_residual-in_err-send.ensures
+    (sending_ends c.args.port c.args.start (g.E.Exchange.behind c.args.exchange.now) c.args.inventory c.look_all_up.new.inventory (g.E.Exchange.behind c.look_all_up.new.exchange)
+    (g.W.Device.written c.args.out.now) (g.W.Device.written c.look_all_up.new.out) (g.W.Device.written c.send.new.out) (g.W.Device.failed_calls c.args.out.now) (g.W.Device.failed_calls c.look_all_up.new.out) (g.W.Device.failed_calls c.send.new.out)
+    (g.W.Device.is_flushed c.args.out.now) (g.W.Device.is_flushed c.look_all_up.new.out) (g.W.Device.is_flushed c.send.new.out) g.W.Device.is_in_memory c.in_ok-look_all_up.ensures.looked
+    c.into_parts-forest.result.0 k c.deref.result.now c.in_err-send.field-0.0 c.into_parts-forest.ensures.forest c.in_ok-keeper.ensures.opened lines c.in_err-send.ensures.sent)
+
+pub returns-clause-opened : goal.returns-clause-opened
+returns-clause-opened g c =
+    let k = c.in_ok-keeper.keeper in
+    let lines : c.deref.result.now ≡ short_lines k.forest k.shortened =
+    c.deref.ensures.value ∙ c.in_ok-push_short_lines.ensures
+    ∙ ap (λ l. l ++ short_lines c.forest.result.now c.list.result.now) c.new-text.ensures.items
+    ∙ ap (λ h. short_lines h c.list.result.now) (c.forest.ensures ∙ ap (λ (s : State). s.forest) c.take_shortened-short.ensures.after)
+    ∙ ap (short_lines k.forest) (c.list.ensures ∙ c.take_shortened-short.ensures.value) in
+    opens c.args.port c.args.start (g.E.Exchange.behind c.args.exchange.now) c.args.inventory c.look_all_up.new.inventory (g.E.Exchange.behind c.look_all_up.new.exchange)
+    (g.W.Device.written c.args.out.now) (g.W.Device.written c.look_all_up.new.out) (g.W.Device.written c.send.new.out) (g.W.Device.failed_calls c.args.out.now) (g.W.Device.failed_calls c.look_all_up.new.out) (g.W.Device.failed_calls c.send.new.out)
+    (g.W.Device.is_flushed c.args.out.now) (g.W.Device.is_flushed c.look_all_up.new.out) (g.W.Device.is_flushed c.send.new.out) g.W.Device.is_in_memory c.in_ok-look_all_up.ensures.looked
+    c.into_parts-forest.result.0 c.into_parts-forest.result.1 k c.take_shortened-short.new.self c.deref.result.now c.into_parts-forest.ensures.forest c.into_parts-forest.ensures.credentials c.in_ok-keeper.ensures.opened
+    c.take_shortened-short.ensures.after lines c.in_ok-send.ensures.sent c.in_ok-send.ensures.kept
