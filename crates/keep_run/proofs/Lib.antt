@@ -22,3 +22,6 @@ pub mod FaultWord
 pub mod PlannedRun
 pub mod LiveTicks
 pub mod LiveEnding
+pub mod Cut
+pub mod LineByLine
+pub mod EventsRead

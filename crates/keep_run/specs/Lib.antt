@@ -10,4 +10,6 @@ pub mod Rehearse
 pub mod PlannedRehearsal
 pub mod EventLines
 pub mod Live
+pub mod Listening
+pub mod LineByLine
 pub mod LiveRun

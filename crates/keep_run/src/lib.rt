@@ -8,9 +8,11 @@
 
 mod event_line;
 mod fault_words;
+mod feeding;
 mod hearing;
 pub mod laws;
 mod lines;
+mod listening;
 mod live;
 mod opening;
 mod playing;
@@ -23,7 +25,8 @@ mod waking;
 
 pub use event_line::{Heard, MOST_LINE, heard_in};
 pub use hearing::hear;
-pub use live::{MOST_EVENT_READS, MOST_EVENTS, run_live};
+pub use listening::{EVENT_ROOM, MOST_EVENT_READS, MOST_EVENTS};
+pub use live::run_live;
 pub use playing::MOST_WAKES;
 pub use rehearsal::run_rehearse;
 pub use renewing::{event_from, request_for};

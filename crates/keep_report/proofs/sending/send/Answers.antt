@@ -2,8 +2,8 @@ use Rattle.std.specs.Io.KnownBytes.{Appends}
 use Rattle.keep_report.proofs.Fronts.{unsent, whole_front}
 use Rattle.keep_report.proofs.sending.send.Goals as goal
 
-pub returns-in_err-flush : goal.returns-in_err-flush
-returns-in_err-flush g c =
+pub returns-in_err-flush-clause-sent : goal.returns-in_err-flush-clause-sent
+returns-in_err-flush-clause-sent g c =
     let old = g.W.Device.written c.args.out.now in
     let mid = g.W.Device.written c.write_all.new.sink in
     let whole : Appends old mid c.args.text.now = c.in_ok-write_all.ensures.written in
