@@ -23,9 +23,9 @@ module _ (p : ℕ → Bool) where
   glued_cons l (m ∷ ms) ys some = refl
 
   glued_onto : (x : ℕ) (parts : List (List ℕ)) (ys : List ℕ) → p x ≡ false → parts ≢ [] → glued (onto_first x parts) ys ≡ onto_first x (glued parts ys)
-  glued_onto x [] ys no some = absurd (some refl)
-  glued_onto x (q ∷ []) ys no some = slice_split-cons_no p x (q ++ ys) no
-  glued_onto x (q ∷ m ∷ ms) ys no some = refl
+  glued_onto x [] ys lacks some = absurd (some refl)
+  glued_onto x (q ∷ []) ys lacks some = slice_split-cons_no p x (q ++ ys) lacks
+  glued_onto x (q ∷ m ∷ ms) ys lacks some = refl
 
   some_piece : (xs : List ℕ) → slice_split p xs ≢ []
   some_piece xs e = omega (arith, length-slice_split p xs, ap length e)

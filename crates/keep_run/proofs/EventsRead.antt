@@ -1,10 +1,11 @@
 -- EventsRead: what was read so far is heard line by line, and how that goes on and ends: for `listen_to`.
-use Rattle.std.proofs.Common.{◌≡◌, ℕ, ◌+◌, ◌-◌, ◌^◌, ◌<◌, ◌≤◌, ◌⊎◌, inl, inr, Bool, true, false, cond, min, nat_lt, List, [], ◌∷◌, ◌++◌, Option, Some, None, IfSome, Result, Ok, Err, IsTrue, drop, length, length-append, length-take-le, take, take-append-drop, take-append-le, take_all, refl, sym, ap, ◌∙◌, subst, arith}
-use Rattle.std.proofs.KnownBytes.{Consumes-kept, Consumes-nil, Consumes-trans}
-use Rattle.std.proofs.lemmas.List.{append-nil}
+use Rattle.std.proofs.Common.{◌≡◌, ℕ, ◌+◌, ◌-◌, ◌^◌, ◌<◌, ◌≤◌, ◌⊎◌, inl, inr, Bool, true, false, cond, min, nat_lt, List, [], ◌∷◌, ◌++◌, Option, Some, None, IfSome, OnOk, Result, Ok, Err, IsTrue, drop, length, length-append, take, take-append-drop, refl, sym, ap, ◌∙◌, subst, arith}
+use Rattle.std.proofs.KnownBytes.{Appends-nil, Consumes-kept, Consumes-nil, Consumes-trans}
+use Rattle.std.proofs.lemmas.List.{append-nil, length-take-le, take-append-le, take_all}
 use Rattle.std.proofs.lemmas.Bool.{cases_lt}
 use Rattle.std.proofs.Math.Seq.{take-append-add}
 use Rattle.std.proofs.lemmas.Bool.Decides.{nat_tests}
+use Rattle.std.specs.Result.{IfErr}
 use Rattle.std.specs.Io.KnownBytes.{Appends, Consumes, IsAtEnd, Keeps}
 use Rattle.keep_words.specs.Pieces.{pieces}
 use Rattle.keep_device.specs.Failures.{one_more}
@@ -17,6 +18,7 @@ use Rattle.keep_run.specs.declared.listening.TheConstants.{EVENT_ROOM, MOST_EVEN
 use Rattle.keep_run.specs.LineByLine.{HaltsWithin, HearsUpTo, IsListening, IsSent}
 use Rattle.keep_run.specs.Listening.{Fed, Halts, HaveEnded, IsHeardFirst, IsPrompt, Listens, ListensTo, MakesAtLeast}
 use Rattle.keep_run.specs.Live.{Side}
+use Rattle.keep_run.specs.LiveRun.{IsListenStop}
 use Rattle.keep_run.proofs.Cut.{pieces_more}
 use Rattle.keep_run.proofs.LineByLine.{halts_behind, halts_where, joined, up_to_first, up_to_then}
 
@@ -86,6 +88,33 @@ ends_at port cs read number old behind text stops.Write new fed out failed h = (
 ends_at port cs read number old behind text (stops.Broker name) new fed out failed h = absurd h
 ends_at port cs read number old behind text (stops.Line n) new fed out failed h = (failed, halts_where port cs number old behind text (stops.Line n) new ⊥ (HaveEnded read fed) out (λ e. absurd e) h)
 ends_at port cs read number old behind text stops.Memory new fed out failed h = (failed, h)
+
+-- nothing is read, since memory was wanting
+pub not_begun : (port : ℕ) (cs : List (List ℕ)) (old : Side) (fed : Fed) (out : Sent) → fed.new ≡ fed.old → fed.reads_after ≡ fed.reads_before → fed.failed_after ≡ fed.failed_before → out.new ≡ out.old → Listens port cs old (Err stops.Memory) old fed out
+not_begun port cs old fed out same reads failed none = record {
+  read = [];
+  consumed = subst (λ o. Consumes fed.old o []) (sym same) (Consumes-nil fed.old);
+  reads = most_within fed.old 0 MOST_EVENT_READS fed.reads_before fed.reads_after (omega arith) (none_most fed.old fed.reads_before fed.reads_after reads);
+  lines = [];
+  behind = [] ∷ [];
+  mid = old;
+  text = [];
+  heard = subst (λ bs. IsHeardFirst port cs old bs [] ([] ∷ []) old []) (sym (take_all MOST_EVENTS [] (omega arith))) (record { cut = nothing_cut; heard = (refl, refl) });
+  prompt = record { before = []; last = []; parts = refl; room = omega arith; few = omega arith; first = []; later = []; heard = refl; rest = []; cut = nothing_cut; short = omega arith };
+  ends = (failed, inl (subst (λ o. Appends out.old o []) (sym none) (Appends-nil out.old)));
+}
+
+-- why listening stops
+pub listening_stops : (port : ℕ) (cs : List (List ℕ)) (old : Side) (stop : Stop) (new : Side) (fed : Fed) (out : Sent) → Listens port cs old (Err stop) new fed out → IsListenStop stop
+listening_stops port cs old (stops.Inventory fault) new fed out h = absurd h.ends.1
+listening_stops port cs old (stops.Moments fault) new fed out h = absurd h.ends.1
+listening_stops port cs old (stops.FaultWord n) new fed out h = absurd h.ends.1
+listening_stops port cs old stops.TooLong new fed out h = tt
+listening_stops port cs old stops.Read new fed out h = tt
+listening_stops port cs old stops.Write new fed out h = tt
+listening_stops port cs old (stops.Broker name) new fed out h = tt
+listening_stops port cs old (stops.Line n) new fed out h = tt
+listening_stops port cs old stops.Memory new fed out h = tt
 
 -- a front of a piece that was read, as far as more may be read
 front_of : (room : List ℕ) (n left : ℕ) → n ≤ length room → take left (take n room) ≡ take (min n left) room
@@ -162,9 +191,6 @@ module _ (port : ℕ) (cs : List (List ℕ)) (old : Side) (k : ℕ) (pending : L
   -- the events have ended
   module _ (rest : Option (List ℕ)) (reads failures : ℕ) (piece : List ℕ) (taken : Consumes fed.new rest piece) (none : piece ≡ []) (end : IsAtEnd rest) (counted : IfSome fed.new (λ _. reads ≡ one_more fed.reads_after))
       (failed : failures ≡ fed.failed_after) (few : k < MOST_EVENT_READS) where
-    then' : Fed
-    then' = record fed { new = rest; reads_after = reads; failed_after = failures }
-
     consumed_all : Consumes fed.old rest h.read
     consumed_all = subst (Consumes fed.old rest) (ap (λ p. h.read ++ p) none ∙ append-nil h.read) (Consumes-trans fed.old fed.new rest h.read piece h.consumed taken)
 
@@ -188,6 +214,12 @@ module _ (port : ℕ) (cs : List (List ℕ)) (old : Side) (k : ℕ) (pending : L
 
     pub ended_within : 0 < length pending → Listens port cs old (Err (stops.Line (last + 1))) now (record fed { new = rest; reads_after = reads; failed_after = failures }) a
     ended_within some = ends_so (Err (stops.Line (last + 1))) (failed ∙ h.failed, (number, (inr ((end, few_read), some), (refl, h.up_to.sent.0))))
+
+    pub ended_as :
+        (result : Result (Unit {0}) Stop) → OnOk result (pending ≡ []) → IfErr result (λ (stop : Stop). (stop ≡ stops.Line (last + 1)) × (0 < length pending)) →
+        Listens port cs old result now (record fed { new = rest; reads_after = reads; failed_after = failures }) a
+    ended_as (Ok u) none' some' = ended none'
+    ended_as (Err stop) none' some' = subst (λ (r : Stop). Listens port cs old (Err r) now (record fed { new = rest; reads_after = reads; failed_after = failures }) a) (sym some'.0) (ended_within some'.1)
 
   -- bytes were read, of which so many are heard
   module _ (rest : Option (List ℕ)) (reads failures : ℕ) (room : List ℕ) (n : ℕ) (taken : Consumes fed.new rest (take n room)) (counted : IfSome fed.new (λ _. reads ≡ one_more fed.reads_after))
@@ -213,7 +245,7 @@ module _ (port : ℕ) (cs : List (List ℕ)) (old : Side) (k : ℕ) (pending : L
         let so : MOST_EVENTS ≡ length h.read + left = omega (arith, w) in
         ap (λ m. take m now_read) so ∙ take-append-add h.read (take n room) left ∙ ap (λ t. h.read ++ t) (front_of room n left within)
 
-    behind_read : HearsUpTo port cs 0 old (h.read ++ took) (pieces 10 (pending ++ took)) now last a
+    abbrev behind_read : HearsUpTo port cs 0 old (h.read ++ took) (pieces 10 (pending ++ took)) now last a
     behind_read = record {
       lines = h.up_to.lines;
       text = h.up_to.text;
@@ -271,8 +303,10 @@ module _ (port : ℕ) (cs : List (List ℕ)) (old : Side) (k : ℕ) (pending : L
       pub halted : (stop : Stop) (new : Side) → HaltsWithin port cs last now (pending ++ took) stop new b → Listens port cs old (Err stop) new after (joined a b)
       halted stop new w =
           let all = halts_behind port cs 0 old (h.read ++ took) (pending ++ took) now last a b stop new same failures' behind_read w in
+          let none_before : 0 + length (h.up_to.lines ++ w.lines) + 1 ≡ length (h.up_to.lines ++ w.lines) + 1 = omega arith in
           listens_more (Err stop) w.lines w.behind w.mid all.text new (joined a b) all.heard
-          (ends_at port cs now_read (length (h.up_to.lines ++ w.lines) + 1) w.mid w.behind all.text stop new after (joined a b) (failed ∙ h.failed) all.halts)
+          (ends_at port cs now_read (length (h.up_to.lines ++ w.lines) + 1) w.mid w.behind all.text stop new after (joined a b) (failed ∙ h.failed)
+          (subst (λ m. Halts port cs m w.mid w.behind all.text stop new ⊥ (joined a b)) none_before all.halts))
 
       -- there is more than may be
       pub too_many :

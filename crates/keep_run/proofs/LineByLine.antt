@@ -1,17 +1,27 @@
 -- LineByLine: lines behind lines, and a stop behind lines.
-use Rattle.std.proofs.Common.{◌≡◌, ℕ, ◌+◌, ◌<◌, ◌≤◌, ◌⊎◌, inl, inr, List, [], ◌∷◌, ◌++◌, Option, Some, None, Result, Ok, Err, IsTrue, length, length-append, take, refl, sym, ap, ◌∙◌, subst, arith}
+use Rattle.std.proofs.Common.{◌≡◌, ℕ, ◌+◌, ◌<◌, ◌≤◌, ◌⊎◌, ◌-◌, inl, inr, List, [], ◌∷◌, ◌++◌, Option, Some, None, OnOk, Result, Ok, Err, IsTrue, drop, length, length-append, take, refl, sym, ap, ◌∙◌, subst, arith}
 use Rattle.std.proofs.KnownBytes.{Appends-trans}
-use Rattle.std.proofs.lemmas.List.{append-nil, append_assoc}
+use Rattle.std.specs.Result.{IfErr, IsErr, IsErrAnd}
+use Rattle.std.proofs.Math.Seq.{drop-append_seam}
+use Rattle.std.proofs.lemmas.List.{append-nil, append_assoc, drop-drop}
 use Rattle.std.specs.Io.KnownBytes.{Appends}
 use Rattle.keep_words.specs.Pieces.{pieces}
 use Rattle.keep_device.specs.Failures.{HasFailed}
 use Rattle.keep_tree.specs.Forest.{Grove}
+use Rattle.keep_core.specs.State.{State}
+use Rattle.keep_exchange.specs.Exchanges.{Behind}
 use Rattle.keep_report.specs.declared.stop.Stop.{Stop}
 use Rattle.keep_report.specs.declared.stop.Stop.TheVariants as stops
-use Rattle.keep_report.specs.Sent.{IsAll, Sent}
+use Rattle.keep_report.specs.Sent.{IsAll, Sends, Sent}
 use Rattle.keep_run.specs.LineByLine.{HaltsWithin, HearsLine, HearsUpTo, IsSent}
 use Rattle.keep_run.specs.Listening.{AreHeard, Halts, IsCutShort, IsHeardFirst, IsLineHeard, IsNoEvent}
-use Rattle.keep_run.specs.Live.{Side}
+use Rattle.keep_run.specs.Live.{Between, IsHeard, Side, side}
+use Rattle.keep_run.specs.EventLines.{heard_in}
+use Rattle.keep_run.specs.Stops.{both}
+use Rattle.keep_run.specs.declared.event_line.Heard.{Heard}
+use Rattle.keep_run.specs.declared.event_line.TheConstants.{MOST_LINE}
+use Rattle.keep_run.proofs.Cut.{cut_back, first_piece}
+use Rattle.keep_run.proofs.LiveTicks.{between_as}
 
 -- ---- what was sent, and then more
 
@@ -66,6 +76,12 @@ module _ (a b : Sent) (same : a.new ≡ b.old) (failures : a.failed_after ≡ b.
         | inr some ↦ inr (some.0, (some.1.0, (some.1.1.0, short_then port cs old new some.1.0 t u first some.1.1.1)))
       ]
 
+-- ---- a stop that is handed on
+
+pub handed_on : {X : Type 0} (answer : Result X Stop) (stop : Stop) (P : Result X Stop → Type 0) → IsErr answer × IsErrAnd answer (λ (q : Stop). q ≡ stop) → P (Err stop) → P answer
+handed_on (Ok x) stop P is h = absurd (let none = is.0 in cc)
+handed_on (Err q) stop P is h = subst (λ (r : Stop). P (Err r)) (sym is.1) h
+
 -- ---- whether the events have ended
 
 no_event_where : (g : Grove) (behind : List (List ℕ)) (P Q : Type 0) → (P → Q) → IsNoEvent g behind P → IsNoEvent g behind Q
@@ -86,6 +102,34 @@ halts_where port cs number old behind text (stops.Broker name) new P Q out f h =
 halts_where port cs number old behind text (stops.Line n) new P Q out f h = (h.0, (no_event_where old.keeper.forest behind P Q f h.1.0, h.1.1))
 halts_where port cs number old behind text stops.Memory new P Q out f h = h
 
+-- ---- one line
+
+-- by the names that its code has
+pub heard_line :
+    (port : ℕ) (cs : List (List ℕ)) (o n : Option Behind) (old new : State) (line before after : List ℕ) (says : Heard) → before ≡ [] → heard_in old.forest line ≡ Some says →
+    (port ≡ 8200 → Between o n (λ b a. (lines : List ℕ) × (IsHeard cs (both old b) says (both new a) lines × (after ≡ before ++ lines)))) → IsLineHeard port cs (side old o) line (side new n) after
+heard_line port cs o n old new line before after says empty is heard = record {
+  says = says;
+  is = is;
+  heard = λ p. between_as o n (λ b a. (lines : List ℕ) × (IsHeard cs (both old b) says (both new a) lines × (after ≡ before ++ lines))) (λ b a. IsHeard cs (both old b) says (both new a) after)
+      (λ b a h. subst (λ t. IsHeard cs (both old b) says (both new a) t) (sym (h.1.1 ∙ ap (λ l. l ++ h.0) empty)) h.1.0) (heard p);
+}
+
+-- its text is sent, or why only a front of it is
+pub line_sent :
+    (port : ℕ) (cs : List (List ℕ)) (number : ℕ) (old : Side) (line : List ℕ) (new : Side) (text : List ℕ) (result : Result (Unit {0}) Stop) (out : Sent) → IsLineHeard port cs old line new text → Sends result text out →
+    OnOk result (out.failed_after ≡ out.failed_before) → HearsLine port cs number old line result new out
+line_sent port cs number old line new text (Ok u) out one sent count = (text, (one, (sent, count)))
+line_sent port cs number old line new text (Err (stops.Inventory fault)) out one sent count = absurd sent
+line_sent port cs number old line new text (Err (stops.Moments fault)) out one sent count = absurd sent
+line_sent port cs number old line new text (Err (stops.FaultWord n)) out one sent count = absurd sent
+line_sent port cs number old line new text (Err stops.TooLong) out one sent count = absurd sent
+line_sent port cs number old line new text (Err stops.Read) out one sent count = absurd sent
+line_sent port cs number old line new text (Err stops.Write) out one sent count = λ next more. (sent.0, (line, (refl, record { own = text; heard = one; n = sent.1.0; front = sent.1.1 })))
+line_sent port cs number old line new text (Err (stops.Broker name)) out one sent count = absurd sent
+line_sent port cs number old line new text (Err (stops.Line n)) out one sent count = absurd sent
+line_sent port cs number old line new text (Err stops.Memory) out one sent count = λ next more. inr (sent.0, (line, (refl, record { own = text; heard = one; n = sent.1.0; front = sent.1.1 })))
+
 -- ---- lines
 
 pub heard_then :
@@ -98,6 +142,25 @@ heard_then port cs old mid new (line ∷ lines) more t u first second =
 
 pub heard_one : (port : ℕ) (cs : List (List ℕ)) (old new : Side) (line text : List ℕ) → IsLineHeard port cs old line new text → AreHeard port cs old (line ∷ []) new text
 heard_one port cs old new line text h = (new, (text, ([], (h, ((refl, refl), sym (append-nil text))))))
+
+-- ---- bytes
+
+-- what stands behind the first line of what stands behind others
+pub behind_line :
+    (bytes rest line behind : List ℕ) → pieces 10 rest ≡ line ∷ pieces 10 behind → drop (length bytes - length rest) bytes ≡ rest → length rest ≤ length bytes →
+    (drop (length bytes - length behind) bytes ≡ behind) × (length behind < length rest)
+behind_line bytes rest line behind e before within =
+    let whole : rest ≡ (line ++ 10 ∷ []) ++ behind = cut_back 10 rest line behind e ∙ sym (append_assoc line (10 ∷ []) behind) in
+    let front : length (line ++ 10 ∷ []) ≡ length line + 1 = length-append line (10 ∷ []) in
+    let both' : length ((line ++ 10 ∷ []) ++ behind) ≡ length (line ++ 10 ∷ []) + length behind = length-append (line ++ 10 ∷ []) behind in
+    let longer : length rest ≡ length (line ++ 10 ∷ []) + length behind = ap length whole ∙ both' in
+    let place : length bytes - length behind ≡ (length bytes - length rest) + length (line ++ 10 ∷ []) = omega (arith, longer, within) in (
+      ap (λ n. drop n bytes) place
+          ∙ sym (drop-drop (length (line ++ 10 ∷ [])) (length bytes - length rest) bytes)
+          ∙ ap (drop (length (line ++ 10 ∷ []))) (before ∙ whole)
+          ∙ drop-append_seam (line ++ 10 ∷ []) behind,
+      omega (arith, longer, front),
+    )
 
 -- ---- lines of these bytes
 
@@ -181,3 +244,29 @@ module _ (port : ℕ) (cs : List (List ℕ)) where
             subst (λ n. Halts port cs n k.mid k.behind (h.text ++ k.text) stop new ⊥ (joined a b)) number
             (halts_then a b same failures port cs (middle + length k.lines + 1) k.mid k.behind h.text k.text stop new ⊥ h.sent k.halts);
       }
+
+  -- by the names that the loop over lines has
+  pub heard_on :
+      (first : ℕ) (old : Side) (bytes rest line behind : List ℕ) (mid : Side) (last : ℕ) (a b : Sent) (new : Side) → a.new ≡ b.old → a.failed_after ≡ b.failed_before →
+      HearsUpTo port cs first old bytes (pieces 10 rest) mid last a → pieces 10 rest ≡ line ∷ pieces 10 behind → HearsLine port cs (last + 1) mid line (Ok tt) new b →
+      HearsUpTo port cs first old bytes (pieces 10 behind) new (last + 1) (joined a b)
+  heard_on first old bytes rest line behind mid last a b new same failures h e one =
+      up_to_line first old bytes line (pieces 10 behind) mid last a b new one.0 same failures (subst (λ ps. HearsUpTo port cs first old bytes ps mid last a) e h) one.1.0 one.1.1
+
+  pub stopped_on :
+      (first : ℕ) (old : Side) (bytes rest line behind : List ℕ) (mid : Side) (last : ℕ) (a b : Sent) (stop : Stop) (new : Side) → a.new ≡ b.old → a.failed_after ≡ b.failed_before →
+      HearsUpTo port cs first old bytes (pieces 10 rest) mid last a → pieces 10 rest ≡ line ∷ pieces 10 behind → HearsLine port cs (last + 1) mid line (Err stop) new b →
+      HaltsWithin port cs first old bytes stop new (joined a b)
+  stopped_on first old bytes rest line behind mid last a b stop new same failures h e one =
+      let f = first_piece 10 behind in
+      let all : pieces 10 rest ≡ line ∷ f.0 ∷ f.1.0 = e ∙ ap (λ ps. line ∷ ps) f.1.1 in
+      halts_at first old bytes (line ∷ f.0 ∷ f.1.0) mid last a b stop new same failures (subst (λ ps. HearsUpTo port cs first old bytes ps mid last a) all h) (one f.0 f.1.0)
+
+  -- what stands behind the last line is as long as an event line may be
+  pub long_rest :
+      (first : ℕ) (old : Side) (bytes rest : List ℕ) (mid : Side) (last : ℕ) (a : Sent) → HearsUpTo port cs first old bytes (rest ∷ []) mid last a → MOST_LINE ≤ length rest →
+      HaltsWithin port cs first old bytes (stops.Line (last + 1)) mid a
+  long_rest first old bytes rest mid last a h long =
+      let count = h.count in
+      let number : last + 1 ≡ first + length h.lines + 1 = omega (arith, count) in
+      record { lines = h.lines; behind = rest ∷ []; mid = mid; text = h.text; heard = h.heard; halts = (number, (inl long, (refl, h.sent.0))) }

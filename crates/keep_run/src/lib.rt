@@ -14,6 +14,7 @@ pub mod laws;
 mod lines;
 mod listening;
 mod live;
+mod looking;
 mod opening;
 mod playing;
 mod rehearsal;

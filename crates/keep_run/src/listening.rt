@@ -7,6 +7,7 @@ ghost use Rattle.keep_run.specs.declared.event_line.TheConstants.{MOST_LINE};
 ghost use Rattle.keep_run.specs.LineByLine.{HaltsWithin, HearsLine, HearsUpTo};
 ghost use Rattle.keep_run.specs.Listening.{Listens};
 ghost use Rattle.keep_run.specs.Live.{IsReady, side};
+ghost use Rattle.keep_run.specs.LiveRun.{IsListenStop};
 
 use crate::event_line::{MOST_LINE, heard_in};
 use crate::feeding::Feeding;
@@ -48,6 +49,7 @@ pub(crate) fn listen<R: Source, E: Exchange, W: Sink>(
     requires flushed { IsTrue (W.is_flushed out.old) }
     ensures listens { Listens port credentials.now (side keeper.old (E.behind exchange.old)) result (side keeper.new (E.behind exchange.new)) (⟦<R as Feeding>⟧.fed events.old events.new) (⟦<W as Watched>⟧.sent out.old out.new) }
     ensures written { Keeps (R.written events.old) (R.written events.new) }
+    ensures stops { IfErr result IsListenStop }
 {
     let mut room = zeros(alloc, EVENT_ROOM)?;
     let mut pending = Vec::new(alloc);
@@ -164,6 +166,7 @@ fn hear_pending<E: Exchange, W: Sink>(
 }
 
 /// Hears the lines of these bytes that are whole, counts them, and gives the length of them all.
+#[tactic(auto, using(crate::proofs::LineByLine::behind_line))]
 fn hear_whole<E: Exchange, W: Sink>(
     alloc: Global,
     keeper: &mut Keeper,

@@ -12,8 +12,8 @@ push_short_lines-requires g c =
     subst (λ n. AreOf n c.list.result.now) (sym (ap (λ (h : Grove). length h.entries) (c.forest.ensures ∙ ap (λ (s : State). s.forest) c.take_shortened-short.ensures.after)))
     (subst (AreOf (length k.forest.entries)) (sym (c.list.ensures ∙ c.take_shortened-short.ensures.value)) all)
 
-pub listen-requires : goal.listen-requires
-listen-requires g c =
+pub listen-requires-clause-ready : goal.listen-requires-clause-ready
+listen-requires-clause-ready g c =
     let fits = fits_opened c.look_all_up.new.inventory c.into_parts-forest.result.0 c.into_parts-forest.result.1 c.args.start c.in_ok-keeper.keeper c.take_shortened-short.new.self c.into_parts-forest.ensures.sound
     c.into_parts-forest.ensures.forest c.into_parts-forest.ensures.credentials c.in_ok-keeper.ensures.opened c.take_shortened-short.ensures.after in
     record { count = fits.count; quiet = ap (λ (s : State). s.shortened) c.take_shortened-short.ensures.after }
