@@ -9,7 +9,7 @@ use keep_device::{Sink, write_all};
 /// that a front of the text went out, or all of it without the flush.
 pub fn send<W: Sink>(out: &mut W, text: &[u8]) -> Result<(), Stop>
     ensures sent { Sends result text.now (⟦<W as Watched>⟧.sent out.old out.new) }
-    ensures kept { OnOk result (W.failed_calls out.new ≡ W.failed_calls out.old) }
+    ensures count { OnOk result (W.failed_calls out.new ≡ W.failed_calls out.old) }
 {
     write_all(out, text)?;
     out.flush()?;

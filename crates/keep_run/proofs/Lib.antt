@@ -24,3 +24,7 @@ pub mod LiveTicks
 pub mod LiveEnding
 pub mod LookedUp
 pub mod LiveOpening
+pub mod Cut
+pub mod LineByLine
+pub mod EventsRead
+pub mod LiveListening

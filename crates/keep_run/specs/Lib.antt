@@ -11,4 +11,6 @@ pub mod PlannedRehearsal
 pub mod EventLines
 pub mod Live
 pub mod Looking
+pub mod Listening
+pub mod LineByLine
 pub mod LiveRun

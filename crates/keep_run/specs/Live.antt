@@ -1,10 +1,11 @@
 -- Live: what an event line comes to: what the keeper puts out, whom it asks, and the lines that say so.
 -- Source: this project's own.
-use Rattle.std.specs.Prelude.{◌≡◌, ℕ, ◌<◌, ◌⊎◌, List, [], ◌∷◌, ◌++◌, Option, Some, None, Ok, IfSome, codes, decimal, length, map}
+use Rattle.std.specs.Prelude.{◌≡◌, ℕ, ◌<◌, ◌⊎◌, List, [], ◌∷◌, ◌++◌, Option, Some, None, Ok, Err, IfSome, codes, decimal, length, map}
 use Rattle.std.specs.List.{flat_map}
 use Rattle.keep_core.specs.declared.event.Event.TheVariants as events
 use Rattle.keep_core.specs.declared.event.Output.{Output}
 use Rattle.keep_core.specs.declared.event.Output.TheVariants as out
+use Rattle.keep_core.specs.declared.fault.StepFault.TheVariants as steps
 use Rattle.keep_core.specs.History.{Turn}
 use Rattle.keep_core.specs.State.{State}
 use Rattle.keep_exchange.specs.Exchanges.{Behind}
@@ -77,8 +78,16 @@ pub record IsReady (cs : List (List ℕ)) (keeper : State) : Type 0 where
   pub count : length cs ≡ length keeper.forest.entries
   pub quiet : keeper.shortened ≡ []
 
--- why an event line stops a run
-abbrev pub IsHearingStop : Stop → Type 0
-IsHearingStop stops.TooLong = Unit {0}
-IsHearingStop stops.Memory = Unit {0}
-IsHearingStop stop = ⊥
+-- the keeper, and what stands behind the exchange, where it is known
+pub record Side : Type 0 where
+  pub keeper : State
+  pub behind : Option Behind
+
+abbrev pub side : State → Option Behind → Side
+side keeper behind = record { keeper = keeper; behind = behind }
+
+-- why an event line stops a run: the plan with its new need would be too long, and nothing is changed; or memory was wanting
+abbrev pub StopsHearing : Side → Heard → Stop → Side → Type 0
+StopsHearing old (Need i until) stops.TooLong new = Turn old.keeper (events.Need i until) (Err steps.TooLong) new.keeper × (new.behind ≡ old.behind)
+StopsHearing old heard stops.Memory new = Unit {0}
+StopsHearing old heard stop new = ⊥

@@ -1,14 +1,17 @@
 -- LiveRun: the live run: each entry is looked up, the keeper is planned from the start, and event lines are heard; and how it
 -- ends.
 -- Source: this project's own.
-use Rattle.std.specs.Prelude.{◌≡◌, ℕ, ◌⊎◌, List, ◌++◌, Option, Some, Err, codes, length}
+use Rattle.std.specs.Prelude.{◌≡◌, ℕ, ◌+◌, ◌⊎◌, List, ◌++◌, Option, Some, Result, Ok, Err, codes, length, take}
+use Rattle.std.specs.Io.KnownBytes.{Consumes, Keeps}
 use Rattle.keep_core.specs.Replan.{Replan, ReplanTooLong}
 use Rattle.keep_core.specs.State.{State, unplanned}
 use Rattle.keep_device.specs.Failures.{HasFailed}
 use Rattle.keep_device.specs.Front.{AppendsFront}
+use Rattle.keep_device.specs.Whole.{MakesAtMost}
 use Rattle.keep_exchange.specs.Exchanges.{Behind}
 use Rattle.keep_inventory.specs.declared.fault.InvFault.{InvFault}
 use Rattle.keep_inventory.specs.Inventory.{inventory}
+use Rattle.keep_inventory.specs.Stock.{Stock}
 use Rattle.keep_report.specs.declared.exit.Exit.{Exit}
 use Rattle.keep_report.specs.declared.exit.Exit.TheVariants as exits
 use Rattle.keep_report.specs.declared.stop.Stop.{Stop}
@@ -18,9 +21,13 @@ use Rattle.keep_report.specs.FaultLine.{fault_line}
 use Rattle.keep_report.specs.Sent.{IsAll, IsUntouched, Sent}
 use Rattle.keep_report.specs.Told.{Reports}
 use Rattle.keep_run.specs.Closed.{World, taken}
+use Rattle.keep_run.specs.declared.listening.TheConstants.{MOST_EVENTS, MOST_EVENT_READS}
+use Rattle.keep_run.specs.Listening.{AreHeard, Fed, IsPrompt, ListensTo}
+use Rattle.keep_run.specs.Live.{Side, side}
 use Rattle.keep_run.specs.Looking.{AreLookedUp, IsCut, IsLeft, IsSaid, IsUnlooked, Looked, first, looked_text}
 use Rattle.keep_run.specs.Stops.{both}
 use Rattle.keep_run.specs.Text.{short_lines}
+use Rattle.keep_words.specs.Pieces.{pieces}
 
 -- ---- the opening
 
@@ -67,6 +74,60 @@ EndsEarly port start old stops.Write out new =
 EndsEarly port start old stops.Memory out new =
     ((n : ℕ) × (now : Looked) × IsCut port start old now n out × IsLeft port start now n new) ⊎ WritesOpening port start old out new
 EndsEarly port start old stop out new = ⊥
+
+-- ---- the run
+
+-- the live run: the opening, and then these event lines are heard, one after another
+pub record IsLiveRun (port start : ℕ) (old : Looked) (lines : List (List ℕ)) (final : Side) (text : List ℕ) : Type 0 where
+  pub opening : World
+  pub before : List ℕ
+  pub opened : IsLiveOpening port start old opening before
+  pub spoken : List ℕ
+  pub heard : AreHeard port old.stock.credentials (side opening.keeper (Some opening.behind)) lines final spoken
+  pub text_is : text ≡ before ++ spoken
+
+-- a run that listened: what was read of the events, by at most 65,536 reads; the lines of its first 1 MiB that were heard, with the
+-- text of the run so far; and how it ended behind them
+pub record HasListened (port start : ℕ) (old : Looked) (result : Result (Unit {0}) Stop) (new : Side) (fed : Fed) (out : Sent) : Type 0 where
+  pub read : List ℕ
+  pub consumed : Consumes fed.old fed.new read
+  pub reads : MakesAtMost MOST_EVENT_READS fed.old fed.reads_before fed.reads_after
+  pub lines : List (List ℕ)
+  pub behind : List (List ℕ)
+  pub cut : pieces 10 (take MOST_EVENTS read) ≡ lines ++ behind
+  pub prompt : IsPrompt read lines
+  pub mid : Side
+  pub text : List ℕ
+  pub run : IsLiveRun port start old lines mid text
+  pub ends : ListensTo port old.stock.credentials read (length lines + 1) mid behind text result new fed out
+
+-- ---- how it ends
+
+-- nothing was read, and no read was tried
+abbrev pub IsUnread : Fed → Type 0
+IsUnread fed = Keeps fed.old fed.new × (fed.reads_after ≡ fed.reads_before) × (fed.failed_after ≡ fed.failed_before)
+
+-- how the run of an inventory ends: before it listens, or behind some lines
+abbrev pub RunsTo : ℕ → ℕ → Looked → Result (Unit {0}) Stop → Fed → Sent → Option Behind → Type 0
+RunsTo port start old (Ok u) fed out new = (final : Side) × HasListened port start old (Ok u) final fed out × (new ≡ final.behind)
+RunsTo port start old (Err stop) fed out new =
+    (EndsEarly port start old stop out new × IsUnread fed) ⊎ ((final : Side) × HasListened port start old (Err stop) final fed out × (new ≡ final.behind))
+
+-- how the run over the bytes of an inventory ends
+abbrev pub LivesTo : ℕ → List ℕ → ℕ → Behind → Result (Unit {0}) Stop → Fed → Sent → Option Behind → Type 0
+LivesTo port bytes start old (Err (stops.Inventory fault)) fed out new = (inventory bytes ≡ Err fault) × IsUnread fed × IsUntouched out × (new ≡ Some old)
+LivesTo port bytes start old (Err stops.Memory) fed out new =
+    (IsUnread fed × IsUntouched out × (new ≡ Some old))
+    ⊎ ((stock : Stock) × (inventory bytes ≡ Ok stock) × RunsTo port start (record { stock = stock; behind = old }) (Err stops.Memory) fed out new)
+LivesTo port bytes start old result fed out new = (stock : Stock) × (inventory bytes ≡ Ok stock) × RunsTo port start (record { stock = stock; behind = old }) result fed out new
+
+-- `run` over the bytes of an inventory and a start, by exit: how the run ends, and what it tells of that
+abbrev pub LiveRun : ℕ → List ℕ → ℕ → Behind → Exit → Fed → Sent → Sent → Option Behind → Type 0
+LiveRun port bytes start old exits.Done fed out errors new = LivesTo port bytes start old (Ok tt) fed out new × IsUntouched errors
+LiveRun port bytes start old exit fed out errors new =
+    (stop : Stop) × (exit ≡ exit_of stop) × LivesTo port bytes start old (Err stop) fed out new × Reports (fault_line (codes "leasekeep") stop) errors
+
+-- ---- whatever the exchange
 
 -- why a run stops behind its inventory
 abbrev pub IsListenStop : Stop → Type 0

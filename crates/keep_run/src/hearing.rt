@@ -1,12 +1,13 @@
 //! Event lines, one after another: each is heard by the keeper, and whom it then asks is asked.
-ghost use Rattle.std.specs.Prelude.{◌≡◌, ◌++◌, ◌⊎◌, ◌<◌, ◌≤◌, List, ℕ, [], IfOk, OnOk, codes, length};
+ghost use Rattle.std.specs.Prelude.{◌≡◌, ◌++◌, ◌⊎◌, ◌<◌, ◌≤◌, List, Option, ℕ, [], IfOk, OnOk, codes, length};
 ghost use Rattle.std.specs.List.{All};
 ghost use Rattle.std.specs.Result.{IfErr};
 ghost use Rattle.keep_core.specs.LawsOfSteps.{IsShaped};
 ghost use Rattle.keep_exchange.specs.Exchanges.{Behind};
 ghost use Rattle.keep_report.specs.declared.stop.Stop.TheVariants as stops;
 ghost use Rattle.keep_run.specs.EventLines.{IsWithin};
-ghost use Rattle.keep_run.specs.Live.{Between, IsHeard, IsHearingStop, IsLate, IsNeeded, IsReady, TicksLive};
+ghost use Rattle.keep_run.specs.Live.{Between, IsHeard, IsLate, IsNeeded, IsReady, StopsHearing, TicksLive, side};
+ghost use Rattle.keep_run.specs.declared.event_line.Heard.TheVariants as heards;
 ghost use Rattle.keep_run.specs.Playing.{Answers, AnswersAll};
 ghost use Rattle.keep_run.specs.Stops.{both};
 
@@ -38,7 +39,7 @@ pub fn hear<E: Exchange>(
 ) -> Result<(), Stop>
     requires ready { IsReady credentials.now keeper.old }
     requires within { IsWithin (length keeper.old.forest.entries) heard }
-    ensures stops { IfErr result IsHearingStop }
+    ensures stops { IfErr result (λ stop. StopsHearing (side keeper.old (E.behind exchange.old)) heard stop (side keeper.new (E.behind exchange.new))) }
     ensures heard { OnOk result (port ≡ 8200 → Between (E.behind exchange.old) (E.behind exchange.new) (λ b a. (lines : List ℕ) × (IsHeard credentials.now (both keeper.old b) heard (both keeper.new a) lines × (text.new.items ≡ text.old.items ++ lines)))) }
     ensures ready { OnOk result (IsReady credentials.now keeper.new) }
 {
@@ -63,7 +64,7 @@ fn hear_need(
 ) -> Result<(), Stop>
     requires ready { IsReady credentials.now keeper.old }
     requires within { i < length keeper.old.forest.entries }
-    ensures stops { IfErr result IsHearingStop }
+    ensures stops { IfErr result (λ stop. (behind : Option Behind) → StopsHearing (side keeper.old behind) (heards.Need i until) stop (side keeper.new behind)) }
     ensures needed { OnOk result ((b : Behind) → (lines : List ℕ) × (IsNeeded i until (both keeper.old b) (both keeper.new b) lines × (text.new.items ≡ text.old.items ++ lines))) }
     ensures ready { OnOk result (IsReady credentials.now keeper.new) }
 {
@@ -94,7 +95,7 @@ fn hear_tick<E: Exchange>(
     text: &mut Vec<u8>,
 ) -> Result<(), Stop>
     requires ready { IsReady credentials.now keeper.old }
-    ensures stops { IfErr result IsHearingStop }
+    ensures memory { IfErr result (λ stop. stop ≡ stops.Memory) }
     ensures heard { OnOk result (port ≡ 8200 → Between (E.behind exchange.old) (E.behind exchange.new) (λ b a. (lines : List ℕ) × ((IsLate t (both keeper.old b) (both keeper.new a) lines ⊎ TicksLive credentials.now t (both keeper.old b) (both keeper.new a) lines) × (text.new.items ≡ text.old.items ++ lines)))) }
     ensures ready { OnOk result (IsReady credentials.now keeper.new) }
 {

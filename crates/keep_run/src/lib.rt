@@ -8,6 +8,7 @@
 
 mod event_line;
 mod fault_words;
+mod feeding;
 mod hearing;
 pub mod laws;
 mod lines;
@@ -24,8 +25,9 @@ mod tests;
 mod waking;
 
 pub use event_line::{Heard, MOST_LINE, heard_in};
+pub use feeding::Feeding;
 pub use hearing::hear;
-pub use listening::{MOST_EVENT_READS, MOST_EVENTS};
+pub use listening::{EVENT_ROOM, MOST_EVENT_READS, MOST_EVENTS};
 pub use live::run_live;
 pub use playing::MOST_WAKES;
 pub use rehearsal::run_rehearse;

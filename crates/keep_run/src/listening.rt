@@ -1,16 +1,23 @@
-//! Event lines as they come: each is heard, and its lines written and flushed, before more is read.
-ghost use Rattle.std.specs.Prelude.{◌<◌, ◌≤◌, IfSome, OnOk, length, vec_len};
+//! Event lines as they come: they are read in pieces, cut at their line feeds, and heard one after another.
+ghost use Rattle.std.specs.Prelude.{◌≡◌, ◌+◌, ◌∷◌, [], ◌<◌, ◌≤◌, IfOk, IsTrue, OnOk, drop, length};
 ghost use Rattle.std.specs.Result.{IfErr};
-ghost use Rattle.keep_run.specs.Live.{IsReady};
+ghost use Rattle.std.specs.Io.KnownBytes.{Keeps};
+ghost use Rattle.keep_report.specs.declared.stop.Stop.TheVariants as stops;
+ghost use Rattle.keep_run.specs.declared.event_line.TheConstants.{MOST_LINE};
+ghost use Rattle.keep_run.specs.LineByLine.{HaltsWithin, HearsLine, HearsUpTo};
+ghost use Rattle.keep_run.specs.Listening.{Listens};
+ghost use Rattle.keep_run.specs.Live.{IsReady, side};
 ghost use Rattle.keep_run.specs.LiveRun.{IsListenStop};
 
 use crate::event_line::{MOST_LINE, heard_in};
+use crate::feeding::Feeding;
 use crate::hearing::hear;
 use keep_core::Keeper;
 use keep_device::{Sink, Source, zeros};
 use keep_exchange::Exchange;
 use keep_inventory::Credentials;
-use keep_report::{Stop, send};
+use keep_report::{Stop, Watched, send};
+use keep_words::cut;
 use std::alloc::Global;
 
 /// The most bytes of all event lines of a run.
@@ -19,10 +26,16 @@ pub const MOST_EVENTS: usize = 1_048_576;
 /// The most reads of event lines of a run.
 pub const MOST_EVENT_READS: u32 = 65_536;
 
-/// The room of one read.
-const EVENT_ROOM: usize = 4096;
+/// The room of one read of event lines.
+pub const EVENT_ROOM: usize = 4096;
 
-/// Hears event lines until they end.
+/// Hears event lines until they end, in at most 65,536 reads: each line is answered, and its lines written and flushed, before
+/// `events` is read again.
+///
+/// `Ok`: the events have ended, behind a line feed if there are any. `Line`: the line of that number is no event line, or is
+/// longer than 256 bytes with its line feed, or has none; the lines before it were heard. `Read`: a read failed, or there are
+/// more than 1 MiB of events, or 65,536 reads did not come to their end; the whole lines before were heard. `TooLong`: the plan
+/// with the new need of a line would be too long. `Write`: `out` failed. `Memory`.
 pub(crate) fn listen<R: Source, E: Exchange, W: Sink>(
     alloc: Global,
     keeper: &mut Keeper,
@@ -32,8 +45,11 @@ pub(crate) fn listen<R: Source, E: Exchange, W: Sink>(
     exchange: &mut E,
     out: &mut W,
 ) -> Result<(), Stop>
-    requires { IsReady credentials.now keeper.old }
-    ensures { IfErr result IsListenStop }
+    requires ready { IsReady credentials.now keeper.old }
+    requires flushed { IsTrue (W.is_flushed out.old) }
+    ensures listens { Listens port credentials.now (side keeper.old (E.behind exchange.old)) result (side keeper.new (E.behind exchange.new)) (⟦<R as Feeding>⟧.fed events.old events.new) (⟦<W as Watched>⟧.sent out.old out.new) }
+    ensures written { Keeps (R.written events.old) (R.written events.new) }
+    ensures stops { IfErr result IsListenStop }
 {
     let mut room = zeros(alloc, EVENT_ROOM)?;
     let mut pending = Vec::new(alloc);
@@ -62,8 +78,12 @@ fn listen_to<R: Source, E: Exchange, W: Sink>(
     pending: &mut Vec<u8>,
     out: &mut W,
 ) -> Result<(), Stop>
-    requires { IsReady credentials.now keeper.old }
-    ensures { IfErr result IsListenStop }
+    requires ready { IsReady credentials.now keeper.old }
+    requires flushed { IsTrue (W.is_flushed out.old) }
+    requires room { length room.old ≡ EVENT_ROOM }
+    requires none { pending.old.items ≡ [] }
+    ensures listens { Listens port credentials.now (side keeper.old (E.behind exchange.old)) result (side keeper.new (E.behind exchange.new)) (⟦<R as Feeding>⟧.fed events.old events.new) (⟦<W as Watched>⟧.sent out.old out.new) }
+    ensures written { Keeps (R.written events.old) (R.written events.new) }
 {
     let mut left = MOST_EVENTS;
     let mut lines: u64 = 0;
@@ -77,7 +97,7 @@ fn listen_to<R: Source, E: Exchange, W: Sink>(
         let taken = n.min(left);
         pending.extend_from_slice(&room[..taken])?;
         left -= taken;
-        hear_whole(
+        hear_pending(
             alloc,
             keeper,
             credentials,
@@ -96,17 +116,20 @@ fn listen_to<R: Source, E: Exchange, W: Sink>(
 
 /// What the end of the events comes to behind so many lines: a line without its line feed is none.
 fn at_end(pending: &[u8], lines: u64) -> Result<(), Stop>
-    ensures { IfErr result IsListenStop }
+    requires few { lines ≤ MOST_EVENTS }
+    ensures none { OnOk result (pending.now ≡ []) }
+    ensures some { IfErr result (λ stop. (stop ≡ stops.Line (lines + 1)) × (0 < length pending.now)) }
 {
     if pending.is_empty() {
         Ok(())
     } else {
-        Err(Stop::Line(lines.saturating_add(1)))
+        Err(Stop::Line(lines + 1))
     }
 }
 
-/// Hears the lines that are whole, counts them, and leaves what stands behind the last.
-fn hear_whole<E: Exchange, W: Sink>(
+/// Hears the lines that are whole, counts them, and leaves what stands behind the last. What is as long as an event line and
+/// has no line feed is none.
+fn hear_pending<E: Exchange, W: Sink>(
     alloc: Global,
     keeper: &mut Keeper,
     credentials: &Credentials,
@@ -116,17 +139,56 @@ fn hear_whole<E: Exchange, W: Sink>(
     lines: &mut u64,
     out: &mut W,
 ) -> Result<(), Stop>
-    requires { IsReady credentials.now keeper.old }
-    ensures stops { IfErr result IsListenStop }
+    requires ready { IsReady credentials.now keeper.old }
+    requires flushed { IsTrue (W.is_flushed out.old) }
+    requires few { lines.old + length pending.old.items ≤ MOST_EVENTS }
+    ensures heard { OnOk result (HearsUpTo port credentials.now lines.old (side keeper.old (E.behind exchange.old)) pending.old.items (pending.new.items ∷ []) (side keeper.new (E.behind exchange.new)) lines.new (⟦<W as Watched>⟧.sent out.old out.new)) }
+    ensures short { OnOk result (length pending.new.items < MOST_LINE) }
+    ensures fewer { OnOk result (lines.new + length pending.new.items ≤ lines.old + length pending.old.items) }
     ensures ready { OnOk result (IsReady credentials.now keeper.new) }
+    ensures halts { IfErr result (λ stop. HaltsWithin port credentials.now lines.old (side keeper.old (E.behind exchange.old)) pending.old.items stop (side keeper.new (E.behind exchange.new)) (⟦<W as Watched>⟧.sent out.old out.new)) }
 {
-    let mut at = 0;
-    while at < pending.len() {
-        let Some(feed) = line_feed(&pending[at..]) else {
-            return leave(pending, at, *lines);
-        };
-        *lines = lines.saturating_add(1);
-        let line = &pending[at..at + feed];
+    let heard = hear_whole(
+        alloc,
+        keeper,
+        credentials,
+        port,
+        exchange,
+        pending,
+        lines,
+        out,
+    )?;
+    pending.drain(..heard);
+    if pending.len() >= MOST_LINE {
+        return Err(Stop::Line(*lines + 1));
+    }
+    Ok(())
+}
+
+/// Hears the lines of these bytes that are whole, counts them, and gives the length of them all.
+#[tactic(auto, using(crate::proofs::LineByLine::behind_line))]
+fn hear_whole<E: Exchange, W: Sink>(
+    alloc: Global,
+    keeper: &mut Keeper,
+    credentials: &Credentials,
+    port: u16,
+    exchange: &mut E,
+    bytes: &[u8],
+    lines: &mut u64,
+    out: &mut W,
+) -> Result<usize, Stop>
+    requires ready { IsReady credentials.now keeper.old }
+    requires flushed { IsTrue (W.is_flushed out.old) }
+    requires few { lines.old + length bytes.now ≤ MOST_EVENTS }
+    ensures heard { IfOk result (λ n. HearsUpTo port credentials.now lines.old (side keeper.old (E.behind exchange.old)) bytes.now (drop n bytes.now ∷ []) (side keeper.new (E.behind exchange.new)) lines.new (⟦<W as Watched>⟧.sent out.old out.new)) }
+    ensures within { IfOk result (λ n. n ≤ length bytes.now) }
+    ensures fewer { IfOk result (λ n. lines.new ≤ lines.old + n) }
+    ensures ready { IfOk result (λ _. IsReady credentials.now keeper.new) }
+    ensures halts { IfErr result (λ stop. HaltsWithin port credentials.now lines.old (side keeper.old (E.behind exchange.old)) bytes.now stop (side keeper.new (E.behind exchange.new)) (⟦<W as Watched>⟧.sent out.old out.new)) }
+{
+    let mut rest = bytes;
+    while let Some((line, behind)) = cut(rest, b'\n') {
+        *lines += 1;
         hear_line(
             alloc,
             keeper,
@@ -137,28 +199,9 @@ fn hear_whole<E: Exchange, W: Sink>(
             *lines,
             out,
         )?;
-        at += feed + 1;
+        rest = behind;
     }
-    leave(pending, at, *lines)
-}
-
-/// Leaves what stands from `at` on. What is as long as an event line and has no line feed is none.
-fn leave(pending: &mut Vec<u8>, at: usize, lines: u64) -> Result<(), Stop>
-    requires { at ≤ vec_len pending.old }
-    ensures { IfErr result IsListenStop }
-{
-    pending.drain(..at);
-    if pending.len() >= MOST_LINE {
-        return Err(Stop::Line(lines.saturating_add(1)));
-    }
-    Ok(())
-}
-
-/// Where the first line feed stands.
-fn line_feed(bytes: &[u8]) -> Option<usize>
-    ensures { IfSome result (λ i. i < length bytes.now) }
-{
-    bytes.iter().position(|byte| *byte == b'\n')
+    Ok(bytes.len() - rest.len())
 }
 
 /// Hears one line, which is without its line feed and has this number, and writes and flushes its lines.
@@ -172,8 +215,9 @@ fn hear_line<E: Exchange, W: Sink>(
     number: u64,
     out: &mut W,
 ) -> Result<(), Stop>
-    requires { IsReady credentials.now keeper.old }
-    ensures stops { IfErr result IsListenStop }
+    requires ready { IsReady credentials.now keeper.old }
+    requires flushed { IsTrue (W.is_flushed out.old) }
+    ensures hears { HearsLine port credentials.now number (side keeper.old (E.behind exchange.old)) line.now result (side keeper.new (E.behind exchange.new)) (⟦<W as Watched>⟧.sent out.old out.new) }
     ensures ready { OnOk result (IsReady credentials.now keeper.new) }
 {
     let Some(heard) = heard_in(keeper.forest(), line) else {

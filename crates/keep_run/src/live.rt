@@ -2,8 +2,9 @@
 ghost use Rattle.std.specs.Prelude.{IfOk, IfSome, IsTrue, OnOk};
 ghost use Rattle.std.specs.Result.{IfErr};
 ghost use Rattle.keep_run.specs.Live.{IsReady};
-ghost use Rattle.keep_run.specs.LiveRun.{EndsEarly, IsListenStop, IsLiveStop, IsOpened, LiveEnds};
+ghost use Rattle.keep_run.specs.LiveRun.{EndsEarly, IsListenStop, IsLiveStop, IsOpened, LiveEnds, LiveRun, LivesTo};
 
+use crate::feeding::Feeding;
 use crate::lines::push_short_lines;
 use crate::listening::listen;
 use crate::looking::look_all_up;
@@ -33,7 +34,8 @@ pub fn run_live<R: Source, E: Exchange, W: Sink, F: Sink>(
     out: &mut W,
     errors: &mut F,
 ) -> Exit
-    ensures { LiveEnds inventory.now result (⟦<F as Watched>⟧.sent errors.old errors.new) }
+    ensures ends { LiveEnds inventory.now result (⟦<F as Watched>⟧.sent errors.old errors.new) }
+    ensures run { IfSome (E.behind exchange.old) (λ b. LiveRun (E.host_port exchange.old) inventory.now start b result (⟦<R as Feeding>⟧.fed events.old events.new) (⟦<W as Watched>⟧.sent out.old out.new) (⟦<F as Watched>⟧.sent errors.old errors.new) (E.behind exchange.new)) }
 {
     match live(alloc, inventory, start, events, exchange, out) {
         Ok(()) => Exit::Done,
@@ -41,6 +43,7 @@ pub fn run_live<R: Source, E: Exchange, W: Sink, F: Sink>(
     }
 }
 
+/// The live run without its fault line.
 fn live<R: Source, E: Exchange, W: Sink>(
     alloc: Global,
     bytes: &[u8],
@@ -49,7 +52,8 @@ fn live<R: Source, E: Exchange, W: Sink>(
     exchange: &mut E,
     out: &mut W,
 ) -> Result<(), Stop>
-    ensures { IfErr result (IsLiveStop bytes.now) }
+    ensures stops { IfErr result (IsLiveStop bytes.now) }
+    ensures run { IfSome (E.behind exchange.old) (λ b. LivesTo (E.host_port exchange.old) bytes.now start b result (⟦<R as Feeding>⟧.fed events.old events.new) (⟦<W as Watched>⟧.sent out.old out.new) (E.behind exchange.new)) }
 {
     let inventory = read(alloc, bytes)?;
     let port = exchange.port();

@@ -37,7 +37,7 @@ returns-in_ok-extend_from_slice-in_default g c =
     let idle = only_idle c.get-3.result c.args.keeper.now first.keeper c.in_ok-asked.field-0 first.turn c.in_default.not-Ask c.in_default.not-Sleep in
     let ticks = ticks_as c.get-3.result c.args.t c.args.keeper.now c.tick.new.keeper c.in_ok-asked.field-0 out.Idle c.args.text.now.items c.tick.new.text.items c.get-3.ensures.value idle first in
     record {
-      stops = tt;
+      memory = tt;
       heard = λ port. quiet_lines (g.E.Exchange.behind c.args.exchange.now) c.args.credentials.now c.args.t c.args.keeper.now c.tick.new.keeper out.Idle c.args.text.now.items c.tick.new.text.items c.extend_from_slice-in_default.new.self.items ticks refl
           c.in_ok-extend_from_slice-in_default.ensures.items;
       ready = ticks_ready c.args.credentials.now c.args.t c.args.keeper.now c.tick.new.keeper out.Idle c.args.text.now.items c.tick.new.text.items ticks c.requires.ready;

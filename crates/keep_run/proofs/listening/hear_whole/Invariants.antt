@@ -1,12 +1,27 @@
-use Rattle.std.proofs.Common.{◌-◌, ◌≤◌, vec_len}
-use Rattle.keep_run.specs.Live.{IsReady}
+-- The lines before `rest` are heard, and `rest` is what stands behind them.
+use Rattle.std.proofs.Common.{◌≡◌, ◌+◌, ◌-◌, ◌≤◌, drop, length}
+use Rattle.keep_words.specs.Pieces.{pieces}
+use Rattle.keep_run.specs.LineByLine.{HearsUpTo}
+use Rattle.keep_run.specs.Live.{IsReady, side}
 use Rattle.keep_run.proofs.listening.hear_whole.Given as goal
 
-abbrev pub invariant-loop-at : goal.invariant-loop-at
-invariant-loop-at g l = record {
+abbrev pub invariant-loop-line : goal.invariant-loop-line
+invariant-loop-line g l = record {
+  up_to : HearsUpTo l.port l.credentials l.fn.lines (side l.fn.keeper (g.E.Exchange.behind l.fn.exchange)) l.bytes (pieces 10 l.rest) (side l.keeper (g.E.Exchange.behind l.exchange)) l.lines
+      (record {
+        old = g.W.Device.written l.fn.out;
+        new = g.W.Device.written l.out;
+        failed_before = g.W.Device.failed_calls l.fn.out;
+        failed_after = g.W.Device.failed_calls l.out;
+        flushed_before = g.W.Device.is_flushed l.fn.out;
+        flushed = g.W.Device.is_flushed l.out;
+        is_in_memory = g.W.Device.is_in_memory;
+      });
+  rest : drop (length l.bytes - length l.rest) l.bytes ≡ l.rest;
+  within : length l.rest ≤ length l.bytes;
+  few : l.lines + length l.rest ≤ l.fn.lines + length l.bytes;
   ready : IsReady l.credentials l.keeper;
-  within : l.at ≤ vec_len l.pending;
 }
 
-abbrev pub decreases-loop-at : goal.decreases-loop-at
-decreases-loop-at g l = vec_len l.pending - l.at
+abbrev pub decreases-loop-line : goal.decreases-loop-line
+decreases-loop-line g l = length l.rest

@@ -1,5 +1,30 @@
-use Rattle.keep_run.specs.Live.{IsReady}
+-- What was read so far is heard line by line.
+use Rattle.std.proofs.Common.{◌≡◌}
+use Rattle.std.specs.Io.KnownBytes.{Keeps}
+use Rattle.keep_run.specs.LineByLine.{IsListening}
+use Rattle.keep_run.specs.Live.{IsReady, side}
 use Rattle.keep_run.proofs.listening.listen_to.Given as goal
 
 abbrev pub invariant-loop : goal.invariant-loop
-invariant-loop g l = IsReady l.credentials l.keeper
+invariant-loop g l = record {
+  listening : IsListening l.port l.credentials (side l.fn.keeper (g.E.Exchange.behind l.fn.exchange)) l.counter l.pending.items l.left (side l.keeper (g.E.Exchange.behind l.exchange)) l.lines
+      (record {
+        old = g.R.Device.remaining l.fn.events;
+        new = g.R.Device.remaining l.events;
+        reads_before = g.R.Device.reads_made l.fn.events;
+        reads_after = g.R.Device.reads_made l.events;
+        failed_before = g.R.Device.failed_calls l.fn.events;
+        failed_after = g.R.Device.failed_calls l.events;
+      })
+      (record {
+        old = g.W.Device.written l.fn.out;
+        new = g.W.Device.written l.out;
+        failed_before = g.W.Device.failed_calls l.fn.out;
+        failed_after = g.W.Device.failed_calls l.out;
+        flushed_before = g.W.Device.is_flushed l.fn.out;
+        flushed = g.W.Device.is_flushed l.out;
+        is_in_memory = g.W.Device.is_in_memory;
+      });
+  ready : IsReady l.credentials l.keeper;
+  written : Keeps (g.R.Device.written l.fn.events) (g.R.Device.written l.events);
+}

@@ -62,4 +62,4 @@ returns-clause-opened g c =
     (g.W.Device.written c.args.out.now) (g.W.Device.written c.look_all_up.new.out) (g.W.Device.written c.send.new.out) (g.W.Device.failed_calls c.args.out.now) (g.W.Device.failed_calls c.look_all_up.new.out) (g.W.Device.failed_calls c.send.new.out)
     (g.W.Device.is_flushed c.args.out.now) (g.W.Device.is_flushed c.look_all_up.new.out) (g.W.Device.is_flushed c.send.new.out) g.W.Device.is_in_memory c.in_ok-look_all_up.ensures.looked
     c.into_parts-forest.result.0 c.into_parts-forest.result.1 k c.take_shortened-short.new.self c.deref.result.now c.into_parts-forest.ensures.forest c.into_parts-forest.ensures.credentials c.in_ok-keeper.ensures.opened
-    c.take_shortened-short.ensures.after lines c.in_ok-send.ensures.sent c.in_ok-send.ensures.kept
+    c.take_shortened-short.ensures.after lines c.in_ok-send.ensures.sent c.in_ok-send.ensures.count

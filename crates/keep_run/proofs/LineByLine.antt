@@ -1,0 +1,272 @@
+-- LineByLine: lines behind lines, and a stop behind lines.
+use Rattle.std.proofs.Common.{◌≡◌, ℕ, ◌+◌, ◌<◌, ◌≤◌, ◌⊎◌, ◌-◌, inl, inr, List, [], ◌∷◌, ◌++◌, Option, Some, None, OnOk, Result, Ok, Err, IsTrue, drop, length, length-append, take, refl, sym, ap, ◌∙◌, subst, arith}
+use Rattle.std.proofs.KnownBytes.{Appends-trans}
+use Rattle.std.specs.Result.{IfErr, IsErr, IsErrAnd}
+use Rattle.std.proofs.Math.Seq.{drop-append_seam}
+use Rattle.std.proofs.lemmas.List.{append-nil, append_assoc, drop-drop}
+use Rattle.std.specs.Io.KnownBytes.{Appends}
+use Rattle.keep_words.specs.Pieces.{pieces}
+use Rattle.keep_device.specs.Failures.{HasFailed}
+use Rattle.keep_tree.specs.Forest.{Grove}
+use Rattle.keep_core.specs.State.{State}
+use Rattle.keep_exchange.specs.Exchanges.{Behind}
+use Rattle.keep_report.specs.declared.stop.Stop.{Stop}
+use Rattle.keep_report.specs.declared.stop.Stop.TheVariants as stops
+use Rattle.keep_report.specs.Sent.{IsAll, Sends, Sent}
+use Rattle.keep_run.specs.LineByLine.{HaltsWithin, HearsLine, HearsUpTo, IsSent}
+use Rattle.keep_run.specs.Listening.{AreHeard, Halts, IsCutShort, IsHeardFirst, IsLineHeard, IsNoEvent}
+use Rattle.keep_run.specs.Live.{Between, IsHeard, Side, side}
+use Rattle.keep_run.specs.EventLines.{heard_in}
+use Rattle.keep_run.specs.Stops.{both}
+use Rattle.keep_run.specs.declared.event_line.Heard.{Heard}
+use Rattle.keep_run.specs.declared.event_line.TheConstants.{MOST_LINE}
+use Rattle.keep_run.proofs.Cut.{cut_back, first_piece}
+use Rattle.keep_run.proofs.LiveTicks.{between_as}
+
+-- ---- what was sent, and then more
+
+abbrev pub joined : Sent → Sent → Sent
+joined a b = record {
+  old = a.old;
+  new = b.new;
+  failed_before = a.failed_before;
+  failed_after = b.failed_after;
+  flushed_before = a.flushed_before;
+  flushed = b.flushed;
+  is_in_memory = b.is_in_memory;
+}
+
+module _ (a b : Sent) (same : a.new ≡ b.old) (failures : a.failed_after ≡ b.failed_before) where
+  appends : (t u : List ℕ) → Appends a.old a.new t → Appends b.old b.new u → Appends a.old b.new (t ++ u)
+  appends t u first second = Appends-trans a.old a.new b.new t u first (subst (λ o. Appends o b.new u) (sym same) second)
+
+  pub sent_then : (t u : List ℕ) → IsSent t a → IsSent u b → IsSent (t ++ u) (joined a b)
+  sent_then t u first second = ((appends t u first.0.0 second.0.0, second.0.1), second.1 ∙ sym failures ∙ first.1)
+
+  all_then : (t u : List ℕ) → IsSent t a → IsAll u b → IsAll (t ++ u) (joined a b)
+  all_then t u first second = (appends t u first.0.0 second.0, second.1)
+
+  short_then :
+      (port : ℕ) (cs : List (List ℕ)) (old new : Side) (line t u : List ℕ) → IsSent t a → IsCutShort port cs old line new u b → IsCutShort port cs old line new (t ++ u) (joined a b)
+  short_then port cs old new line t u first second = record {
+    own = second.own;
+    heard = second.heard;
+    n = second.n;
+    front = subst (Appends a.old b.new) (sym (append_assoc t u (take second.n second.own))) (appends t (u ++ take second.n second.own) first.0.0 second.front);
+  }
+
+  -- a stop behind a text that was sent before
+  pub halts_then :
+      (port : ℕ) (cs : List (List ℕ)) (number : ℕ) (old : Side) (behind : List (List ℕ)) (t u : List ℕ) (stop : Stop) (new : Side) (P : Type 0) → IsSent t a → Halts port cs number old behind u stop new P b →
+      Halts port cs number old behind (t ++ u) stop new P (joined a b)
+  halts_then port cs number old behind t u (stops.Inventory fault) new P first h = absurd h
+  halts_then port cs number old behind t u (stops.Moments fault) new P first h = absurd h
+  halts_then port cs number old behind t u (stops.FaultWord n) new P first h = absurd h
+  halts_then port cs number old behind t u stops.TooLong new P first h = (h.0, (h.1.0, (h.1.1.0, all_then t u first h.1.1.1)))
+  halts_then port cs number old behind t u stops.Read new P first h = absurd h
+  halts_then port cs number old behind t u stops.Write new P first h = (
+    subst (λ n. HasFailed n b.failed_after) (sym failures ∙ first.1) h.0,
+    (h.1.0, (h.1.1.0, short_then port cs old new h.1.0 t u first h.1.1.1)),
+  )
+  halts_then port cs number old behind t u (stops.Broker name) new P first h = absurd h
+  halts_then port cs number old behind t u (stops.Line n) new P first h = (h.0, (h.1.0, (h.1.1.0, all_then t u first h.1.1.1)))
+  halts_then port cs number old behind t u stops.Memory new P first h =
+      elim h [
+        | inl none ↦ inl (appends t u first.0.0 none)
+        | inr some ↦ inr (some.0, (some.1.0, (some.1.1.0, short_then port cs old new some.1.0 t u first some.1.1.1)))
+      ]
+
+-- ---- a stop that is handed on
+
+pub handed_on : {X : Type 0} (answer : Result X Stop) (stop : Stop) (P : Result X Stop → Type 0) → IsErr answer × IsErrAnd answer (λ (q : Stop). q ≡ stop) → P (Err stop) → P answer
+handed_on (Ok x) stop P is h = absurd (let none = is.0 in cc)
+handed_on (Err q) stop P is h = subst (λ (r : Stop). P (Err r)) (sym is.1) h
+
+-- ---- whether the events have ended
+
+no_event_where : (g : Grove) (behind : List (List ℕ)) (P Q : Type 0) → (P → Q) → IsNoEvent g behind P → IsNoEvent g behind Q
+no_event_where g [] P Q f h = h
+no_event_where g (rest ∷ []) P Q f h = elim h [ inl long ↦ inl long | inr cut ↦ inr (f cut.0, cut.1) ]
+no_event_where g (line ∷ next ∷ more) P Q f h = h
+
+pub halts_where :
+    (port : ℕ) (cs : List (List ℕ)) (number : ℕ) (old : Side) (behind : List (List ℕ)) (text : List ℕ) (stop : Stop) (new : Side) (P Q : Type 0) (out : Sent) → (P → Q) →
+    Halts port cs number old behind text stop new P out → Halts port cs number old behind text stop new Q out
+halts_where port cs number old behind text (stops.Inventory fault) new P Q out f h = h
+halts_where port cs number old behind text (stops.Moments fault) new P Q out f h = h
+halts_where port cs number old behind text (stops.FaultWord n) new P Q out f h = h
+halts_where port cs number old behind text stops.TooLong new P Q out f h = h
+halts_where port cs number old behind text stops.Read new P Q out f h = h
+halts_where port cs number old behind text stops.Write new P Q out f h = h
+halts_where port cs number old behind text (stops.Broker name) new P Q out f h = h
+halts_where port cs number old behind text (stops.Line n) new P Q out f h = (h.0, (no_event_where old.keeper.forest behind P Q f h.1.0, h.1.1))
+halts_where port cs number old behind text stops.Memory new P Q out f h = h
+
+-- ---- one line
+
+-- by the names that its code has
+pub heard_line :
+    (port : ℕ) (cs : List (List ℕ)) (o n : Option Behind) (old new : State) (line before after : List ℕ) (says : Heard) → before ≡ [] → heard_in old.forest line ≡ Some says →
+    (port ≡ 8200 → Between o n (λ b a. (lines : List ℕ) × (IsHeard cs (both old b) says (both new a) lines × (after ≡ before ++ lines)))) → IsLineHeard port cs (side old o) line (side new n) after
+heard_line port cs o n old new line before after says empty is heard = record {
+  says = says;
+  is = is;
+  heard = λ p. between_as o n (λ b a. (lines : List ℕ) × (IsHeard cs (both old b) says (both new a) lines × (after ≡ before ++ lines))) (λ b a. IsHeard cs (both old b) says (both new a) after)
+      (λ b a h. subst (λ t. IsHeard cs (both old b) says (both new a) t) (sym (h.1.1 ∙ ap (λ l. l ++ h.0) empty)) h.1.0) (heard p);
+}
+
+-- its text is sent, or why only a front of it is
+pub line_sent :
+    (port : ℕ) (cs : List (List ℕ)) (number : ℕ) (old : Side) (line : List ℕ) (new : Side) (text : List ℕ) (result : Result (Unit {0}) Stop) (out : Sent) → IsLineHeard port cs old line new text → Sends result text out →
+    OnOk result (out.failed_after ≡ out.failed_before) → HearsLine port cs number old line result new out
+line_sent port cs number old line new text (Ok u) out one sent count = (text, (one, (sent, count)))
+line_sent port cs number old line new text (Err (stops.Inventory fault)) out one sent count = absurd sent
+line_sent port cs number old line new text (Err (stops.Moments fault)) out one sent count = absurd sent
+line_sent port cs number old line new text (Err (stops.FaultWord n)) out one sent count = absurd sent
+line_sent port cs number old line new text (Err stops.TooLong) out one sent count = absurd sent
+line_sent port cs number old line new text (Err stops.Read) out one sent count = absurd sent
+line_sent port cs number old line new text (Err stops.Write) out one sent count = λ next more. (sent.0, (line, (refl, record { own = text; heard = one; n = sent.1.0; front = sent.1.1 })))
+line_sent port cs number old line new text (Err (stops.Broker name)) out one sent count = absurd sent
+line_sent port cs number old line new text (Err (stops.Line n)) out one sent count = absurd sent
+line_sent port cs number old line new text (Err stops.Memory) out one sent count = λ next more. inr (sent.0, (line, (refl, record { own = text; heard = one; n = sent.1.0; front = sent.1.1 })))
+
+-- ---- lines
+
+pub heard_then :
+    (port : ℕ) (cs : List (List ℕ)) (old mid new : Side) (lines more : List (List ℕ)) (t u : List ℕ) → AreHeard port cs old lines mid t → AreHeard port cs mid more new u → AreHeard port cs old (lines ++ more) new (t ++ u)
+heard_then port cs old mid new [] more t u first second =
+    subst (λ (s : Side). AreHeard port cs s more new (t ++ u)) first.0 (subst (λ x. AreHeard port cs mid more new (x ++ u)) (sym first.1) second)
+heard_then port cs old mid new (line ∷ lines) more t u first second =
+    let rest = heard_then port cs first.0 mid new lines more first.1.1.0 u first.1.1.1.1.0 second in
+    (first.0, (first.1.0, (first.1.1.0 ++ u, (first.1.1.1.0, (rest, ap (λ x. x ++ u) first.1.1.1.1.1 ∙ append_assoc first.1.0 first.1.1.0 u)))))
+
+pub heard_one : (port : ℕ) (cs : List (List ℕ)) (old new : Side) (line text : List ℕ) → IsLineHeard port cs old line new text → AreHeard port cs old (line ∷ []) new text
+heard_one port cs old new line text h = (new, (text, ([], (h, ((refl, refl), sym (append-nil text))))))
+
+-- ---- bytes
+
+-- what stands behind the first line of what stands behind others
+pub behind_line :
+    (bytes rest line behind : List ℕ) → pieces 10 rest ≡ line ∷ pieces 10 behind → drop (length bytes - length rest) bytes ≡ rest → length rest ≤ length bytes →
+    (drop (length bytes - length behind) bytes ≡ behind) × (length behind < length rest)
+behind_line bytes rest line behind e before within =
+    let whole : rest ≡ (line ++ 10 ∷ []) ++ behind = cut_back 10 rest line behind e ∙ sym (append_assoc line (10 ∷ []) behind) in
+    let front : length (line ++ 10 ∷ []) ≡ length line + 1 = length-append line (10 ∷ []) in
+    let both' : length ((line ++ 10 ∷ []) ++ behind) ≡ length (line ++ 10 ∷ []) + length behind = length-append (line ++ 10 ∷ []) behind in
+    let longer : length rest ≡ length (line ++ 10 ∷ []) + length behind = ap length whole ∙ both' in
+    let place : length bytes - length behind ≡ (length bytes - length rest) + length (line ++ 10 ∷ []) = omega (arith, longer, within) in (
+      ap (λ n. drop n bytes) place
+          ∙ sym (drop-drop (length (line ++ 10 ∷ [])) (length bytes - length rest) bytes)
+          ∙ ap (drop (length (line ++ 10 ∷ []))) (before ∙ whole)
+          ∙ drop-append_seam (line ++ 10 ∷ []) behind,
+      omega (arith, longer, front),
+    )
+
+-- ---- lines of these bytes
+
+module _ (port : ℕ) (cs : List (List ℕ)) where
+  -- none
+  pub up_to_first :
+      (first : ℕ) (old : Side) (bytes : List ℕ) (out : Sent) → IsSent [] out → HearsUpTo port cs first old bytes (pieces 10 bytes) old first out
+  up_to_first first old bytes out sent = record { lines = []; text = []; heard = record { cut = refl; heard = (refl, refl) }; count = omega arith; sent = sent }
+
+  -- one more
+  pub up_to_line :
+      (first : ℕ) (old : Side) (bytes line : List ℕ) (behind : List (List ℕ)) (mid : Side) (last : ℕ) (a b : Sent) (new : Side) (text : List ℕ) → a.new ≡ b.old → a.failed_after ≡ b.failed_before →
+      HearsUpTo port cs first old bytes (line ∷ behind) mid last a → IsLineHeard port cs mid line new text → IsSent text b → HearsUpTo port cs first old bytes behind new (last + 1) (joined a b)
+  up_to_line first old bytes line behind mid last a b new text same failures h one sent =
+      let count = h.count in
+      let longer : length (h.lines ++ (line ∷ [])) ≡ length h.lines + 1 = length-append h.lines (line ∷ []) in
+      record {
+        lines = h.lines ++ (line ∷ []);
+        text = h.text ++ text;
+        heard = record {
+          cut = h.heard.cut ∙ sym (append_assoc h.lines (line ∷ []) behind);
+          heard = heard_then port cs old mid new h.lines (line ∷ []) h.text text h.heard.heard (heard_one port cs mid new line text one);
+        };
+        count = omega (arith, count, longer);
+        sent = sent_then a b same failures h.text text h.sent sent;
+      }
+
+  -- those of what stands behind
+  abbrev pub up_to_then :
+      (first : ℕ) (old : Side) (bytes rest : List ℕ) (behind : List (List ℕ)) (mid : Side) (middle : ℕ) (a b : Sent) (new : Side) (last : ℕ) → a.new ≡ b.old → a.failed_after ≡ b.failed_before →
+      HearsUpTo port cs first old bytes (pieces 10 rest) mid middle a → HearsUpTo port cs middle mid rest behind new last b → HearsUpTo port cs first old bytes behind new last (joined a b)
+  up_to_then first old bytes rest behind mid middle a b new last same failures h k =
+      let before = h.count in
+      let then' = k.count in
+      let longer : length (h.lines ++ k.lines) ≡ length h.lines + length k.lines = length-append h.lines k.lines in
+      record {
+        lines = h.lines ++ k.lines;
+        text = h.text ++ k.text;
+        heard = record {
+          cut = h.heard.cut ∙ ap (λ l. h.lines ++ l) k.heard.cut ∙ sym (append_assoc h.lines k.lines behind);
+          heard = heard_then port cs old mid new h.lines k.lines h.text k.text h.heard.heard k.heard.heard;
+        };
+        count = omega (arith, before, then', longer);
+        sent = sent_then a b same failures h.text k.text h.sent k.sent;
+      }
+
+  -- a stop at the next line
+  pub halts_at :
+      (first : ℕ) (old : Side) (bytes : List ℕ) (behind : List (List ℕ)) (mid : Side) (last : ℕ) (a b : Sent) (stop : Stop) (new : Side) → a.new ≡ b.old → a.failed_after ≡ b.failed_before →
+      HearsUpTo port cs first old bytes behind mid last a → Halts port cs (last + 1) mid behind [] stop new ⊥ b → HaltsWithin port cs first old bytes stop new (joined a b)
+  halts_at first old bytes behind mid last a b stop new same failures h halts = record {
+    lines = h.lines;
+    behind = behind;
+    mid = mid;
+    text = h.text;
+    heard = h.heard;
+    halts =
+        subst (λ n. Halts port cs (n + 1) mid behind h.text stop new ⊥ (joined a b)) h.count
+        (subst (λ t. Halts port cs (last + 1) mid behind t stop new ⊥ (joined a b)) (append-nil h.text)
+        (halts_then a b same failures port cs (last + 1) mid behind h.text [] stop new ⊥ h.sent halts));
+  }
+
+  -- a stop within what stands behind
+  abbrev pub halts_behind :
+      (first : ℕ) (old : Side) (bytes rest : List ℕ) (mid : Side) (middle : ℕ) (a b : Sent) (stop : Stop) (new : Side) → a.new ≡ b.old → a.failed_after ≡ b.failed_before →
+      HearsUpTo port cs first old bytes (pieces 10 rest) mid middle a → HaltsWithin port cs middle mid rest stop new b → HaltsWithin port cs first old bytes stop new (joined a b)
+  halts_behind first old bytes rest mid middle a b stop new same failures h k =
+      let count = h.count in
+      let longer : length (h.lines ++ k.lines) ≡ length h.lines + length k.lines = length-append h.lines k.lines in
+      let number : middle + length k.lines + 1 ≡ first + length (h.lines ++ k.lines) + 1 = omega (arith, count, longer) in
+      record {
+        lines = h.lines ++ k.lines;
+        behind = k.behind;
+        mid = k.mid;
+        text = h.text ++ k.text;
+        heard = record {
+          cut = h.heard.cut ∙ ap (λ l. h.lines ++ l) k.heard.cut ∙ sym (append_assoc h.lines k.lines k.behind);
+          heard = heard_then port cs old mid k.mid h.lines k.lines h.text k.text h.heard.heard k.heard.heard;
+        };
+        halts =
+            subst (λ n. Halts port cs n k.mid k.behind (h.text ++ k.text) stop new ⊥ (joined a b)) number
+            (halts_then a b same failures port cs (middle + length k.lines + 1) k.mid k.behind h.text k.text stop new ⊥ h.sent k.halts);
+      }
+
+  -- by the names that the loop over lines has
+  pub heard_on :
+      (first : ℕ) (old : Side) (bytes rest line behind : List ℕ) (mid : Side) (last : ℕ) (a b : Sent) (new : Side) → a.new ≡ b.old → a.failed_after ≡ b.failed_before →
+      HearsUpTo port cs first old bytes (pieces 10 rest) mid last a → pieces 10 rest ≡ line ∷ pieces 10 behind → HearsLine port cs (last + 1) mid line (Ok tt) new b →
+      HearsUpTo port cs first old bytes (pieces 10 behind) new (last + 1) (joined a b)
+  heard_on first old bytes rest line behind mid last a b new same failures h e one =
+      up_to_line first old bytes line (pieces 10 behind) mid last a b new one.0 same failures (subst (λ ps. HearsUpTo port cs first old bytes ps mid last a) e h) one.1.0 one.1.1
+
+  pub stopped_on :
+      (first : ℕ) (old : Side) (bytes rest line behind : List ℕ) (mid : Side) (last : ℕ) (a b : Sent) (stop : Stop) (new : Side) → a.new ≡ b.old → a.failed_after ≡ b.failed_before →
+      HearsUpTo port cs first old bytes (pieces 10 rest) mid last a → pieces 10 rest ≡ line ∷ pieces 10 behind → HearsLine port cs (last + 1) mid line (Err stop) new b →
+      HaltsWithin port cs first old bytes stop new (joined a b)
+  stopped_on first old bytes rest line behind mid last a b stop new same failures h e one =
+      let f = first_piece 10 behind in
+      let all : pieces 10 rest ≡ line ∷ f.0 ∷ f.1.0 = e ∙ ap (λ ps. line ∷ ps) f.1.1 in
+      halts_at first old bytes (line ∷ f.0 ∷ f.1.0) mid last a b stop new same failures (subst (λ ps. HearsUpTo port cs first old bytes ps mid last a) all h) (one f.0 f.1.0)
+
+  -- what stands behind the last line is as long as an event line may be
+  pub long_rest :
+      (first : ℕ) (old : Side) (bytes rest : List ℕ) (mid : Side) (last : ℕ) (a : Sent) → HearsUpTo port cs first old bytes (rest ∷ []) mid last a → MOST_LINE ≤ length rest →
+      HaltsWithin port cs first old bytes (stops.Line (last + 1)) mid a
+  long_rest first old bytes rest mid last a h long =
+      let count = h.count in
+      let number : last + 1 ≡ first + length h.lines + 1 = omega (arith, count) in
+      record { lines = h.lines; behind = rest ∷ []; mid = mid; text = h.text; heard = h.heard; halts = (number, (inl long, (refl, h.sent.0))) }

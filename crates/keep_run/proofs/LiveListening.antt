@@ -1,0 +1,187 @@
+-- LiveListening: a live run that was opened and then listened, and what it tells of its end: for `live` and `run_live`.
+use Rattle.std.proofs.Common.{◌≡◌, ℕ, inl, inr, Bool, List, ◌++◌, Option, Some, None, IfSome, Result, Ok, Err, ◌+◌, codes, length, refl, sym, subst, take}
+use Rattle.std.specs.Io.KnownBytes.{Appends}
+use Rattle.std.specs.Result.{IsErr, IsErrAnd}
+use Rattle.std.proofs.KnownBytes.{Keeps-refl}
+use Rattle.std.proofs.lemmas.List.{append_assoc}
+use Rattle.keep_core.specs.State.{State}
+use Rattle.keep_device.specs.Failures.{HasFailed}
+use Rattle.keep_exchange.specs.Exchanges.{Behind}
+use Rattle.keep_inventory.specs.Answers.{Fails}
+use Rattle.keep_inventory.specs.declared.fault.InvFault.{InvFault}
+use Rattle.keep_inventory.specs.declared.fault.InvFault.TheVariants as faults
+use Rattle.keep_inventory.specs.Inventory.{inventory}
+use Rattle.keep_inventory.specs.Stock.{Stock}
+use Rattle.keep_report.specs.declared.exit.Exit.{Exit}
+use Rattle.keep_report.specs.declared.exit.Exit.TheVariants as exits
+use Rattle.keep_report.specs.declared.stop.Stop.{Stop}
+use Rattle.keep_report.specs.declared.stop.Stop.TheVariants as stops
+use Rattle.keep_report.specs.Exits.{exit_of, stop_of_inventory}
+use Rattle.keep_report.specs.FaultLine.{fault_line}
+use Rattle.keep_report.specs.Sent.{IsAll, Sent}
+use Rattle.keep_report.specs.Told.{Reports}
+use Rattle.keep_run.specs.Listening.{Fed, Halts, HaveEnded, IsCutShort, Listens, ListensTo}
+use Rattle.keep_run.specs.Live.{Side, side}
+use Rattle.keep_run.specs.LiveRun.{EndsEarly, HasListened, IsOpened, IsUnread, LiveRun, LivesTo, RunsTo}
+use Rattle.keep_run.specs.Looking.{Looked}
+use Rattle.keep_run.specs.Stops.{both}
+use Rattle.keep_run.proofs.LookedUp.{sent_by, untouched}
+use Rattle.keep_run.proofs.Written.{appends_then}
+
+-- ---- what listening comes to, behind the lines of the opening
+
+module _ (port : ℕ) (cs : List (List ℕ)) (read : List ℕ) (number : ℕ) (mid : Side) (behind : List (List ℕ)) (before text : List ℕ) (new : Side) (fed : Fed) (a b c : Option (List ℕ)) (n m l : ℕ) (p q r k : Bool)
+    (first : Appends a b before) (kept : m ≡ n) where
+  cut_short : (line : List ℕ) (old : Side) → IsCutShort port cs old line new text (sent_by b c m l q r k) → IsCutShort port cs old line new (before ++ text) (sent_by a c n l p r k)
+  cut_short line old cut = record {
+    own = cut.own;
+    heard = cut.heard;
+    n = cut.n;
+    front = subst (Appends a c) (sym (append_assoc before text (take cut.n cut.own))) (appends_then a b c before (text ++ take cut.n cut.own) first cut.front);
+  }
+
+  whole : IsAll text (sent_by b c m l q r k) → IsAll (before ++ text) (sent_by a c n l p r k)
+  whole all = (appends_then a b c before text first all.0, all.1)
+
+  halts :
+      (old : Side) (stop : Stop) (HasEnded : Type 0) → Halts port cs number old behind text stop new HasEnded (sent_by b c m l q r k) →
+      Halts port cs number old behind (before ++ text) stop new HasEnded (sent_by a c n l p r k)
+  halts old (stops.Line x) HasEnded h = (h.0, (h.1.0, (h.1.1.0, whole h.1.1.1)))
+  halts old stops.TooLong HasEnded h = (h.0, (h.1.0, (h.1.1.0, whole h.1.1.1)))
+  halts old stops.Write HasEnded h = (subst (λ x. HasFailed x l) kept h.0, (h.1.0, (h.1.1.0, cut_short h.1.0 old h.1.1.1)))
+  halts old stops.Memory HasEnded (inl h) = inl (appends_then a b c before text first h)
+  halts old stops.Memory HasEnded (inr h) = inr (h.0, (h.1.0, (h.1.1.0, cut_short h.1.0 old h.1.1.1)))
+  halts old stops.Read HasEnded h = absurd h
+  halts old (stops.Inventory fault) HasEnded h = absurd h
+  halts old (stops.Moments fault) HasEnded h = absurd h
+  halts old (stops.FaultWord x) HasEnded h = absurd h
+  halts old (stops.Broker name) HasEnded h = absurd h
+
+  pub listens_to :
+      (result : Result (Unit {0}) Stop) → ListensTo port cs read number mid behind text result new fed (sent_by b c m l q r k) → ListensTo port cs read number mid behind (before ++ text) result new fed (sent_by a c n l p r k)
+  listens_to (Ok u) h = (h.0, (h.1.0, (h.1.1.0, (h.1.1.1.0, whole h.1.1.1.1))))
+  listens_to (Err stops.Read) h = (h.0, (h.1.0, (h.1.1.0, (h.1.1.1.0, (h.1.1.1.1.0, whole h.1.1.1.1.1)))))
+  listens_to (Err stops.Memory) h = (h.0, halts mid stops.Memory (HaveEnded read fed) h.1)
+  listens_to (Err stops.Write) h = (h.0, halts mid stops.Write (HaveEnded read fed) h.1)
+  listens_to (Err stops.TooLong) h = (h.0, halts mid stops.TooLong (HaveEnded read fed) h.1)
+  listens_to (Err (stops.Line x)) h = (h.0, halts mid (stops.Line x) (HaveEnded read fed) h.1)
+  listens_to (Err (stops.Inventory fault)) h = (h.0, halts mid (stops.Inventory fault) (HaveEnded read fed) h.1)
+  listens_to (Err (stops.Moments fault)) h = (h.0, halts mid (stops.Moments fault) (HaveEnded read fed) h.1)
+  listens_to (Err (stops.FaultWord x)) h = (h.0, halts mid (stops.FaultWord x) (HaveEnded read fed) h.1)
+  listens_to (Err (stops.Broker name)) h = (h.0, halts mid (stops.Broker name) (HaveEnded read fed) h.1)
+
+-- ---- nothing was read
+
+abbrev pub fed_by : Option (List ℕ) → Option (List ℕ) → ℕ → ℕ → ℕ → ℕ → Fed
+fed_by x y r s f g = record { old = x; new = y; reads_before = r; reads_after = s; failed_before = f; failed_after = g }
+
+unread : (x : Option (List ℕ)) (r f : ℕ) → IsUnread (fed_by x x r r f f)
+unread x r f = (Keeps-refl x, refl, refl)
+
+module _ (port : ℕ) (bytes : List ℕ) (start : ℕ) (before : Option Behind) where
+  abbrev Lives : Result (Unit {0}) Stop → Fed → Sent → Option Behind → Type 0
+  Lives result fed out new = IfSome before (λ b. LivesTo port bytes start b result fed out new)
+
+  some_lives : {P : Behind → Type 0} {Q : Behind → Type 0} → ((b : Behind) → P b → Q b) → IfSome before P → IfSome before Q
+  some_lives {P = P} {Q = Q} f h = by_case before h where
+    by_case : (o : Option Behind) → IfSome o P → IfSome o Q
+    by_case None u = tt
+    by_case (Some b) u = f b u
+
+  -- the bytes are no inventory, or memory was wanting
+  pub read_lives :
+      (result : Result (Unit {0}) Stop) (fault : InvFault) (x : Option (List ℕ)) (r f : ℕ) (a : Option (List ℕ)) (n : ℕ) (p k : Bool) → IsErr result × IsErrAnd result (λ (q : Stop). q ≡ stop_of_inventory fault) → Fails fault (inventory bytes) →
+      IfSome before (λ b. LivesTo port bytes start b result (fed_by x x r r f f) (sent_by a a n n p p k) before)
+  read_lives (Ok u) fault x r f a n p k is fails = absurd (let no = is.0 in cc)
+  read_lives (Err stop) fault x r f a n p k is fails = by_before before where
+    by_fault : (b : Behind) (e : InvFault) → Fails e (inventory bytes) → LivesTo port bytes start b (Err (stop_of_inventory e)) (fed_by x x r r f f) (sent_by a a n n p p k) (Some b)
+    by_fault b faults.OutOfMemory h = inl (unread x r f, untouched a n p k, refl)
+    by_fault b faults.NotToml h = (h, unread x r f, untouched a n p k, refl)
+    by_fault b (faults.MissingKey i key) h = (h, unread x r f, untouched a n p k, refl)
+    by_fault b (faults.UnknownKey i) h = (h, unread x r f, untouched a n p k, refl)
+    by_fault b (faults.BadValue i key) h = (h, unread x r f, untouched a n p k, refl)
+    by_fault b (faults.Tree i t) h = (h, unread x r f, untouched a n p k, refl)
+
+    by_before : (o : Option Behind) → IfSome o (λ b. LivesTo port bytes start b (Err stop) (fed_by x x r r f f) (sent_by a a n n p p k) o)
+    by_before None = tt
+    by_before (Some b) = subst (λ (q : Stop). LivesTo port bytes start b (Err q) (fed_by x x r r f f) (sent_by a a n n p p k) (Some b)) (sym is.1) (by_fault b fault fails)
+
+  -- it ended before it listened
+  pub early_lives :
+      (result : Result (Unit {0}) Stop) (stop : Stop) (stock : Stock) (x : Option (List ℕ)) (r f : ℕ) (out : Sent) (new : Option Behind) → inventory bytes ≡ Ok stock → IsErr result × IsErrAnd result (λ (q : Stop). q ≡ stop) →
+      IfSome before (λ b. EndsEarly port start (record { stock = stock; behind = b }) stop out new) → Lives result (fed_by x x r r f f) out new
+  early_lives (Ok u) stop stock x r f out new read is early = absurd (let no = is.0 in cc)
+  early_lives (Err q) stop stock x r f out new read is early =
+      some_lives (λ b h. subst (λ (u : Stop). LivesTo port bytes start b (Err u) (fed_by x x r r f f) out new) (sym is.1) (by_stop b stop h)) early where
+        by_stop : (b : Behind) (u : Stop) → EndsEarly port start (record { stock = stock; behind = b }) u out new → LivesTo port bytes start b (Err u) (fed_by x x r r f f) out new
+        by_stop b stops.Memory h = inr (stock, read, inl (h, unread x r f))
+        by_stop b stops.Write h = (stock, read, inl (h, unread x r f))
+        by_stop b stops.TooLong h = (stock, read, inl (h, unread x r f))
+        by_stop b (stops.Broker name) h = (stock, read, inl (h, unread x r f))
+        by_stop b stops.Read h = absurd h
+        by_stop b (stops.Inventory fault) h = absurd h
+        by_stop b (stops.Moments fault) h = absurd h
+        by_stop b (stops.FaultWord i) h = absurd h
+        by_stop b (stops.Line i) h = absurd h
+
+  -- it listened
+  pub listened_lives :
+      (stock : Stock) (cs : List (List ℕ)) (keeper : State) (middle : Option Behind) (a b c : Option (List ℕ)) (n m l : ℕ) (p q r k : Bool) (result : Result (Unit {0}) Stop) (final : Side) (fed : Fed) → inventory bytes ≡ Ok stock →
+      IfSome before (λ x. IsOpened port start (record { stock = stock; behind = x }) cs keeper middle (sent_by a b n m p q k)) → Listens port cs (side keeper middle) result final fed (sent_by b c m l q r k) →
+      Lives result fed (sent_by a c n l p r k) final.behind
+  listened_lives stock cs keeper middle a b c n m l p q r k result final fed read opened listens = some_lives (λ x o. by_result x result (has x o)) opened where
+    has : (x : Behind) → IsOpened port start (record { stock = stock; behind = x }) cs keeper middle (sent_by a b n m p q k) → HasListened port start (record { stock = stock; behind = x }) result final fed (sent_by a c n l p r k)
+    has x o =
+        let h : Listens port stock.credentials (side keeper (Some o.behind)) result final fed (sent_by b c m l q r k) =
+        subst (λ d. Listens port d (side keeper (Some o.behind)) result final fed (sent_by b c m l q r k)) o.same
+        (subst (λ e. Listens port cs (side keeper e) result final fed (sent_by b c m l q r k)) o.is listens) in
+        record {
+          read = h.read;
+          consumed = h.consumed;
+          reads = h.reads;
+          lines = h.lines;
+          behind = h.behind;
+          cut = h.heard.cut;
+          prompt = h.prompt;
+          mid = h.mid;
+          text = o.text ++ h.text;
+          run = record { opening = both keeper o.behind; before = o.text; opened = o.opened; spoken = h.text; heard = h.heard.heard; text_is = refl };
+          ends = listens_to port stock.credentials h.read (length h.lines + 1) h.mid h.behind o.text h.text final fed a b c n m l p q r k o.sent.0 o.kept result h.ends;
+        }
+
+    by_result : (x : Behind) (u : Result (Unit {0}) Stop) → HasListened port start (record { stock = stock; behind = x }) u final fed (sent_by a c n l p r k) → LivesTo port bytes start x u fed (sent_by a c n l p r k) final.behind
+    by_result x (Ok u) h = (stock, read, (final, h, refl))
+    by_result x (Err stops.Memory) h = inr (stock, read, inr (final, h, refl))
+    by_result x (Err stops.Write) h = (stock, read, inr (final, h, refl))
+    by_result x (Err stops.TooLong) h = (stock, read, inr (final, h, refl))
+    by_result x (Err stops.Read) h = (stock, read, inr (final, h, refl))
+    by_result x (Err (stops.Line i)) h = (stock, read, inr (final, h, refl))
+    by_result x (Err (stops.Broker name)) h = (stock, read, inr (final, h, refl))
+    by_result x (Err (stops.Moments fault)) h = (stock, read, inr (final, h, refl))
+    by_result x (Err (stops.FaultWord i)) h = (stock, read, inr (final, h, refl))
+    by_result x (Err (stops.Inventory fault)) h = absurd h.ends.1
+
+  -- by another name of the port
+  pub at_port : (result : Result (Unit {0}) Stop) (fed : Fed) (out : Sent) (new : Option Behind) (n : ℕ) → port ≡ n → Lives result fed out new → IfSome before (λ b. LivesTo n bytes start b result fed out new)
+  at_port result fed out new n is lives = subst (λ m. IfSome before (λ b. LivesTo m bytes start b result fed out new)) is lives
+
+  -- ---- by exit
+
+  pub done_runs : (fed : Fed) (out : Sent) (new : Option Behind) (e : Option (List ℕ)) (n : ℕ) (p k : Bool) → Lives (Ok tt) fed out new → IfSome before (λ b. LiveRun port bytes start b exits.Done fed out (sent_by e e n n p p k) new)
+  done_runs fed out new e n p k lives = some_lives (λ b h. (h, untouched e n p k)) lives
+
+  pub stopped_runs :
+      (stop : Stop) (exit : Exit) (fed : Fed) (out errors : Sent) (new : Option Behind) → exit ≡ exit_of stop → Lives (Err stop) fed out new → Reports (fault_line (codes "leasekeep") stop) errors →
+      IfSome before (λ b. LiveRun port bytes start b exit fed out errors new)
+  stopped_runs stop exit fed out errors new is lives told =
+      subst (λ (e : Exit). IfSome before (λ b. LiveRun port bytes start b e fed out errors new)) (sym is) (some_lives (λ b h. by_stop b stop h told) lives) where
+        by_stop : (b : Behind) (u : Stop) → LivesTo port bytes start b (Err u) fed out new → Reports (fault_line (codes "leasekeep") u) errors → LiveRun port bytes start b (exit_of u) fed out errors new
+        by_stop b stops.Memory h t = (stops.Memory, refl, h, t)
+        by_stop b stops.Write h t = (stops.Write, refl, h, t)
+        by_stop b stops.TooLong h t = (stops.TooLong, refl, h, t)
+        by_stop b stops.Read h t = (stops.Read, refl, h, t)
+        by_stop b (stops.Line i) h t = (stops.Line i, refl, h, t)
+        by_stop b (stops.Broker name) h t = (stops.Broker name, refl, h, t)
+        by_stop b (stops.Moments fault) h t = (stops.Moments fault, refl, h, t)
+        by_stop b (stops.FaultWord i) h t = (stops.FaultWord i, refl, h, t)
+        by_stop b (stops.Inventory fault) h t = (stops.Inventory fault, refl, h, t)

@@ -1,0 +1,145 @@
+-- Listening: event lines, one after another: which are heard, what is written of them, and how listening ends.
+-- Source: this project's own.
+use Rattle.std.specs.Prelude.{◌≡◌, ℕ, ◌+◌, ◌-◌, ◌^◌, ◌<◌, ◌≤◌, ◌⊎◌, ◌++◌, IsTrue, List, [], ◌∷◌, Option, None, Some, Result, Ok, Err, IfSome, length, take}
+use Rattle.std.specs.Io.KnownBytes.{Appends, Consumes, IsAtEnd}
+use Rattle.keep_words.specs.Pieces.{pieces}
+use Rattle.keep_tree.specs.Forest.{Grove}
+use Rattle.keep_core.specs.declared.event.Event.TheVariants as events
+use Rattle.keep_core.specs.declared.fault.StepFault.TheVariants as steps
+use Rattle.keep_core.specs.History.{Turn}
+use Rattle.keep_device.specs.Failures.{HasFailed, one_more}
+use Rattle.keep_device.specs.Whole.{MakesAtMost}
+use Rattle.keep_report.specs.declared.stop.Stop.{Stop}
+use Rattle.keep_report.specs.declared.stop.Stop.TheVariants as stops
+use Rattle.keep_report.specs.Sent.{IsAll, Sent}
+use Rattle.keep_run.specs.declared.event_line.Heard.{Heard}
+use Rattle.keep_run.specs.declared.event_line.Heard.TheVariants.{Need}
+use Rattle.keep_run.specs.declared.event_line.TheConstants.{MOST_LINE}
+use Rattle.keep_run.specs.declared.listening.TheConstants.{EVENT_ROOM, MOST_EVENTS, MOST_EVENT_READS}
+use Rattle.keep_run.specs.EventLines.{heard_in}
+use Rattle.keep_run.specs.Live.{Between, IsHeard, Side}
+use Rattle.keep_run.specs.Stops.{both}
+
+-- ---- lines
+
+-- a line says an event in the forest of its moment; the event is heard and has this text, where what stands behind the exchange
+-- is known (its requests then name the port 8200)
+pub record IsLineHeard (port : ℕ) (cs : List (List ℕ)) (old : Side) (line : List ℕ) (new : Side) (text : List ℕ) : Type 0 where
+  pub says : Heard
+  pub is : heard_in old.keeper.forest line ≡ Some says
+  pub heard : port ≡ 8200 → Between old.behind new.behind (λ b a. IsHeard cs (both old.keeper b) says (both new.keeper a) text)
+
+-- lines are heard, one after another, and their texts stand one behind another
+abbrev pub AreHeard : ℕ → List (List ℕ) → Side → List (List ℕ) → Side → List ℕ → Type 0
+AreHeard port cs old [] new text = (new ≡ old) × (text ≡ [])
+AreHeard port cs old (line ∷ lines) new text =
+    (mid : Side) × ((first : List ℕ) × ((rest : List ℕ) × (IsLineHeard port cs old line mid first × (AreHeard port cs mid lines new rest × (text ≡ first ++ rest)))))
+
+-- the pieces of these bytes between line feeds are lines that are heard, and then these, of which the last has no line feed
+pub record IsHeardFirst (port : ℕ) (cs : List (List ℕ)) (old : Side) (bytes : List ℕ) (lines behind : List (List ℕ)) (new : Side) (text : List ℕ) : Type 0 where
+  pub cut : pieces 10 bytes ≡ lines ++ behind
+  pub heard : AreHeard port cs old lines new text
+
+-- the first of these pieces, where it has a line feed
+abbrev pub whole_line : List (List ℕ) → Option (List ℕ)
+whole_line (line ∷ next ∷ more) = Some line
+whole_line behind = None
+
+-- ---- where a line stops a run
+
+-- the first of these pieces is no event line: it says no event; or it has no line feed, and is as long as an event line may be,
+-- or the events have ended
+abbrev pub IsNoEvent : Grove → List (List ℕ) → Type 0 → Type 0
+IsNoEvent g [] HasEnded = ⊥
+IsNoEvent g (rest ∷ []) HasEnded = (MOST_LINE ≤ length rest) ⊎ (HasEnded × (0 < length rest))
+IsNoEvent g (line ∷ next ∷ more) HasEnded = heard_in g line ≡ None
+
+-- the line says a new need, with which the plan would be too long; nothing is changed
+pub record IsTooLong (old : Side) (line : List ℕ) (new : Side) : Type 0 where
+  pub i : ℕ
+  pub until : ℕ
+  pub is : heard_in old.keeper.forest line ≡ Some (Need i until)
+  pub turn : Turn old.keeper (events.Need i until) (Err steps.TooLong) new.keeper
+  pub same : new.behind ≡ old.behind
+
+-- the line is heard, and behind the text of those before it no more than a front of its own was written
+pub record IsCutShort (port : ℕ) (cs : List (List ℕ)) (old : Side) (line : List ℕ) (new : Side) (text : List ℕ) (out : Sent) : Type 0 where
+  pub own : List ℕ
+  pub heard : IsLineHeard port cs old line new own
+  pub n : ℕ
+  pub front : Appends out.old out.new (text ++ take n own)
+
+-- why a run stops behind the lines of this text, at the piece that stands first, which would be the line of that number
+abbrev pub Halts : ℕ → List (List ℕ) → ℕ → Side → List (List ℕ) → List ℕ → Stop → Side → Type 0 → Sent → Type 0
+Halts port cs number old behind text (stops.Line n) new HasEnded out = (n ≡ number) × (IsNoEvent old.keeper.forest behind HasEnded × ((new ≡ old) × IsAll text out))
+Halts port cs number old behind text stops.TooLong new HasEnded out = (line : List ℕ) × ((whole_line behind ≡ Some line) × (IsTooLong old line new × IsAll text out))
+Halts port cs number old behind text stops.Write new HasEnded out =
+    HasFailed out.failed_before out.failed_after × ((line : List ℕ) × ((whole_line behind ≡ Some line) × IsCutShort port cs old line new text out))
+Halts port cs number old behind text stops.Memory new HasEnded out =
+    Appends out.old out.new text ⊎ (IsTrue out.is_in_memory × ((line : List ℕ) × ((whole_line behind ≡ Some line) × IsCutShort port cs old line new text out)))
+Halts port cs number old behind text stop new HasEnded out = ⊥
+
+-- ---- the events
+
+-- what a source handed out between two of its states: its bytes before and after, where they are known, and its counts of reads
+-- and of failures
+pub record Fed : Type 0 where
+  pub old : Option (List ℕ)
+  pub new : Option (List ℕ)
+  pub reads_before : ℕ
+  pub reads_after : ℕ
+  pub failed_before : ℕ
+  pub failed_after : ℕ
+
+-- the events have ended, and are as long as they may be at most
+abbrev pub HaveEnded : List ℕ → Fed → Type 0
+HaveEnded read fed = IsAtEnd fed.new × (length read ≤ MOST_EVENTS)
+
+-- where its bytes are known, at least so many reads were made between the two counts, or the count is at its greatest
+abbrev pub MakesAtLeast : ℕ → Option (List ℕ) → ℕ → ℕ → Type 0
+MakesAtLeast least known before now = IfSome known (λ _. (before + least ≤ now) ⊎ (2 ^ 64 - 1 ≤ now))
+
+-- why the events are not read to their end: a read failed; or they are longer than they may be, or as many reads were made as
+-- there may be
+abbrev pub AreCutOff : List ℕ → Fed → Type 0
+AreCutOff read fed =
+    (fed.failed_after ≡ one_more fed.failed_before)
+    ⊎ ((fed.failed_after ≡ fed.failed_before) × ((MOST_EVENTS < length read) ⊎ MakesAtLeast MOST_EVENT_READS fed.old fed.reads_before fed.reads_after))
+
+-- of what was read before the last read, which handed out at most 4,096 bytes, the whole lines are among these that were heard,
+-- and less than a line stands behind them
+pub record IsPrompt (read : List ℕ) (lines : List (List ℕ)) : Type 0 where
+  pub before : List ℕ
+  pub last : List ℕ
+  pub parts : read ≡ before ++ last
+  pub room : length last ≤ EVENT_ROOM
+  pub few : length before ≤ MOST_EVENTS
+  pub first : List (List ℕ)
+  pub later : List (List ℕ)
+  pub heard : lines ≡ first ++ later
+  pub rest : List ℕ
+  pub cut : pieces 10 before ≡ first ++ (rest ∷ [])
+  pub short : length rest < MOST_LINE
+
+-- how listening ends behind the lines of this text, before these pieces: the events have ended in a line feed, or are cut off;
+-- or a line stops it
+abbrev pub ListensTo : ℕ → List (List ℕ) → List ℕ → ℕ → Side → List (List ℕ) → List ℕ → Result (Unit {0}) Stop → Side → Fed → Sent → Type 0
+ListensTo port cs read number old behind text (Ok u) new fed out =
+    (behind ≡ [] ∷ []) × (HaveEnded read fed × ((fed.failed_after ≡ fed.failed_before) × ((new ≡ old) × IsAll text out)))
+ListensTo port cs read number old behind text (Err stops.Read) new fed out =
+    (rest : List ℕ) × ((behind ≡ rest ∷ []) × ((length rest < MOST_LINE) × (AreCutOff read fed × ((new ≡ old) × IsAll text out))))
+ListensTo port cs read number old behind text (Err stop) new fed out = (fed.failed_after ≡ fed.failed_before) × Halts port cs number old behind text stop new (HaveEnded read fed) out
+
+-- listening to the events: what was read of them, by at most 65,536 reads; the lines of its first 1 MiB that were heard, and
+-- what that came to; and how it ended behind them
+pub record Listens (port : ℕ) (cs : List (List ℕ)) (old : Side) (result : Result (Unit {0}) Stop) (new : Side) (fed : Fed) (out : Sent) : Type 0 where
+  pub read : List ℕ
+  pub consumed : Consumes fed.old fed.new read
+  pub reads : MakesAtMost MOST_EVENT_READS fed.old fed.reads_before fed.reads_after
+  pub lines : List (List ℕ)
+  pub behind : List (List ℕ)
+  pub mid : Side
+  pub text : List ℕ
+  pub heard : IsHeardFirst port cs old (take MOST_EVENTS read) lines behind mid text
+  pub prompt : IsPrompt read lines
+  pub ends : ListensTo port cs read (length lines + 1) mid behind text result new fed out
