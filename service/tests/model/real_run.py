@@ -82,6 +82,7 @@ class RealRuns:
         self._folder = tempfile.TemporaryDirectory()
         self._place = str(Path(self._folder.name) / "broker")
         self._run: RealRun | None = None
+        self._launching = asyncio.Lock()
         self._server: asyncio.Server | None = None
 
     async def launch(self, text: str, start: int, serve: Serve) -> RealRun:
@@ -91,7 +92,8 @@ class RealRuns:
         if self._server is None:
             self._server = await asyncio.start_unix_server(self._talk, self._place)
         launcher = ProcessLauncher(self._program, Path(self._folder.name), Address(self._place), TIMEOUT)
-        self._run = RealRun(await launcher.launch(text, start), loop)
+        async with self._launching:
+            self._run = RealRun(await launcher.launch(text, start), loop)
         return self._run
 
     def close(self) -> None:
@@ -101,16 +103,16 @@ class RealRuns:
         self._folder.cleanup()
 
     async def _talk(self, reader: asyncio.StreamReader, writer: asyncio.StreamWriter) -> None:
-        run = self._run
+        async with self._launching:  # A process may ask before its launch is over.
+            run = self._run
+        assert run is not None
         try:
             request = await read_request(reader)
-            if run is not None:
-                run.begins_to_be_served()
+            run.begins_to_be_served()
             try:
                 reply = await self._serve(request)
             finally:
-                if run is not None:
-                    run.is_served()
+                run.is_served()
             writer.write(reply_bytes(reply))
             await writer.drain()
         except (TransportFault, OSError, asyncio.IncompleteReadError):
