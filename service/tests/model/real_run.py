@@ -26,8 +26,8 @@ Serve = Callable[[Request], Awaitable[Response]]
 class RealRun:
     """One process. It works where it neither waits for an event line nor for its broker."""
 
-    def __init__(self, process: ProcessRun, loop: SimLoop) -> None:
-        self._process, self._loop = process, loop
+    def __init__(self, process: ProcessRun, loop: SimLoop, entries: int) -> None:
+        self._process, self._loop, self._entries = process, loop, entries
         self._is_busy, self._served, self._has_ended = True, 0, False
         self.events: list[str] = []
         self.printed: list[str] = []
@@ -43,7 +43,7 @@ class RealRun:
             self._has_ended, self._is_busy = True, False
         else:
             self.printed.append(line)
-            self._is_busy = line.split(" ")[0] not in LAST_WORDS
+            self._is_busy = line.split(" ")[0] not in LAST_WORDS and len(self.printed) != self._entries
         return line
 
     async def write_line(self, line: str) -> None:
@@ -52,8 +52,9 @@ class RealRun:
         await self._process.write_line(line)
 
     async def end(self) -> RunExit:
-        if self._served and not self._has_ended:
-            # It waits for its broker, and hears only then that its input has ended.
+        if self._is_busy and not self._has_ended:
+            # It hears only behind its present answer that its input has ended.
+            self._is_busy = False
             await asyncio.sleep(END_SECONDS)
             self.kill()
         self._is_busy, self._served = True, 0
@@ -64,6 +65,7 @@ class RealRun:
             self._loop.workers.discard(self)
 
     def kill(self) -> None:
+        """Ends it as a crash would; time stands still until that is heard."""
         self._is_busy, self._served, self._has_ended = not self._has_ended, 0, True
         self._process.kill()
 
@@ -93,7 +95,7 @@ class RealRuns:
             self._server = await asyncio.start_unix_server(self._talk, self._place)
         launcher = ProcessLauncher(self._program, Path(self._folder.name), Address(self._place), TIMEOUT)
         async with self._launching:
-            self._run = RealRun(await launcher.launch(text, start), loop)
+            self._run = RealRun(await launcher.launch(text, start), loop, text.count("[["))
         return self._run
 
     def close(self) -> None:
