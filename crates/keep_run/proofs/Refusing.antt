@@ -64,8 +64,8 @@ comes_at t last None same comes = tt
 comes_at t last (Some u) same comes = let le : t ≤ u = comes.0 in (omega arith, comes.1)
 
 -- a moment that is not before the last one comes
-pub told_comes : (t a b last c k : ℕ) → a ≡ t → b ≡ t → last ≡ k → c ≡ last → a ≤ LAST → nat_lt a c ≡ false → Comes k (Some b)
-told_comes t a b last c k a_is b_is last_is c_is late not_before = (let le : c ≤ a = grind (arith, nat_tests) in omega arith, omega arith)
+pub told_comes : (t a b last c k : ℕ) → a ≡ t → b ≡ t → last ≡ k → c ≡ last → a ≤ LAST → c ≤ a → Comes k (Some b)
+told_comes t a b last c k a_is b_is last_is c_is late not_before = (omega arith, omega arith)
 
 -- ---- refusals
 

@@ -29,7 +29,7 @@ pub round-requires-clause-quiet : goal.round-requires-clause-quiet
 round-requires-clause-quiet g c = ap (λ (s : State). s.shortened) c.in_ok-asked.ensures.ticks.is
 
 pub tick-requires-clause-comes : goal.tick-requires-clause-comes
-tick-requires-clause-comes g c = told_comes c.args.t c.get.result c.get-3.result c.now.result c.get-2.result c.args.keeper.now.last c.get.ensures.value c.get-3.ensures.value c.now.ensures c.get-2.ensures.value c.get.ensures.within c.if-lt.false
+tick-requires-clause-comes g c = told_comes c.args.t c.get.result c.get-3.result c.now.result c.get-2.result c.args.keeper.now.last c.get.ensures.value c.get-3.ensures.value c.now.ensures c.get-2.ensures.value c.get.ensures.within c.if-get.false
 
 pub returns-in_ok-push_sleep-in-Sleep-clause-ready : goal.returns-in_ok-push_sleep-in-Sleep-clause-ready
 returns-in_ok-push_sleep-in-Sleep-clause-ready g c =

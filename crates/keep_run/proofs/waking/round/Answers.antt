@@ -1,6 +1,7 @@
 use Rattle.std.proofs.Common.{◌≡◌, ap, ◌∙◌, ◌+◌, ◌++◌, ◌∷◌, [], drop, length, sym, subst, take, get_or, arith}
-use Rattle.std.proofs.lemmas.List.{take_more}
+use Rattle.std.proofs.lemmas.List.{take_all, take_more}
 use Rattle.keep_core.proofs.Shaped.{both_shaped, same}
+use Rattle.keep_run.specs.Live.{Between}
 use Rattle.keep_run.specs.Playing.{Answers, AnswersAll}
 use Rattle.keep_run.specs.Stops.{both}
 use Rattle.keep_run.proofs.OneAnswer.{between_more, between_none}
@@ -55,6 +56,12 @@ pub answer-requires-clause-waits : goal.answer-requires-clause-waits
 answer-requires-clause-waits g c =
     first_waits c.loop-i.keeper c.args.t (get_or c.args.asked.now c.loop-i.i-index 0) (drop (c.loop-i.i-index + 1) c.args.asked.now)
     (stands_now c.args.t c.loop-i.i-index c.args.asked.now c.loop-i.next c.loop-i.keeper c.loop-i-test.true c.loop-i.invariant.stands)
+
+pub returns-clause-answers : goal.returns-clause-answers
+returns-clause-answers g c = λ port.
+    subst (λ is. Between (g.E.Exchange.behind c.args.exchange.now) (g.E.Exchange.behind c.loop-i.exchange)
+    (λ b a. AnswersAll c.args.credentials.now c.args.t (both c.args.keeper.now b) is c.loop-i.next (both c.loop-i.keeper a) c.args.text.now.items c.loop-i.text.items))
+    (take_all c.loop-i.i-index c.args.asked.now (let past = c.loop-i-test.false in omega arith)) (c.loop-i.invariant.answers port)
 
 pub returns-clause-ready : goal.returns-clause-ready
 returns-clause-ready g c = record {
