@@ -1,6 +1,6 @@
 //! Rehearsals over whole inventories: exit, output, fault line and wire.
 use crate::run_rehearse;
-use keep_device::{Device, MemorySink, MemorySource, Sink, SinkFault};
+use keep_device::MemorySink;
 use keep_exchange::MemoryExchange;
 use keep_inventory::read;
 use keep_moment::{Moment, Text};
@@ -9,7 +9,6 @@ use mini_broker::Table;
 use std::alloc::Global;
 use std::process::Abort;
 use std::test::Fail;
-use vault_http::{read_reply, read_request};
 
 const WEB: &str =
     "[[token]]\nname = \"web\"\nissued = 1000\nend = 1060\nincrement = 60\nmax_ttl = 9000\nneed = 1200\n";
@@ -259,15 +258,7 @@ fn an_inventory_at_fault_is_told_first(rt: HostRuntime) -> Result<(), Fail> {
     )
 }
 
-// The last request of the web example, and the reply to it.
-const REQUEST: &[u8] =
-    b"POST /v1/auth/token/renew-self HTTP/1.1\r\nHost: 127.0.0.1:8200\r\nX-Vault-Token: web\r\n\
-    Content-Type: application/json\r\nContent-Length: 16\r\nConnection: close\r\n\r\n{\"increment\":60}";
-const REPLY: &[u8] =
-    b"HTTP/1.1 200 OK\r\nContent-Type: application/json\r\nContent-Length: 47\r\nConnection: close\r\n\r\n\
-    {\"auth\":{\"lease_duration\":60,\"renewable\":true}}";
-
-// The wire is the last request and its reply; each is read as it was meant.
+// The wire is the last request and its reply.
 #[test]
 fn the_wire_of_a_rehearsal_is_its_last_exchange(rt: HostRuntime) -> Result<(), Fail> {
     let alloc = rt.alloc();
@@ -283,169 +274,12 @@ fn the_wire_of_a_rehearsal_is_its_last_exchange(rt: HostRuntime) -> Result<(), F
         &mut errors,
         &mut exchange,
     );
+    let wire: &[u8] =
+        b"POST /v1/auth/token/renew-self HTTP/1.1\r\nHost: 127.0.0.1:8200\r\nX-Vault-Token: web\r\n\
+        Content-Type: application/json\r\nContent-Length: 16\r\nConnection: close\r\n\r\n{\"increment\":60}\
+        HTTP/1.1 200 OK\r\nContent-Type: application/json\r\nContent-Length: 47\r\nConnection: close\r\n\r\n\
+        {\"auth\":{\"lease_duration\":60,\"renewable\":true}}";
+    assert!(rt; exchange.wire() == wire, "the wire");
     assert!(rt; exchange.table().end_of(b"web") == Some(1237), "the end");
-    let wire = exchange.wire();
-    assert!(rt; wire.get(..REQUEST.len()) == Some(REQUEST), "the request");
-    assert!(rt; wire.get(REQUEST.len()..) == Some(REPLY), "the reply");
-    let mut source = source_of(alloc, REQUEST)?;
-    let request = read_request(alloc, &mut source, 1048576).ok().ok_or("a request")?;
-    assert!(rt; request.method.as_str() == "POST" && request.path.list() == b"/v1/auth/token/renew-self");
-    assert!(rt; request.token.is_some_and(|token| token.list() == b"web"));
-    assert!(rt; request.body.list() == b"{\"increment\":60}");
-    let mut source = source_of(alloc, REPLY)?;
-    let reply = read_reply(alloc, &mut source, 1048576).ok().ok_or("a reply")?;
-    assert!(rt; reply.status == 200);
-    assert!(rt; reply.body.list() == b"{\"auth\":{\"lease_duration\":60,\"renewable\":true}}");
-    Ok(())
-}
-
-// A source of these bytes, whole.
-fn source_of(alloc: Global, bytes: &[u8]) -> Result<MemorySource, Fail> {
-    Ok(MemorySource::new(
-        Vec::from_slice(alloc, bytes)?,
-        Vec::new(alloc),
-        None,
-    ))
-}
-
-// What `out` holds of the web example, where the call fails or wants memory that comes behind so many: three wake-ups, the
-// last line and the flush.
-const HELD: [(u64, usize); 5] = [(0, 0), (1, 26), (2, 52), (3, 78), (4, 87)];
-
-#[test]
-fn a_writer_that_fails_holds_whole_wake_ups(rt: HostRuntime) -> Result<(), Fail> {
-    let alloc = rt.alloc();
-    for (calls, length) in HELD {
-        let mut out = MemorySink::new(alloc, Some(calls));
-        let mut errors = MemorySink::new(alloc, None);
-        let got = run_rehearse(
-            alloc,
-            WEB.as_bytes(),
-            start()?,
-            &[],
-            &mut out,
-            &mut errors,
-            &mut nobody(alloc)?,
-        );
-        assert_eq!(rt; got, Exit::Device, "{calls}");
-        assert!(rt; Some(out.bytes()) == AS_PLANNED.as_bytes().get(..length), "{calls}");
-        assert!(rt; errors.bytes() == b"leasekeep: write\n", "{calls}");
-    }
-    Ok(())
-}
-
-#[test]
-fn a_writer_that_wants_memory_holds_whole_wake_ups(rt: HostRuntime) -> Result<(), Fail> {
-    let alloc = rt.alloc();
-    for (calls, length) in HELD {
-        let mut out = Wanting {
-            sink: MemorySink::new(alloc, None),
-            left: calls,
-        };
-        let mut errors = MemorySink::new(alloc, None);
-        let got = run_rehearse(
-            alloc,
-            WEB.as_bytes(),
-            start()?,
-            &[],
-            &mut out,
-            &mut errors,
-            &mut nobody(alloc)?,
-        );
-        assert_eq!(rt; got, Exit::Memory, "{calls}");
-        assert!(rt; Some(out.sink.bytes()) == AS_PLANNED.as_bytes().get(..length), "{calls}");
-        assert!(rt; errors.bytes() == b"leasekeep: memory\n", "{calls}");
-    }
-    Ok(())
-}
-
-// A sink for which no memory is left behind so many calls.
-struct Wanting {
-    sink: MemorySink,
-    left: u64,
-}
-
-impl Device for Wanting {
-    ghost failed_calls = { λ s. s.sink.calls.failures };
-
-    ghost is_flushed = { λ s. s.sink.flushed };
-
-    ghost is_in_memory = { true };
-
-    fn failures(&self) -> u64 {
-        self.sink.failures()
-    }
-}
-
-impl Sink for Wanting {
-    fn write_some(&mut self, piece: &[u8]) -> Result<usize, SinkFault> {
-        if self.left == 0 {
-            return Err(SinkFault::OutOfMemory);
-        }
-        self.left -= 1;
-        self.sink.write_some(piece)
-    }
-
-    fn flush(&mut self) -> Result<(), SinkFault> {
-        if self.left == 0 {
-            return Err(SinkFault::OutOfMemory);
-        }
-        self.left -= 1;
-        self.sink.flush()
-    }
-}
-
-// A token with a lease and a child token, with these secrets.
-fn family(alloc: Global, token: &str, lease: &str, child: &str) -> Result<String, Fail> {
-    Ok(format!(in alloc;
-        "[[token]]\nname = \"T\"\nsecret = \"{token}\"\nissued = 1000\nend = 1100\nincrement = 100\nmax_ttl = 9000\n\n\
-        [[lease]]\nname = \"L\"\ntoken = \"T\"\nlease_id = \"{lease}\"\nissued = 1000\nend = 1060\nincrement = 60\nmax_ttl = 9000\nneed = 1200\n\n\
-        [[token]]\nname = \"C\"\nparent = \"T\"\nsecret = \"{child}\"\nissued = 1000\nend = 1090\nincrement = 90\nmax_ttl = 9000\nneed = 1300\n"
-    )?)
-}
-
-// Secrets of the token, its lease and its child.
-const SECRETS: [(&str, &str, &str); 6] = [
-    ("T", "L", "C"),
-    ("C", "T", "T2"),
-    ("s.0123456789abcdef", "database/creds/app/u4Zr", "s.fedcba9876543210"),
-    ("z", "a", "a"),
-    ("1=drop", "\\\\\\\"/{}", "told"),
-    ("!", "~", "~"),
-];
-
-const FAULTS: [&str; 12] = [
-    "", "1=drop", "2=drop", "3=drop", "1=deny", "2=deny", "3=deny", "1=short:10", "2=short:0", "3=short:1", "2=deny 4=drop",
-    "5=short:20 6=drop 7=deny",
-];
-
-// No secret shows: inventories that differ in secrets and lease ids alone are rehearsed alike, whatever goes wrong.
-#[test]
-fn no_secret_shows(rt: HostRuntime) -> Result<(), Fail> {
-    let alloc = rt.alloc();
-    for words in FAULTS {
-        let mut first = MemorySink::new(alloc, None);
-        for (at, (token, lease, child)) in SECRETS.iter().enumerate() {
-            let inventory = family(alloc, token, lease, child)?;
-            let mut out = MemorySink::new(alloc, None);
-            let mut errors = MemorySink::new(alloc, None);
-            let got = run_rehearse(
-                alloc,
-                inventory.as_bytes(),
-                start()?,
-                &words_of(alloc, words)?,
-                &mut out,
-                &mut errors,
-                &mut nobody(alloc)?,
-            );
-            assert_eq!(rt; got, Exit::Done, "{words} {at}");
-            assert!(rt; errors.bytes().is_empty() && !out.bytes().is_empty(), "{words} {at}");
-            if at == 0 {
-                first = out;
-            } else {
-                assert!(rt; out.bytes() == first.bytes(), "{words} {at}");
-            }
-        }
-    }
     Ok(())
 }

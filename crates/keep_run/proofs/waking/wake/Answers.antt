@@ -26,7 +26,7 @@ returns-clause-wakes c =
     let opens = subst (λ o. OpensOrEnds cs c.args.exchange.now c.args.keeper.now c.args.due o c.open.new.keeper c.args.text.now.items c.open.new.text.items) c.in-Some.is (c.in_ok-opened.ensures.opens cs c.args.exchange.now) in
     let at : c.in-Some-new.at ≡ c.in-Some.opened.at = c.in-Some-new.ensures.value in
     let answers = subst (λ t. AnswersAll cs t (both c.open.new.keeper c.args.exchange.now) c.in-Some.opened.asked c.in_ok-next.next (both c.round.new.keeper c.round.new.exchange) c.open.new.text.items c.round.new.text.items) at
-    (subst (λ is. AnswersAll cs c.in-Some-new.at (both c.open.new.keeper c.args.exchange.now) is c.in_ok-next.next (both c.round.new.keeper c.round.new.exchange) c.open.new.text.items c.round.new.text.items) c.list.ensures 
+    (subst (λ is. AnswersAll cs c.in-Some-new.at (both c.open.new.keeper c.args.exchange.now) is c.in_ok-next.next (both c.round.new.keeper c.round.new.exchange) c.open.new.text.items c.round.new.text.items) c.list.ensures
     (between_some c.args.exchange.now c.round.new.exchange (λ b a. AnswersAll cs c.in-Some-new.at (both c.open.new.keeper b) c.list.result.now c.in_ok-next.next (both c.round.new.keeper a) c.open.new.text.items c.round.new.text.items)
     (c.in_ok-next.ensures.answers c.port-port.ensures))) in
     let goes = round_goes_on cs c.args.exchange.now c.args.keeper.now c.open.new.keeper (both c.round.new.keeper c.round.new.exchange) c.args.due c.in-Some.opened.at c.in-Some.opened.asked c.args.text.now.items c.open.new.text.items c.round.new.text.items
