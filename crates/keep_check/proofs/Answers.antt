@@ -1,6 +1,6 @@
 -- The laws of answers: the test of a wake-up's force is Forced, there is one answer, and what gets Yes holds.
 use Rattle.std.proofs.Common.{◌≡◌, ℕ, suc, zero, ◌+◌, ◌-◌, ◌*◌, ◌<◌, ◌≤◌, ◌⊎◌, ◌&&◌, ◌++◌, Bool, true, false, cond, List, [], ◌∷◌, Option, Some, None, length, nat_le, nat_lt, refl, sym, ap, ◌∙◌, subst, arith, inl, inr}
-use Rattle.std.proofs.lemmas.Bool.{cases_lt}
+use Rattle.std.proofs.lemmas.Bool.{and_from, and_parts, cases_lt}
 use Rattle.std.proofs.lemmas.Bool.Decides.{nat_tests}
 use Rattle.keep_moment.specs.declared.moment.TheConstants.{LAST}
 use Rattle.keep_tree.specs.declared.entry.Entry.{Entry}
@@ -29,15 +29,6 @@ use Rattle.keep_check.specs.Fit.{AllFit, CanBeJudged}
 use Rattle.keep_check.specs.Laws.{AnswerLaw, ForcedTestLaw, Holds, YesLaw}
 use Rattle.keep_check.specs.Walk.{fault, is_forced, rises}
 
-and_parts : (a b : Bool) → a && b ≡ true → (a ≡ true) × (b ≡ true)
-and_parts true b e = (refl, e)
-and_parts false b e = absurd cc
-
-both : (a b : Bool) → a ≡ true → b ≡ true → a && b ≡ true
-both true true p q = refl
-both true false p q = absurd cc
-both false b p q = absurd cc
-
 pub forced_parts : (es : List Entry) (margin s : ℕ) (ends : ℕ → ℕ) (prev : Option ℕ) (t entry needed : ℕ) → is_forced es margin s ends prev t entry needed ≡ true → Forced es margin s ends prev t entry needed
 unfolding is_forced
 forced_parts es margin s ends prev t entry needed yes' =
@@ -61,9 +52,9 @@ forced_tests es margin s ends prev t entry needed f =
     let a : s < need = f.later in
     let b : x < need = f.short in
     let c : x ≤ t + margin = f.due in
-    both (is_over es entry needed) (nat_lt s need && (nat_lt x need && nat_le x (t + margin))) f.over
-    (both (nat_lt s need) (nat_lt x need && nat_le x (t + margin)) (grind (arith, nat_tests))
-    (both (nat_lt x need) (nat_le x (t + margin)) (grind (arith, nat_tests)) (grind (arith, nat_tests))))
+    and_from (is_over es entry needed) (nat_lt s need && (nat_lt x need && nat_le x (t + margin))) f.over
+    (and_from (nat_lt s need) (nat_lt x need && nat_le x (t + margin)) (grind (arith, nat_tests))
+    (and_from (nat_lt x need) (nat_le x (t + margin)) (grind (arith, nat_tests)) (grind (arith, nat_tests))))
 
 pub forced_test : ForcedTestLaw
 forced_test es margin s ends prev t entry needed = (forced_parts es margin s ends prev t entry needed, forced_tests es margin s ends prev t entry needed)

@@ -1,6 +1,6 @@
 -- The list of forces: there is one where there is a schedule, and no other.
 use Rattle.std.proofs.Common.{◌≡◌, ◌==◌, ℕ, zero, suc, ◌+◌, ◌-◌, ◌<◌, ◌≤◌, ◌&&◌, Bool, true, false, List, [], ◌∷◌, Option, Some, None, nat_lt, refl, sym, ap, ◌∙◌, subst, arith, inl, inr}
-use Rattle.std.proofs.lemmas.Bool.{cases_Bool, cases_eq, cases_lt}
+use Rattle.std.proofs.lemmas.Bool.{and_from, cases_Bool, cases_eq, cases_lt}
 use Rattle.std.proofs.lemmas.Bool.Decides.{nat_tests}
 use Rattle.keep_tree.specs.declared.entry.Entry.{Entry}
 use Rattle.keep_tree.specs.Carried.{IsFrom, carried}
@@ -56,14 +56,11 @@ find p (suc d) k n is none passes =
 lowest : (p : ℕ → Bool) (n : ℕ) → p n ≡ true → (m : ℕ) × ((p m ≡ true) × ((i : ℕ) → p i ≡ true → m ≤ i))
 lowest p n passes = find p n 0 n (omega arith) (λ i h y. omega arith) passes
 
-both : (a b : Bool) → a ≡ true → b ≡ true → a && b ≡ true
-both a b p q = ap (λ x. x && b) p ∙ q
-
 from_exists : (es : List Entry) (s i : ℕ) → 0 < carried es s i → (n : ℕ) × IsFrom es s i n
 from_exists es s i some =
     let found = carrier es s i some in
     let p : ℕ → Bool = λ f. is_over es i f && ((entry_at es f).need == carried es s i) in
-    let least = lowest p found.0 (both (is_over es i found.0) ((entry_at es found.0).need == carried es s i) found.1 (let e : (entry_at es found.0).need ≡ carried es s i = found.3 in grind (arith, nat_tests))) in (
+    let least = lowest p found.0 (and_from (is_over es i found.0) ((entry_at es found.0).need == carried es s i) found.1 (let e : (entry_at es found.0).need ≡ carried es s i = found.3 in grind (arith, nat_tests))) in (
       least.0,
       record {
         over = and_left (is_over es i least.0) _ least.1.0;

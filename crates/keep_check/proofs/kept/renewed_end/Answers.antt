@@ -6,7 +6,7 @@ use Rattle.keep_rule.specs.declared.run.Run.{Run}
 use Rattle.keep_rule.specs.Runs.{all_wakes, moments_of}
 use Rattle.keep_check.specs.Kept.{own_end}
 use Rattle.keep_check.proofs.Jumps.{fit_at, jumps, rising_from, skips}
-use Rattle.keep_check.proofs.Keeping.{rising_strictly}
+use Rattle.keep_rule.proofs.Schedule.{rising_strictly}
 use Rattle.keep_check.proofs.OwnRuns.{blank, own_done, own_nothing, own_turn}
 use Rattle.keep_check.proofs.kept.renewed_end.Goals as goal
 
