@@ -179,10 +179,10 @@ run_at_most b first step (suc n) entry needed h = (omega arith, run_at_most b (f
 runs_at_most : (n : ℕ) (rs : List Run) → AllFit n rs → AllAtMost LAST (all_wakes rs)
 runs_at_most n [] fit = tt
 runs_at_most n (r ∷ rs) fit =
-    let some : 0 < r.count = fit.0.some in
+    let some : 0 < r.count = fit.0.moments.some in
     let count : suc (r.count - 1) ≡ r.count = omega arith in
     append_at_most LAST (wakes_of r.first r.step r.count r.entry r.needed) (all_wakes rs)
-    (subst (λ k. AllAtMost LAST (wakes_of r.first r.step k r.entry r.needed)) count (run_at_most LAST r.first r.step (r.count - 1) r.entry r.needed fit.0.within))
+    (subst (λ k. AllAtMost LAST (wakes_of r.first r.step k r.entry r.needed)) count (run_at_most LAST r.first r.step (r.count - 1) r.entry r.needed fit.0.moments.last))
     (runs_at_most n rs fit.1)
 
 in_order : (from low : ℕ) (ws : List Force) → low ≤ from → RisesStrictly from (moments_of ws) → AllAtMost LAST ws → InOrder low (moments_of ws)

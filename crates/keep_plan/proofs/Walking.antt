@@ -49,7 +49,7 @@ behind_none r one = cond-true (r.count == 1) None (Some (record r { first = r.fi
 
 pub behind_wakes : (r : Run) (rs : List Run) → IsRun r → all_wakes (r ∷ rs) ≡ first_wake r ∷ all_wakes (in_front (behind_first r) rs)
 behind_wakes r rs is =
-    let some = is.some in
+    let some = is.moments.some in
     let open' : wakes r ≡ first_wake r ∷ wakes_of (r.first + r.step) r.step (r.count - 1) r.entry r.needed = wakes_more r.first r.step r.count (r.count - 1) r.entry r.needed (omega arith) in
     elim (cases_Bool (r.count == 1)) [
       | inl one ↦
@@ -67,8 +67,8 @@ last_more a d c k is = ap (λ n. a + n * d) (let less : c - 1 ≡ suc k = omega 
 -- and that is a run again
 shortened_is : (r : Run) → IsRun r → r.count == 1 ≡ false → IsRun (record r { first = r.first + r.step; step = cond (r.count == 2) 0 r.step; count = r.count - 1 })
 shortened_is r is more =
-    let some = is.some in
-    let last = is.last in
+    let some = is.moments.some in
+    let last = is.moments.last in
     let lone = is.lone in
     let not_one : r.count ≢ 1 = λ e. absurd (let t : r.count == 1 ≡ true = grind (arith, nat_tests) in cc) in
     let same : r.first + (r.count - 1) * r.step ≡ (r.first + r.step) + (r.count - 2) * r.step = last_more r.first r.step r.count (r.count - 2) (omega arith) in

@@ -216,10 +216,8 @@ taken o n prev f first most more last s needed old mid new now next sound begun 
     let are = wakes_are first s d more f needed (t.from f) is step in
     let splits = split_run t prev f first d more last (wakes_of first s (more + 1) f needed) begun.leads at refl gains reached stretch.leads ends are in
     record {
-      some = omega arith;
+      run = record { moments = record { some = omega arith; last = last_moment more s d first last step ends moment }; lone = lone_step more s d step (omega arith) };
       within = omega arith;
-      lone = lone_step more s d step (omega arith);
-      moment = last_moment more s d first last step ends moment;
       joins = λ rest led. subst (λ l. AreLed t prev (l ++ rest)) (sym are)
           (begun.leads, (at, (refl, run_led t f d more first refl gains reached stretch.leads rest (subst (λ (w : ℕ). AreLed t (Some w) rest) ends led))));
       splits = splits;
@@ -272,7 +270,7 @@ one_wake r is = ap (λ k. wakes_of r.first r.step k r.entry r.needed) is
 -- a run of one wake-up is the head of the list
 pub head_of_run : (old new : List Force → Type 0) (r : Run) (x : Force) → IsFirstRun old new 1 r → x.at ≡ r.first → x.entry ≡ r.entry → x.needed ≡ r.needed → GivesHead old new (Some x)
 head_of_run old new r x first at entry needed =
-    let some = first.some in
+    let some = first.run.moments.some in
     let within = first.within in
     let is : wakes r ≡ x ∷ [] = one_wake r (omega arith) ∙ ap (λ y. y ∷ []) (sym (same_force x (record { at = r.first; entry = r.entry; needed = r.needed }) at entry needed)) in (
       λ rest h. subst (λ l. old (l ++ rest)) is (first.joins rest h),
