@@ -25,6 +25,7 @@ use Rattle.keep_cert.specs.declared.cert.Version.TheVariants.{Two}
 use Rattle.keep_cert.specs.CertificateText.{AreRunsOf, IsBody, certificate_text}
 use Rattle.keep_cert.specs.Laws.{DecidedIsOf, PrintedIsRead}
 use Rattle.keep_cert.specs.Printing.{certified, claim}
+use Rattle.keep_cert.proofs.FoundRuns.{all_among, among}
 use Rattle.keep_cert.proofs.ReadBackAll.{written_is_read}
 
 -- the wake-ups of runs are counted by their lines

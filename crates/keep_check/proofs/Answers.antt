@@ -25,7 +25,8 @@ use Rattle.keep_check.specs.declared.answer.Answer.TheVariants.{No, Yes}
 use Rattle.keep_check.specs.declared.answer.Cause.{Cause}
 use Rattle.keep_check.specs.declared.answer.Cause.TheVariants.{NotForced, NotKept, NotRising, NotUnkeepable}
 use Rattle.keep_check.specs.Answer.{IsBodyAnswer, IsKept, IsPairAnswer, IsWalkAnswer, first_fault}
-use Rattle.keep_check.specs.Fit.{AllFit, CanBeJudged}
+use Rattle.keep_check.specs.code.Steps.{AllFit}
+use Rattle.keep_check.specs.Fit.{CanBeJudged}
 use Rattle.keep_check.specs.Laws.{AnswerLaw, ForcedTestLaw, Holds, YesLaw}
 use Rattle.keep_check.specs.Walk.{fault, is_forced, rises}
 

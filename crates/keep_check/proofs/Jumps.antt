@@ -10,10 +10,10 @@ use Rattle.keep_rule.proofs.Keeping.{IsRising}
 use Rattle.keep_rule.specs.declared.force.Force.{Force}
 use Rattle.keep_rule.specs.declared.run.Run.{Run}
 use Rattle.keep_rule.specs.Runs.{all_wakes, moments_of, wakes, wakes_of}
-use Rattle.keep_check.specs.Fit.{AllFit, IsFit}
+use Rattle.keep_check.specs.code.Steps.{AllFit, last_behind}
+use Rattle.keep_check.specs.Fit.{IsFit}
 use Rattle.keep_check.specs.code.Gaps.{AllNarrow, gap_of, gap_within, gaps_of, last_moment}
 use Rattle.keep_check.specs.Kept.{own_after, own_end}
-use Rattle.keep_check.specs.code.Steps.{last_behind}
 use Rattle.keep_check.proofs.OwnEnds.{own_bridged, own_fixed, own_late, own_yes}
 use Rattle.keep_check.proofs.OwnRuns.{blank, own_append, renewal_most, rising_turn}
 use Rattle.keep_check.proofs.Run.{run_first}

@@ -7,7 +7,8 @@ use Rattle.keep_cert.specs.declared.cert.Body.{Body}
 use Rattle.keep_cert.specs.declared.cert.Body.TheVariants as body
 use Rattle.keep_cert.specs.declared.cert.Version.{Version}
 use Rattle.keep_cert.specs.CertificateText.{AreRunsOf, IsBody}
-use Rattle.keep_check.specs.Fit.{AllFit, CanBeJudged}
+use Rattle.keep_check.specs.code.Steps.{AllFit}
+use Rattle.keep_check.specs.Fit.{CanBeJudged}
 use Rattle.keep_check.specs.Laws.{WrittenLaw}
 
 all_fit : (v : Version) (es : List Entry) (rs : List Run) → AreRunsOf v es rs → AllFit (length es) rs

@@ -1,7 +1,6 @@
 -- Fit: which certificates can be judged over a forest, as each that was read from a text can.
 -- Source: this project's own.
 use Rattle.std.specs.Prelude.{ℕ, List, length}
-use Rattle.std.specs.List.{AllByRecursion}
 use Rattle.keep_tree.specs.Forest.{Grove}
 use Rattle.keep_rule.specs.declared.run.Run.{Run}
 use Rattle.keep_cert.specs.declared.cert.Body.{Body}
@@ -12,9 +11,6 @@ use Rattle.keep_cert.specs.CertificateText.{IsMadeOf}
 pub record IsFit (n : ℕ) (r : Run) : Type 0 where
   pub among : IsAmong n r
   pub moments : HasMoments r
-
-abbrev pub AllFit : ℕ → List Run → Type 0
-AllFit n rs = AllByRecursion (IsFit n) rs
 
 -- each run is fit, and they have at most LIMIT wake-ups; or the indices of the pair are those of entries
 abbrev pub CanBeJudged : Grove → Body → Type 0

@@ -18,7 +18,7 @@ use Rattle.keep_cert.specs.declared.cert.Version.TheVariants.{Two}
 use Rattle.keep_rule.specs.Runs.{counted}
 use Rattle.keep_cert.specs.CertificateText.{AreRunsOf, IsBody, IsRunOf, body_text, certificate_text, end_text, header_text, line_text, name_of, run_text, start_text, unkeepable_text}
 use Rattle.keep_cert.specs.Printing.{certified}
-use Rattle.keep_engine.specs.declared.limits.TheConstants.{MOST_CERTIFICATE}
+use Rattle.keep_cert.specs.declared.cert.TheConstants.{MOST_CERTIFICATE}
 
 -- the sizes of words, each with the byte behind it
 abbrev sizes : List (List ℕ) → ℕ

@@ -77,21 +77,13 @@ shortened_is r is more =
           let c : r.count ≡ 2 = grind (arith, nat_tests) in
           let step : cond (r.count == 2) 0 r.step ≡ 0 = cond-true (r.count == 2) 0 r.step two in
           let nothing : (r.count - 1 - 1) * cond (r.count == 2) 0 r.step ≡ 0 = ap (λ d. (r.count - 1 - 1) * d) step ∙ (let z : (r.count - 1 - 1) * 0 ≡ 0 = omega arith in z) in
-          record {
-            some = omega arith;
-            lone = (λ _. omega arith, λ _. step);
-            last = omega arith;
-          }
+          record { moments = record { some = omega arith; last = omega arith }; lone = (λ _. omega arith, λ _. step) }
       | inr other ↦
           let c : r.count ≢ 2 = λ e. absurd (let t : r.count == 2 ≡ true = grind (arith, nat_tests) in cc) in
           let step : cond (r.count == 2) 0 r.step ≡ r.step = cond-false (r.count == 2) 0 r.step other in
           let less : r.count - 1 - 1 ≡ r.count - 2 = omega arith in
           let rest : (r.count - 1 - 1) * cond (r.count == 2) 0 r.step ≡ (r.count - 2) * r.step = ap (λ d. (r.count - 1 - 1) * d) step ∙ ap (λ k. k * r.step) less in
-          record {
-            some = omega arith;
-            lone = (λ z. absurd (not_one (lone.0 (sym step ∙ z))), λ e. absurd (omega arith));
-            last = omega arith;
-          }
+          record { moments = record { some = omega arith; last = omega arith }; lone = (λ z. absurd (not_one (lone.0 (sym step ∙ z))), λ e. absurd (omega arith)) }
     ]
 
 behind_is : (r s : Run) → IsRun r → behind_first r ≡ Some s → IsRun s

@@ -65,7 +65,7 @@ from_exists es s i some =
       record {
         over = and_left (is_over es i least.0) _ least.1.0;
         need = (let e : ((entry_at es least.0).need == carried es s i) ≡ true = and_right (is_over es i least.0) _ least.1.0 in grind (arith, nat_tests));
-        lowest = λ f over need. least.1.1 f (both (is_over es i f) ((entry_at es f).need == carried es s i) over (grind (arith, nat_tests)));
+        lowest = λ f over need. least.1.1 f (and_from (is_over es i f) ((entry_at es f).need == carried es s i) over (grind (arith, nat_tests)));
       },
     )
 
@@ -74,7 +74,7 @@ force_exists es margin s ends prev w next =
     let b : ℕ → ℕ = bound es ends prev in
     let p : ℕ → Bool = λ i. nat_lt (b i) (carried es s i) && (b i == b next.entry) in
     let s0 = next.short in
-    let least = lowest p next.entry (both (nat_lt (b next.entry) (carried es s next.entry)) (b next.entry == b next.entry) (grind (arith, nat_tests)) (grind (arith, nat_tests))) in
+    let least = lowest p next.entry (and_from (nat_lt (b next.entry) (carried es s next.entry)) (b next.entry == b next.entry) (grind (arith, nat_tests)) (grind (arith, nat_tests))) in
     let f = least.0 in
     let short : b f < carried es s f = (let e = and_left (nat_lt (b f) (carried es s f)) _ least.1.0 in grind (arith, nat_tests)) in
     let same : b f ≡ b next.entry = (let e = and_right (nat_lt (b f) (carried es s f)) _ least.1.0 in grind (arith, nat_tests)) in
@@ -85,7 +85,7 @@ force_exists es margin s ends prev w next =
           short = short;
           moment = next.moment ∙ ap (λ k. k - margin) (sym same);
           least = λ i h. let l = next.earliest i h in (let k : b f ≤ b i = omega arith in k);
-          lowest = λ i h e. least.1.1 i (both (nat_lt (b i) (carried es s i)) (b i == b next.entry) (grind (arith, nat_tests)) (let k : b i ≡ b next.entry = e ∙ same in grind (arith, nat_tests)));
+          lowest = λ i h e. least.1.1 i (and_from (nat_lt (b i) (carried es s i)) (b i == b next.entry) (grind (arith, nat_tests)) (let k : b i ≡ b next.entry = e ∙ same in grind (arith, nat_tests)));
           from = needed.1;
         },
         refl,

@@ -15,11 +15,12 @@ use Rattle.keep_schedule.specs.Courses.{IsToCome}
 use Rattle.keep_schedule.specs.code.Groups.{IsGrouped, IsKeyed, Joins, Settles, Waits}
 use Rattle.keep_schedule.specs.code.Line.{FirstOf, Lined, Spot, spot}
 use Rattle.keep_schedule.specs.Prospect.{Prospect, terms_of}
-use Rattle.keep_schedule.specs.Queues.{Fills, IsBegun, IsDue, IsReady}
+use Rattle.keep_schedule.specs.code.Queueing.{Fills, IsBegun, IsDue, IsReady}
 use Rattle.keep_rule.specs.Runs.{wakes, wakes_of}
 use Rattle.keep_schedule.specs.Given.{GivesHead, GivesRun, IsFirstRun}
 use Rattle.keep_schedule.specs.code.Stretches.{IsOther, Stretches}
-use Rattle.keep_schedule.specs.Terms.{Ahead, AreLed, IsSound, Leads, Terms, deadline}
+use Rattle.keep_schedule.specs.Terms.{Ahead, AreLed, Leads, Terms, deadline}
+use Rattle.keep_schedule.specs.code.Sound.{IsSound}
 use Rattle.keep_schedule.proofs.Bridge.{need_past}
 use Rattle.keep_schedule.proofs.Grouping.{first_leads, join_leads, later, none_lacks, wait_leads}
 use Rattle.keep_schedule.proofs.Leading.{end_below_deadline, one_leads, one_led, same_force, short_before}
