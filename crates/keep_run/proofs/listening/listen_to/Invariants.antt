@@ -1,5 +1,5 @@
 use Rattle.keep_run.specs.Live.{IsReady}
-use Rattle.keep_run.proofs.live.listen_to.Given as goal
+use Rattle.keep_run.proofs.listening.listen_to.Given as goal
 
 abbrev pub invariant-loop : goal.invariant-loop
 invariant-loop g l = IsReady l.credentials l.keeper

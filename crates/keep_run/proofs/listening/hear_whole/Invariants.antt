@@ -1,6 +1,6 @@
 use Rattle.std.proofs.Common.{◌-◌, ◌≤◌, vec_len}
 use Rattle.keep_run.specs.Live.{IsReady}
-use Rattle.keep_run.proofs.live.hear_whole.Given as goal
+use Rattle.keep_run.proofs.listening.hear_whole.Given as goal
 
 abbrev pub invariant-loop-at : goal.invariant-loop-at
 invariant-loop-at g l = record {
