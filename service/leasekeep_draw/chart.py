@@ -10,18 +10,22 @@ from leasekeep_draw.history import History, Mark, Sign
 
 @dataclass(frozen=True)
 class Lane:
-    """One entry: how deep it lies under its root, until when it lived, and what happened to it."""
+    """One entry: how deep it lies under its root, until when it lived, and what happened to it.
+
+    `needed`: its need as the inventory has it, as far as the lines reach.
+    """
 
     entry: Entry
     depth: int
     begin: int
     end: int
+    needed: int
     marks: tuple[Mark, ...]
 
     @property
     def falls_short(self) -> bool:
-        """Whether the entry ended before its need, as the inventory has it."""
-        return self.end < self.entry.need
+        """Whether the entry was needed when it had ended."""
+        return self.end < self.needed
 
     def count(self, sign: Sign) -> int:
         """How often that happened."""
@@ -38,16 +42,23 @@ class Chart:
     start: int
     stop: int
     is_dated: bool
+    is_over: bool
 
     @property
     def title(self) -> str:
         """What the picture shows, in one line."""
         short = sum(1 for lane in self.lanes if lane.falls_short)
-        fate = "every need is kept" if not short else f"{_counted(short, 'need', 'needs')} not kept"
         return (
             f"{_counted(len(self.lanes), 'entry', 'entries')}, {_counted(len(self.wakes), 'wake-up', 'wake-ups')}, "
-            f"{_counted(self.requests, 'request', 'requests')}: {fate}"
+            f"{_counted(self.requests, 'request', 'requests')}{'' if self.is_over else ' so far'}: "
+            f"{_counted(short, 'need', 'needs') + ' not kept' if short else 'every need is kept'}"
         )
+
+    def fate(self, lane: Lane) -> str:
+        """Whether the lane's need is kept, in a word or two."""
+        if lane.falls_short:
+            return "no"
+        return "yes" if lane.entry.need <= lane.end else "so far"
 
 
 def _counted(count: int, one: str, more: str) -> str:
@@ -61,26 +72,28 @@ def start_of(inventory: Inventory) -> int:
 
 
 def chart_of(inventory: Inventory, history: History, start: int) -> Chart:
-    """The chart of an inventory and what happened from the start on."""
+    """The chart of an inventory and what happened from the start on; of a run that goes on, as far as it went."""
     ends = _ends(inventory, history)
+    latest = [start + 1, history.now, *history.wakes, *ends]
+    if history.is_over:
+        latest += [entry.need for entry in inventory.entries]
+    stop = max(latest)
+    reached = stop if history.is_over else history.now
     marks: list[list[Mark]] = [[] for _ in inventory.entries]
     for mark in history.marks:
         marks[mark.entry].append(mark)
     lanes = tuple(
-        Lane(entry, depth, max(start, entry.issued), ends[index], tuple(marks[index]))
+        Lane(entry, depth, max(start, entry.issued), ends[index], min(entry.need, reached), tuple(marks[index]))
         for index, depth in _in_tree_order(inventory.entries)
         for entry in (inventory.entries[index],)
     )
-    latest = [start + 1, *history.wakes, *ends, *(entry.need for entry in inventory.entries)]
-    return Chart(lanes, tuple(history.wakes), history.requests, start, max(latest), inventory.is_dated)
+    is_dated = inventory.is_dated or history.begun is not None
+    return Chart(lanes, tuple(history.wakes), history.requests, start, stop, is_dated, history.is_over)
 
 
 def _ends(inventory: Inventory, history: History) -> list[int]:
     """Until when each entry lived: no longer than its last told end, nor than the entry over it."""
-    own = [history.told_ends.get(index, entry.end) for index, entry in enumerate(inventory.entries)]
-    for mark in history.marks:
-        if mark.sign is Sign.RENEWED and mark.number is not None:
-            own[mark.entry] = mark.number
+    own = [history.ends.get(index, entry.end) for index, entry in enumerate(inventory.entries)]
     for index, entry in enumerate(inventory.entries):
         if entry.parent is not None:
             own[index] = min(own[index], own[entry.parent])

@@ -5,6 +5,7 @@ from __future__ import annotations
 import argparse
 import shutil
 import sys
+from collections.abc import Iterator
 from pathlib import Path
 
 from leasekeep_draw import entries, history, picture, table, terminal
@@ -40,14 +41,14 @@ def main(words: list[str]) -> int:
 def _parser() -> argparse.ArgumentParser:
     parser = argparse.ArgumentParser(
         prog="leasekeep-draw",
-        description="Draws the lives and renewals of an inventory's entries, from the lines that `leasekeep rehearse` or "
-        "`leasekeep run` printed.",
+        description="Draws the lives and renewals of an inventory's entries, from the lines that `leasekeep rehearse`, "
+        "`leasekeep run` or `leasekeepd serve` printed.",
         epilog=_EXAMPLE,
         formatter_class=argparse.RawDescriptionHelpFormatter,
     )
     parser.add_argument("inventory", metavar="FILE", help="the inventory")
     parser.add_argument("lines", metavar="LINES", nargs="?", default="-", help="the lines; `-`, and no word: standard input")
-    parser.add_argument("--start", type=int, help="the start of the run, as given to it (else a moment near to it is taken)")
+    parser.add_argument("--start", type=int, help="the start of the run, as given to it (else a moment near to it is taken, of a log its first)")
     shape = parser.add_mutually_exclusive_group()
     shape.add_argument("--svg", action="store_true", help="an SVG picture")
     shape.add_argument("--table", action="store_true", help="a table, for who reads instead of looking")
@@ -58,12 +59,20 @@ def _parser() -> argparse.ArgumentParser:
 
 def _chart(asked: argparse.Namespace) -> Chart:
     inventory = entries.read(Path(asked.inventory).read_text(encoding="utf-8"))
-    start = start_of(inventory) if asked.start is None else asked.start
-    indices = {entry.name: index for index, entry in enumerate(inventory.entries)}
-    if asked.lines == "-":
-        return chart_of(inventory, history.read(sys.stdin, indices, start), start)
-    with open(asked.lines, encoding="utf-8") as lines:
-        return chart_of(inventory, history.read(lines, indices, start), start)
+    near = start_of(inventory) if asked.start is None else asked.start
+    told = history.read(_lines(asked.lines), {entry.name: index for index, entry in enumerate(inventory.entries)}, near)
+    return chart_of(inventory, told, near if asked.start is not None or told.begun is None else told.begun)
+
+
+def _lines(name: str) -> Iterator[str]:
+    """The lines of that file, or of standard input."""
+    if name != "-":
+        with open(name, encoding="utf-8") as lines:
+            yield from lines
+        return
+    if sys.stdin.isatty():
+        print("leasekeep-draw: the lines are read from standard input; end them with Ctrl-D", file=sys.stderr)
+    yield from sys.stdin
 
 
 def _drawn(chart: Chart, asked: argparse.Namespace) -> str:

@@ -52,7 +52,7 @@ def read(text: str) -> Inventory:
         document = tomllib.loads(text)
         return _Reader(document).inventory()
     except (tomllib.TOMLDecodeError, KeyError, TypeError, ValueError, AttributeError) as fault:
-        raise InventoryFault(f"not an inventory: {type(fault).__name__}") from None
+        raise InventoryFault("that is no inventory; `leasekeep ends FILE 0` names its fault, `leasekeepd lint FILE` all of them") from fault
 
 
 class _Reader:

@@ -1,13 +1,16 @@
-"""The lines that `leasekeep rehearse` and `leasekeep run` print, as what happened to which entry, and when.
+"""The lines that `leasekeep rehearse`, `leasekeep run` and `leasekeepd` print, as what happened to which entry, and when.
 
 One line an event: `entry NAME END`, `wake T NAME..`, `told NAME SECS`, `refused NAME STATUS`, `lost NAME`,
-`short NAME NEED`; `next`, `sleep`, `idle`, `planned`, `fault` and `done` change no life.
+`short NAME NEED`; `next`, `sleep`, `idle`, `planned`, `fault` and `done` change no life. A line of leasekeepd's log has its
+moment in front, and what it says besides `renewed NAME SECS` is passed over.
 """
 
 from __future__ import annotations
 
+import re
 from collections.abc import Iterable, Mapping
 from dataclasses import dataclass, field
+from datetime import datetime
 from enum import Enum
 
 
@@ -32,57 +35,83 @@ class Mark:
 
 @dataclass
 class History:
-    """What the lines say. `told_ends`: the ends that the lookups of a live run gave."""
+    """What the lines say so far.
+
+    `ends`: the last end that each entry was told. `is_over`: the last line says that nothing is left to do; else the run
+    goes on, or was broken off. `begun`, `now`: the moments of the first line and of the last one, where they are known.
+    """
 
     wakes: list[int] = field(default_factory=list)
     marks: list[Mark] = field(default_factory=list)
-    told_ends: dict[int, int] = field(default_factory=dict)
+    ends: dict[int, int] = field(default_factory=dict)
     requests: int = 0
+    is_over: bool = False
+    begun: int | None = None
+    now: int = 0
 
 
 class LineFault(Exception):
-    """A line that neither command prints."""
+    """A line that none of them prints."""
 
     def __init__(self, number: int) -> None:
-        super().__init__(f"line {number} is none that rehearse or run prints")
+        super().__init__(f"line {number} is none that rehearse, run or leasekeepd prints")
         self.number = number
 
 
 _QUIET = {"next", "sleep", "idle", "planned", "fault", "done"}
+_LOGGED = re.compile(r"(\d{4}-\d\d-\d\dT\d\d:\d\d:\d\dZ) (?:(?:note|warning|alert): )?")
+"""The front of a line of leasekeepd's log."""
 
 
 def read(lines: Iterable[str], indices: Mapping[str, int], start: int) -> History:
     """The history that the lines tell; `start` is the moment of what comes before the first wake-up. Raises LineFault."""
-    history = History()
-    now = start
+    history = History(now=start)
+    round_at = start
     for number, line in enumerate(lines, start=1):
-        words = line.rstrip("\n").split(" ")
+        text = line.rstrip("\n")
+        logged = _LOGGED.match(text)
+        if logged is not None:
+            history.now = max(int(datetime.fromisoformat(logged[1]).timestamp()), history.now)
+            history.begun = history.now if history.begun is None else history.begun
+            text = text[logged.end() :]
+        words = text.split(" ")
         try:
-            now = _take(history, words, indices, now)
+            round_at = _take(history, words, indices, round_at)
         except (KeyError, ValueError, IndexError):
-            raise LineFault(number) from None
+            if logged is None:
+                raise LineFault(number) from None
+        history.is_over = words[0] in ("done", "idle") or words == ["next", "none"]
     return history
 
 
-def _take(history: History, words: list[str], indices: Mapping[str, int], now: int) -> int:
-    """Takes one line, and gives the moment that the lines behind it speak of."""
+def _take(history: History, words: list[str], indices: Mapping[str, int], round_at: int) -> int:
+    """Takes one line. `round_at` is the moment of the round of which answers speak; gives that of the lines behind it."""
     match words:
         case ["wake", moment, *names]:
-            now = int(moment)
-            history.wakes.append(now)
+            round_at = int(moment)
+            history.now = max(history.now, round_at)
+            history.wakes.append(round_at)
             history.requests += len([indices[name] for name in names])
         case ["entry", name, end]:
-            history.told_ends[indices[name]] = int(end)
+            history.ends[indices[name]] = int(end)
         case ["told", name, seconds]:
-            history.marks.append(Mark(now, indices[name], Sign.RENEWED, now + int(seconds)))
+            _renew(history, round_at, indices[name], int(seconds))
+        case ["renewed", name, seconds]:
+            history.requests += 1
+            _renew(history, history.now, indices[name], int(seconds))
         case ["refused", name, status]:
-            history.marks.append(Mark(now, indices[name], Sign.REFUSED, int(status)))
+            history.marks.append(Mark(round_at, indices[name], Sign.REFUSED, int(status)))
         case ["lost", name]:
-            history.marks.append(Mark(now, indices[name], Sign.LOST))
+            history.marks.append(Mark(round_at, indices[name], Sign.LOST))
         case ["short", name, need]:
-            history.marks.append(Mark(now, indices[name], Sign.SHORT, int(need)))
+            history.marks.append(Mark(history.now, indices[name], Sign.SHORT, int(need)))
         case [word, *_] if word in _QUIET:
             pass
         case _:
             raise ValueError
-    return now
+    return round_at
+
+
+def _renew(history: History, moment: int, entry: int, seconds: int) -> None:
+    history.marks.append(Mark(moment, entry, Sign.RENEWED, moment + seconds))
+    history.ends[entry] = moment + seconds

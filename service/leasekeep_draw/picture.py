@@ -127,9 +127,9 @@ def _grid(chart: Chart, layout: _Layout) -> Iterator[str]:
     ]
     for y in rows:
         for moment, words in ticks:
-            x = layout.x(moment)
-            anchor = "end" if x > WIDTH - 60 else "middle"
-            yield f'<text class="small" x="{x:.1f}" y="{y:.1f}" text-anchor="{anchor}">{escape(words)}</text>'
+            # (near the edge a moment's text is moved as far as it has to be)
+            x = min(layout.x(moment), WIDTH - 4 - 3.4 * len(words))
+            yield f'<text class="small" x="{x:.1f}" y="{y:.1f}" text-anchor="middle">{escape(words)}</text>'
 
 
 def _lane(lane: Lane, layout: _Layout, row: int, is_dated: bool) -> Iterator[str]:
@@ -149,10 +149,10 @@ def _lane(lane: Lane, layout: _Layout, row: int, is_dated: bool) -> Iterator[str
         f'height="{bar:.1f}" rx="2"/>'
     )
     if lane.falls_short:
-        yield f'<path class="over" d="M{end:.1f} {middle:.1f}H{layout.x(entry.need):.1f}"/>'
+        yield f'<path class="over" d="M{end:.1f} {middle:.1f}H{layout.x(lane.needed):.1f}"/>'
     if entry.ceiling is not None and entry.ceiling <= layout.axis.stop:
         yield f'<path class="ceiling" d="M{layout.x(entry.ceiling):.1f} {top + 2:.1f}v{layout.lane - 4}"/>'
-    if layout.axis.start < entry.need:
+    if layout.axis.start < entry.need <= layout.axis.stop:
         yield _flag(layout.x(entry.need), top + layout.lane - 2, layout.lane - 3)
     yield from _marks(lane.marks, layout, middle)
     yield "</g>"

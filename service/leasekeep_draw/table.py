@@ -16,12 +16,12 @@ def rows(chart: Chart) -> Iterator[tuple[str, ...]]:
     path: list[str] = []
     for lane in chart.lanes:
         del path[lane.depth :]
-        yield _row(lane, path[-1] if path else "-", chart.is_dated)
+        yield _row(lane, path[-1] if path else "-", chart)
         path.append(lane.entry.name)
 
 
-def _row(lane: Lane, parent: str, is_dated: bool) -> tuple[str, ...]:
-    entry = lane.entry
+def _row(lane: Lane, parent: str, chart: Chart) -> tuple[str, ...]:
+    entry, is_dated = lane.entry, chart.is_dated
     return (
         entry.name,
         parent,
@@ -29,7 +29,7 @@ def _row(lane: Lane, parent: str, is_dated: bool) -> tuple[str, ...]:
         moment_text(entry.need, is_dated) if entry.need else "-",
         "-" if entry.ceiling is None else moment_text(entry.ceiling, is_dated),
         *(str(lane.count(sign)) for sign in (Sign.RENEWED, Sign.REFUSED, Sign.LOST, Sign.SHORT)),
-        "no" if lane.falls_short else "yes",
+        chart.fate(lane),
     )
 
 

@@ -8,7 +8,7 @@ from dataclasses import dataclass
 
 from leasekeep_draw.axis import Axis
 from leasekeep_draw.chart import Chart, Lane
-from leasekeep_draw.history import Sign
+from leasekeep_draw.history import Mark, Sign
 
 NARROWEST = 40
 
@@ -77,28 +77,37 @@ def _heads(axis: Axis, left: int) -> str:
 
 
 def _row(lane: Lane, chart: Chart, axis: Axis, left: int, signs: Signs) -> str:
-    """Later things stand over earlier ones: life, wake-ups beside it, ceiling, need, and what happened."""
+    """Later things stand over earlier ones: wake-ups, life, ceiling, renewals, need, and what went wrong."""
     cells = [" "] * (int(axis.length) + 1)
     for wake in chart.wakes[:: max(len(chart.wakes) // 10_000, 1)]:
         cells[int(axis.place(wake))] = signs.wake
-    begin, end = int(axis.place(lane.begin)), int(axis.place(lane.end))
-    for place in range(begin, max(end, begin + 1)):
-        cells[place] = signs.life
     entry = lane.entry
+    begin, end = int(axis.place(lane.begin)), int(axis.place(lane.end))
+    _fill(cells, begin, max(end, begin + 1), signs.life)
     if lane.falls_short:
-        for place in range(end, int(axis.place(entry.need))):
-            cells[place] = signs.missing
+        _fill(cells, end, int(axis.place(lane.needed)), signs.missing)
     if entry.ceiling is not None and entry.ceiling <= chart.stop:
         cells[int(axis.place(entry.ceiling))] = signs.ceiling
-    if entry.need > chart.start:
+    _mark(cells, [mark for mark in lane.marks if mark.sign is Sign.RENEWED], axis, signs)
+    if chart.start < entry.need <= chart.stop:
         cells[int(axis.place(entry.need))] = signs.need
-    for mark in sorted(lane.marks, key=lambda mark: mark.sign is not Sign.RENEWED):
-        # (a shortened need stands beside what shortened it, which mostly has the same moment)
-        place = int(axis.place(mark.moment)) + (mark.sign is Sign.SHORT)
-        cells[min(place, len(cells) - 1)] = signs.of(mark.sign)
+    _mark(cells, [mark for mark in lane.marks if mark.sign is not Sign.RENEWED], axis, signs)
     name = _name(lane)
     shown = name if len(name) <= left else name[: left - 1] + "~"
     return f"{shown.ljust(left)} {''.join(cells)}".rstrip()
+
+
+def _fill(cells: list[str], begin: int, end: int, sign: str) -> None:
+    """The sign at each place from `begin` to before `end`."""
+    for place in range(begin, end):
+        cells[place] = sign
+
+
+def _mark(cells: list[str], marks: list[Mark], axis: Axis, signs: Signs) -> None:
+    """Each mark at its place; a shortened need stands beside what shortened it, which mostly has the same moment."""
+    for mark in marks:
+        place = int(axis.place(mark.moment)) + (mark.sign is Sign.SHORT)
+        cells[min(place, len(cells) - 1)] = signs.of(mark.sign)
 
 
 def _wrapped(words: str, width: int) -> Iterator[str]:

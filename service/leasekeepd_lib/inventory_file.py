@@ -5,6 +5,7 @@ from __future__ import annotations
 import re
 import tomllib
 from dataclasses import dataclass, field
+from datetime import date
 from typing import Any, Callable
 
 from .clock import LAST
@@ -123,6 +124,12 @@ def _hint(value: Any) -> str:
         return f"durations are whole seconds without quotes: write {seconds}"
     if isinstance(value, str) and value.isascii() and value.isdigit():
         return "write it without quotes"
+    if isinstance(value, date):
+        return "a date stands in quotes"
+    if isinstance(value, str) and re.match(r"\d{4}-\d\d-\d\d", value):
+        return "write day, T, hours:minutes:seconds, and Z or an offset such as +01:00"
+    if isinstance(value, float) and value.is_integer():
+        return f"write {int(value)}"
     if type(value) is int and value > LAST and value // 1000 <= LAST:
         return f"are these milliseconds? write {value // 1000}"
     return "mend the value"

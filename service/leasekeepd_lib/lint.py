@@ -87,6 +87,8 @@ def _doubt_entry(inventory: Inventory, entry: Entry, doubts: _Doubts, now: float
 
 
 def _doubt_need(inventory: Inventory, entry: Entry, doubts: _Doubts, now: float) -> None:
+    if not inventory.carried[entry.name] and any(inventory.carried.values()):
+        doubts.doubt(entry.name, "need", "is not set, here or under it", "it is not renewed: add until when it is needed")
     if entry.need <= now:
         return
     for over in inventory.over(entry.name):

@@ -78,7 +78,7 @@ class Reading(unittest.TestCase):
 
     def test_faults(self) -> None:
         for text in ("[[token", "[[token]]\nname = 'a'\n", "token = 5\n", FAMILY.replace('token = "T"', 'token = "X"')):
-            with self.subTest(text=text), self.assertRaises(entries.InventoryFault):
+            with self.subTest(text=text), self.assertRaisesRegex(entries.InventoryFault, "leasekeepd lint FILE"):
                 entries.read(text)
 
     def test_lines_that_nobody_prints(self) -> None:
@@ -102,6 +102,37 @@ class Lanes(unittest.TestCase):
 
     def test_title_counts(self) -> None:
         self.assertEqual(family().title, "3 entries, 2 wake-ups, 3 requests: 2 needs not kept")
+
+    def test_a_run_that_goes_on(self) -> None:
+        chart = family("wake 1059 L\ntold L 60\nnext 1118\n")
+        self.assertEqual(chart.title, "3 entries, 1 wake-up, 1 request so far: every need is kept")
+        self.assertEqual([row[-1] for row in table.rows(chart)], ["so far", "so far", "yes"])
+        self.assertEqual(chart.stop, 1100)
+
+    def test_an_entry_that_ended_in_a_run_that_goes_on(self) -> None:
+        chart = family("wake 1059 L\nrefused L 403\nshort L 1060\nnext 1099\nwake 1099 T\ntold T 100\nnext 1198\n")
+        self.assertEqual(chart.title, "3 entries, 2 wake-ups, 2 requests so far: 1 need not kept")
+        self.assertEqual([row[-1] for row in table.rows(chart)], ["so far", "no", "yes"])
+
+    def test_a_later_lookup_counts(self) -> None:
+        self.assertEqual(family("wake 1059 L\ntold L 600\nentry T 1090\nentry L 1080\n").lanes[1].end, 1080)
+
+    def test_a_log(self) -> None:
+        log = (
+            "1970-01-01T00:16:50Z begin start\n1970-01-01T00:16:50Z renewed L 60\n1970-01-01T00:16:51Z entry T 1100\n"
+            "1970-01-01T00:18:20Z wake 1099 T\n1970-01-01T00:18:21Z told T 100\n1970-01-01T00:18:21Z warning: lost U\n"
+            "1970-01-01T00:18:30Z note: short L 1071\n1970-01-01T00:18:30Z drop nobody\n"
+        )
+        chart = family(log)
+        self.assertEqual([(lane.entry.name, lane.end) for lane in chart.lanes], [("T", 1199), ("L", 1070), ("U", 1060)])
+        marks = [(mark.moment, mark.sign) for lane in chart.lanes for mark in lane.marks]
+        self.assertEqual(marks, [(1099, Sign.RENEWED), (1010, Sign.RENEWED), (1110, Sign.SHORT), (1099, Sign.LOST)])
+        self.assertEqual((chart.requests, chart.is_over, chart.stop), (2, False, 1199))
+
+    def test_what_says_that_a_run_is_over(self) -> None:
+        for line in ("next none", "idle", "done 1 1"):
+            self.assertTrue(family(f"{line}\n").is_over)
+            self.assertFalse(family(f"{line}\nplanned\n").is_over)
 
     def test_a_start_near_the_run(self) -> None:
         self.assertEqual(start_of(entries.read(FAMILY)), 1000)
@@ -148,6 +179,12 @@ class Pictures(unittest.TestCase):
                     self.assertLessEqual(max(map(len, lines)), width)
                     lease = next(line for line in lines if line.startswith("  L"))
                     self.assertIn(signs.refused + signs.short, lease)
+
+    def test_a_need_stands_over_renewals_and_under_what_went_wrong(self) -> None:
+        renewed = terminal.text(family("wake 1198 T\ntold T 60\nwake 1200 T\ntold T 60\n"), 40, terminal.ASCII)
+        self.assertIn("F", next(line for line in renewed.splitlines() if line.startswith("T ")))
+        lost = terminal.text(family("wake 1200 T\nlost T\n"), 40, terminal.ASCII)
+        self.assertNotIn("F", next(line for line in lost.splitlines() if line.startswith("T ")))
 
     def test_axis(self) -> None:
         axis = Axis(1000, 1200, 100.0, False)

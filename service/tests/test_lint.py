@@ -65,6 +65,11 @@ class Lint(unittest.TestCase):
              "f:6: fault: app increment: is not a whole number of seconds, 0 to 4294967295; durations are whole seconds"
              " without quotes: write 3600"),
             (old("increment = 900", 'increment = "900"', 1), 0o600, "write it without quotes"),
+            (old("increment = 900", "increment = 900.0", 1), 0o600, "write 900"),
+            (old("1050000", "1970-01-13T00:00:00Z", 1), 0o600, "a date stands in quotes"),
+            (old("1050000", '"1970-01-13 00:00:00Z"', 1), 0o600, "write day, T, hours:minutes:seconds, and Z or an offset"),
+            (old('1050000\nlease_id', '0\nlease_id'), 0o600,
+             "f:16: doubt: db need: is not set, here or under it; it is not renewed: add until when"),
             (old("increment = 900\n", "", 1), 0o600, "f:2: fault: app increment: is missing; add increment:"),
             (old('name = "app"', 'nam = "app"'), 0o600, "f:3: fault: token 1 nam: is no key of this table"),
             (old('token = "app"', 'token = "nobody"'), 0o600, "f:12: fault: db token: names no earlier token"),

@@ -33,19 +33,19 @@ abbrev pub joined : List (List ℕ) → List ℕ
 joined ls = join_with_byte 10 ls
 
 -- the wake-ups that were found are few: in version 1 each line has one
-abbrev AreFew : Version → List Run → Type 0
+abbrev pub AreFew : Version → List Run → Type 0
 AreFew One rs = counted rs ≤ length rs
 AreFew Two rs = counted rs ≤ LIMIT
 
-few_more : (v : Version) (es : List Entry) (found : List Run) (r : Run) → AreFew v found → IsRunOf v es r → RoomFor v (counted found) r → AreFew v (found ++ r ∷ [])
+pub few_more : (v : Version) (es : List Entry) (found : List Run) (r : Run) → AreFew v found → IsRunOf v es r → RoomFor v (counted found) r → AreFew v (found ++ r ∷ [])
 few_more One es found r few run room = omega (arith, counted_push found r, length-append found (r ∷ []), few, run.form)
 few_more Two es found r few run room = omega (arith, counted_push found r, room)
 
-none_are_few : (v : Version) → AreFew v []
+pub none_are_few : (v : Version) → AreFew v []
 none_are_few One = omega arith
 none_are_few Two = omega arith
 
-few_at_last : (v : Version) (rs : List Run) → AreFew v rs → length rs ≤ MAX_LINES → counted rs ≤ LIMIT
+pub few_at_last : (v : Version) (rs : List Run) → AreFew v rs → length rs ≤ MAX_LINES → counted rs ≤ LIMIT
 few_at_last One rs few lines = omega (arith, few, lines)
 few_at_last Two rs few lines = few
 
@@ -58,11 +58,11 @@ record AreRunLines (v : Version) (es : List Entry) (found : List Run) (ls : List
   few_lines : length rs ≤ MAX_LINES
   few : AreFew v rs
 
-no_ok : {A P : Type 0} (d : CertFault) (x : A) → ◌≡◌ {A = Result A CertFault} (Err d) (Ok x) → P
+pub no_ok : {A P : Type 0} (d : CertFault) (x : A) → ◌≡◌ {A = Result A CertFault} (Err d) (Ok x) → P
 no_ok d x e = absurd cc
 
 -- one line in front of the others
-front_line : (line : List ℕ) (rest text : List ℕ) (before : List ℕ) → line ++ 10 ∷ [] ≡ before → rest ≡ text → line ++ 10 ∷ rest ≡ before ++ text
+pub front_line : (line : List ℕ) (rest text : List ℕ) (before : List ℕ) → line ++ 10 ∷ [] ≡ before → rest ≡ text → line ++ 10 ∷ rest ≡ before ++ text
 front_line line rest text before e h = ap (λ t. line ++ 10 ∷ t) h ∙ sym (append_assoc line (10 ∷ []) text) ∙ ap (λ l. l ++ text) e
 
 runs_found : (v : Version) (es : List Entry) (found : List Run) (ls : List (List ℕ)) (rs : List Run)
@@ -109,7 +109,7 @@ line_off n [] line rest e = no_ok {A = List ℕ × List (List ℕ)} _ (line, res
 line_off n (last ∷ []) line rest e = no_ok {A = List ℕ × List (List ℕ)} _ (line, rest) e
 line_off n (l ∷ next ∷ more) line rest e = ap (λ p. p.0 ++ 10 ∷ joined p.1) (ok_same {A = List ℕ × List (List ℕ)} (l, next ∷ more) (line, rest) e)
 
-unkeepable_found : (v : Version) (es : List Entry) (line : List ℕ) (body : Body) → bytes_eq (keyword line) (codes "unkeepable") ≡ true → unkeepable_of es line ≡ Ok body
+pub unkeepable_found : (v : Version) (es : List Entry) (line : List ℕ) (body : Body) → bytes_eq (keyword line) (codes "unkeepable") ≡ true → unkeepable_of es line ≡ Ok body
     → (line ++ 10 ∷ [] ≡ body_text v es body) × IsBody v es body
 unfolding unkeepable_of three_words body_text unkeepable_text
 unkeepable_found v es line body key e =
@@ -143,7 +143,7 @@ body_found v es ls body e =
           subst (λ x. (joined ls ≡ body_text v es x) × IsBody v es x) (ok_same (Runs rs) body e2) (whole, runs))
     ])
 
-version_found : (line : List ℕ) (v : Version) → version_of line ≡ Ok v → line ++ 10 ∷ [] ≡ header_text v
+pub version_found : (line : List ℕ) (v : Version) → version_of line ≡ Ok v → line ++ 10 ∷ [] ≡ header_text v
 unfolding version_of header_text
 version_found line v e =
     elim (cases_Bool (bytes_eq line (codes "leasekeep-plan 1"))) [
@@ -164,7 +164,7 @@ header_found (line ∷ next ∷ more) p e =
     subst (λ (q : Version × List (List ℕ)). line ++ 10 ∷ joined (next ∷ more) ≡ header_text q.0 ++ joined q.1) (ok_same {A = Version × List (List ℕ)} (v, next ∷ more) p e1)
     (front_line line (joined (next ∷ more)) (joined (next ∷ more)) (header_text v) (version_found line v hv) refl))
 
-start_found : (line : List ℕ) (start : ℕ) → start_of line ≡ Ok start → (line ++ 10 ∷ [] ≡ start_text start) × (start ≤ LAST)
+pub start_found : (line : List ℕ) (start : ℕ) → start_of line ≡ Ok start → (line ++ 10 ∷ [] ≡ start_text start) × (start ≤ LAST)
 unfolding start_of two_words start_text
 start_found line start e =
     let h = if_ok (bytes_eq (keyword line) (codes "start")) _ _ start e in

@@ -8,3 +8,8 @@ pub mod Words
 pub mod ReadBack
 pub mod ReadBackAll
 pub mod Printing
+pub mod LineFaults
+pub mod ReadingLevels
+pub mod FaultyRuns
+pub mod FaultyLevels
+pub mod FirstFault

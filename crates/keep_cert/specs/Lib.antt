@@ -4,3 +4,4 @@ pub mod CertificateText
 pub mod Reading
 pub mod Printing
 pub mod Laws
+pub mod FirstFault

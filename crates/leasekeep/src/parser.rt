@@ -97,6 +97,9 @@ Example (lines that begin with > are typed):
 Exit status: 0 the lines have ended, 1 inventory, 2 command line, 5 more than 10000000 wake-ups, 6 read, write, a lookup or a
 line that is none, 7 memory";
 
+const START_HELP: &str = "\
+The moment from which entries are kept, in whole seconds since 1970-01-01T00:00:00Z, as `date +%s` writes it";
+
 /// The command line's words, read.
 pub fn parse<'a>(alloc: Global, words: &'a [String]) -> Result<ArgMatches<'a>, Error> {
     leasekeep(alloc)?.try_get_matches_from(words)
@@ -127,7 +130,7 @@ fn ends<'a>(alloc: Global) -> Result<Command<'a>, AllocError> {
         .about(ENDS_ABOUT)
         .after_help(ENDS_AFTER)
         .arg(file(alloc)?)?
-        .arg(moment(alloc, "START", "The moment from which entries are kept")?.required(true))?
+        .arg(start(alloc)?)?
         .arg(
             moment(
                 alloc,
@@ -145,7 +148,7 @@ fn plan<'a>(alloc: Global) -> Result<Command<'a>, AllocError> {
         .about(PLAN_ABOUT)
         .after_help(PLAN_AFTER)
         .arg(file(alloc)?)?
-        .arg(moment(alloc, "START", "The moment from which entries are kept")?.required(true))
+        .arg(start(alloc)?)
 }
 
 /// `reach FILE START [--dates]`
@@ -154,7 +157,7 @@ fn reach<'a>(alloc: Global) -> Result<Command<'a>, AllocError> {
         .about(REACH_ABOUT)
         .after_help(REACH_AFTER)
         .arg(file(alloc)?)?
-        .arg(moment(alloc, "START", "The moment from which entries are kept")?.required(true))?
+        .arg(start(alloc)?)?
         .arg(
             Arg::new(alloc, "dates")
                 .long("dates")
@@ -169,7 +172,7 @@ fn rehearse<'a>(alloc: Global) -> Result<Command<'a>, AllocError> {
         .about(REHEARSE_ABOUT)
         .after_help(REHEARSE_AFTER)
         .arg(file(alloc)?)?
-        .arg(moment(alloc, "START", "The moment from which entries are kept")?.required(true))?
+        .arg(start(alloc)?)?
         .arg(
             Arg::new(alloc, "FAULT")
                 .help("What goes wrong at a renewal request: K=short:SECONDS, K=drop or K=deny")
@@ -209,7 +212,7 @@ fn run<'a>(alloc: Global) -> Result<Command<'a>, AllocError> {
         .arg(moment(
             alloc,
             "START",
-            "The moment of the lookups, from which entries are kept",
+            "The moment of the lookups, from which entries are kept, in seconds as `date +%s` writes it",
         )?
         .required(true))?
         .arg(
@@ -230,6 +233,10 @@ fn file<'a>(alloc: Global) -> Result<Arg<'a>, AllocError> {
             .required(true)
             .action(ArgAction::Set),
     )
+}
+
+fn start<'a>(alloc: Global) -> Result<Arg<'a>, AllocError> {
+    Ok(moment(alloc, "START", START_HELP)?.required(true))
 }
 
 fn moment<'a>(alloc: Global, name: &'a str, help: &'a str) -> Result<Arg<'a>, AllocError> {

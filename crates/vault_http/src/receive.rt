@@ -11,7 +11,7 @@ use crate::known::{Known, go_on, look};
 use crate::message::Message;
 use crate::verdict::Verdict;
 use crate::{HttpFault, Reply, Request, Source};
-use keep_device::{MOST_READS, MOST_ROOM, read_more, zeros};
+use keep_device::{MOST_READS, MOST_ROOM, read_more};
 use std::alloc::Global;
 
 /// Reads one reply of at most `max` bytes, its head included. What stands behind it is not looked at. It makes at most 4,096
@@ -69,12 +69,19 @@ fn read_message<M: Message, R: Source>(
     ensures prompt { IsErrOf result faults.ReadFailed → HandedNone M.has_no_head (M.is_answer max) (R.remaining reader.old) (R.remaining reader.new) }
 {
     M::laws();
-    let mut room = zeros(alloc, MOST_ROOM)?;
+    let mut room = empty_room();
     let mut bytes = Vec::new(alloc);
     match look(alloc, &bytes, max, false, 0) {
         Verdict::Done(answer) => answer,
         Verdict::More(known) => message_from(alloc, reader, &mut room, &mut bytes, max, known),
     }
+}
+
+/// Room for one read. It lies in the frame of the caller, so that a message costs no list of so many bytes.
+fn empty_room() -> [u8; MOST_ROOM]
+    ensures { length result ≡ MOST_ROOM }
+{
+    [0; MOST_ROOM]
 }
 
 /// Reads a message behind `bytes`, which are empty.

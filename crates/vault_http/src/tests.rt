@@ -4,6 +4,7 @@ mod reads;
 mod replies;
 mod requests;
 mod round_trips;
+mod shown;
 mod writing;
 
 use crate::{HttpFault, MemorySource, Reply, Request, read_reply, read_request};

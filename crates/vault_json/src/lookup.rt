@@ -10,9 +10,10 @@ use crate::field::{
 use keep_moment::{Moment, Span, Text};
 use serde_json::Value;
 use std::alloc::Global;
+use std::fmt;
 
 /// What a broker says of a token or of a lease that it is asked about.
-#[derive(Debug, PartialEq, Eq, Drop)]
+#[derive(PartialEq, Eq, Drop)]
 pub enum Lookup {
     /// A token.
     Token {
@@ -40,6 +41,41 @@ pub enum Lookup {
         /// The seconds to the lease's end.
         ttl: Span,
     },
+}
+
+impl fmt::Debug for Lookup {
+    /// Shows all but a lease's id, which is secret.
+    fn fmt<W: fmt::Write>(&self, f: &mut fmt::Formatter<W>) -> fmt::Result {
+        match self {
+            Lookup::Token {
+                ttl,
+                created,
+                explicit_max,
+                orphan,
+                renewable,
+                period,
+            } => f
+                .debug_struct("Token")
+                .field("ttl", ttl)
+                .field("created", created)
+                .field("explicit_max", explicit_max)
+                .field("orphan", orphan)
+                .field("renewable", renewable)
+                .field("period", period)
+                .finish(),
+            Lookup::Lease {
+                id: _,
+                issued,
+                renewable,
+                ttl,
+            } => f
+                .debug_struct("Lease")
+                .field("issued", issued)
+                .field("renewable", renewable)
+                .field("ttl", ttl)
+                .finish_non_exhaustive(),
+        }
+    }
 }
 
 /// Reads the body of a reply to `auth/token/lookup-self` (Vault, HTTP API `auth/token`, "Lookup a token (self)").

@@ -8,6 +8,7 @@ use crate::field::{Field, flag, object, span, text};
 use keep_moment::{Span, Text};
 use serde_json::Value;
 use std::alloc::Global;
+use std::fmt;
 
 /// What a broker says of a token's renewal.
 #[derive(Clone, Copy, Debug, PartialEq, Eq)]
@@ -19,7 +20,7 @@ pub struct Renewed {
 }
 
 /// What a broker says of a lease's renewal.
-#[derive(Debug, PartialEq, Eq, Drop)]
+#[derive(PartialEq, Eq, Drop)]
 pub struct RenewedLease {
     /// The lease that was renewed.
     pub lease_id: Text,
@@ -27,6 +28,16 @@ pub struct RenewedLease {
     pub seconds: Span,
     /// Whether the lease can be renewed again.
     pub renewable: bool,
+}
+
+impl fmt::Debug for RenewedLease {
+    /// Shows all but the lease's id, which is secret.
+    fn fmt<W: fmt::Write>(&self, f: &mut fmt::Formatter<W>) -> fmt::Result {
+        f.debug_struct("RenewedLease")
+            .field("seconds", &self.seconds)
+            .field("renewable", &self.renewable)
+            .finish_non_exhaustive()
+    }
 }
 
 /// Reads the body of a reply to `auth/token/renew-self` (Vault, HTTP API `auth/token`, "Renew a token (self)").

@@ -5,6 +5,7 @@ mod faults;
 mod leases;
 mod renewals;
 mod requests;
+mod shown;
 mod token_lookups;
 mod whole;
 mod written;

@@ -1,0 +1,8 @@
+use Rattle.keep_cert.proofs.FirstFault.{fault_says, one_first}
+use Rattle.keep_cert.proofs.first_fault.first_fault_law.Goals as goal
+
+pub returns-clause-says : goal.returns-clause-says
+returns-clause-says c = fault_says
+
+pub returns-clause-alone : goal.returns-clause-alone
+returns-clause-alone c = one_first
