@@ -1,6 +1,8 @@
-/* Preloaded into a program, refuses the allocation whose number, from 1, stands in REFUSE_AT; all others are served. */
+/* Preloaded into a program, refuses the allocation whose number, from 1, stands in REFUSE_AT; all others are served. Where
+   REFUSE_COUNT names a file, the number of allocations is written to it when the program ends. */
 #define _GNU_SOURCE
 #include <dlfcn.h>
+#include <stdio.h>
 #include <stdlib.h>
 
 static long next_number, refused;
@@ -24,4 +26,13 @@ void *realloc(void *old, size_t size) {
     static void *(*real)(void *, size_t);
     if (!real) real = (void *(*)(void *, size_t))dlsym(RTLD_NEXT, "realloc");
     return refuses() ? NULL : real(old, size);
+}
+
+__attribute__((destructor)) static void report(void) {
+    long count = next_number;
+    const char *name = getenv("REFUSE_COUNT");
+    FILE *file = name ? fopen(name, "w") : NULL;
+    if (!file) return;
+    fprintf(file, "%ld\n", count);
+    fclose(file);
 }

@@ -53,61 +53,68 @@ ASCII = Signs(life="=", wake=":", missing=".", need="F", ceiling="]", renewed="o
 
 def text(chart: Chart, width: int, signs: Signs) -> str:
     """The rows, with the title and the axis above and the legend below; `width` is at least NARROWEST."""
-    left = min(max((len(_name(lane)) for lane in chart.lanes), default=4), width // 3)
-    axis = Axis(chart.start, chart.stop, width - left - 2, chart.is_dated)
-    lines = [*textwrap.wrap(chart.title, width), _heads(axis, left)]
-    lines += [_row(lane, chart, axis, left, signs) for lane in chart.lanes]
+    sheet = _Sheet(chart, width, signs)
+    lines = [*textwrap.wrap(chart.title, width), sheet.heads(), *map(sheet.row, chart.lanes)]
     return "\n".join([*lines, *_wrapped(signs.legend(), width)]) + "\n"
+
+
+class _Sheet:
+    """The columns of the rows: the names' on the left, and a place for each moment, with the wake-ups that all rows share."""
+
+    def __init__(self, chart: Chart, width: int, signs: Signs) -> None:
+        self._chart, self._signs = chart, signs
+        self._left = min(max((len(_name(lane)) for lane in chart.lanes), default=4), width // 3)
+        self._axis = Axis(chart.start, chart.stop, width - self._left - 2, chart.is_dated)
+        self._ground = [" "] * (int(self._axis.length) + 1)
+        for wake in chart.wakes:
+            self._ground[self._place(wake)] = signs.wake
+
+    def heads(self) -> str:
+        """The moments, each above its column, as many as have room."""
+        line = [" "] * len(self._ground)
+        free = 0
+        for moment, words in self._axis.ticks(max(int(self._axis.length) // 12, 2)):
+            at = self._place(moment)
+            if free <= at and at + len(words) <= len(line):
+                line[at : at + len(words)] = words
+                free = at + len(words) + 1
+        return (" " * (self._left + 1) + "".join(line)).rstrip()
+
+    def row(self, lane: Lane) -> str:
+        """Later things stand over earlier ones: wake-ups, life, ceiling, renewals, need, and what went wrong."""
+        cells, signs, entry = self._ground.copy(), self._signs, lane.entry
+        begin, end = self._place(lane.begin), self._place(lane.end)
+        _fill(cells, begin, max(end, begin + 1), signs.life)
+        if lane.falls_short:
+            _fill(cells, end, self._place(lane.needed), signs.missing)
+        if entry.ceiling is not None and entry.ceiling <= self._chart.stop:
+            cells[self._place(entry.ceiling)] = signs.ceiling
+        self._mark(cells, [mark for mark in lane.marks if mark.sign is Sign.RENEWED])
+        if self._chart.start < entry.need <= self._chart.stop:
+            cells[self._place(entry.need)] = signs.need
+        self._mark(cells, [mark for mark in lane.marks if mark.sign is not Sign.RENEWED])
+        name = _name(lane)
+        shown = name if len(name) <= self._left else name[: self._left - 1] + "~"
+        return f"{shown.ljust(self._left)} {''.join(cells)}".rstrip()
+
+    def _place(self, moment: int) -> int:
+        return int(self._axis.place(moment))
+
+    def _mark(self, cells: list[str], marks: list[Mark]) -> None:
+        """Each mark at its place; a shortened need stands beside what shortened it, which mostly has the same moment."""
+        for mark in marks:
+            place = self._place(mark.moment) + (mark.sign is Sign.SHORT)
+            cells[min(place, len(cells) - 1)] = self._signs.of(mark.sign)
 
 
 def _name(lane: Lane) -> str:
     return "  " * lane.depth + lane.entry.name
 
 
-def _heads(axis: Axis, left: int) -> str:
-    """The moments, each above its column, as many as have room."""
-    line = [" "] * (int(axis.length) + 1)
-    free = 0
-    for moment, words in axis.ticks(max(int(axis.length) // 12, 2)):
-        at = int(axis.place(moment))
-        if free <= at and at + len(words) <= len(line):
-            line[at : at + len(words)] = words
-            free = at + len(words) + 1
-    return (" " * (left + 1) + "".join(line)).rstrip()
-
-
-def _row(lane: Lane, chart: Chart, axis: Axis, left: int, signs: Signs) -> str:
-    """Later things stand over earlier ones: wake-ups, life, ceiling, renewals, need, and what went wrong."""
-    cells = [" "] * (int(axis.length) + 1)
-    for wake in chart.wakes[:: max(len(chart.wakes) // 10_000, 1)]:
-        cells[int(axis.place(wake))] = signs.wake
-    entry = lane.entry
-    begin, end = int(axis.place(lane.begin)), int(axis.place(lane.end))
-    _fill(cells, begin, max(end, begin + 1), signs.life)
-    if lane.falls_short:
-        _fill(cells, end, int(axis.place(lane.needed)), signs.missing)
-    if entry.ceiling is not None and entry.ceiling <= chart.stop:
-        cells[int(axis.place(entry.ceiling))] = signs.ceiling
-    _mark(cells, [mark for mark in lane.marks if mark.sign is Sign.RENEWED], axis, signs)
-    if chart.start < entry.need <= chart.stop:
-        cells[int(axis.place(entry.need))] = signs.need
-    _mark(cells, [mark for mark in lane.marks if mark.sign is not Sign.RENEWED], axis, signs)
-    name = _name(lane)
-    shown = name if len(name) <= left else name[: left - 1] + "~"
-    return f"{shown.ljust(left)} {''.join(cells)}".rstrip()
-
-
 def _fill(cells: list[str], begin: int, end: int, sign: str) -> None:
     """The sign at each place from `begin` to before `end`."""
     for place in range(begin, end):
         cells[place] = sign
-
-
-def _mark(cells: list[str], marks: list[Mark], axis: Axis, signs: Signs) -> None:
-    """Each mark at its place; a shortened need stands beside what shortened it, which mostly has the same moment."""
-    for mark in marks:
-        place = int(axis.place(mark.moment)) + (mark.sign is Sign.SHORT)
-        cells[min(place, len(cells) - 1)] = signs.of(mark.sign)
 
 
 def _wrapped(words: str, width: int) -> Iterator[str]:

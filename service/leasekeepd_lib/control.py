@@ -104,6 +104,8 @@ def send_command(path: Path, words: list[str]) -> list[str]:
             talk.sendall(json.dumps(words).encode() + b"\n")
             while piece := talk.recv(65536):
                 answer += piece
+    except (FileNotFoundError, ConnectionRefusedError) as error:
+        raise ControlFault(f"{path}: {error.strerror}; no leasekeepd serves there (--runtime FOLDER names another place)") from None
     except OSError as error:
         raise ControlFault(f"{path}: {error.strerror or 'no answer'}") from None
     first, *rest = answer.decode("utf-8", "replace").splitlines() or ["error: no answer"]

@@ -79,6 +79,11 @@ class ProcessRun:
         except (BrokenPipeError, ConnectionResetError):
             pass
 
+    def kill(self) -> None:
+        """Ends it at once."""
+        if self._process.returncode is None:
+            self._process.kill()
+
     async def end(self) -> RunExit:
         self._inventory.unlink(missing_ok=True)
         self._in.close()
@@ -88,8 +93,7 @@ class ProcessRun:
         except TimeoutError:
             pass
         finally:
-            if self._process.returncode is None:
-                self._process.kill()
+            self.kill()
         code = await self._process.wait()
         return RunExit(code, await self._faults)
 

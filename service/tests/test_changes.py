@@ -28,7 +28,7 @@ from leasekeepd_lib.service import Service, Surroundings
 from leasekeepd_lib.source import Source, SourceFault
 from leasekeepd_lib.storage import Storage
 
-from .model.stage import ScriptedLauncher
+from .model.stage import StageLauncher
 from .model.vault import Act, Fault, Secret, Vault, VaultTransport
 from .model.world import World, simulate
 
@@ -124,7 +124,7 @@ class Room:
         self.world = World()
         self.vault = Vault(self.world)
         self.vault.load(INVENTORY)
-        self.launcher = ScriptedLauncher(self.vault)
+        self.launcher = StageLauncher(self.vault, None)
         self.write(INVENTORY)
 
     def write(self, inventory: Inventory) -> None:

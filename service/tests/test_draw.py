@@ -210,6 +210,13 @@ class Command(unittest.TestCase):
         self.assertEqual(self.run_it("/no/such/file").returncode, 6)
         self.assertEqual(self.run_it("--svg", "--table").returncode, 2)
 
+    def test_its_man_page_begins_with_what_it_is_for(self) -> None:
+        ran = subprocess.run(
+            [sys.executable, str(SERVICE.parent / "scripts" / "man"), str(SERVICE / "leasekeep-draw"), "leasekeep-draw"],
+            capture_output=True, text=True, timeout=30, check=True,
+        )
+        self.assertIn("\n.SH NAME\nleasekeep-draw \\- Draws the lives and renewals", ran.stdout)
+
     def test_a_full_output(self) -> None:
         with open("/dev/full", "w", encoding="utf-8") as full, tempfile.NamedTemporaryFile("w") as file:
             file.write(FAMILY)

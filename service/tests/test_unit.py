@@ -50,7 +50,8 @@ class Unit(unittest.TestCase):
         self.assertIn("there are no entries", linted.stdout)
         nobody = subprocess.run([program, "status", "--runtime", str(self.folder)], capture_output=True, text=True,
                                 timeout=20, env={**os.environ})
-        self.assertEqual(nobody.stderr, f"leasekeepd: status: {self.folder}/control.sock: No such file or directory\n")
+        self.assertEqual(nobody.stderr, f"leasekeepd: status: {self.folder}/control.sock: No such file or directory; no leasekeepd "
+                                        "serves there (--runtime FOLDER names another place)\n")
         self.assertEqual(nobody.returncode, 1)
 
 

@@ -21,7 +21,7 @@ use Rattle.keep_rule.specs.declared.force.Force.{Force}
 use Rattle.keep_rule.specs.Runs.{moments_of}
 use Rattle.keep_plan.specs.Planned.{Planned, next_after, to_come}
 use Rattle.keep_core.specs.InForce.{AllForcedAs}
-use Rattle.keep_core.specs.Keeping.{IsByRule, flag, waited_for}
+use Rattle.keep_core.specs.code.Keeping.{IsByRule, flag, waited_for}
 use Rattle.keep_core.specs.LawsOfPlans.{IsAnsweredByRule}
 use Rattle.keep_core.specs.Replan.{IsPlanOf}
 use Rattle.keep_core.specs.Shorten.{pairs, shorten}

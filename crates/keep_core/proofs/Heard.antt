@@ -18,12 +18,11 @@ use Rattle.keep_core.specs.declared.fault.StepFault.{StepFault}
 use Rattle.keep_core.specs.declared.fault.StepFault.TheVariants.{ClockBack, RoundOpen, NotAsked, BadIndex, OutOfRange, TooLong, OutOfMemory}
 use Rattle.keep_core.specs.declared.round.OpenRound.{OpenRound}
 use Rattle.keep_core.specs.declared.shortened.ShortNeed.{ShortNeed}
-use Rattle.keep_core.specs.Hearing.{is_rules, others}
-use Rattle.keep_core.specs.Keeping.{IsByRule, IsKeeper, IsOpen, flag, seen, shown, waited_for}
+use Rattle.keep_core.specs.code.Hearing.{is_rules, others}
+use Rattle.keep_core.specs.code.Keeping.{IsByRule, IsKeeper, IsOpen, flag, seen, shown, waited_for}
 use Rattle.keep_core.specs.LawsOfHistories.{IsAnswer}
-use Rattle.keep_core.specs.Passes.{PlanFails}
+use Rattle.keep_core.specs.Replan.{IsPlanOf, PlanFails, Replan, ReplanTooLong}
 use Rattle.keep_core.specs.Refusal.{TellsSpan, refusal, waits_for}
-use Rattle.keep_core.specs.Replan.{IsPlanOf, Replan, ReplanTooLong}
 use Rattle.keep_core.specs.History.{Turn}
 use Rattle.keep_core.specs.Shorten.{pairs, shorten}
 use Rattle.keep_core.specs.State.{Round, State}
@@ -32,7 +31,8 @@ use Rattle.keep_core.specs.Step.{IsLastAnswer, MayWant, Step, StepAnswer, answer
 use Rattle.keep_core.proofs.Changed.{answered_forest}
 use Rattle.keep_core.proofs.Opened.{hears_more, last_fits}
 use Rattle.keep_core.proofs.ByRule.{closes_by_rule, more_by_rule}
-use Rattle.keep_core.proofs.Hearing.{answer_taken, carried_heard, waited_less, waited_set}
+use Rattle.keep_core.proofs.Hearing.{carried_heard, waited_less, waited_set}
+use Rattle.keep_core.proofs.Refusals.{answer_taken}
 use Rattle.keep_core.proofs.Made.{count_moments}
 use Rattle.keep_core.proofs.Waiting.{waits_flag}
 
@@ -237,6 +237,15 @@ hears h last p round list now r event view keeper is answer none =
       at = opened.at;
       some = opened.some;
     }
+
+-- the answer to an open round is of an entry i, and tells a duration
+module _ {h : Grove} {last : ℕ} {p : Planned} {round : Option OpenRound} {list : List ShortNeed} {now : State} {r : OpenRound} (event : Event)
+    (view : state_of h last p round list ≡ now) (keeper : IsKeeper h last p round) (is : round ≡ Some r) (answer : IsAnswer event) (none : refusal now event ≡ None) where
+  pub handed_within : (i : ℕ) → of_entry event ≡ i → i < length h.entries
+  handed_within i entry = subst (λ n. n < length h.entries) entry (hears h last p round list now r event view keeper is answer none).taken.within
+
+  pub handed_seconds : TellsSpan event
+  handed_seconds = (hears h last p round list now r event view keeper is answer none).taken.seconds
 
 pub others_are : (round : Option Round) (r : OpenRound) (i j : ℕ) → round ≡ seen (Some r) → j ≡ i → length (others round i) ≡ length (without j (waited_for r.waiting.items))
 others_are round r i j is same = ap (λ o. length (others o i)) is ∙ ap (λ n. length (without n (waited_for r.waiting.items))) (sym same)

@@ -1,5 +1,5 @@
 -- One answer: what the entries carry behind it, whom the round then waits for, and a forest that is put back.
-use Rattle.std.proofs.Common.{◌≡◌, ◌≢◌, ◌==◌, ◌∙◌, ◌⊎◌, ℕ, zero, suc, ◌+◌, ◌<◌, ◌≤◌, ◌&&◌, Bool, true, false, cond, not, List, [], ◌∷◌, Option, Some, None, filter, length, max, nat_le, nat_lt, set, refl, sym, ap, subst, arith, inl, inr}
+use Rattle.std.proofs.Common.{◌≡◌, ◌≢◌, ◌==◌, ◌∙◌, ◌⊎◌, ℕ, zero, suc, ◌+◌, ◌<◌, ◌≤◌, ◌&&◌, Bool, true, false, cond, not, List, [], ◌∷◌, Option, Some, None, filter, length, max, nat_lt, set, refl, sym, ap, subst, arith, inl, inr}
 use Rattle.std.proofs.lemmas.Bool.{cases_Bool, cases_eq}
 use Rattle.std.proofs.lemmas.Bool.Decides.{nat_tests}
 use Rattle.std.proofs.lemmas.List.{get_or-set_other, get_or-set_same, length-set, set-set}
@@ -12,47 +12,11 @@ use Rattle.keep_tree.proofs.Entries.{entry_at_set_other, entry_at_set_same}
 use Rattle.keep_needs.specs.Carried.{CarriedNeed, IsCarried, NamesFrom}
 use Rattle.keep_core.specs.declared.event.Event.{Event}
 use Rattle.keep_core.specs.declared.event.Event.TheVariants.{Tick, Told, Refused, Lost, Need}
-use Rattle.keep_core.specs.declared.fault.StepFault.{StepFault}
-use Rattle.keep_core.specs.declared.fault.StepFault.TheVariants.{BadIndex, NotAsked, OutOfRange}
-use Rattle.keep_core.specs.Keeping.{flag, waited_for}
-use Rattle.keep_core.specs.LawsOfHistories.{IsAnswer}
-use Rattle.keep_core.specs.Refusal.{LONGEST, TellsSpan, refusal, unless_asked, waits_for}
-use Rattle.keep_core.specs.State.{Round, State}
-use Rattle.keep_core.specs.Step.{answered, change, of_entry, without}
+use Rattle.keep_core.specs.code.Keeping.{flag, waited_for}
+use Rattle.keep_core.specs.Refusal.{waits_for}
+use Rattle.keep_core.specs.State.{Round}
+use Rattle.keep_core.specs.Step.{answered, change, without}
 use Rattle.keep_core.proofs.Taken.{set_back}
-
--- an answer that is not refused: its entry is one, and is waited for
-pub record IsTaken (s : State) (event : Event) : Type 0 where
-  pub seconds : TellsSpan event
-  pub within : of_entry event < length s.forest.entries
-  pub waits : waits_for s.round (of_entry event) ≡ true
-
-asked_tests : (past waits : Bool) → cond past (Some BadIndex) (cond waits None (Some NotAsked)) ≡ None → (past ≡ false) × (waits ≡ true)
-asked_tests true waits e = absurd cc
-asked_tests false true e = (refl, refl)
-asked_tests false false e = absurd cc
-
-asked_taken : (s : State) (i : ℕ) → unless_asked s i ≡ None → (i < length s.forest.entries) × (waits_for s.round i ≡ true)
-asked_taken s i e =
-    let tests = asked_tests (nat_le (length s.forest.entries) i) (waits_for s.round i) e in
-    let one : nat_le (length s.forest.entries) i ≡ false = tests.0 in
-    (grind (arith, nat_tests), tests.1)
-
-seconds_test : (long : Bool) (o : Option StepFault) → cond long (Some OutOfRange) o ≡ None → (long ≡ false) × (o ≡ None)
-seconds_test true o e = absurd cc
-seconds_test false o e = (refl, e)
-
-pub answer_taken : (s : State) (event : Event) → IsAnswer event → refusal s event ≡ None → IsTaken s event
-unfolding refusal
-answer_taken s (Tick t) answer e = absurd answer
-answer_taken s (Need i until) answer e = absurd answer
-answer_taken s (Refused i) answer e = let taken = asked_taken s i e in record { seconds = tt; within = taken.0; waits = taken.1 }
-answer_taken s (Lost i) answer e = let taken = asked_taken s i e in record { seconds = tt; within = taken.0; waits = taken.1 }
-answer_taken s (Told i seconds renewable) answer e =
-    let test = seconds_test (nat_lt LONGEST seconds) (unless_asked s i) e in
-    let short : nat_lt LONGEST seconds ≡ false = test.0 in
-    let taken = asked_taken s i test.1 in
-    record { seconds = grind (arith, nat_tests); within = taken.0; waits = taken.1 }
 
 pub waits_in : (round : Option Round) (i : ℕ) → waits_for round i ≡ true → (r : Round) × (round ≡ Some r)
 waits_in None i e = absurd cc

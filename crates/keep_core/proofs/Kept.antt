@@ -21,7 +21,7 @@ use Rattle.keep_rule.proofs.Keeping.{unkeepable}
 use Rattle.keep_rule.proofs.Schedule.{schedule_is_best}
 use Rattle.keep_core.specs.LawsOfNeeds.{IsKeptTo, IsShortened, KeepableLaw, PlannableLaw, ShortenedLaw, UnchangedLaw}
 use Rattle.keep_core.specs.Shorten.{is_short, need_left, pair_of, pairs, shorten}
-use Rattle.keep_core.specs.Passes.{needing}
+use Rattle.keep_core.specs.code.Passes.{needing}
 use Rattle.keep_core.proofs.Alike.{ends_at_alike, over_alike, reach_alike}
 use Rattle.keep_core.proofs.Needing.{length_needing, needing_alike, needing_at}
 use Rattle.keep_core.proofs.Shortening.{cut_parts, least_reach_is, left_as_it_was, need_past, needed_within, shorten_alike, shorten_at, shorten_count, shorten_ends, shorten_entries, shorten_forest, shorten_is, shorten_keepable, shorten_margin}

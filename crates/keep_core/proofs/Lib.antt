@@ -5,6 +5,7 @@ pub mod Kept
 pub mod Standing
 pub mod Forces
 pub mod Turns
+pub mod Refusals
 pub mod Orders
 pub mod Passing
 pub mod Made

@@ -10,7 +10,7 @@ use Rattle.keep_tree.specs.Push.{IsForest, is_lease, is_name, is_under_lease}
 use Rattle.keep_tree.proofs.Chains.{ParentsFirst, chain_same}
 use Rattle.keep_tree.proofs.Entries.{entry_at_past}
 use Rattle.keep_tree.proofs.Placed.{InRange, parents_first, range_from_parts, range_parts}
-use Rattle.keep_core.specs.Passes.{needing}
+use Rattle.keep_core.specs.code.Passes.{needing}
 use Rattle.keep_core.proofs.Alike.{Alike}
 
 pub length_needing : (es : List Entry) (f : ℕ → ℕ) → length (needing es f) ≡ length es

@@ -1,5 +1,5 @@
 -- The order of answers: a history of answers leads to a state that the answers alone decide, entry by entry.
-use Rattle.std.proofs.Common.{◌≡◌, ◌≢◌, ◌==◌, ℕ, ◌<◌, ◌⊎◌, ◌||◌, Bool, true, false, cond, not, List, [], ◌∷◌, Option, Some, None, Result, Ok, Err, filter, is_none, length, map, nat_le, nat_lt, refl, sym, ap, ◌∙◌, subst, arith, inl, inr}
+use Rattle.std.proofs.Common.{◌≡◌, ◌≢◌, ◌==◌, ℕ, ◌<◌, ◌⊎◌, ◌||◌, Bool, true, false, cond, not, List, [], ◌∷◌, Option, Some, None, Result, Ok, Err, filter, is_none, length, map, nat_lt, refl, sym, ap, ◌∙◌, subst, arith, inl, inr}
 use Rattle.std.proofs.lemmas.Bool.{cases_eq, cases_lt, cond-true, cond-false}
 use Rattle.std.proofs.lemmas.Bool.Decides.{nat_tests}
 use Rattle.std.proofs.lemmas.List.{length-set}
@@ -15,7 +15,7 @@ use Rattle.keep_core.specs.declared.event.Event.TheVariants.{Tick, Told, Refused
 use Rattle.keep_core.specs.declared.event.Output.{Output}
 use Rattle.keep_core.specs.declared.event.Output.TheVariants as out
 use Rattle.keep_core.specs.declared.fault.StepFault.{StepFault}
-use Rattle.keep_core.specs.declared.fault.StepFault.TheVariants.{NotAsked, BadIndex, OutOfRange}
+use Rattle.keep_core.specs.declared.fault.StepFault.TheVariants.{OutOfRange}
 use Rattle.keep_core.specs.LawsOfHistories.{AllTaken, IsAnswer, answer_for}
 use Rattle.keep_core.specs.Refusal.{LONGEST, refusal, unless_asked, waits_for}
 use Rattle.keep_core.specs.Replan.{ReplanTooLong, Replan, planned}
@@ -23,6 +23,7 @@ use Rattle.keep_core.specs.History.{History}
 use Rattle.keep_core.specs.Shorten.{shorten}
 use Rattle.keep_core.specs.State.{Round, State}
 use Rattle.keep_core.specs.Step.{Step, StepAnswer, answered, change, heard, left, of_entry, without}
+use Rattle.keep_core.proofs.Refusals.{asked_parts, first_none}
 use Rattle.keep_core.proofs.Kept.{same_entries}
 
 abbrev pub AreAnswers : List Event → Type 0
@@ -190,31 +191,15 @@ told_more at event rest g within once =
     ]
     ∙ sym (told_at at (answer_for (event ∷ rest)) g k there))
 
--- what an answer that is not refused is of: an entry, and one that is waited for
-both_tests : (a b : Bool) → cond a (Some BadIndex) (cond b None (Some NotAsked)) ≡ None → (a ≡ false) × (b ≡ true)
-both_tests true b e = absurd cc
-both_tests false true e = (refl, refl)
-both_tests false false e = absurd cc
-
-asked_parts : (s : State) (i : ℕ) → unless_asked s i ≡ None → (i < length s.forest.entries) × (waits_for s.round i ≡ true)
-asked_parts s i none =
-    let tests = both_tests (nat_le (length s.forest.entries) i) (waits_for s.round i) none in
-    let within : nat_le (length s.forest.entries) i ≡ false = tests.0 in
-    (grind (arith, nat_tests), tests.1)
-
 never_asked : (s : State) (i : ℕ) → s.round ≡ None → unless_asked s i ≡ None → ⊥
 never_asked s i closed none =
     let waits = (asked_parts s i none).1 in
     let bad : false ≡ true = sym (ap (λ r. waits_for r i) closed) ∙ waits in absurd cc
 
-second_none : {X : Type 0} (b : Bool) (x : X) (o : Option X) → cond b (Some x) o ≡ None → o ≡ None
-second_none true x o e = absurd cc
-second_none false x o e = e
-
 taken : (s : State) (event : Event) → IsAnswer event → refusal s event ≡ None → unless_asked s (of_entry event) ≡ None
 unfolding refusal
 taken s (Tick t) answer none = absurd answer
-taken s (Told i seconds renewable) answer none = second_none (nat_lt LONGEST seconds) OutOfRange (unless_asked s i) none
+taken s (Told i seconds renewable) answer none = (first_none (nat_lt LONGEST seconds) OutOfRange (unless_asked s i) none).1
 taken s (Refused i) answer none = none
 taken s (Lost i) answer none = none
 taken s (Need i until) answer none = absurd answer

@@ -17,7 +17,8 @@ use Rattle.keep_plan.proofs.Wanted.{asked_more}
 use Rattle.keep_core.specs.declared.fault.StepFault.{StepFault}
 use Rattle.keep_core.specs.declared.fault.StepFault.TheVariants.{ClockBack, RoundOpen, NotAsked, BadIndex, OutOfRange, TooLong, OutOfMemory}
 use Rattle.keep_core.specs.declared.shortened.ShortNeed.{ShortNeed}
-use Rattle.keep_core.specs.Passes.{AreLeast, AreNeeds, HasNeeds, PlanFails, PlanRefused, needing, shorter, so_far, with_needs}
+use Rattle.keep_core.specs.code.Passes.{AreLeast, AreNeeds, HasNeeds, PlanRefused, needing, shorter, so_far, with_needs}
+use Rattle.keep_core.specs.Replan.{PlanFails}
 use Rattle.keep_core.specs.Shorten.{cut_to, exceeds, is_short, least_of, least_reach, lesser, need_left, pair_of, pairs, shorten}
 use Rattle.keep_core.proofs.Kept.{plannable, same_entries}
 use Rattle.keep_core.proofs.Needing.{length_needing, needing_at}

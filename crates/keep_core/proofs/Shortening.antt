@@ -16,7 +16,7 @@ use Rattle.keep_rule.specs.Reach.{reach}
 use Rattle.keep_rule.specs.Unkeepable.{AllKeepable}
 use Rattle.keep_rule.proofs.Lists.{need_within}
 use Rattle.keep_core.specs.Shorten.{cut, cut_to, exceeds, is_short, least_of, least_reach, lesser, need_left, shorten}
-use Rattle.keep_core.specs.Passes.{needing}
+use Rattle.keep_core.specs.code.Passes.{needing}
 use Rattle.keep_core.proofs.Alike.{Alike, over_alike, reach_alike}
 use Rattle.keep_core.proofs.Needing.{length_needing, needing_alike, needing_at, needing_end, needing_forest}
 

@@ -29,13 +29,13 @@ use Rattle.keep_core.specs.State.{Round, State, unplanned}
 use Rattle.keep_core.specs.States.{IsOpened, IsState}
 use Rattle.keep_core.specs.Step.{StepAnswer, StepNeed, StepTick, answered, change, heard, left, needed, of_entry, opened}
 use Rattle.keep_core.proofs.Changed.{answered_forest, needed_forest}
-use Rattle.keep_core.proofs.Hearing.{answer_taken}
+use Rattle.keep_core.proofs.Refusals.{answer_taken}
 use Rattle.keep_core.proofs.Kept.{shortened, unchanged}
 use Rattle.keep_core.proofs.Opened.{answered_only, hears_more, opens}
 use Rattle.keep_core.proofs.Orders.{replan_once}
 use Rattle.keep_core.proofs.Shortening.{shorten_forest}
 use Rattle.keep_core.proofs.Standing.{kept_plan, someone}
-use Rattle.keep_core.proofs.Taken.{need_taken, tick_taken}
+use Rattle.keep_core.proofs.Refusals.{need_taken, tick_taken}
 use Rattle.keep_core.proofs.Turns.{open_sound, replan_force}
 
 -- an answer that is taken: its entry is one, and is waited for, and leaves a forest at whatever moment

@@ -1,43 +1,12 @@
--- What an event has that is not refused; and a forest in which a changed entry is put back.
-use Rattle.std.proofs.Common.{◌≡◌, ◌∙◌, ℕ, ◌<◌, ◌≤◌, Bool, true, false, cond, Option, Some, None, Result, Ok, Err, OnErr, IfSome, is_some, length, nat_le, nat_lt, set, refl, sym, ap, subst, arith, inl, inr}
+-- A forest in which a changed entry is put back; and a moment that was made from a number.
+use Rattle.std.proofs.Common.{◌≡◌, ◌∙◌, ℕ, ◌<◌, Option, Some, Result, Ok, Err, OnErr, IfSome, length, set, refl, sym, ap, subst, arith, inl, inr}
 use Rattle.std.proofs.lemmas.Bool.{cases_eq}
-use Rattle.std.proofs.lemmas.Bool.Decides.{nat_tests}
 use Rattle.std.proofs.lemmas.List.{length-set}
-use Rattle.keep_moment.specs.declared.moment.TheConstants.{LAST}
 use Rattle.keep_tree.specs.declared.entry.Entry.{Entry}
 use Rattle.keep_tree.specs.Forest.{Grove, entry_at}
 use Rattle.keep_tree.proofs.Entries.{entry_at_set_other, entry_at_set_same}
-use Rattle.keep_core.specs.declared.event.Event.TheVariants.{Tick, Need}
 use Rattle.keep_core.specs.declared.fault.StepFault.{StepFault}
-use Rattle.keep_core.specs.declared.fault.StepFault.TheVariants.{BadIndex, ClockBack, OutOfRange, RoundOpen}
-use Rattle.keep_core.specs.Refusal.{refusal, unless_closed}
-use Rattle.keep_core.specs.State.{Round, State}
 use Rattle.keep_core.proofs.Orders.{same_grove}
-
-none_open : (round : Option Round) → cond (is_some round) (Some RoundOpen) None ≡ None → round ≡ None
-none_open None e = refl
-none_open (Some r) e = absurd cc
-
-two_tests : (a b : Bool) (x y : StepFault) (o : Option StepFault) → cond a (Some x) (cond b (Some y) o) ≡ None → (a ≡ false) × (b ≡ false) × (o ≡ None)
-two_tests true b x y o e = absurd cc
-two_tests false true x y o e = absurd cc
-two_tests false false x y o e = (refl, refl, e)
-
-pub need_taken : (s : State) (i until : ℕ) → refusal s (Need i until) ≡ None → (until ≤ LAST) × (i < length s.forest.entries) × (s.round ≡ None)
-unfolding refusal
-need_taken s i until e =
-    let tests = two_tests (nat_lt LAST until) (nat_le (length s.forest.entries) i) OutOfRange BadIndex (unless_closed s) e in
-    let one : nat_lt LAST until ≡ false = tests.0 in
-    let other : nat_le (length s.forest.entries) i ≡ false = tests.1 in
-    (grind (arith, nat_tests), grind (arith, nat_tests), none_open s.round tests.2)
-
-pub tick_taken : (s : State) (t : ℕ) → refusal s (Tick t) ≡ None → (t ≤ LAST) × (s.last ≤ t) × (s.round ≡ None)
-unfolding refusal
-tick_taken s t e =
-    let tests = two_tests (nat_lt LAST t) (nat_lt t s.last) OutOfRange ClockBack (unless_closed s) e in
-    let one : nat_lt LAST t ≡ false = tests.0 in
-    let other : nat_lt t s.last ≡ false = tests.1 in
-    (grind (arith, nat_tests), grind (arith, nat_tests), none_open s.round tests.2)
 
 -- a moment that was made from a number
 pub moment_is : (o : Option ℕ) (v n : ℕ) → o ≡ Some v → IfSome o (λ m. m ≡ n) → v ≡ n

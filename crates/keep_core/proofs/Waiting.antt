@@ -5,7 +5,7 @@ use Rattle.std.proofs.lemmas.Bool.Decides.{nat_tests}
 use Rattle.std.proofs.lemmas.List.{get_or_past}
 use Rattle.std.specs.List.{list_any, range_with_len}
 use Rattle.keep_tree.proofs.Carrying.{or_left, or_parts, or_right}
-use Rattle.keep_core.specs.Keeping.{flag, waited_for}
+use Rattle.keep_core.specs.code.Keeping.{flag, waited_for}
 
 pub kept_test : (p : ℕ → Bool) (n a i : ℕ) → list_any (λ j. j == i) (filter p (range_with_len a n)) ≡ true → p i ≡ true
 kept_test p zero a i e = absurd cc

@@ -23,12 +23,12 @@ use Rattle.keep_core.specs.declared.event.Output.{Output}
 use Rattle.keep_core.specs.declared.event.Output.TheVariants as out
 use Rattle.keep_core.specs.declared.opening.Opening.{Opening}
 use Rattle.keep_core.specs.InForce.{AllForcedAs}
-use Rattle.keep_core.specs.Keeping.{IsKeeper, IsOpen, flag, waited_for}
+use Rattle.keep_core.specs.code.Keeping.{IsKeeper, IsOpen, flag, waited_for}
 use Rattle.keep_core.specs.Replan.{IsPlanOf, Replan}
 use Rattle.keep_core.specs.State.{State}
 use Rattle.keep_core.specs.States.{IsOpened}
 use Rattle.keep_core.specs.Step.{IsDueBy, StepTick, opened}
-use Rattle.keep_core.specs.Waking.{AreFlags, IsOpening, Wakes, is_late}
+use Rattle.keep_core.specs.code.Waking.{AreFlags, IsOpening, Wakes, is_late}
 use Rattle.keep_core.proofs.ByRule.{next_is, opens_by_rule, rises_strictly}
 use Rattle.keep_core.proofs.Forces.{still_forced}
 use Rattle.keep_core.proofs.Made.{count_moments}

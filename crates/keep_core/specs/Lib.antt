@@ -6,11 +6,8 @@ pub mod Step
 pub mod History
 pub mod InForce
 pub mod States
-pub mod Passes
-pub mod Keeping
-pub mod Waking
-pub mod Hearing
 pub mod LawsOfNeeds
 pub mod LawsOfPlans
 pub mod LawsOfSteps
 pub mod LawsOfHistories
+pub mod code

@@ -4,6 +4,8 @@ use Rattle.std.specs.Prelude.{◌≡◌, ℕ, ◌≤◌, ◌<◌, List, ◌++◌
 use Rattle.keep_tree.specs.Forest.{Grove, end_of}
 use Rattle.keep_rule.specs.Least.{IsLeastAndLatest}
 use Rattle.keep_rule.specs.declared.limit.TheConstants.{LIMIT}
+use Rattle.keep_core.specs.declared.fault.StepFault.{StepFault}
+use Rattle.keep_core.specs.declared.fault.StepFault.TheVariants.{OutOfMemory, TooLong}
 use Rattle.keep_core.specs.Shorten.{pairs, shorten}
 use Rattle.keep_core.specs.State.{State}
 
@@ -27,3 +29,9 @@ pub record ReplanTooLong (g : Grove) (t : ℕ) : Type 0 where
   pub moments : List ℕ
   pub best : IsPlanOf (shorten g t) t moments
   pub many : LIMIT < length moments
+
+-- what stands in the way of planning anew: it is too long, or memory was wanting
+abbrev pub PlanFails : Grove → ℕ → StepFault → Type 0
+PlanFails g t TooLong = ReplanTooLong g t
+PlanFails g t OutOfMemory = Unit {0}
+PlanFails g t fault = ⊥

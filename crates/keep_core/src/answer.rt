@@ -4,11 +4,10 @@ ghost use Rattle.keep_tree.specs.Renewal.{renewal};
 ghost use Rattle.keep_rule.specs.Asks.{first_of};
 ghost use Rattle.keep_plan.specs.Decides.{IsKept};
 ghost use Rattle.keep_core.specs.declared.fault.StepFault.TheVariants.{OutOfMemory};
-ghost use Rattle.keep_core.specs.Hearing.{heard_in, is_rules, others};
+ghost use Rattle.keep_core.specs.code.Hearing.{heard_in, is_rules, others};
 ghost use Rattle.keep_core.specs.LawsOfHistories.{IsAnswer};
-ghost use Rattle.keep_core.specs.Passes.{PlanFails};
+ghost use Rattle.keep_core.specs.Replan.{PlanFails, Replan};
 ghost use Rattle.keep_core.specs.Refusal.{TellsSpan, refusal, waits_for};
-ghost use Rattle.keep_core.specs.Replan.{Replan};
 ghost use Rattle.keep_core.specs.History.{Turn};
 ghost use Rattle.keep_core.specs.Shorten.{pairs, shorten};
 ghost use Rattle.keep_core.specs.Step.{answered, change, heard, of_entry};
@@ -121,7 +120,7 @@ impl Keeper {
 }
 
 /// Whether the answer to a round at `at` gives the entry the rule's end and leaves it renewable.
-#[tactic(auto, unfolding(crate::specs::Hearing::is_rules))]
+#[tactic(auto, unfolding(crate::specs::code::Hearing::is_rules))]
 fn is_rules(forest: &Forest, i: u32, event: Event, at: Moment) -> bool
     requires within { i < length forest.now.entries }
     requires seconds { TellsSpan event }

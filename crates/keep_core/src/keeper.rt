@@ -5,9 +5,8 @@ ghost use Rattle.keep_needs.specs.Carried.{IsCarried};
 ghost use Rattle.keep_rule.specs.Runs.{moments_of};
 ghost use Rattle.keep_plan.specs.Planned.{to_come};
 ghost use Rattle.keep_core.specs.InForce.{AllForcedAs, InForce};
-ghost use Rattle.keep_core.specs.Passes.{PlanFails};
+ghost use Rattle.keep_core.specs.Replan.{PlanFails, Replan};
 ghost use Rattle.keep_core.specs.Refusal.{waits_for};
-ghost use Rattle.keep_core.specs.Replan.{Replan};
 ghost use Rattle.keep_core.specs.State.{moment_of, unplanned};
 ghost use Rattle.keep_core.specs.States.{IsState};
 
@@ -37,7 +36,7 @@ impl Model for Keeper {
     ghost use Rattle.std.specs.Prelude.{◌≡◌};
     ghost use Rattle.keep_rule.specs.Runs.{moments_of};
     ghost use Rattle.keep_plan.specs.Planned.{to_come};
-    ghost use Rattle.keep_core.specs.Keeping.{IsKeeper, seen};
+    ghost use Rattle.keep_core.specs.code.Keeping.{IsKeeper, seen};
     ghost use Rattle.keep_core.specs.State.{State};
 
     ghost Value = { State };

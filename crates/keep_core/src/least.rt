@@ -1,5 +1,5 @@
 ghost use Rattle.std.specs.Prelude.{◌≡◌, ◌<◌, length, IfOk};
-ghost use Rattle.keep_core.specs.Passes.{AreLeast};
+ghost use Rattle.keep_core.specs.code.Passes.{AreLeast};
 ghost use Rattle.keep_core.specs.Shorten.{least_reach, lesser};
 
 use keep_moment::Moment;

@@ -1,7 +1,7 @@
 ghost use Rattle.std.specs.Prelude.{◌≡◌, ◌++◌, ◌<◌, None, length, IfErr, IfOk, OnErr};
 ghost use Rattle.keep_plan.specs.Decides.{IsKept};
 ghost use Rattle.keep_core.specs.declared.event.Event.TheVariants as events;
-ghost use Rattle.keep_core.specs.Passes.{PlanFails};
+ghost use Rattle.keep_core.specs.Replan.{PlanFails};
 ghost use Rattle.keep_core.specs.Refusal.{refusal};
 ghost use Rattle.keep_core.specs.History.{Turn};
 ghost use Rattle.keep_core.specs.Shorten.{pairs, shorten};

@@ -8,7 +8,7 @@ ghost use Rattle.keep_rule.specs.Runs.{moments_of};
 ghost use Rattle.keep_core.specs.declared.fault.StepFault.TheVariants.{OutOfMemory};
 ghost use Rattle.keep_core.specs.Replan.{IsPlanOf};
 ghost use Rattle.keep_core.specs.Step.{IsDueBy};
-ghost use Rattle.keep_core.specs.Waking.{AreFlags, Opens};
+ghost use Rattle.keep_core.specs.code.Waking.{AreFlags, Opens};
 
 use crate::fault::StepFault;
 use crate::round::OpenRound;

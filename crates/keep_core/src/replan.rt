@@ -4,7 +4,8 @@ ghost use Rattle.keep_tree.specs.Forest.{end_of};
 ghost use Rattle.keep_tree.specs.Push.{IsForest};
 ghost use Rattle.keep_rule.specs.Unkeepable.{AllKeepable};
 ghost use Rattle.keep_plan.specs.Decides.{IsKept};
-ghost use Rattle.keep_core.specs.Passes.{HasNeeds, PlanFails, PlanRefused, with_needs};
+ghost use Rattle.keep_core.specs.code.Passes.{HasNeeds, PlanRefused, with_needs};
+ghost use Rattle.keep_core.specs.Replan.{PlanFails};
 ghost use Rattle.keep_core.specs.Shorten.{pairs, shorten};
 
 use crate::fault::StepFault;

@@ -1,7 +1,7 @@
 ghost use Rattle.std.specs.Prelude.{◌≡◌, ◌≤◌, ◌<◌, length, IfOk};
 ghost use Rattle.keep_moment.specs.declared.moment.TheConstants.{LAST};
 ghost use Rattle.keep_tree.specs.Forest.{entry_at};
-ghost use Rattle.keep_core.specs.Passes.{AreLeast, AreNeeds, HasNeeds, shorter, with_needs};
+ghost use Rattle.keep_core.specs.code.Passes.{AreLeast, AreNeeds, HasNeeds, shorter, with_needs};
 ghost use Rattle.keep_core.specs.Shorten.{need_left, pairs};
 
 use crate::shortened::ShortNeed;
@@ -30,7 +30,7 @@ pub(crate) fn pairs(
 }
 
 /// What a need is shortened to, `None` where it is not: it comes after `at` and is greater than the reach.
-#[tactic(auto, unfolding(crate::specs::Passes::shorter))]
+#[tactic(auto, unfolding(crate::specs::code::Passes::shorter))]
 fn shorter(at: Moment, reach: Option<u64>, need: u64) -> Option<u64>
     ensures { result ≡ shorter at reach need }
 {

@@ -3,6 +3,7 @@ ghost use Rattle.std.specs.Prelude.{◌≤◌};
 mod answers;
 mod limits;
 mod needs;
+mod rounds;
 mod ticks;
 
 use crate::{Event, Keeper, Output, ShortNeed, StepFault};

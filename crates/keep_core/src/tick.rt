@@ -6,11 +6,12 @@ ghost use Rattle.keep_plan.specs.Decides.{IsKept};
 ghost use Rattle.keep_plan.specs.Planned.{to_come};
 ghost use Rattle.keep_rule.specs.Runs.{moments_of};
 ghost use Rattle.keep_core.specs.declared.event.Event.TheVariants as events;
-ghost use Rattle.keep_core.specs.Passes.{PlanFails, PlanRefused};
+ghost use Rattle.keep_core.specs.code.Passes.{PlanRefused};
+ghost use Rattle.keep_core.specs.Replan.{PlanFails};
 ghost use Rattle.keep_core.specs.Refusal.{refusal};
 ghost use Rattle.keep_core.specs.History.{Turn};
 ghost use Rattle.keep_core.specs.Shorten.{pairs, shorten};
-ghost use Rattle.keep_core.specs.Waking.{Opens, Wakes, is_late};
+ghost use Rattle.keep_core.specs.code.Waking.{Opens, Wakes, is_late};
 
 use crate::event::Output;
 use crate::fault::StepFault;

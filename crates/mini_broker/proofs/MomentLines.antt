@@ -14,7 +14,7 @@ use Rattle.std.proofs.lemmas.Str.Parse.{IsNumeralModel, numerals_by_value}
 use Rattle.std.proofs.Math.ListN.{length-append}
 use Rattle.keep_moment.specs.declared.moment.TheConstants.{LAST}
 use Rattle.mini_broker.specs.declared.moment_line.TheConstants.{MOST_LINE}
-use Rattle.mini_broker.specs.MomentLine.{HasNoLine, HasNoMoment, IsOneLine}
+use Rattle.mini_broker.specs.MomentLine.{BreaksOff, HasNoLine, HasNoMoment, IsOneLine}
 
 -- ---- what is read piece by piece
 
@@ -27,6 +27,11 @@ consumes_more (Some as') (Some bs) (Some cs) xs ys first second = first ∙ ap (
 pub one_more : (line : List ℕ) (b : ℕ) → IsOneLine line → (b == 10) ≡ false → IsOneLine (line ++ b ∷ [])
 one_more line b one other =
     list_all-append (λ c. not (c == 10)) line (b ∷ []) ∙ and_from (list_all (λ c. not (c == 10)) line) (not (b == 10) && true) one (ap (λ x. not x && true) other)
+
+-- where the byte that was read last finds no memory, a front of the line is lost
+pub broken_off : (a b c : Option (List ℕ)) (line : List ℕ) (byte : ℕ) → IsOneLine line → (byte == 10) ≡ false → length line < MOST_LINE → Consumes a b line → Consumes b c (byte ∷ []) → BreaksOff a c
+broken_off a b c line byte one other short first second =
+    (line ++ byte ∷ [], one_more line byte one other, omega (arith, length-append line (byte ∷ []), short), consumes_more a b c line (byte ∷ []) first second)
 
 -- ---- no line feed
 

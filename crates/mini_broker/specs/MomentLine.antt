@@ -1,5 +1,5 @@
 -- Lines of moments: by which whoever drives a broker says when each connection is served. This project's own.
-use Rattle.std.specs.Prelude.{◌≡◌, ℕ, ◌<◌, ◌≤◌, not, ◌==◌, true, List, [], ◌∷◌, ◌++◌, decimal, length, Option, IfSome, Result, Ok, Err}
+use Rattle.std.specs.Prelude.{◌≡◌, ℕ, ◌<◌, ◌≤◌, ◌⊎◌, not, ◌==◌, true, List, [], ◌∷◌, ◌++◌, decimal, length, Option, IfSome, Result, Ok, Err}
 use Rattle.std.specs.List.{list_all}
 use Rattle.keep_moment.specs.declared.moment.TheConstants.{LAST}
 use Rattle.keep_device.specs.Failures.{one_more}
@@ -8,7 +8,7 @@ use Rattle.mini_broker.specs.declared.moment_line.LineFault.TheVariants as lines
 use Rattle.mini_broker.specs.declared.moment_line.Moments.{Moments}
 use Rattle.mini_broker.specs.declared.moment_line.Moments.TheVariants as moments
 use Rattle.mini_broker.specs.declared.moment_line.TheConstants.{MOST_LINE}
-use Rattle.std.specs.Io.KnownBytes.{Consumes}
+use Rattle.std.specs.Io.KnownBytes.{Consumes, IsAtEnd}
 
 -- the seconds since 1970-01-01T00:00:00Z in decimal digits, without zeros in front, and a line feed
 abbrev pub moment_line : ℕ → List ℕ
@@ -32,6 +32,17 @@ IsOneLine text = list_all (λ b. not (b == 10)) text ≡ true
 abbrev pub HasNoLine : List ℕ → Type 0
 HasNoLine bytes = (text rest : List ℕ) → IsOneLine text → length text < MOST_LINE → bytes ≡ text ++ (10 ∷ rest) → ⊥
 
+-- of an input whose next line tells no moment, what stands behind the line is left; or the end, where the line has no line
+-- feed; or what stands behind as many bytes as a line may have
+abbrev pub PassesLine : Option (List ℕ) → Option (List ℕ) → Type 0
+PassesLine before now =
+    (text : List ℕ) × IsOneLine text
+    × (((length text < MOST_LINE) × Consumes before now (text ++ 10 ∷ [])) ⊎ (Consumes before now text × ((length text ≡ MOST_LINE) ⊎ IsAtEnd now)))
+
+-- where the reading breaks off, no byte is lost but those of a front of the line
+abbrev pub BreaksOff : Option (List ℕ) → Option (List ℕ) → Type 0
+BreaksOff before now = (front : List ℕ) × IsOneLine front × (length front ≤ MOST_LINE) × Consumes before now front
+
 -- one failure more where a read failed, and else none
 abbrev pub CountsLine : {X : Type 0} → Result X LineFault → ℕ → ℕ → Type 0
 CountsLine (Ok x) before now = now ≡ before
@@ -46,13 +57,18 @@ pub record Lines : Type 0 where
   pub failed : ℕ
   pub failures : ℕ
 
--- the moment of a line that was read, and no byte behind it; or that none stands in front
+-- the moment of a line that was read, and no byte behind it; or that none stands in front; and what is left
 abbrev pub TellsLine : Result ℕ LineFault → Lines → Type 0
 TellsLine (Ok m) input = Consumes input.before input.now (moment_line m)
-TellsLine (Err lines.NoMoment) input = IfSome input.before HasNoMoment
-TellsLine (Err fault) input = Unit {0}
+TellsLine (Err lines.NoMoment) input = IfSome input.before HasNoMoment × PassesLine input.before input.now
+TellsLine (Err fault) input = BreaksOff input.before input.now
 
--- the moment at which the next connection is served: the one of all, for which nothing is read, or that of the next line
+-- the moment at which the next connection is served: the one of all, or that of the next line
 abbrev pub Tells : Moments → Result ℕ LineFault → Lines → Type 0
-Tells (moments.All m) result input = (result ≡ Ok m) × (input.now ≡ input.before) × (input.failures ≡ input.failed)
+Tells (moments.All m) result input = result ≡ Ok m
 Tells moments.Lines result input = TellsLine result input × CountsLine result input.failed input.failures
+
+-- where all connections have one moment, nothing is read
+abbrev pub ReadsNothing : {S : Type 0} → Moments → S → S → Type 0
+ReadsNothing (moments.All m) before now = now ≡ before
+ReadsNothing moments.Lines before now = Unit {0}

@@ -1,8 +1,10 @@
-ghost use Rattle.std.specs.Prelude.{◌≡◌, ◌++◌, ◌∷◌, [], None, Ok, Err, IfOk, IfSome, IsErrOf};
-ghost use Rattle.std.specs.Io.KnownBytes.{Consumes, IsAtEnd};
+ghost use Rattle.std.specs.Prelude.{◌≡◌, ◌<◌, ◌++◌, ◌∷◌, [], None, Ok, Err, IfErr, IfOk, IfSome, IsErrOf, length};
+ghost use Rattle.std.specs.Io.KnownBytes.{Consumes, IsAtEnd, Keeps};
 ghost use Rattle.keep_device.specs.Failures.{CountsRead};
+ghost use Rattle.keep_device.specs.Whole.{MakesAtMost};
+ghost use Rattle.mini_broker.specs.declared.moment_line.TheConstants.{MOST_LINE};
 ghost use Rattle.mini_broker.specs.declared.moment_line.LineFault.TheVariants as lines;
-ghost use Rattle.mini_broker.specs.MomentLine.{CountsLine, HasNoLine, HasNoMoment, IsOneLine, Tells, moment_line};
+ghost use Rattle.mini_broker.specs.MomentLine.{BreaksOff, CountsLine, HasNoLine, HasNoMoment, IsOneLine, PassesLine, ReadsNothing, Tells, TellsLine, moment_line};
 
 use keep_device::{Failed, Source};
 use keep_moment::{LAST, Moment};
@@ -60,15 +62,22 @@ pub enum Moments {
     Lines,
 }
 
-/// The moment at which the next connection is served. Where all have one, nothing is read.
+/// The moment at which the next connection is served. Where all have one, nothing is read. Else it is that of the next line:
+/// whole seconds since 1970-01-01T00:00:00Z in decimal digits without zeros in front, at most 253402300799, and a line feed.
+/// It is read byte by byte, by at most 256 reads, and no byte behind it is taken.
 ///
-/// The faults are those of [`read_moment`].
+/// `ReadFailed`: a read failed. `NoMoment`: the input has ended before a line feed, or the line has more than 256 bytes, or
+/// spells no moment; what stands behind it, or behind its first 256 bytes, is left. `OutOfMemory`: a growth was refused. After
+/// the first and the last of the three a front of the line is lost.
 pub fn next_moment<S: Source>(
     alloc: Global,
     moments: Moments,
     lines: &mut S,
 ) -> Result<Moment, LineFault>
-    ensures { Tells moments result (record { before = S.remaining lines.old; now = S.remaining lines.new; failed = S.failed_calls lines.old; failures = S.failed_calls lines.new }) }
+    ensures tells { Tells moments result (record { before = S.remaining lines.old; now = S.remaining lines.new; failed = S.failed_calls lines.old; failures = S.failed_calls lines.new }) }
+    ensures nothing { ReadsNothing moments lines.old lines.new }
+    ensures reads { MakesAtMost MOST_LINE (S.remaining lines.old) (S.reads_made lines.old) (S.reads_made lines.new) }
+    ensures written { Keeps (S.written lines.old) (S.written lines.new) }
 {
     match moments {
         Moments::All(moment) => Ok(moment),
@@ -76,14 +85,15 @@ pub fn next_moment<S: Source>(
     }
 }
 
-/// Reads one line and no byte behind it, and gives the moment that it spells: whole seconds since 1970-01-01T00:00:00Z in
-/// decimal digits without zeros in front, at most 253402300799, and a line feed.
-///
-/// `ReadFailed`: a read failed. `NoMoment`: the input has ended before a line feed, or the line has more than 256 bytes, or
-/// spells no moment. `OutOfMemory`: a growth was refused.
+/// Reads one line and no byte behind it, and gives the moment that it spells.
 fn read_moment<S: Source>(alloc: Global, source: &mut S) -> Result<Moment, LineFault>
     ensures line { IfOk result (λ m. Consumes (S.remaining source.old) (S.remaining source.new) (moment_line m)) }
     ensures none { IsErrOf result lines.NoMoment → IfSome (S.remaining source.old) HasNoMoment }
+    ensures passed { IsErrOf result lines.NoMoment → PassesLine (S.remaining source.old) (S.remaining source.new) }
+    ensures failed { IsErrOf result lines.ReadFailed → BreaksOff (S.remaining source.old) (S.remaining source.new) }
+    ensures memory { IsErrOf result lines.OutOfMemory → BreaksOff (S.remaining source.old) (S.remaining source.new) }
+    ensures reads { MakesAtMost MOST_LINE (S.remaining source.old) (S.reads_made source.old) (S.reads_made source.new) }
+    ensures written { Keeps (S.written source.old) (S.written source.new) }
     ensures count { CountsLine result (S.failed_calls source.old) (S.failed_calls source.new) }
 {
     let Some(line) = read_line(alloc, source)? else {
@@ -100,8 +110,13 @@ fn read_moment<S: Source>(alloc: Global, source: &mut S) -> Result<Moment, LineF
 fn read_line<S: Source>(alloc: Global, source: &mut S) -> Result<Option<Vec<u8>>, LineFault>
     ensures line { IfOk result (λ line. IfSome line (λ text. Consumes (S.remaining source.old) (S.remaining source.new) (text.items ++ 10 ∷ []))) }
     ensures one { IfOk result (λ line. IfSome line (λ text. IsOneLine text.items)) }
+    ensures short { IfOk result (λ line. IfSome line (λ text. length text.items < MOST_LINE)) }
     ensures none { result ≡ Ok None → IfSome (S.remaining source.old) HasNoLine }
+    ensures passed { result ≡ Ok None → PassesLine (S.remaining source.old) (S.remaining source.new) }
+    ensures broken { IfErr result (λ _. BreaksOff (S.remaining source.old) (S.remaining source.new)) }
     ensures fault { IsErrOf result lines.NoMoment → ⊥ }
+    ensures reads { MakesAtMost MOST_LINE (S.remaining source.old) (S.reads_made source.old) (S.reads_made source.new) }
+    ensures written { Keeps (S.written source.old) (S.written source.new) }
     ensures count { CountsLine result (S.failed_calls source.old) (S.failed_calls source.new) }
 {
     let mut line = Vec::new(alloc);
@@ -118,7 +133,10 @@ fn read_line<S: Source>(alloc: Global, source: &mut S) -> Result<Option<Vec<u8>>
 /// Reads one byte, `None` at the end of the input.
 fn next_byte<S: Source>(source: &mut S) -> Result<Option<u8>, Failed>
     ensures some { IfOk result (λ byte. IfSome byte (λ b. Consumes (S.remaining source.old) (S.remaining source.new) (b ∷ []))) }
-    ensures none { result ≡ Ok None → IsAtEnd (S.remaining source.old) }
+    ensures none { result ≡ Ok None → IsAtEnd (S.remaining source.old) × IsAtEnd (S.remaining source.new) × Consumes (S.remaining source.old) (S.remaining source.new) [] }
+    ensures kept { IfErr result (λ _. Keeps (S.remaining source.old) (S.remaining source.new)) }
+    ensures reads { MakesAtMost 1 (S.remaining source.old) (S.reads_made source.old) (S.reads_made source.new) }
+    ensures written { Keeps (S.written source.old) (S.written source.new) }
     ensures count { CountsRead result (S.failed_calls source.old) (S.failed_calls source.new) }
 {
     let mut byte = [0u8];

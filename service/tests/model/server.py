@@ -7,9 +7,23 @@ import threading
 import time
 from typing import Callable
 
-from leasekeepd_lib.http_client import MOST, Request
+from leasekeepd_lib.http_client import MOST, Request, Response
 
 from .vault import Vault
+
+
+async def read_request(reader: asyncio.StreamReader) -> Request:
+    """One request with a body of a told length."""
+    head = (await reader.readuntil(b"\r\n\r\n")).decode("latin-1").split("\r\n")
+    method, path, _ = head[0].split(" ")
+    fields = {name.lower(): value.strip() for name, _, value in (line.partition(":") for line in head[1:])}
+    body = await reader.readexactly(int(fields.get("content-length", "0")))
+    return Request(method, path, fields.get("x-vault-token", ""), body)
+
+
+def reply_bytes(reply: Response) -> bytes:
+    return b"HTTP/1.1 %d X\r\nContent-Length: %d\r\nConnection: close\r\n\r\n%s" % (
+        reply.status, len(reply.body), reply.body)
 
 
 class RealWorld:
@@ -71,13 +85,7 @@ class VaultServer:
 
     async def _talk(self, reader: asyncio.StreamReader, writer: asyncio.StreamWriter) -> None:
         try:
-            head = (await reader.readuntil(b"\r\n\r\n")).decode("latin-1").split("\r\n")
-            method, path, _ = head[0].split(" ")
-            fields = {name.lower(): value.strip() for name, _, value in (line.partition(":") for line in head[1:])}
-            body = await reader.readexactly(int(fields.get("content-length", "0")))
-            reply = await self.vault.serve(Request(method, path, fields.get("x-vault-token", ""), body), None)
-            writer.write(b"HTTP/1.1 %d X\r\nContent-Length: %d\r\nConnection: close\r\n\r\n%s"
-                         % (reply.status, len(reply.body), reply.body))
+            writer.write(reply_bytes(await self.vault.serve(await read_request(reader), None)))
             await writer.drain()
         except Exception:
             pass

@@ -16,6 +16,7 @@ from leasekeepd_lib.parts import Parts
 from leasekeepd_lib.run_process import LaunchFault, RunExit
 
 from .live_run import LiveRun, Stop
+from .real_run import RealRun, RealRuns
 from .vault import Vault, VaultTransport
 from .world import World
 
@@ -101,39 +102,45 @@ class ScriptedRun:
         self._task.cancel()
 
 
-class ScriptedLauncher:
-    """Starts scripted runs, and remembers what each was given."""
+class StageLauncher:
+    """Starts runs, of the program where one is given and else scripted ones, and remembers what each was given."""
 
-    def __init__(self, vault: Vault) -> None:
+    def __init__(self, vault: Vault, program: str | None) -> None:
         self._vault = vault
-        self.runs: list[ScriptedRun] = []
+        self._real = None if program is None else RealRuns(program)
+        self.runs: list[ScriptedRun | RealRun] = []
         self.texts: list[str] = []
         self.starts: list[int] = []
         self.began: list[float] = []
         self.refuses: Callable[[Request, str], bool] | None = None
         self.is_missing = self.ends_at_once = self.prints_at_once = False
 
-    async def launch(self, inventory: str, start: int) -> ScriptedRun:
+    async def launch(self, inventory: str, start: int) -> ScriptedRun | RealRun:
         self.texts.append(inventory)
         self.starts.append(start)
         self.began.append(self._vault.world.now())
         if self.is_missing:
             raise LaunchFault("cannot start leasekeep: No such file or directory")
-        run = ScriptedRun(inventory, start, RunTransport(self._vault, self.refuses),
-                          self.prints_at_once)
+        transport = RunTransport(self._vault, self.refuses)
+        run = (ScriptedRun(inventory, start, transport, self.prints_at_once) if self._real is None
+               else await self._real.launch(inventory, start, transport.request))
         self.runs.append(run)
         if self.ends_at_once:
             run.kill()
         return run
 
+    def close(self) -> None:
+        if self._real is not None:
+            self._real.close()
+
 
 class Stage:
     """Everything of one scenario."""
 
-    def __init__(self, inventory: Inventory, **world: float) -> None:
+    def __init__(self, inventory: Inventory, program: str | None = None, **world: float) -> None:
         self.world = World(**world)
         self.vault = Vault(self.world)
-        self.launcher = ScriptedLauncher(self.vault)
+        self.launcher = StageLauncher(self.vault, program)
         self.output = io.StringIO()
         self.inventory = inventory
         self.beginnings = 0

@@ -4,19 +4,35 @@ from __future__ import annotations
 
 import asyncio
 import selectors
+import time
 from dataclasses import dataclass, field
-from typing import Any, Coroutine, TypeVar
+from typing import Any, Coroutine, Protocol, TypeVar
 
 Result = TypeVar("Result")
 
+LONGEST_WORK = 60.0
+"""Real seconds that a worker may take."""
+
+
+class Worker(Protocol):
+    """Something outside the loop, for which time stands still while it works."""
+
+    @property
+    def is_working(self) -> bool: ...
+
 
 class _Selector(selectors.DefaultSelector):
-    """A selector that never waits: a time-out passes at once."""
+    """A selector that never waits: a time-out passes at once. But for workers it waits."""
 
     loop: SimLoop
 
     def select(self, timeout: float | None = None) -> list[Any]:
         ready = super().select(0)
+        began = time.monotonic()
+        while not ready and timeout != 0 and any(worker.is_working for worker in self.loop.workers):
+            ready = super().select(1.0)
+            if time.monotonic() > began + LONGEST_WORK:
+                raise TimeoutError("a worker has not ended its work")
         if not ready and timeout is None:
             # Only a thread or a child process could still wake the loop.
             return super().select(1.0)
@@ -32,6 +48,7 @@ class SimLoop(asyncio.SelectorEventLoop):
         selector = _Selector()
         selector.loop = self
         self.simulated = 0.0
+        self.workers: set[Worker] = set()
         super().__init__(selector)
 
     def time(self) -> float:

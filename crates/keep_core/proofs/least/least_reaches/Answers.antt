@@ -1,5 +1,5 @@
 use Rattle.std.proofs.Common.{◌≡◌, ◌+◌, arith, length, subst, sym}
-use Rattle.keep_core.specs.Passes.{AreLeast}
+use Rattle.keep_core.specs.code.Passes.{AreLeast}
 use Rattle.keep_core.proofs.Passing.{least_more}
 use Rattle.keep_core.proofs.least.least_reaches.Goals as goal
 

@@ -1,4 +1,4 @@
-use Rattle.keep_core.specs.Passes.{AreLeast}
+use Rattle.keep_core.specs.code.Passes.{AreLeast}
 use Rattle.keep_core.proofs.least.least_reaches.Given as goal
 
 abbrev pub invariant-loop-index : goal.invariant-loop-index

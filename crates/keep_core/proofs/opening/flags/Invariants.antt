@@ -1,5 +1,5 @@
 use Rattle.std.proofs.Common.{take}
-use Rattle.keep_core.specs.Waking.{AreFlags}
+use Rattle.keep_core.specs.code.Waking.{AreFlags}
 use Rattle.keep_core.proofs.opening.flags.Given as goal
 
 abbrev pub invariant-loop-index : goal.invariant-loop-index

@@ -6,7 +6,7 @@ use Rattle.keep_rule.specs.declared.force.Force.{Force}
 use Rattle.keep_rule.specs.Runs.{moments_of}
 use Rattle.keep_plan.specs.Planned.{next_after, to_come}
 use Rattle.keep_core.specs.Replan.{IsPlanOf}
-use Rattle.keep_core.specs.Waking.{AreFlags}
+use Rattle.keep_core.specs.code.Waking.{AreFlags}
 use Rattle.keep_core.proofs.Standing.{someone}
 use Rattle.keep_core.proofs.Waking.{asked_now, asks_few, asks_inside, asks_waited}
 use Rattle.keep_core.proofs.opening.opening_at.Goals as goal

@@ -1,5 +1,5 @@
 use Rattle.std.proofs.Common.{◌∙◌, ◌++◌, ap, subst, sym}
-use Rattle.keep_core.specs.Passes.{AreNeeds}
+use Rattle.keep_core.specs.code.Passes.{AreNeeds}
 use Rattle.keep_core.specs.Shorten.{need_left}
 use Rattle.keep_core.proofs.Passing.{shortened_set}
 use Rattle.keep_core.proofs.replan.shorten.Goals as goal

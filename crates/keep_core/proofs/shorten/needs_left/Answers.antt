@@ -1,6 +1,6 @@
 use Rattle.std.proofs.Common.{◌≡◌, ◌∙◌, ◌+◌, ◌<◌, ℕ, IfSome, Option, ap, arith, length, subst, sym, unwrap_or}
 use Rattle.keep_tree.specs.declared.entry.Entry.{Entry}
-use Rattle.keep_core.specs.Passes.{AreNeeds}
+use Rattle.keep_core.specs.code.Passes.{AreNeeds}
 use Rattle.keep_core.specs.Shorten.{need_left}
 use Rattle.keep_core.proofs.Passing.{left_found, left_within, needs_more}
 use Rattle.keep_core.proofs.shorten.needs_left.Goals as goal

@@ -1,4 +1,4 @@
-use Rattle.keep_core.specs.Passes.{AreNeeds}
+use Rattle.keep_core.specs.code.Passes.{AreNeeds}
 use Rattle.keep_core.specs.Shorten.{need_left}
 use Rattle.keep_core.proofs.shorten.needs_left.Given as goal
 

@@ -2,7 +2,7 @@ use Rattle.std.proofs.Common.{◌≡◌, ◌+◌, ◌∙◌, ℕ, IfSome, Option
 use Rattle.keep_tree.specs.declared.entry.Entry.{Entry}
 use Rattle.keep_tree.specs.Forest.{entry_at}
 use Rattle.keep_rule.proofs.Lists.{need_within}
-use Rattle.keep_core.specs.Passes.{AreNeeds}
+use Rattle.keep_core.specs.code.Passes.{AreNeeds}
 use Rattle.keep_core.proofs.Passing.{needs_more}
 use Rattle.keep_core.proofs.shorten.needs_of.Goals as goal
 

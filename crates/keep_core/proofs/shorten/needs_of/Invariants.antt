@@ -1,5 +1,5 @@
 use Rattle.keep_tree.specs.Forest.{entry_at}
-use Rattle.keep_core.specs.Passes.{AreNeeds}
+use Rattle.keep_core.specs.code.Passes.{AreNeeds}
 use Rattle.keep_core.proofs.shorten.needs_of.Given as goal
 
 abbrev pub invariant-loop-index : goal.invariant-loop-index

@@ -1,7 +1,7 @@
 use Rattle.std.proofs.Common.{◌≡◌, ◌∙◌, ap, arith, get_or, length, set}
 use Rattle.std.proofs.lemmas.List.{get_or_read}
 use Rattle.keep_tree.specs.Forest.{Grove, entry_at}
-use Rattle.keep_core.specs.Passes.{so_far}
+use Rattle.keep_core.specs.code.Passes.{so_far}
 use Rattle.keep_core.proofs.Needing.{length_needing}
 use Rattle.keep_core.proofs.Passing.{all_set, none_set, one_set}
 use Rattle.keep_core.proofs.shorten.set_needs.Goals as goal

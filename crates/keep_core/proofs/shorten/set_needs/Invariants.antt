@@ -1,5 +1,5 @@
 use Rattle.std.proofs.Common.{◌≡◌}
-use Rattle.keep_core.specs.Passes.{needing, so_far}
+use Rattle.keep_core.specs.code.Passes.{needing, so_far}
 use Rattle.keep_core.proofs.shorten.set_needs.Given as goal
 
 abbrev pub invariant-loop-index : goal.invariant-loop-index

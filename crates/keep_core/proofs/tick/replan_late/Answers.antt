@@ -1,7 +1,7 @@
 use Rattle.std.proofs.Common.{◌≡◌, ◌∙◌, ap, arith, length, subst, sym}
 use Rattle.keep_tree.specs.Forest.{Grove, end_of}
 use Rattle.keep_rule.specs.Unkeepable.{AllKeepable}
-use Rattle.keep_core.specs.Passes.{HasNeeds, PlanRefused}
+use Rattle.keep_core.specs.code.Passes.{HasNeeds, PlanRefused}
 use Rattle.keep_core.proofs.Passing.{fails, taken_back}
 use Rattle.keep_core.proofs.Shortening.{shorten_count, shorten_keepable}
 use Rattle.keep_core.proofs.tick.replan_late.Goals as goal

@@ -1,5 +1,6 @@
-use Rattle.std.proofs.Common.{◌∙◌, ◌++◌, ◌∷◌, [], ℕ, List, Option, Vec, Global, IfSome, Ok, ap, subst}
+use Rattle.std.proofs.Common.{◌∙◌, ◌<◌, ◌++◌, ◌∷◌, [], ℕ, List, Option, Vec, Global, IfSome, Ok, ap, inl, length, subst}
 use Rattle.std.specs.Io.KnownBytes.{Consumes}
+use Rattle.mini_broker.specs.declared.moment_line.TheConstants.{MOST_LINE}
 use Rattle.mini_broker.specs.MomentLine.{IsOneLine}
 use Rattle.mini_broker.proofs.MomentLines.{no_line_no_moment, other_line}
 use Rattle.mini_broker.proofs.moment_line.read_moment.Goals as goal
@@ -15,3 +16,16 @@ returns-in_default-number_up_to-clause-none g c = λ is.
     let given : Consumes before now (line ++ 10 ∷ []) = subst (λ (o : Option (Vec ℕ Global)). IfSome o (λ text. Consumes before now (text.items ++ 10 ∷ []))) c.in-Some.is c.in_ok-line.ensures.line in
     let one : IsOneLine line = subst (λ (o : Option (Vec ℕ Global)). IfSome o (λ text. IsOneLine text.items)) c.in-Some.is c.in_ok-line.ensures.one in
     other_line before now line given one (λ n late same. c.number_up_to.ensures.none c.in_default-number_up_to.is n late (c.deref.ensures.value ∙ same))
+
+pub returns-in_default-clause-passed : goal.returns-in_default-clause-passed
+returns-in_default-clause-passed g c = λ is. c.in_ok-line.ensures.passed (ap (λ o. Ok o) c.in_default.is)
+
+pub returns-in_default-number_up_to-clause-passed : goal.returns-in_default-number_up_to-clause-passed
+returns-in_default-number_up_to-clause-passed g c = λ is.
+    let before = g.S.Device.remaining c.args.source.now in
+    let now = g.S.Device.remaining c.read_line.new.source in
+    let line : List ℕ = c.in-Some.line.items in
+    let given : Consumes before now (line ++ 10 ∷ []) = subst (λ (o : Option (Vec ℕ Global)). IfSome o (λ text. Consumes before now (text.items ++ 10 ∷ []))) c.in-Some.is c.in_ok-line.ensures.line in
+    let one : IsOneLine line = subst (λ (o : Option (Vec ℕ Global)). IfSome o (λ text. IsOneLine text.items)) c.in-Some.is c.in_ok-line.ensures.one in
+    let short : length line < MOST_LINE = subst (λ (o : Option (Vec ℕ Global)). IfSome o (λ text. length text.items < MOST_LINE)) c.in-Some.is c.in_ok-line.ensures.short in
+    (line, one, inl (short, given))

@@ -2,13 +2,14 @@ use Rattle.std.proofs.Common.{◌≡◌, ◌∙◌, ◌<◌, None, Some, ap, ari
 use Rattle.std.proofs.lemmas.Result.{err_from_is_err_and}
 use Rattle.std.proofs.lemmas.Bool.Decides.{nat_tests}
 use Rattle.keep_core.specs.declared.event.Output.TheVariants as out
-use Rattle.keep_core.specs.Hearing.{heard_in, others}
+use Rattle.keep_core.specs.code.Hearing.{heard_in, others}
 use Rattle.keep_core.specs.Refusal.{waits_for}
 use Rattle.keep_core.specs.Replan.{Replan}
 use Rattle.keep_core.specs.State.{Round}
 use Rattle.keep_core.specs.Step.{heard, of_entry}
 use Rattle.keep_core.proofs.Heard.{as_answer, nobody, of_some, somebody, wants_turn}
-use Rattle.keep_core.proofs.Hearing.{answer_taken, waits_in}
+use Rattle.keep_core.proofs.Hearing.{waits_in}
+use Rattle.keep_core.proofs.Refusals.{answer_taken}
 use Rattle.keep_core.proofs.keeper.Keeper.answer.Goals as goal
 
 pub waits_for_others-requires-clause-within : goal.waits_for_others-requires-clause-within

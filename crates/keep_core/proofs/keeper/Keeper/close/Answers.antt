@@ -1,56 +1,32 @@
-use Rattle.std.proofs.Common.{◌∙◌, ◌++◌, ◌<◌, None, Option, ap, arith, length, refl, subst, sym}
+use Rattle.std.proofs.Common.{◌∙◌, ◌++◌, None, Option, ap, arith, refl, subst, sym}
 use Rattle.keep_tree.specs.Forest.{entry_at}
 use Rattle.keep_tree.specs.Push.{IsForest}
 use Rattle.keep_tree.proofs.Carrying.{and_left, and_right}
 use Rattle.keep_rule.specs.Runs.{moments_of}
 use Rattle.keep_plan.specs.Planned.{to_come}
 use Rattle.keep_core.specs.declared.round.OpenRound.{OpenRound}
-use Rattle.keep_core.specs.Hearing.{is_rules}
-use Rattle.keep_core.specs.Keeping.{IsKeeper, seen}
+use Rattle.keep_core.specs.code.Hearing.{is_rules}
+use Rattle.keep_core.specs.code.Keeping.{IsKeeper, seen}
 use Rattle.keep_core.specs.Replan.{Replan, ReplanTooLong}
 use Rattle.keep_core.specs.Shorten.{pairs, shorten}
 use Rattle.keep_core.specs.State.{State}
 use Rattle.keep_core.specs.Step.{answered, change, heard, of_entry}
-use Rattle.keep_core.proofs.Heard.{Stays, answer_fits, answered_keeper, hears, if_some, only_memory, others_are, state_of, stays, stays_planned}
+use Rattle.keep_core.proofs.Heard.{Stays, answer_fits, answered_keeper, handed_seconds, handed_within, hears, if_some, only_memory, others_are, state_of, stays, stays_planned}
 use Rattle.keep_core.proofs.Made.{made, made_keeper}
 use Rattle.keep_core.proofs.Shortening.{shorten_forest}
 use Rattle.keep_core.proofs.keeper.Keeper.close.Goals as goal
 
 pub is_rules-requires-clause-within : goal.is_rules-requires-clause-within
-is_rules-requires-clause-within c =
-    let h = c.self.inside.forest in
-    let r = c.in-Some.round in
-    let event = c.args.event in
-    let is = sym c.take.ensures.value ∙ c.in-Some.is in
-    let hears = hears h c.self.inside.last c.self.inside.plan c.self.inside.round c.self.inside.shortened.items c.args.self.now r event c.self.view_is c.self.invariant is c.requires.answer c.requires.taken in
-    subst (λ i. i < length h.entries) c.requires.entry hears.taken.within
+is_rules-requires-clause-within c = handed_within c.args.event c.self.view_is c.self.invariant (sym c.take.ensures.value ∙ c.in-Some.is) c.requires.answer c.requires.taken c.args.i c.requires.entry
 
 pub is_rules-requires-clause-seconds : goal.is_rules-requires-clause-seconds
-is_rules-requires-clause-seconds c =
-    let h = c.self.inside.forest in
-    let r = c.in-Some.round in
-    let event = c.args.event in
-    let is = sym c.take.ensures.value ∙ c.in-Some.is in
-    let hears = hears h c.self.inside.last c.self.inside.plan c.self.inside.round c.self.inside.shortened.items c.args.self.now r event c.self.view_is c.self.invariant is c.requires.answer c.requires.taken in
-    hears.taken.seconds
+is_rules-requires-clause-seconds c = handed_seconds c.args.event c.self.view_is c.self.invariant (sym c.take.ensures.value ∙ c.in-Some.is) c.requires.answer c.requires.taken
 
 pub tell-requires-clause-within : goal.tell-requires-clause-within
-tell-requires-clause-within c =
-    let h = c.self.inside.forest in
-    let r = c.in-Some.round in
-    let event = c.args.event in
-    let is = sym c.take.ensures.value ∙ c.in-Some.is in
-    let hears = hears h c.self.inside.last c.self.inside.plan c.self.inside.round c.self.inside.shortened.items c.args.self.now r event c.self.view_is c.self.invariant is c.requires.answer c.requires.taken in
-    subst (λ i. i < length h.entries) c.requires.entry hears.taken.within
+tell-requires-clause-within c = handed_within c.args.event c.self.view_is c.self.invariant (sym c.take.ensures.value ∙ c.in-Some.is) c.requires.answer c.requires.taken c.args.i c.requires.entry
 
 pub tell-requires-clause-seconds : goal.tell-requires-clause-seconds
-tell-requires-clause-seconds c =
-    let h = c.self.inside.forest in
-    let r = c.in-Some.round in
-    let event = c.args.event in
-    let is = sym c.take.ensures.value ∙ c.in-Some.is in
-    let hears = hears h c.self.inside.last c.self.inside.plan c.self.inside.round c.self.inside.shortened.items c.args.self.now r event c.self.view_is c.self.invariant is c.requires.answer c.requires.taken in
-    hears.taken.seconds
+tell-requires-clause-seconds c = handed_seconds c.args.event c.self.view_is c.self.invariant (sym c.take.ensures.value ∙ c.in-Some.is) c.requires.answer c.requires.taken
 
 pub invariant_of-self-then-round-is_rules : goal.invariant_of-self-then-round-is_rules
 invariant_of-self-then-round-is_rules c =
@@ -94,22 +70,10 @@ returns-then-round-is_rules-clause-planned c =
     if_some c.args.self.now.round _ _ now_is (subst (λ (s : State). Replan (heard s event r.at None) r.at (state_of k c.self.inside.last p c.take.new.self list)) c.self.view_is closed)
 
 pub replan_with_answer-requires-clause-within : goal.replan_with_answer-requires-clause-within
-replan_with_answer-requires-clause-within c =
-    let h = c.self.inside.forest in
-    let r = c.in-Some.round in
-    let event = c.args.event in
-    let is = sym c.take.ensures.value ∙ c.in-Some.is in
-    let hears = hears h c.self.inside.last c.self.inside.plan c.self.inside.round c.self.inside.shortened.items c.args.self.now r event c.self.view_is c.self.invariant is c.requires.answer c.requires.taken in
-    subst (λ i. i < length h.entries) c.requires.entry hears.taken.within
+replan_with_answer-requires-clause-within c = handed_within c.args.event c.self.view_is c.self.invariant (sym c.take.ensures.value ∙ c.in-Some.is) c.requires.answer c.requires.taken c.args.i c.requires.entry
 
 pub replan_with_answer-requires-clause-seconds : goal.replan_with_answer-requires-clause-seconds
-replan_with_answer-requires-clause-seconds c =
-    let h = c.self.inside.forest in
-    let r = c.in-Some.round in
-    let event = c.args.event in
-    let is = sym c.take.ensures.value ∙ c.in-Some.is in
-    let hears = hears h c.self.inside.last c.self.inside.plan c.self.inside.round c.self.inside.shortened.items c.args.self.now r event c.self.view_is c.self.invariant is c.requires.answer c.requires.taken in
-    hears.taken.seconds
+replan_with_answer-requires-clause-seconds c = handed_seconds c.args.event c.self.view_is c.self.invariant (sym c.take.ensures.value ∙ c.in-Some.is) c.requires.answer c.requires.taken
 
 pub invariant_of-self-in-Ok-1 : goal.invariant_of-self-in-Ok-1
 invariant_of-self-in-Ok-1 c =

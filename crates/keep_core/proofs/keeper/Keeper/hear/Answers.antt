@@ -2,31 +2,19 @@ use Rattle.std.proofs.Common.{◌≡◌, ◌∙◌, ◌+◌, ◌-◌, ◌<◌, �
 use Rattle.std.specs.Vec.{with_item}
 use Rattle.keep_tree.specs.Forest.{Grove, entry_at}
 use Rattle.keep_core.specs.declared.round.OpenRound.{OpenRound}
-use Rattle.keep_core.specs.Hearing.{heard_in, is_rules}
-use Rattle.keep_core.specs.Keeping.{seen, waited_for}
+use Rattle.keep_core.specs.code.Hearing.{heard_in, is_rules}
+use Rattle.keep_core.specs.code.Keeping.{seen, waited_for}
 use Rattle.keep_core.specs.State.{State}
 use Rattle.keep_core.specs.Step.{answered, change, of_entry, without}
-use Rattle.keep_core.proofs.Heard.{hears, heard_keeper, others_are, state_of}
+use Rattle.keep_core.proofs.Heard.{handed_seconds, handed_within, hears, heard_keeper, others_are, state_of}
 use Rattle.keep_core.proofs.Hearing.{waited_set}
 use Rattle.keep_core.proofs.keeper.Keeper.hear.Goals as goal
 
 pub is_rules-requires-clause-within : goal.is_rules-requires-clause-within
-is_rules-requires-clause-within c =
-    let h = c.self.inside.forest in
-    let r = c.in-Some.round in
-    let event = c.args.event in
-    let is = sym c.take.ensures.value ∙ c.in-Some.is in
-    let hears = hears h c.self.inside.last c.self.inside.plan c.self.inside.round c.self.inside.shortened.items c.args.self.now r event c.self.view_is c.self.invariant is c.requires.answer c.requires.taken in
-    subst (λ i. i < length h.entries) c.requires.entry hears.taken.within
+is_rules-requires-clause-within c = handed_within c.args.event c.self.view_is c.self.invariant (sym c.take.ensures.value ∙ c.in-Some.is) c.requires.answer c.requires.taken c.args.i c.requires.entry
 
 pub is_rules-requires-clause-seconds : goal.is_rules-requires-clause-seconds
-is_rules-requires-clause-seconds c =
-    let h = c.self.inside.forest in
-    let r = c.in-Some.round in
-    let event = c.args.event in
-    let is = sym c.take.ensures.value ∙ c.in-Some.is in
-    let hears = hears h c.self.inside.last c.self.inside.plan c.self.inside.round c.self.inside.shortened.items c.args.self.now r event c.self.view_is c.self.invariant is c.requires.answer c.requires.taken in
-    hears.taken.seconds
+is_rules-requires-clause-seconds c = handed_seconds c.args.event c.self.view_is c.self.invariant (sym c.take.ensures.value ∙ c.in-Some.is) c.requires.answer c.requires.taken
 
 pub index_mut-requires : goal.index_mut-requires
 index_mut-requires c =
@@ -39,22 +27,10 @@ index_mut-requires c =
     omega arith
 
 pub tell-requires-clause-within : goal.tell-requires-clause-within
-tell-requires-clause-within c =
-    let h = c.self.inside.forest in
-    let r = c.in-Some.round in
-    let event = c.args.event in
-    let is = sym c.take.ensures.value ∙ c.in-Some.is in
-    let hears = hears h c.self.inside.last c.self.inside.plan c.self.inside.round c.self.inside.shortened.items c.args.self.now r event c.self.view_is c.self.invariant is c.requires.answer c.requires.taken in
-    subst (λ i. i < length h.entries) c.requires.entry hears.taken.within
+tell-requires-clause-within c = handed_within c.args.event c.self.view_is c.self.invariant (sym c.take.ensures.value ∙ c.in-Some.is) c.requires.answer c.requires.taken c.args.i c.requires.entry
 
 pub tell-requires-clause-seconds : goal.tell-requires-clause-seconds
-tell-requires-clause-seconds c =
-    let h = c.self.inside.forest in
-    let r = c.in-Some.round in
-    let event = c.args.event in
-    let is = sym c.take.ensures.value ∙ c.in-Some.is in
-    let hears = hears h c.self.inside.last c.self.inside.plan c.self.inside.round c.self.inside.shortened.items c.args.self.now r event c.self.view_is c.self.invariant is c.requires.answer c.requires.taken in
-    hears.taken.seconds
+tell-requires-clause-seconds c = handed_seconds c.args.event c.self.view_is c.self.invariant (sym c.take.ensures.value ∙ c.in-Some.is) c.requires.answer c.requires.taken
 
 pub invariant_of-self-2 : goal.invariant_of-self-2
 invariant_of-self-2 c =

@@ -3,14 +3,15 @@ use Rattle.keep_tree.specs.Push.{IsForest}
 use Rattle.keep_rule.specs.Runs.{moments_of}
 use Rattle.keep_plan.specs.Planned.{to_come}
 use Rattle.keep_core.specs.declared.round.OpenRound.{OpenRound}
-use Rattle.keep_core.specs.Keeping.{IsKeeper, seen}
+use Rattle.keep_core.specs.code.Keeping.{IsKeeper, seen}
 use Rattle.keep_core.specs.Replan.{Replan}
 use Rattle.keep_core.specs.State.{State}
 use Rattle.keep_core.specs.Step.{needed}
 use Rattle.keep_core.proofs.Changed.{needed_forest}
 use Rattle.keep_core.proofs.Made.{made, made_keeper, none_seen}
 use Rattle.keep_core.proofs.Shortening.{shorten_forest}
-use Rattle.keep_core.proofs.Taken.{moment_is, need_taken}
+use Rattle.keep_core.proofs.Taken.{moment_is}
+use Rattle.keep_core.proofs.Refusals.{need_taken}
 use Rattle.keep_core.proofs.keeper.Keeper.need.Goals as goal
 
 pub unwrap-until-requires : goal.unwrap-until-requires

@@ -7,17 +7,18 @@ use Rattle.keep_rule.specs.declared.limit.TheConstants.{LIMIT}
 use Rattle.keep_plan.specs.Planned.{to_come}
 use Rattle.keep_core.specs.declared.event.Event.TheVariants.{Tick}
 use Rattle.keep_core.specs.declared.round.OpenRound.{OpenRound}
-use Rattle.keep_core.specs.Keeping.{IsKeeper, seen}
+use Rattle.keep_core.specs.code.Keeping.{IsKeeper, seen}
 use Rattle.keep_core.specs.Replan.{Replan}
 use Rattle.keep_core.specs.State.{State}
 use Rattle.keep_core.specs.Step.{IsDueBy, MayWant, StepTick}
-use Rattle.keep_core.specs.Waking.{is_late}
+use Rattle.keep_core.specs.code.Waking.{is_late}
 use Rattle.keep_core.proofs.Made.{count_moments, made, made_keeper, none_seen}
 use Rattle.keep_core.proofs.Heard.{only_memory}
 use Rattle.keep_core.proofs.Opened.{tick_fits}
 use Rattle.keep_core.proofs.Shortening.{shorten_forest}
 use Rattle.keep_core.proofs.Standing.{kept_plan, tick}
-use Rattle.keep_core.proofs.Taken.{moment_is, tick_taken}
+use Rattle.keep_core.proofs.Taken.{moment_is}
+use Rattle.keep_core.proofs.Refusals.{tick_taken}
 use Rattle.keep_core.proofs.Waking.{kept_keeper, late_due, none_before, tick_step}
 use Rattle.keep_core.proofs.keeper.Keeper.tick.Goals as goal
 

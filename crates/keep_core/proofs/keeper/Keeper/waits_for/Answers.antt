@@ -1,7 +1,7 @@
 use Rattle.std.proofs.Common.{◌≡◌, ◌∙◌, ◌<◌, ◌≤◌, ap, arith, false, length, nat_lt, sym}
 use Rattle.std.proofs.lemmas.Bool.Decides.{nat_tests}
 use Rattle.std.proofs.lemmas.List.{get_or_past, get_or_read}
-use Rattle.keep_core.specs.Keeping.{flag, seen}
+use Rattle.keep_core.specs.code.Keeping.{flag, seen}
 use Rattle.keep_core.specs.Refusal.{waits_for}
 use Rattle.keep_core.specs.State.{State}
 use Rattle.keep_core.proofs.Waiting.{waits_flag}

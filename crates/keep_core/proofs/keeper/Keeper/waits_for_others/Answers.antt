@@ -1,5 +1,5 @@
 use Rattle.std.proofs.Common.{◌∙◌, ◌<◌, ap, arith, length, nat_lt, refl, sym}
-use Rattle.keep_core.specs.Keeping.{seen, waited_for}
+use Rattle.keep_core.specs.code.Keeping.{seen, waited_for}
 use Rattle.keep_core.specs.State.{State}
 use Rattle.keep_core.specs.Step.{without}
 use Rattle.keep_core.proofs.Heard.{flag_waits, one_more, others_are}

@@ -2,9 +2,9 @@ use Rattle.std.proofs.Common.{◌≡◌, ◌∙◌, Option, Some, None, ap, subs
 use Rattle.keep_rule.specs.Runs.{moments_of}
 use Rattle.keep_plan.specs.Planned.{Planned, to_come}
 use Rattle.keep_core.specs.declared.opening.Opening.{Opening}
-use Rattle.keep_core.specs.Keeping.{IsKeeper}
+use Rattle.keep_core.specs.code.Keeping.{IsKeeper}
 use Rattle.keep_core.specs.State.{State}
-use Rattle.keep_core.specs.Waking.{IsOpening, Opens}
+use Rattle.keep_core.specs.code.Waking.{IsOpening, Opens}
 use Rattle.keep_core.proofs.Made.{none_seen}
 use Rattle.keep_core.proofs.Waking.{opened_keeper}
 use Rattle.keep_core.proofs.keeper.Keeper.wake.Goals as goal

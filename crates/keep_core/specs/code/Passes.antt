@@ -7,7 +7,6 @@ use Rattle.keep_tree.specs.Forest.{Grove, entry_at}
 use Rattle.keep_plan.specs.Decides.{IsTooLong}
 use Rattle.keep_core.specs.declared.fault.StepFault.{StepFault}
 use Rattle.keep_core.specs.declared.fault.StepFault.TheVariants.{TooLong, OutOfMemory}
-use Rattle.keep_core.specs.Replan.{ReplanTooLong}
 use Rattle.keep_core.specs.Shorten.{cut_to, exceeds, least_reach}
 
 -- the entries with these needs
@@ -40,13 +39,7 @@ HasNeeds g needs = AreNeeds (length g.entries) (λ i. (entry_at g.entries i).nee
 unfoldable pub shorter : ℕ → Option ℕ → ℕ → Option ℕ
 shorter t reach need = if exceeds t reach need then Some (cut_to reach need) else None
 
--- what stands in the way of a plan
-abbrev pub PlanFails : Grove → ℕ → StepFault → Type 0
-PlanFails g t TooLong = ReplanTooLong g t
-PlanFails g t OutOfMemory = Unit {0}
-PlanFails g t fault = ⊥
-
--- the same of a forest in which no need is to be shortened
+-- what stands in the way of a plan for a forest in which no need is to be shortened
 abbrev pub PlanRefused : Grove → ℕ → StepFault → Type 0
 PlanRefused g t TooLong = IsTooLong g t
 PlanRefused g t OutOfMemory = Unit {0}

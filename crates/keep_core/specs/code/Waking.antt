@@ -8,7 +8,7 @@ use Rattle.keep_rule.specs.Asks.{asks, first_of}
 use Rattle.keep_core.specs.declared.event.Output.{Output}
 use Rattle.keep_core.specs.declared.event.Output.TheVariants as out
 use Rattle.keep_core.specs.declared.opening.Opening.{Opening}
-use Rattle.keep_core.specs.Keeping.{flag, waited_for}
+use Rattle.keep_core.specs.code.Keeping.{flag, waited_for}
 use Rattle.keep_core.specs.State.{State}
 use Rattle.keep_core.specs.Step.{opened}
 

@@ -1,0 +1,4 @@
+pub mod Passes
+pub mod Keeping
+pub mod Waking
+pub mod Hearing
