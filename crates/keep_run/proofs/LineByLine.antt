@@ -21,7 +21,7 @@ use Rattle.keep_run.specs.Stops.{both}
 use Rattle.keep_run.specs.declared.event_line.Heard.{Heard}
 use Rattle.keep_run.specs.declared.event_line.TheConstants.{MOST_LINE}
 use Rattle.keep_run.proofs.Cut.{cut_back, first_piece}
-use Rattle.keep_run.proofs.LiveTicks.{between_as}
+use Rattle.keep_run.proofs.OneAnswer.{between_as}
 
 -- ---- what was sent, and then more
 

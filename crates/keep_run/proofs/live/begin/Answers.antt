@@ -3,7 +3,7 @@ use Rattle.keep_report.specs.declared.stop.Stop.TheVariants as stops
 use Rattle.keep_tree.specs.Forest.{Grove}
 use Rattle.keep_core.specs.State.{State}
 use Rattle.keep_run.specs.Text.{short_lines}
-use Rattle.keep_run.proofs.Rehearsed.{fits_opened}
+use Rattle.keep_run.proofs.Rehearsed.{ready_opened}
 use Rattle.keep_run.proofs.LiveOpening.{for_err, memory_ends, opens, planning_ends, sending_ends}
 use Rattle.keep_run.proofs.Within.{AreOf, replan_within}
 use Rattle.keep_run.proofs.live.begin.Goals as goal
@@ -17,9 +17,8 @@ push_short_lines-requires g c =
 
 pub returns-clause-ready : goal.returns-clause-ready
 returns-clause-ready g c =
-    let fits = fits_opened c.look_all_up.new.inventory c.into_parts-forest.result.0 c.into_parts-forest.result.1 c.args.start c.in_ok-keeper.keeper c.take_shortened-short.new.self c.into_parts-forest.ensures.sound
-    c.into_parts-forest.ensures.forest c.into_parts-forest.ensures.credentials c.in_ok-keeper.ensures.opened c.take_shortened-short.ensures.after in
-    record { count = fits.count; quiet = ap (λ (s : State). s.shortened) c.take_shortened-short.ensures.after }
+    ready_opened c.look_all_up.new.inventory c.into_parts-forest.result.0 c.into_parts-forest.result.1 c.args.start c.in_ok-keeper.keeper c.take_shortened-short.new.self c.into_parts-forest.ensures.sound
+    c.into_parts-forest.ensures.forest c.into_parts-forest.ensures.credentials c.in_ok-keeper.ensures.opened c.take_shortened-short.ensures.after
 
 pub returns-in_err-keeper-clause-early : goal.returns-in_err-keeper-clause-early
 returns-in_err-keeper-clause-early g c =
