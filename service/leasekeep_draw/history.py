@@ -54,7 +54,7 @@ class LineFault(Exception):
     """A line that none of them prints."""
 
     def __init__(self, number: int) -> None:
-        super().__init__(f"line {number} is none that rehearse, run or leasekeepd prints")
+        super().__init__(f"line {number} is none that rehearse, run or leasekeepd prints of this inventory")
         self.number = number
 
 
