@@ -162,7 +162,8 @@ def _duration(tree: dict[str, Any], key: str, absent: int | None = None) -> int:
         return absent
     if isinstance(value, str):
         digits = value.removesuffix("s")
-        value = int(digits) if digits.isascii() and digits.isdigit() else None
+        # (Eleven digits are over the greatest duration, and Python reads no number of thousands.)
+        value = int(digits.lstrip("0")[:11] or "0") if digits.isascii() and digits.isdigit() else None
     if type(value) is not int or not 0 <= value <= DURATION_MAX:
         raise _Unreadable
     return value

@@ -84,6 +84,7 @@ async def _read_words(reader: asyncio.StreamReader) -> list[str] | None:
     """The words of a command: an array of strings in JSON; None where the line is something else."""
     try:
         words = json.loads(await reader.readuntil(b"\n"))
+        json.dumps(words, ensure_ascii=False).encode()  # (JSON may spell half a letter, which is no text.)
     except (ValueError, RecursionError, asyncio.IncompleteReadError, asyncio.LimitOverrunError):
         return None
     is_words = isinstance(words, list) and words and all(isinstance(word, str) for word in words)

@@ -33,17 +33,22 @@ def read_short_list(path: Path) -> Inventory:
         top = tomllib.loads(path.read_text("utf-8"))
     except OSError as error:
         raise DiscoverFault(f"{path}: {error.strerror}") from None
-    except ValueError:
+    except (ValueError, RecursionError):
         raise DiscoverFault(f"{path}: is no TOML document in UTF-8") from None
     unknown = [key for key in top if key not in _TOP]
     if unknown:
         raise DiscoverFault(f"{path}: {unknown[0]} is no key of a short list; the keys are {', '.join(_TOP)}")
+    numbers = {"margin": DEFAULT_MARGIN, "system_max": Inventory().system_max, **top}
+    for key in ("margin", "system_max"):
+        if type(numbers[key]) is not int or numbers[key] < 1:
+            raise DiscoverFault(f"{path}: {key} is no whole number of seconds")
     entries = []
     for kind in Kind:
-        for place, table in enumerate(top.get(kind.value, []), 1):
-            entries.append(_entry(path, kind, place, table))
-    margin = top.get("margin", DEFAULT_MARGIN)
-    return Inventory(tuple(entries), margin, top.get("system_max", Inventory().system_max))
+        tables = top.get(kind.value, [])
+        if not isinstance(tables, list) or not all(isinstance(table, dict) for table in tables):
+            raise DiscoverFault(f"{path}: {kind.value} is no array of tables [[{kind.value}]]")
+        entries += [_entry(path, kind, place, table) for place, table in enumerate(tables, 1)]
+    return Inventory(tuple(entries), numbers["margin"], numbers["system_max"])
 
 
 def _entry(path: Path, kind: Kind, place: int, table: dict[str, Any]) -> Entry:
@@ -67,7 +72,7 @@ def _entry(path: Path, kind: Kind, place: int, table: dict[str, Any]) -> Entry:
 def _credential_in(file: Path, label: str, key: str) -> str:
     try:
         text = file.read_text("ascii").strip()
-    except (OSError, UnicodeDecodeError):
+    except (OSError, ValueError):
         raise DiscoverFault(f"{label}: {key}: {file} cannot be read") from None
     if not CREDENTIAL.fullmatch(text):
         raise DiscoverFault(f"{label}: {key}: {file} holds no secret of 1 to 256 printable characters")

@@ -117,7 +117,7 @@ class _Table:
 
 
 def _hint(value: Any) -> str:
-    if isinstance(value, str) and re.fullmatch(r"\d+(ms|s|m|h|d)", value):
+    if isinstance(value, str) and re.fullmatch(r"\d{1,12}(ms|s|m|h|d)", value):
         units = {"ms": 0.001, "s": 1, "m": 60, "h": 3600, "d": 86400}
         match = re.fullmatch(r"(\d+)([a-z]+)", value)
         seconds = int(int(match[1]) * units[match[2]]) if match else 0
@@ -221,7 +221,7 @@ def _document(data: bytes, reading: Reading) -> dict[str, Any] | None:
     reading.lines = Lines.of(text)
     try:
         return tomllib.loads(text)
-    except tomllib.TOMLDecodeError as error:
+    except (ValueError, RecursionError) as error:  # A number of thousands of digits, lists in lists, or no TOML.
         # The parser's own words may quote the text, which may hold a secret: only its line is told.
         place = re.search(r"line (\d+)", str(error))
         fault(int(place[1]) if place else 0, "the file is no TOML document", "mend the syntax of this line")

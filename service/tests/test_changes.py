@@ -513,7 +513,8 @@ class Sockets(unittest.TestCase):
             await server.start()
             self.assertEqual(path.stat().st_mode & 0o777, 0o660)
             silent = [await asyncio.open_unix_connection(str(path)) for _ in range(CLIENTS_MOST - 1)]
-            for data in (b"need web\n", b"{}\n", b"[]\n", b"[1]\n", b"\xff\n", b"[" * 60_000 + b"\n"):
+            for data in (b"need web\n", b"{}\n", b"[]\n", b"[1]\n", b"\xff\n", b"[" * 60_000 + b"\n",
+                         b'["drop", "\\ud800"]\n'):
                 self.assertTrue((await raw(data)).startswith(b"error: one line of JSON"), data[:20])
             await raw(b'"' + b"x" * (1 << 20))
             answer = await asyncio.to_thread(send_command, path, ["need", "web", "+6h"])

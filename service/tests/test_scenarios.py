@@ -15,8 +15,8 @@ from .model.stage import Stage, fleet
 from .model.vault import Act, Fault, about, both, lookups, renewals
 from .model.world import simulate
 
-REAL = find_program("leasekeep")
-"""`leasekeep run` itself, where it is built."""
+PROGRAM = None if os.environ.get("SCRIPTED") else find_program("leasekeep", may_be_slow=False)
+"""`leasekeep run` itself where it is built or installed, else the scripted one."""
 HOUR = 3600
 BEGAN = 1_000_000.0
 
@@ -30,14 +30,10 @@ def fault(since: float, until: float, act: Act = Act.STATUS, status: int = 500, 
 
 
 class Scenario(unittest.TestCase):
-    """Runs are scripted, which takes seconds for all; REAL=1 in the environment has all of them by `leasekeep run` itself."""
-
-    program = REAL if os.environ.get("REAL") else None
-
     def play(self, inventory: Inventory, scene: Scene, real: dict[str, dict[str, Any]] | None = None,
              **world: float) -> Stage:
         async def go() -> Stage:
-            stage = Stage(inventory, self.program, **world)
+            stage = Stage(inventory, PROGRAM, **world)
             stage.vault.load(inventory, **(real or {}))
             await scene(stage)
             stage.launcher.close()
@@ -207,7 +203,7 @@ class Outages(Scenario):
             with self.subTest(at_once=at_once):
                 self.play(fleet(30, 600, 60, 300), scene)
                 self.assertIn(self.stage.lost(), ([], ["e5"]))
-                ended = BEGAN + 255 + (3 if at_once or self.program else 0)
+                ended = BEGAN + 255 + (3 if at_once or PROGRAM else 0)
                 self.assertIn(f"{date_text(ended)} begin an answer took too long", self.stage.output.getvalue())
 
     def test_a_slow_broker_and_a_run_that_prints_at_the_end_of_an_answer(self) -> None:
@@ -380,21 +376,6 @@ class Changes(Scenario):
         events = self.stage.launcher.runs[0].events
         place = events.index(f"need e1 {int(BEGAN) + 90_000}")
         self.assertEqual(events[place + 1], f"tick {int(BEGAN) + 240}")
-
-
-@unittest.skipIf(REAL is None, "no leasekeep with the command `run` is built")
-class QuietByTheRealRun(Quiet):
-    program = REAL
-
-
-@unittest.skipIf(REAL is None, "no leasekeep with the command `run` is built")
-class RefusalsByTheRealRun(Refusals):
-    program = REAL
-
-
-@unittest.skipIf(REAL is None, "no leasekeep with the command `run` is built")
-class ChangesByTheRealRun(Changes):
-    program = REAL
 
 
 if __name__ == "__main__":

@@ -37,15 +37,18 @@ def find_or_model(name: str) -> str:
     return str(TOP / "service" / "tests" / f"scripted_{name}")
 
 
-def find_program(name: str, may_build: bool = False) -> str | None:
+def find_program(name: str, may_build: bool = False, may_be_slow: bool = True) -> str | None:
     """A `leasekeep` or `minibroker` that is live: that of the environment (LEASEKEEP, MINIBROKER), the proved build,
-    the installed one, and where asked for a build without a proof; None where there is none."""
+    the installed one, and where it may be slow a build without a proof, which is made now where asked for; None where
+    there is none."""
     given = os.environ.get(name.upper())
     if given:
         return given if is_live(name, given) else None
     for program in (str(TOP / "crates" / name / "out" / name), shutil.which(name)):
         if program and is_live(name, program):
             return program
+    if not may_be_slow:
+        return None
     for build in sorted((TOP / "out" / "unproved").glob(f"{name}-*/{name}")):
         if is_live(name, str(build)):
             return str(build)

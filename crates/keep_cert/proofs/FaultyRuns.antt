@@ -9,7 +9,7 @@ use Rattle.keep_rule.specs.Runs.{counted}
 use Rattle.keep_cert.specs.declared.cert.TheConstants.{MAX_LINES}
 use Rattle.keep_cert.specs.declared.cert.Version.{Version}
 use Rattle.keep_cert.specs.declared.fault.CertFault.{CertFault}
-use Rattle.keep_cert.specs.CertificateText.{AreRuns, IsRun, end_text, line_text, run_text}
+use Rattle.keep_cert.specs.CertificateText.{AreRunsOf, IsRunOf, end_text, line_text, run_text}
 use Rattle.keep_cert.specs.FirstFault.{whole}
 use Rattle.keep_cert.specs.Lines.{cut_off}
 use Rattle.keep_cert.specs.Reading.{end_of_runs, ending, nothing_behind, run_keyword, run_line, runs_of}
@@ -26,7 +26,7 @@ no_line_is_none ls l = λ no. cc
 -- runs behind those that were found, and the line `end`
 abbrev pub RunsText : Version → List Entry → List Run → List ℕ → Type 0
 RunsText v es found text =
-    (new : List Run) × AreRuns v es new × (length (found ++ new) ≤ MAX_LINES) × AreFew v (found ++ new) × (text ≡ flat_map (run_text v es) new ++ end_text (counted (found ++ new)))
+    (new : List Run) × AreRunsOf v es new × (length (found ++ new) ≤ MAX_LINES) × AreFew v (found ++ new) × (text ≡ flat_map (run_text v es) new ++ end_text (counted (found ++ new)))
 
 end_goes_on : (count : ℕ) → end_text count ≢ []
 unfolding end_text line_text
@@ -47,7 +47,7 @@ module _ (v : Version) (es : List Entry) (found : List Run) (few_lines : length 
       let same : found ≡ found ++ [] = sym (append-nil found) in
       ([], tt, subst (λ x. length x ≤ MAX_LINES) same few_lines, subst (AreFew v) same few, e ∙ ap (λ x. end_text (counted x)) same)
 
-  one_run_more : (r : Run) → IsRun v es r → (text : List ℕ) → RunsText v es (found ++ r ∷ []) text → RunsText v es found (run_text v es r ++ text)
+  one_run_more : (r : Run) → IsRunOf v es r → (text : List ℕ) → RunsText v es (found ++ r ∷ []) text → RunsText v es found (run_text v es r ++ text)
   one_run_more r is text h =
       let same : (found ++ r ∷ []) ++ h.0 ≡ found ++ r ∷ h.0 = append_assoc found (r ∷ []) h.0 in (
         r ∷ h.0,

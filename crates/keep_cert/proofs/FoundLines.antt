@@ -8,7 +8,7 @@ use Rattle.keep_cert.specs.declared.cert.Version.{Version}
 use Rattle.keep_cert.specs.declared.cert.Version.TheVariants.{One, Two}
 use Rattle.keep_rule.specs.declared.limit.TheConstants.{LIMIT}
 use Rattle.keep_cert.specs.declared.fault.CertFault.{CertFault}
-use Rattle.keep_cert.specs.CertificateText.{IsRun, end_text, name_of, run_text}
+use Rattle.keep_cert.specs.CertificateText.{IsRunOf, end_text, name_of, run_text}
 use Rattle.keep_cert.specs.Lines.{four_words, number_at, six_words, two_words}
 use Rattle.keep_words.specs.Pieces.{four, keyword, pieces, six, two}
 use Rattle.keep_cert.specs.Reading.{end_of_runs, ending, entry_named, is_run, nothing_behind, right, run_keyword, run_line, run_of, wake_of}
@@ -23,7 +23,7 @@ RoomFor Two before r = before + r.count ≤ LIMIT
 -- a line that is read as a run is the line of that run, and the wake-ups before it leave room for it
 pub record IsRunLine (v : Version) (es : List Entry) (before : ℕ) (line : List ℕ) (r : Run) : Type 0 where
   pub text : line ++ 10 ∷ [] ≡ run_text v es r
-  pub run : IsRun v es r
+  pub run : IsRunOf v es r
   pub room : RoomFor v before r
 
 wake_found : (n : ℕ) (es : List Entry) (before : ℕ) (line : List ℕ) (r : Run) → bytes_eq (keyword line) (run_keyword One) ≡ true → wake_of n es line ≡ Ok r → IsRunLine One es before line r
@@ -44,7 +44,7 @@ wake_found n es before line r key e =
     subst (IsRunLine One es before line) (ok_same {A = Run} (record { first = k; step = 0; count = 1; entry = i; needed = j }) r e4)
     (record {
       text = line_from_words line _ same;
-      run = record { fit = record { entry = entry.0; needed = needed.0; some = omega arith; within = omega (arith, number.1) }; lone = (λ h. refl, λ h. refl); form = refl };
+      run = record { among = record { entry = entry.0; needed = needed.0 }; run = record { moments = record { some = omega arith; last = omega (arith, number.1) }; lone = (λ h. refl, λ h. refl) }; form = refl };
       room = tt;
     })))))
 
@@ -88,8 +88,8 @@ run_found n es before line r key e =
     (record {
       text = line_from_words line _ same;
       run = record {
-        fit = record { entry = entry.0; needed = needed.0; some = ltb-true _ _ q.0; within = leb-true _ _ o.1 };
-        lone = (λ h. eqb-true _ _ (lone.0 (eq-eqb _ _ h)), λ h. eqb-true _ _ (lone.1 (eq-eqb _ _ h)));
+        among = record { entry = entry.0; needed = needed.0 };
+        run = record { moments = record { some = ltb-true _ _ q.0; last = leb-true _ _ o.1 }; lone = (λ h. eqb-true _ _ (lone.0 (eq-eqb _ _ h)), λ h. eqb-true _ _ (lone.1 (eq-eqb _ _ h))) };
         form = tt;
       };
       room = leb-true _ _ p.0;

@@ -5,7 +5,7 @@ use Rattle.std.proofs.lemmas.List.{append-nil}
 use Rattle.std.proofs.lemmas.List.Elements.{All-cons, All-nil}
 use Rattle.std.proofs.lemmas.List.Splits.{join_with_byte-slice_split}
 use Rattle.std.specs.Cmp.Lexicographic.{bytes_decides}
-use Rattle.std.specs.List.{join_with_byte}
+use Rattle.std.specs.List.{AllByRecursion, join_with_byte}
 use Rattle.keep_moment.specs.declared.moment.TheConstants.{LAST}
 use Rattle.keep_tree.specs.declared.entry.Entry.{Entry}
 use Rattle.keep_rule.specs.declared.run.Run.{Run}
@@ -19,8 +19,8 @@ use Rattle.keep_cert.specs.declared.cert.TheConstants.{MAX_LINES}
 use Rattle.keep_cert.specs.declared.fault.CertFault.{CertFault}
 use Rattle.keep_cert.specs.declared.fault.CertFault.TheVariants.{BadHeader}
 use Rattle.keep_cert.specs.Answers.{Gives}
-use Rattle.keep_rule.specs.Runs.{counted}
-use Rattle.keep_cert.specs.CertificateText.{AreRuns, CanBeWritten, IsAmong, IsBody, IsRun, Writes, body_text, certificate_text, end_text, header_text, name_of, run_text, start_text, unkeepable_text}
+use Rattle.keep_rule.specs.Runs.{IsAmong, counted}
+use Rattle.keep_cert.specs.CertificateText.{AreRunsOf, CanBeWritten, IsBody, IsRunOf, Writes, body_text, certificate_text, end_text, header_text, name_of, run_text, start_text, unkeepable_text}
 use Rattle.keep_words.specs.Pieces.{keyword, pieces, three, two}
 use Rattle.keep_cert.specs.Lines.{line_at, lines, three_words, two_words}
 use Rattle.keep_cert.specs.Reading.{body_of, certificate_of, ending, entry_named, header_of, nothing_behind, run_keyword, run_line, runs_of, start_of, unkeepable_of, version_of}
@@ -37,7 +37,7 @@ abbrev pub AreFew : Version → List Run → Type 0
 AreFew One rs = counted rs ≤ length rs
 AreFew Two rs = counted rs ≤ LIMIT
 
-pub few_more : (v : Version) (es : List Entry) (found : List Run) (r : Run) → AreFew v found → IsRun v es r → RoomFor v (counted found) r → AreFew v (found ++ r ∷ [])
+pub few_more : (v : Version) (es : List Entry) (found : List Run) (r : Run) → AreFew v found → IsRunOf v es r → RoomFor v (counted found) r → AreFew v (found ++ r ∷ [])
 few_more One es found r few run room = omega (arith, counted_push found r, length-append found (r ∷ []), few, run.form)
 few_more Two es found r few run room = omega (arith, counted_push found r, room)
 
@@ -54,7 +54,7 @@ record AreRunLines (v : Version) (es : List Entry) (found : List Run) (ls : List
   new : List Run
   is : rs ≡ found ++ new
   text : joined ls ≡ flat_map (run_text v es) new ++ end_text (counted rs)
-  each : AreRuns v es new
+  each : AreRunsOf v es new
   few_lines : length rs ≤ MAX_LINES
   few : AreFew v rs
 
@@ -139,7 +139,7 @@ body_found v es ls body e =
           step_ok (runs_of v es [] ls) _ body (sym (cond-false _ _ _ f) ∙ e1) (λ rs hr e2.
           let a = runs_found v es [] ls rs (omega arith) (none_are_few v) hr in
           let whole : joined ls ≡ body_text v es (Runs rs) = a.text ∙ ap (λ x. flat_map (run_text v es) x ++ end_text (counted rs)) (sym a.is) in
-          let runs : IsBody v es (Runs rs) = (subst (AreRuns v es) (sym a.is) a.each, (a.few_lines, few_at_last v rs a.few a.few_lines)) in
+          let runs : IsBody v es (Runs rs) = (subst (AreRunsOf v es) (sym a.is) a.each, (a.few_lines, few_at_last v rs a.few a.few_lines)) in
           subst (λ x. (joined ls ≡ body_text v es x) × IsBody v es x) (ok_same (Runs rs) body e2) (whole, runs))
     ])
 
@@ -197,9 +197,13 @@ pub found_writes : (es : List Entry) (text : List ℕ) (r : Result Cert CertFaul
 found_writes es text (Ok c) h = read_is_written es text c h
 found_writes es text (Err e) h = tt
 
-among : (v : Version) (es : List Entry) (rs : List Run) → AreRuns v es rs → All (IsAmong (length es)) rs
-among v es [] each = All-nil (IsAmong (length es))
-among v es (r ∷ rs) each = All-cons (IsAmong (length es)) r rs (record { entry = each.0.fit.entry; needed = each.0.fit.needed }) (among v es rs each.1)
+pub among : (v : Version) (es : List Entry) (rs : List Run) → AreRunsOf v es rs → AllByRecursion (IsAmong (length es)) rs
+among v es [] each = tt
+among v es (r ∷ rs) each = (each.0.among, among v es rs each.1)
+
+pub all_among : (n : ℕ) (rs : List Run) → AllByRecursion (IsAmong n) rs → All (IsAmong n) rs
+all_among n [] each = All-nil (IsAmong n)
+all_among n (r ∷ rs) each = All-cons (IsAmong n) r rs each.0 (all_among n rs each.1)
 
 can_be_written : (v : Version) (es : List Entry) (body : Body) → IsBody v es body → CanBeWritten es body
 can_be_written v es (Runs rs) h = (among v es rs h.0, h.1.1)

@@ -1,7 +1,6 @@
 -- What a decision for a forest holds: it can be printed, and what is printed is read back.
 use Rattle.std.proofs.Common.{◌≡◌, ℕ, zero, suc, ◌<◌, ◌≤◌, ◌++◌, All, List, [], ◌∷◌, Option, Some, None, length, refl, ap, subst, arith, inl, inr}
 use Rattle.std.proofs.lemmas.Bool.{cases_lt}
-use Rattle.std.proofs.lemmas.List.Elements.{All-cons, All-nil}
 use Rattle.keep_tree.specs.declared.entry.Entry.{Entry}
 use Rattle.keep_tree.specs.Forest.{Grove, end_of, entry_at}
 use Rattle.keep_tree.specs.Over.{Over}
@@ -23,9 +22,10 @@ use Rattle.keep_plan.proofs.Walking.{length_all_cons}
 use Rattle.keep_cert.specs.declared.cert.Body.{Body}
 use Rattle.keep_cert.specs.declared.cert.Body.TheVariants.{Runs, Unkeepable}
 use Rattle.keep_cert.specs.declared.cert.Version.TheVariants.{Two}
-use Rattle.keep_cert.specs.CertificateText.{AreRuns, IsAmong, IsBody, certificate_text}
+use Rattle.keep_cert.specs.CertificateText.{AreRunsOf, IsBody, certificate_text}
 use Rattle.keep_cert.specs.Laws.{DecidedIsOf, PrintedIsRead}
 use Rattle.keep_cert.specs.Printing.{certified, claim}
+use Rattle.keep_cert.proofs.FoundRuns.{all_among, among}
 use Rattle.keep_cert.proofs.ReadBackAll.{written_is_read}
 
 -- the wake-ups of runs are counted by their lines
@@ -69,19 +69,15 @@ first_of_run g forest s prev first step zero entry needed rest some forces = abs
 first_of_run g forest s prev first step (suc n) entry needed rest some forces =
     force_within g forest s prev (record { at = first; entry = entry; needed = needed }) forces.0
 
-pub runs_within : (g : Grove) → IsForest g → (s : ℕ) (prev : Option ℕ) (rs : List Run) → of_rule.AreRuns rs → AreForces g.entries g.margin s (end_of g.entries) prev (all_wakes rs) → AreRuns Two g.entries rs
+pub runs_within : (g : Grove) → IsForest g → (s : ℕ) (prev : Option ℕ) (rs : List Run) → of_rule.AreRuns rs → AreForces g.entries g.margin s (end_of g.entries) prev (all_wakes rs) → AreRunsOf Two g.entries rs
 runs_within g forest s prev [] runs forces = tt
 runs_within g forest s prev (r ∷ rs) runs forces =
-    let here = first_of_run g forest s prev r.first r.step r.count r.entry r.needed (all_wakes rs) runs.0.some forces in
+    let here = first_of_run g forest s prev r.first r.step r.count r.entry r.needed (all_wakes rs) runs.0.moments.some forces in
     let later = forces_behind g.entries g.margin s (end_of g.entries) prev (wakes r) (all_wakes rs) forces in
-    (record { fit = record { entry = here.0; needed = here.1; some = runs.0.some; within = runs.0.last }; lone = runs.0.lone; form = tt }, runs_within g forest s later.0 rs runs.1 later.1)
-
-among_of_runs : (es : List Entry) (rs : List Run) → AreRuns Two es rs → All (IsAmong (length es)) rs
-among_of_runs es [] each = All-nil (IsAmong (length es))
-among_of_runs es (r ∷ rs) each = All-cons (IsAmong (length es)) r rs (record { entry = each.0.fit.entry; needed = each.0.fit.needed }) (among_of_runs es rs each.1)
+    (record { among = record { entry = here.0; needed = here.1 }; run = runs.0; form = tt }, runs_within g forest s later.0 rs runs.1 later.1)
 
 pub decided_is_of : DecidedIsOf
-decided_is_of g s (decision.Keep p) forest decides = among_of_runs g.entries p.runs (runs_within g forest s None p.runs decides.best.runs decides.best.forces)
+decided_is_of g s (decision.Keep p) forest decides = all_among (length g.entries) p.runs (among Two g.entries p.runs (runs_within g forest s None p.runs decides.best.runs decides.best.forces))
 decided_is_of g s (decision.Unkeepable entry needed) forest decides =
     let later = decides.0.pair.later in
     let within = needed_within g.entries needed (omega arith) in

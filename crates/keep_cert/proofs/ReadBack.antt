@@ -17,7 +17,7 @@ use Rattle.keep_cert.specs.declared.cert.Version.{Version}
 use Rattle.keep_cert.specs.declared.cert.Version.TheVariants.{One, Two}
 use Rattle.keep_rule.specs.declared.limit.TheConstants.{LIMIT}
 use Rattle.keep_cert.specs.declared.fault.CertFault.TheVariants.{BadLine, BadNumber, UnknownName}
-use Rattle.keep_cert.specs.CertificateText.{IsRun, line_text, name_of, run_text}
+use Rattle.keep_cert.specs.CertificateText.{IsRunOf, line_text, name_of, run_text}
 use Rattle.keep_cert.specs.Lines.{four_words, number_at, six_words}
 use Rattle.keep_words.proofs.Numbers as numbers
 use Rattle.keep_words.specs.Pieces.{four, keyword, six}
@@ -74,17 +74,17 @@ step_within first step count lone some within =
           omega (arith, times, within)
     ]
 
-pub run_small : (v : Version) (es : List Entry) (r : Run) → IsRun v es r → r.count ≤ LIMIT → AreSmall r
-run_small v es r h few = record { first = omega (arith, h.fit.within); step = step_within r.first r.step r.count h.lone h.fit.some h.fit.within; count = omega (arith, few) }
+pub run_small : (v : Version) (es : List Entry) (r : Run) → IsRunOf v es r → r.count ≤ LIMIT → AreSmall r
+run_small v es r h few = record { first = omega (arith, h.run.moments.last); step = step_within r.first r.step r.count h.run.lone h.run.moments.some h.run.moments.last; count = omega (arith, few) }
 
 module _ (g : Grove) (f : IsForest g) where
-  pub run_words_are : (v : Version) (r : Run) → IsRun v g.entries r → r.count ≤ LIMIT → AreWords (run_words v g.entries r)
+  pub run_words_are : (v : Version) (r : Run) → IsRunOf v g.entries r → r.count ≤ LIMIT → AreWords (run_words v g.entries r)
   run_words_are One r h few =
       let s = run_small One g.entries r h few in
-      (record { spaces = refl; feeds = refl }, (decimal_is_word r.first (omega (arith, s.first)), (name_word g f r.entry h.fit.entry, (name_word g f r.needed h.fit.needed, tt))))
+      (record { spaces = refl; feeds = refl }, (decimal_is_word r.first (omega (arith, s.first)), (name_word g f r.entry h.among.entry, (name_word g f r.needed h.among.needed, tt))))
   run_words_are Two r h few =
       let s = run_small Two g.entries r h few in
-      (record { spaces = refl; feeds = refl }, (decimal_is_word r.first (omega (arith, s.first)), (decimal_is_word r.step (omega (arith, s.step)), (decimal_is_word r.count (omega (arith, s.count)), (name_word g f r.entry h.fit.entry, (name_word g f r.needed h.fit.needed, tt))))))
+      (record { spaces = refl; feeds = refl }, (decimal_is_word r.first (omega (arith, s.first)), (decimal_is_word r.step (omega (arith, s.step)), (decimal_is_word r.count (omega (arith, s.count)), (name_word g f r.entry h.among.entry, (name_word g f r.needed h.among.needed, tt))))))
 
 both_same : (a b : Bool) → (a ≡ true) ↔ (b ≡ true) → beq a b ≡ true
 both_same true true h = refl
@@ -99,48 +99,48 @@ is_run_back before first step count few some lone within =
     (and_from _ _ (both_same (step == 0) (count == 1) (λ h. eq-eqb _ _ (lone.0 (eqb-true _ _ h)), λ h. eq-eqb _ _ (lone.1 (eqb-true _ _ h)))) (le-leb _ _ within)))
 
 module _ (g : Grove) (f : IsForest g) (n before : ℕ) (r : Run) where
-  wake_back : IsRun One g.entries r → r.count ≤ LIMIT → wake_of n g.entries (run_as_line One g.entries r) ≡ Ok r
+  wake_back : IsRunOf One g.entries r → r.count ≤ LIMIT → wake_of n g.entries (run_as_line One g.entries r) ≡ Ok r
   unfolding wake_of four_words
   wake_back h few =
       let es = g.entries in
       let s = run_small One es r h few in
       let words = words_back (codes "wake") (wake_tail g.entries r) (run_words_are g f One r h few) in
       let count_is : r.count ≡ 1 = h.form in
-      let step_is : r.step ≡ 0 = h.lone.1 count_is in
+      let step_is : r.step ≡ 0 = h.run.lone.1 count_is in
       value_on (four_words n (run_as_line One es r)) _ (codes "wake", decimal r.first, name_of es r.entry, name_of es r.needed) (ap (λ ws. ok_or (four ws) (BadLine n)) words)
       ∙ value_on (number_at n (decimal r.first)) _ r.first (number_back n r.first s.first)
-      ∙ value_on (entry_named n es (name_of es r.entry)) _ r.entry (entry_back g f n r.entry h.fit.entry)
-      ∙ value_on (entry_named n es (name_of es r.needed)) _ r.needed (entry_back g f n r.needed h.fit.needed)
+      ∙ value_on (entry_named n es (name_of es r.entry)) _ r.entry (entry_back g f n r.entry h.among.entry)
+      ∙ value_on (entry_named n es (name_of es r.needed)) _ r.needed (entry_back g f n r.needed h.among.needed)
       ∙ ap (λ (k : ℕ). Ok (record { first = r.first; step = k; count = 1; entry = r.entry; needed = r.needed })) (sym step_is)
       ∙ ap (λ (k : ℕ). Ok (record { first = r.first; step = r.step; count = k; entry = r.entry; needed = r.needed })) (sym count_is)
 
-  run_back : IsRun Two g.entries r → r.count ≤ LIMIT → before + r.count ≤ LIMIT → run_of n g.entries before (run_as_line Two g.entries r) ≡ Ok r
+  run_back : IsRunOf Two g.entries r → r.count ≤ LIMIT → before + r.count ≤ LIMIT → run_of n g.entries before (run_as_line Two g.entries r) ≡ Ok r
   unfolding run_of six_words
   run_back h few room =
       let es = g.entries in
       let s = run_small Two es r h few in
       let words = words_back (codes "run") (run_tail g.entries r) (run_words_are g f Two r h few) in
-      let fits = is_run_back before r.first r.step r.count room h.fit.some h.lone h.fit.within in
+      let fits = is_run_back before r.first r.step r.count room h.run.moments.some h.run.lone h.run.moments.last in
       value_on (six_words n (run_as_line Two es r)) _ (codes "run", decimal r.first, decimal r.step, decimal r.count, name_of es r.entry, name_of es r.needed) (ap (λ ws. ok_or (six ws) (BadLine n)) words)
       ∙ value_on (number_at n (decimal r.first)) _ r.first (number_back n r.first s.first)
       ∙ value_on (number_at n (decimal r.step)) _ r.step (number_back n r.step s.step)
       ∙ value_on (number_at n (decimal r.count)) _ r.count (number_back n r.count s.count)
       ∙ value_on (right n (is_run before r.first r.step r.count)) _ tt (ap (right n) fits)
-      ∙ value_on (entry_named n es (name_of es r.entry)) _ r.entry (entry_back g f n r.entry h.fit.entry)
-      ∙ value_on (entry_named n es (name_of es r.needed)) _ r.needed (entry_back g f n r.needed h.fit.needed)
+      ∙ value_on (entry_named n es (name_of es r.entry)) _ r.entry (entry_back g f n r.entry h.among.entry)
+      ∙ value_on (entry_named n es (name_of es r.needed)) _ r.needed (entry_back g f n r.needed h.among.needed)
 
-pub run_line_back : (g : Grove) → IsForest g → (v : Version) (n before : ℕ) (r : Run) → IsRun v g.entries r → before + r.count ≤ LIMIT
+pub run_line_back : (g : Grove) → IsForest g → (v : Version) (n before : ℕ) (r : Run) → IsRunOf v g.entries r → before + r.count ≤ LIMIT
     → run_line v n g.entries before (run_as_line v g.entries r) ≡ Ok r
 unfolding run_line
 run_line_back g f One n before r h room = wake_back g f n before r h (omega (arith, room))
 run_line_back g f Two n before r h room = run_back g f n before r h (omega (arith, room)) room
 
-pub run_keyword_back : (g : Grove) → IsForest g → (v : Version) (r : Run) → IsRun v g.entries r → r.count ≤ LIMIT → bytes_eq (keyword (run_as_line v g.entries r)) (run_keyword v) ≡ true
+pub run_keyword_back : (g : Grove) → IsForest g → (v : Version) (r : Run) → IsRunOf v g.entries r → r.count ≤ LIMIT → bytes_eq (keyword (run_as_line v g.entries r)) (run_keyword v) ≡ true
 unfolding run_keyword
 run_keyword_back g f One r h few = keyword_test _ (codes "wake") _ (words_back (codes "wake") (wake_tail g.entries r) (run_words_are g f One r h few))
 run_keyword_back g f Two r h few = keyword_test _ (codes "run") _ (words_back (codes "run") (run_tail g.entries r) (run_words_are g f Two r h few))
 
 -- no line of a run begins with another word
-pub run_is_not : (g : Grove) → IsForest g → (v : Version) (r : Run) → IsRun v g.entries r → r.count ≤ LIMIT → bytes_eq (keyword (run_as_line v g.entries r)) (codes "unkeepable") ≡ false
+pub run_is_not : (g : Grove) → IsForest g → (v : Version) (r : Run) → IsRunOf v g.entries r → r.count ≤ LIMIT → bytes_eq (keyword (run_as_line v g.entries r)) (codes "unkeepable") ≡ false
 run_is_not g f One r h few = ap (λ w. bytes_eq w (codes "unkeepable")) (keyword_back _ (codes "wake") _ (words_back (codes "wake") (wake_tail g.entries r) (run_words_are g f One r h few)))
 run_is_not g f Two r h few = ap (λ w. bytes_eq w (codes "unkeepable")) (keyword_back _ (codes "run") _ (words_back (codes "run") (run_tail g.entries r) (run_words_are g f Two r h few)))

@@ -18,7 +18,7 @@ use Rattle.keep_rule.specs.declared.limit.TheConstants.{LIMIT}
 use Rattle.keep_cert.specs.declared.cert.TheConstants.{MAX_LINES}
 use Rattle.keep_cert.specs.declared.fault.CertFault.TheVariants.{BadLine}
 use Rattle.keep_rule.specs.Runs.{counted}
-use Rattle.keep_cert.specs.CertificateText.{AreRuns, IsBody, IsRun, Writes, body_text, certificate_text, end_text, header_text, line_text, name_of, run_text, start_text, unkeepable_text}
+use Rattle.keep_cert.specs.CertificateText.{AreRunsOf, IsBody, IsRunOf, Writes, body_text, certificate_text, end_text, header_text, line_text, name_of, run_text, start_text, unkeepable_text}
 use Rattle.keep_cert.specs.Lines.{line_at, number_at, three_words, two_words}
 use Rattle.keep_words.specs.Pieces.{keyword, pieces, three, two}
 use Rattle.keep_cert.specs.Reading.{body_of, certificate_of, end_of_runs, ending, entry_named, header_of, nothing_behind, right, run_keyword, runs_of, start_of, unkeepable_of, version_of}
@@ -75,10 +75,10 @@ unfolding runs_text
 runs_text_more v es r rs total = append_assoc (run_text v es r) (flat_map (run_text v es) rs) (end_text total) ∙ ap (λ l. l ++ (flat_map (run_text v es) rs ++ end_text total)) (run_text_is v es r)
 
 module _ (g : Grove) (f : IsForest g) (v : Version) where
-  run_pieces : (r : Run) (rs : List Run) (total : ℕ) → IsRun v g.entries r → r.count ≤ LIMIT → pieces 10 (runs_text v g.entries (r ∷ rs) total) ≡ run_as_line v g.entries r ∷ pieces 10 (runs_text v g.entries rs total)
+  run_pieces : (r : Run) (rs : List Run) (total : ℕ) → IsRunOf v g.entries r → r.count ≤ LIMIT → pieces 10 (runs_text v g.entries (r ∷ rs) total) ≡ run_as_line v g.entries r ∷ pieces 10 (runs_text v g.entries rs total)
   run_pieces r rs total h few = ap (pieces 10) (runs_text_more v g.entries r rs total) ∙ line_back (run_words v g.entries r) (runs_text v g.entries rs total) (run_words_are g f v r h few)
 
-  runs_back : (found new : List Run) (total : ℕ) → AreRuns v g.entries new → length (found ++ new) ≤ MAX_LINES → counted (found ++ new) ≤ LIMIT → total ≡ counted (found ++ new)
+  runs_back : (found new : List Run) (total : ℕ) → AreRunsOf v g.entries new → length (found ++ new) ≤ MAX_LINES → counted (found ++ new) ≤ LIMIT → total ≡ counted (found ++ new)
       → runs_of v g.entries found (pieces 10 (runs_text v g.entries new total)) ≡ Ok (found ++ new)
   unfolding runs_text
   runs_back found [] total each few wakes is =
@@ -119,7 +119,7 @@ module _ (g : Grove) (f : IsForest g) (v : Version) where
     parts : pieces 10 text ≡ line ∷ pieces 10 rest
     other : bytes_eq (keyword line) (codes "unkeepable") ≡ false
 
-  first_is_other : (rs : List Run) (total : ℕ) → AreRuns v g.entries rs → counted rs ≤ LIMIT → total ≤ LIMIT → IsOther (runs_text v g.entries rs total)
+  first_is_other : (rs : List Run) (total : ℕ) → AreRunsOf v g.entries rs → counted rs ≤ LIMIT → total ≤ LIMIT → IsOther (runs_text v g.entries rs total)
   unfolding runs_text
   first_is_other [] total each few small =
       record { line = end_line total; rest = []; parts = end_pieces total small; other = ap (λ w. bytes_eq w (codes "unkeepable")) (end_keyword total small) }

@@ -1,12 +1,12 @@
 -- Certificate text: how a certificate over a forest is written, in both versions, and which certificates there are.
 -- Source: this project's own.
-use Rattle.std.specs.Prelude.{◌≡◌, ◌↔◌, ℕ, ◌+◌, ◌-◌, ◌*◌, ◌<◌, ◌≤◌, List, [], ◌∷◌, ◌++◌, All, codes, decimal, flat_map, length}
-use Rattle.std.specs.List.{join_with_byte}
+use Rattle.std.specs.Prelude.{◌≡◌, ℕ, ◌<◌, ◌≤◌, List, [], ◌∷◌, ◌++◌, codes, decimal, flat_map, length}
+use Rattle.std.specs.List.{AllByRecursion, join_with_byte}
 use Rattle.keep_moment.specs.declared.moment.TheConstants.{LAST}
 use Rattle.keep_tree.specs.declared.entry.Entry.{Entry}
 use Rattle.keep_tree.specs.Forest.{entry_at}
 use Rattle.keep_rule.specs.declared.run.Run.{Run}
-use Rattle.keep_rule.specs.Runs.{counted}
+use Rattle.keep_rule.specs.Runs.{IsAmong, IsRun, counted}
 use Rattle.keep_cert.specs.declared.cert.Body.{Body}
 use Rattle.keep_cert.specs.declared.cert.Body.TheVariants.{Runs, Unkeepable}
 use Rattle.keep_cert.specs.declared.cert.Cert.{Cert}
@@ -58,26 +58,18 @@ abbrev pub HasForm : Version → Run → Type 0
 HasForm One r = r.count ≡ 1
 HasForm Two r = Unit {0}
 
--- a run among n entries: its indices are theirs, it has a wake-up, and its last moment is at most LAST
-pub record IsFit (n : ℕ) (r : Run) : Type 0 where
-  pub entry : r.entry < n
-  pub needed : r.needed < n
-  pub some : 0 < r.count
-  pub within : r.first + (r.count - 1) * r.step ≤ LAST
-
--- a run of these entries: it has a step exactly where it has more than one wake-up
-pub record IsRun (v : Version) (es : List Entry) (r : Run) : Type 0 where
-  pub fit : IsFit (length es) r
-  pub lone : (r.step ≡ 0) ↔ (r.count ≡ 1)
+-- a run of these entries, in the form of the version
+pub record IsRunOf (v : Version) (es : List Entry) (r : Run) : Type 0 where
+  pub among : IsAmong (length es) r
+  pub run : IsRun r
   pub form : HasForm v r
 
-abbrev pub AreRuns : Version → List Entry → List Run → Type 0
-AreRuns v es [] = Unit {0}
-AreRuns v es (r ∷ rs) = IsRun v es r × AreRuns v es rs
+abbrev pub AreRunsOf : Version → List Entry → List Run → Type 0
+AreRunsOf v es rs = AllByRecursion (IsRunOf v es) rs
 
 -- runs that a certificate can have, or a pair of entries
 abbrev pub IsBody : Version → List Entry → Body → Type 0
-IsBody v es (Runs rs) = AreRuns v es rs × ((length rs ≤ MAX_LINES) × (counted rs ≤ LIMIT))
+IsBody v es (Runs rs) = AreRunsOf v es rs × ((length rs ≤ MAX_LINES) × (counted rs ≤ LIMIT))
 IsBody v es (Unkeepable entry needed) = (entry < length es) × (needed < length es)
 
 abbrev pub IsCertificate : List Entry → Cert → Type 0
@@ -88,12 +80,11 @@ pub record Writes (es : List Entry) (text : List ℕ) (c : Cert) : Type 0 where
   pub certificate : IsCertificate es c
   pub spelled : text ≡ certificate_text es c
 
--- the indices of a run are those of n entries
-pub record IsAmong (n : ℕ) (r : Run) : Type 0 where
-  pub entry : r.entry < n
-  pub needed : r.needed < n
+-- a body of runs that are each so, and of LIMIT wake-ups in all at most, or of a pair of these entries
+abbrev pub IsMadeOf : (Run → Type 0) → List Entry → Body → Type 0
+IsMadeOf P es (Runs rs) = AllByRecursion P rs × (counted rs ≤ LIMIT)
+IsMadeOf P es (Unkeepable entry needed) = (entry < length es) × (needed < length es)
 
--- the indices of a body are those of these entries, and its wake-ups are at most LIMIT
+-- a body whose indices are those of these entries
 abbrev pub CanBeWritten : List Entry → Body → Type 0
-CanBeWritten es (Runs rs) = All (IsAmong (length es)) rs × (counted rs ≤ LIMIT)
-CanBeWritten es (Unkeepable entry needed) = (entry < length es) × (needed < length es)
+CanBeWritten es body = IsMadeOf (IsAmong (length es)) es body

@@ -3,6 +3,7 @@
 use Rattle.std.specs.Prelude.{◌≡◌, ℕ, ◌<◌, List, All, Option, Some, None, Result, Ok, Err, length}
 use Rattle.keep_moment.specs.declared.text.Text.{Text}
 use Rattle.keep_tree.specs.declared.entry.Entry.{Entry}
+use Rattle.keep_rule.specs.Runs.{IsAmong}
 use Rattle.keep_plan.specs.declared.decision.Decision.{Decision}
 use Rattle.keep_plan.specs.declared.decision.Decision.TheVariants as decision
 use Rattle.keep_cert.specs.declared.cert.Body.{Body}
@@ -11,7 +12,7 @@ use Rattle.keep_cert.specs.declared.cert.Cert.{Cert}
 use Rattle.keep_cert.specs.declared.cert.Version.TheVariants.{Two}
 use Rattle.keep_cert.specs.declared.printer.PrintFault.{PrintFault}
 use Rattle.keep_cert.specs.declared.printer.PrintFault.TheVariants.{NoCertificate, OutOfMemory}
-use Rattle.keep_cert.specs.CertificateText.{IsAmong, certificate_text}
+use Rattle.keep_cert.specs.CertificateText.{certificate_text}
 
 -- what a decision claims: its runs, or its pair; None where it is too long
 abbrev pub claim : Decision → Option Body

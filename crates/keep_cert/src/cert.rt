@@ -4,6 +4,9 @@ use keep_moment::Moment;
 /// The most lines of wake-ups (version 1) or of runs (version 2) in a certificate's text.
 pub const MAX_LINES: u64 = 100_000;
 
+/// The most bytes of a certificate's text that a program reads from a file: 16 MiB.
+pub const MOST_CERTIFICATE: usize = 16_777_216;
+
 /// Which of the two forms of text a certificate has.
 #[derive(Clone, Copy, Debug, PartialEq, Eq)]
 pub enum Version {

@@ -1,6 +1,5 @@
 ghost use Rattle.std.specs.Prelude.{◌≡◌};
-ghost use Rattle.keep_cert.specs.declared.cert.TheConstants.{MAX_LINES};
-ghost use Rattle.keep_rule.specs.declared.limit.TheConstants.{LIMIT};
+ghost use Rattle.keep_cert.specs.declared.cert.TheConstants.{MAX_LINES, MOST_CERTIFICATE};
 ghost use Rattle.keep_cert.specs.Laws.{DecidedIsOf, PrintedIsRead, ReadIsWritten, WrittenIsRead};
 
 /// The laws that join text and reading: what is read from a text is what that text writes, and a text that writes a
@@ -9,8 +8,12 @@ ghost use Rattle.keep_cert.specs.Laws.{DecidedIsOf, PrintedIsRead, ReadIsWritten
 pub fn certificates_are_read_back()
     ensures found { ReadIsWritten }
     ensures only { WrittenIsRead }
+{}
+
+/// The limits of certificates as numbers; that of their wake-ups is in [`limit_law`](keep_rule::limit_law). It does nothing.
+pub fn limits_of_certificates()
     ensures lines { MAX_LINES ≡ 100000 }
-    ensures most { LIMIT ≡ 10000000 }
+    ensures bytes { MOST_CERTIFICATE ≡ 16777216 }
 {}
 
 /// The laws that join a planner's decision and reading: a decision for a forest has the indices of its entries, so that it

@@ -1,6 +1,6 @@
 ghost use Rattle.std.specs.Prelude.{◌≡◌, ◌≤◌, ◌<◌, ◌++◌, ◌∷◌, [], All, IfOk, OnOk, decimal, flat_map, length};
-ghost use Rattle.keep_rule.specs.Runs.{counted};
-ghost use Rattle.keep_cert.specs.CertificateText.{CanBeWritten, IsAmong, certificate_text, end_text, header_text, name_of, run_text, start_text, unkeepable_text};
+ghost use Rattle.keep_rule.specs.Runs.{IsAmong, counted};
+ghost use Rattle.keep_cert.specs.CertificateText.{CanBeWritten, certificate_text, end_text, header_text, name_of, run_text, start_text, unkeepable_text};
 ghost use Rattle.keep_cert.specs.Printing.{certified};
 ghost use Rattle.keep_cert.specs.declared.cert.Body.TheVariants.{Runs, Unkeepable};
 ghost use Rattle.keep_cert.specs.declared.cert.Version.TheVariants.{Two};

@@ -1,6 +1,6 @@
 -- The laws of answers: the test of a wake-up's force is Forced, there is one answer, and what gets Yes holds.
 use Rattle.std.proofs.Common.{◌≡◌, ℕ, suc, zero, ◌+◌, ◌-◌, ◌*◌, ◌<◌, ◌≤◌, ◌⊎◌, ◌&&◌, ◌++◌, Bool, true, false, cond, List, [], ◌∷◌, Option, Some, None, length, nat_le, nat_lt, refl, sym, ap, ◌∙◌, subst, arith, inl, inr}
-use Rattle.std.proofs.lemmas.Bool.{cases_lt}
+use Rattle.std.proofs.lemmas.Bool.{and_from, and_parts, cases_lt}
 use Rattle.std.proofs.lemmas.Bool.Decides.{nat_tests}
 use Rattle.keep_moment.specs.declared.moment.TheConstants.{LAST}
 use Rattle.keep_tree.specs.declared.entry.Entry.{Entry}
@@ -25,18 +25,10 @@ use Rattle.keep_check.specs.declared.answer.Answer.TheVariants.{No, Yes}
 use Rattle.keep_check.specs.declared.answer.Cause.{Cause}
 use Rattle.keep_check.specs.declared.answer.Cause.TheVariants.{NotForced, NotKept, NotRising, NotUnkeepable}
 use Rattle.keep_check.specs.Answer.{IsBodyAnswer, IsKept, IsPairAnswer, IsWalkAnswer, first_fault}
-use Rattle.keep_check.specs.Fit.{AllFit, CanBeJudged}
+use Rattle.keep_check.specs.code.Steps.{AllFit}
+use Rattle.keep_check.specs.Fit.{CanBeJudged}
 use Rattle.keep_check.specs.Laws.{AnswerLaw, ForcedTestLaw, Holds, YesLaw}
 use Rattle.keep_check.specs.Walk.{fault, is_forced, rises}
-
-and_parts : (a b : Bool) → a && b ≡ true → (a ≡ true) × (b ≡ true)
-and_parts true b e = (refl, e)
-and_parts false b e = absurd cc
-
-both : (a b : Bool) → a ≡ true → b ≡ true → a && b ≡ true
-both true true p q = refl
-both true false p q = absurd cc
-both false b p q = absurd cc
 
 pub forced_parts : (es : List Entry) (margin s : ℕ) (ends : ℕ → ℕ) (prev : Option ℕ) (t entry needed : ℕ) → is_forced es margin s ends prev t entry needed ≡ true → Forced es margin s ends prev t entry needed
 unfolding is_forced
@@ -61,9 +53,9 @@ forced_tests es margin s ends prev t entry needed f =
     let a : s < need = f.later in
     let b : x < need = f.short in
     let c : x ≤ t + margin = f.due in
-    both (is_over es entry needed) (nat_lt s need && (nat_lt x need && nat_le x (t + margin))) f.over
-    (both (nat_lt s need) (nat_lt x need && nat_le x (t + margin)) (grind (arith, nat_tests))
-    (both (nat_lt x need) (nat_le x (t + margin)) (grind (arith, nat_tests)) (grind (arith, nat_tests))))
+    and_from (is_over es entry needed) (nat_lt s need && (nat_lt x need && nat_le x (t + margin))) f.over
+    (and_from (nat_lt s need) (nat_lt x need && nat_le x (t + margin)) (grind (arith, nat_tests))
+    (and_from (nat_lt x need) (nat_le x (t + margin)) (grind (arith, nat_tests)) (grind (arith, nat_tests))))
 
 pub forced_test : ForcedTestLaw
 forced_test es margin s ends prev t entry needed = (forced_parts es margin s ends prev t entry needed, forced_tests es margin s ends prev t entry needed)
@@ -188,10 +180,10 @@ run_at_most b first step (suc n) entry needed h = (omega arith, run_at_most b (f
 runs_at_most : (n : ℕ) (rs : List Run) → AllFit n rs → AllAtMost LAST (all_wakes rs)
 runs_at_most n [] fit = tt
 runs_at_most n (r ∷ rs) fit =
-    let some : 0 < r.count = fit.0.some in
+    let some : 0 < r.count = fit.0.moments.some in
     let count : suc (r.count - 1) ≡ r.count = omega arith in
     append_at_most LAST (wakes_of r.first r.step r.count r.entry r.needed) (all_wakes rs)
-    (subst (λ k. AllAtMost LAST (wakes_of r.first r.step k r.entry r.needed)) count (run_at_most LAST r.first r.step (r.count - 1) r.entry r.needed fit.0.within))
+    (subst (λ k. AllAtMost LAST (wakes_of r.first r.step k r.entry r.needed)) count (run_at_most LAST r.first r.step (r.count - 1) r.entry r.needed fit.0.moments.last))
     (runs_at_most n rs fit.1)
 
 in_order : (from low : ℕ) (ws : List Force) → low ≤ from → RisesStrictly from (moments_of ws) → AllAtMost LAST ws → InOrder low (moments_of ws)

@@ -15,31 +15,13 @@ use Rattle.keep_rule.specs.Keeps.{ends_at}
 use Rattle.keep_rule.specs.Plans.{moments}
 use Rattle.keep_rule.proofs.Asking.{asked_end}
 use Rattle.keep_rule.proofs.Keeping.{IsRising}
-use Rattle.keep_rule.proofs.Stuck.{IsStuck}
+use Rattle.keep_rule.proofs.Stuck.{IsStuck, granted_parts}
 use Rattle.keep_rule.proofs.Tail.{moments_with_asks}
 use Rattle.keep_rule.proofs.Covering.{after_unwanted, after_wanted}
-use Rattle.keep_rule.proofs.Walk.{ends_from}
+use Rattle.keep_rule.proofs.Timely.{asks_rise}
+use Rattle.keep_rule.proofs.Walk.{ends_from, ends_unchanged}
 use Rattle.keep_check.specs.Kept.{KeptTo, own_after, own_end}
 use Rattle.keep_check.proofs.OwnEnds.{own_late, own_least, own_stuck, own_yes}
-
--- Before the first wake-up no end has changed.
-
-none_yet : (from m : ℕ) (ws : List Wake) → IsRising from (moments ws) → m < from → filter (λ w. nat_le w.at m) ws ≡ []
-none_yet from m [] rising h = refl
-none_yet from m (w ∷ ws) rising h =
-    let l : from ≤ w.at = rising.0 in
-    let late : nat_le w.at m ≡ false = grind (arith, nat_tests) in
-    ap (λ b. cond b (w ∷ filter (λ x. nat_le x.at m) ws) (filter (λ x. nat_le x.at m) ws)) late ∙ none_yet w.at m ws rising.1 (omega arith)
-
-pub ends_unchanged : (es : List Entry) (margin from m : ℕ) (e : ℕ → ℕ) (ws : List Wake) → IsRising from (moments ws) → m < from → ends_at es margin e ws m ≡ e
-unfolding ends_at ends_after
-ends_unchanged es margin from m e ws rising h = ap (ends_after es margin e) (none_yet from m ws rising h)
-
-pub asks_rise :
-    (es : List Entry) (margin s : ℕ) (e : ℕ → ℕ) (t : ℕ) (ts : List ℕ) → IsRising t ts →
-    IsRising t (moments (asking es margin s e t (first_of ts) ∷ with_asks es margin s (after es margin e (asking es margin s e t (first_of ts))) ts))
-asks_rise es margin s e t ts rising =
-    subst (λ us. IsRising t (t ∷ us)) (sym (moments_with_asks es margin s (after es margin e (asking es margin s e t (first_of ts))) ts)) (omega arith, rising)
 
 -- From kept to own ends: no plan with these moments leads an end past the own end.
 
@@ -68,19 +50,6 @@ own_holds es margin i end low (t ∷ ts) rising =
     ] in
     (here, own_holds es margin i now t ts rising.1)
 
-granted_in_time : (es : List Entry) (margin : ℕ) (e : ℕ → ℕ) (t a : ℕ) → is_granted es margin e t a ≡ true → ((entry_at es a).renewable ≡ true) × (t + margin ≤ e a)
-unfolding is_granted
-granted_in_time es margin e t a granted = (
-  and_left (entry_at es a).renewable (all_last es e (t + margin) a) granted,
-  elim (cases_lt (e a) (t + margin)) [
-    | inr last ↦ last
-    | inl early ↦ absurd (
-        let all = and_right (entry_at es a).renewable (all_last es e (t + margin) a) granted in
-        let none : all_last es e (t + margin) a ≡ false = all_last_head es e (t + margin) a (let l : nat_le (t + margin) (e a) ≡ false = grind (arith, nat_tests) in l) in
-        cc)
-  ],
-)
-
 -- what the Asks ask is granted
 wanted_granted : (es : List Entry) (margin s : ℕ) (e : ℕ → ℕ) (t : ℕ) (next : Option ℕ) (a : ℕ) → is_wanted es margin s e t next a ≡ true → is_granted es margin e t a ≡ true
 unfolding renewed
@@ -97,7 +66,7 @@ round_below es margin s e t next a b below stuck =
       | inr unwanted ↦ let is = after_unwanted es margin s e t next a unwanted in omega arith
       | inl wanted ↦
           let is = after_wanted es margin s e t next a wanted in
-          let granted = granted_in_time es margin e t a (wanted_granted es margin s e t next a wanted) in
+          let granted = granted_parts es margin e t a (wanted_granted es margin s e t next a wanted) in
           let near : t + margin ≤ e a = granted.1 in
           let renewable = granted.0 in
           elim stuck [

@@ -10,11 +10,10 @@ use Rattle.keep_rule.proofs.Keeping.{IsRising}
 use Rattle.keep_rule.specs.declared.force.Force.{Force}
 use Rattle.keep_rule.specs.declared.run.Run.{Run}
 use Rattle.keep_rule.specs.Runs.{all_wakes, moments_of, wakes, wakes_of}
-use Rattle.keep_cert.specs.CertificateText.{IsFit}
-use Rattle.keep_check.specs.Fit.{AllFit}
+use Rattle.keep_check.specs.code.Steps.{AllFit, last_behind}
+use Rattle.keep_check.specs.Fit.{IsFit}
 use Rattle.keep_check.specs.code.Gaps.{AllNarrow, gap_of, gap_within, gaps_of, last_moment}
 use Rattle.keep_check.specs.Kept.{own_after, own_end}
-use Rattle.keep_check.specs.code.Steps.{last_behind}
 use Rattle.keep_check.proofs.OwnEnds.{own_bridged, own_fixed, own_late, own_yes}
 use Rattle.keep_check.proofs.OwnRuns.{blank, own_append, renewal_most, rising_turn}
 use Rattle.keep_check.proofs.Run.{run_first}
@@ -93,7 +92,7 @@ pub skips :
 skips e margin end low n at rs fit rising within idle =
     let r = get_or rs at blank in
     let rest = drop (at + 1) rs in
-    let here : all_wakes (drop at rs) ≡ first_wake r ∷ later_wakes r rest = ap all_wakes (drop_more rs at blank within) ∙ wakes_start r rest (fit_at n rs at fit within).some in
+    let here : all_wakes (drop at rs) ≡ first_wake r ∷ later_wakes r rest = ap all_wakes (drop_more rs at blank within) ∙ wakes_start r rest (fit_at n rs at fit within).moments.some in
     let whole : all_wakes rs ≡ all_wakes (take at rs) ++ first_wake r ∷ later_wakes r rest = wakes_split at rs ∙ ap (λ (ws : List Force). all_wakes (take at rs) ++ ws) here in
     let risen = subst (λ (ws : List Force). IsRising low (moments_of ws)) whole rising in
     ap (λ (ws : List Force). own_end e margin end (moments_of ws)) here
@@ -140,35 +139,35 @@ bridge e margin end gap m renewable bridged n [] t fit within narrow near rising
 bridge e margin end gap m renewable bridged zero (r ∷ rs) t fit within narrow near rising =
     let here = narrow 0 (omega arith) in
     let least = gap_least r rs in
-    one_run e margin end gap t r rs renewable bridged fit.0.some near (omega (arith, here, least)) rising
+    one_run e margin end gap t r rs renewable bridged fit.0.moments.some near (omega (arith, here, least)) rising
 bridge e margin end gap m renewable bridged (suc n) (r ∷ []) t fit within narrow near rising = absurd (omega arith)
 bridge e margin end gap m renewable bridged (suc n) (r ∷ (next ∷ rs)) t fit within narrow near rising =
     let here : gap_of r (next ∷ rs) ≤ gap = narrow 0 (omega arith) in
-    one_run e margin end gap t r (next ∷ rs) renewable bridged fit.0.some near (omega (arith, here)) rising
-    ∙ bridge e margin end gap m renewable bridged n (next ∷ rs) (last_moment r) fit.1 (omega arith) (λ k few. narrow (suc k) (omega arith)) (omega (arith, here)) (rising_next t r (next ∷ rs) fit.0.some rising)
+    one_run e margin end gap t r (next ∷ rs) renewable bridged fit.0.moments.some near (omega (arith, here)) rising
+    ∙ bridge e margin end gap m renewable bridged n (next ∷ rs) (last_moment r) fit.1 (omega arith) (λ k few. narrow (suc k) (omega arith)) (omega (arith, here)) (rising_next t r (next ∷ rs) fit.0.moments.some rising)
 
 -- the first moments of the runs rise
 
 low_first : (n low : ℕ) (r : Run) (rs : List Run) → AllFit n (r ∷ rs) → IsRising low (moments_of (all_wakes (r ∷ rs))) → low ≤ r.first
-low_first n low r rs fit rising = (subst (λ (ws : List Force). IsRising low (moments_of ws)) (wakes_start r rs fit.0.some) rising).0
+low_first n low r rs fit rising = (subst (λ (ws : List Force). IsRising low (moments_of ws)) (wakes_start r rs fit.0.moments.some) rising).0
 
 firsts_from : (n low : ℕ) (rs : List Run) (at : ℕ) (d : Run) → AllFit n rs → IsRising low (moments_of (all_wakes rs)) → at < length rs → low ≤ (get_or rs at d).first
 firsts_from n low [] at d fit rising within = absurd (omega arith)
 firsts_from n low (r ∷ rs) zero d fit rising within = low_first n low r rs fit rising
 firsts_from n low (r ∷ rs) (suc at) d fit rising within =
     let here = low_first n low r rs fit rising in
-    let next = firsts_from n (last_moment r) rs at d fit.1 (rising_next low r rs fit.0.some rising) (omega arith) in
+    let next = firsts_from n (last_moment r) rs at d fit.1 (rising_next low r rs fit.0.moments.some rising) (omega arith) in
     omega (arith, here, next)
 
 pub firsts_rise : (n low : ℕ) (rs : List Run) → AllFit n rs → IsRising low (moments_of (all_wakes rs)) → IsNonDecreasingBy (λ (r : Run). r.first) rs
 firsts_rise n low [] fit rising i j d up within = absurd (omega arith)
 firsts_rise n low (r ∷ rs) fit rising zero zero d up within = omega arith
 firsts_rise n low (r ∷ rs) fit rising zero (suc j) d up within =
-    let next = firsts_from n (last_moment r) rs j d fit.1 (rising_next low r rs fit.0.some rising) (omega arith) in
+    let next = firsts_from n (last_moment r) rs j d fit.1 (rising_next low r rs fit.0.moments.some rising) (omega arith) in
     omega (arith, next)
 firsts_rise n low (r ∷ rs) fit rising (suc i) zero d up within = absurd (omega arith)
 firsts_rise n low (r ∷ rs) fit rising (suc i) (suc j) d up within =
-    firsts_rise n (last_moment r) rs fit.1 (rising_next low r rs fit.0.some rising) i j d (omega arith) (omega arith)
+    firsts_rise n (last_moment r) rs fit.1 (rising_next low r rs fit.0.moments.some rising) i j d (omega arith) (omega arith)
 
 -- an end that the first moment finds in time may be asked for twice there
 starts :
@@ -188,7 +187,7 @@ bridge_from :
     own_end e margin end (moments_of (all_wakes rs)) ≡ own_end e margin (max end (renewal e (last_moment (get_or rs n blank)))) (moments_of (all_wakes (drop (suc n) rs)))
 bridge_from e margin end gap low m n [] renewable bridged fit rising within narrow first = absurd (omega arith)
 bridge_from e margin end gap low m n (r ∷ rs) renewable bridged fit rising within narrow first =
-    let is = wakes_start r rs fit.0.some in
+    let is = wakes_start r rs fit.0.moments.some in
     let risen : IsRising low (moments_of (first_wake r ∷ later_wakes r rs)) = subst (λ (ws : List Force). IsRising low (moments_of ws)) is rising in
     let again : IsRising r.first (moments_of (first_wake r ∷ later_wakes r rs)) = (omega arith, risen.1) in
     ap (λ (ws : List Force). own_end e margin end (moments_of ws)) is

@@ -8,11 +8,8 @@ use Rattle.keep_tree.specs.Push.{IsForest}
 use Rattle.keep_tree.specs.Renewal.{all_last}
 use Rattle.keep_tree.proofs.Chains.{all_last_child, all_last_root}
 use Rattle.keep_tree.proofs.Placed.{parents_first}
-use Rattle.keep_rule.proofs.Rounds.{LastsBelow}
+use Rattle.keep_rule.proofs.Rounds.{LastsBelow, le_min}
 use Rattle.keep_check.specs.code.Steps.{AllLast, least_with}
-
-le_min : (m a b : ℕ) → nat_le m (min a b) ≡ nat_le m a && nat_le m b
-le_min m a b = grind (arith, nat_tests)
 
 least_by :
     (g : Grove) → IsForest g → (owns : ℕ → ℕ) (lasts : List ℕ) (i : ℕ) (parent : Option ℕ) → (entry_at g.entries i).parent ≡ parent → LastsBelow g.entries owns lasts i →

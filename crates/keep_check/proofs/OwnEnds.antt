@@ -1,36 +1,27 @@
 -- The end of an entry that is asked by itself: how it grows, where it stays, and that it is the bound of the last moment
 -- that came in time.
 use Rattle.std.proofs.Common.{◌≡◌, ℕ, ◌+◌, ◌<◌, ◌≤◌, ◌&&◌, Bool, true, false, cond, List, [], ◌∷◌, Option, Some, None, max, nat_le, refl, sym, ap, ◌∙◌, subst, arith, inl, inr}
-use Rattle.std.proofs.lemmas.Bool.{cases_Bool, cases_lt, cond-true, cond-false}
+use Rattle.std.proofs.lemmas.Bool.{and_from, and_right, cases_Bool, cases_lt, cond-true, cond-false}
 use Rattle.std.proofs.lemmas.Bool.Decides.{nat_tests}
 use Rattle.keep_tree.specs.declared.entry.Entry.{Entry}
 use Rattle.keep_tree.specs.Renewal.{capped, renewal}
 use Rattle.keep_rule.specs.Forced.{latest_end}
-use Rattle.keep_rule.proofs.Asking.{Covers}
 use Rattle.keep_rule.proofs.Keeping.{IsRising, renewal_later}
+use Rattle.keep_rule.proofs.Timely.{IsTimely}
 use Rattle.keep_check.specs.Kept.{own_after, own_end}
 use Rattle.keep_check.specs.code.Steps.{AllBridged, last_behind}
-
-and_false : (a b : Bool) → b ≡ false → a && b ≡ false
-and_false true b e = e
-and_false false b e = refl
-
-both : (a b : Bool) → a ≡ true → b ≡ true → a && b ≡ true
-both true true p q = refl
-both true false p q = absurd cc
-both false b p q = absurd cc
 
 pub own_yes : (e : Entry) (margin end t : ℕ) → e.renewable ≡ true → t + margin ≤ end → own_after e margin end t ≡ max end (renewal e t)
 unfolding own_after
 own_yes e margin end t renewable near =
     cond-true (e.renewable && nat_le (t + margin) end) (max end (renewal e t)) end
-    (both e.renewable (nat_le (t + margin) end) renewable (let l : nat_le (t + margin) end ≡ true = grind (arith, nat_tests) in l))
+    (and_from e.renewable (nat_le (t + margin) end) renewable (let l : nat_le (t + margin) end ≡ true = grind (arith, nat_tests) in l))
 
 pub own_late : (e : Entry) (margin end t : ℕ) → end < t + margin → own_after e margin end t ≡ end
 unfolding own_after
 own_late e margin end t late =
     cond-false (e.renewable && nat_le (t + margin) end) (max end (renewal e t)) end
-    (and_false e.renewable (nat_le (t + margin) end) (let l : nat_le (t + margin) end ≡ false = grind (arith, nat_tests) in l))
+    (and_right e.renewable (nat_le (t + margin) end) (let l : nat_le (t + margin) end ≡ false = grind (arith, nat_tests) in l))
 
 pub own_fixed : (e : Entry) (margin end t : ℕ) → e.renewable ≡ false → own_after e margin end t ≡ end
 unfolding own_after
@@ -67,11 +58,6 @@ unfolding own_end
 own_all_fixed e margin end [] fixed = refl
 own_all_fixed e margin end (t ∷ ts) fixed = ap (λ n. own_end e margin n ts) (own_fixed e margin end t fixed) ∙ own_all_fixed e margin end ts fixed
 
--- for one entry: at each of these moments the bound that the moment before leaves covers it until n; and behind the last
-abbrev pub OwnTimely : Entry → ℕ → ℕ → ℕ → Option ℕ → List ℕ → Type 0
-OwnTimely e margin end n prev [] = Covers margin None n (latest_end e end prev)
-OwnTimely e margin end n prev (t ∷ ts) = Covers margin (Some t) n (latest_end e end prev) × OwnTimely e margin end n (Some t) ts
-
 -- moments behind prev: they rise from it
 abbrev pub RisingBehind : Option ℕ → List ℕ → Type 0
 RisingBehind None ts = (low : ℕ) × IsRising low ts
@@ -104,14 +90,14 @@ bound_grows e end prev t ts rising =
     ]
 
 -- a bound that has come to n covers all that comes
-own_enough : (e : Entry) (margin end n : ℕ) (prev : Option ℕ) (ts : List ℕ) → RisingBehind prev ts → n ≤ latest_end e end prev → OwnTimely e margin end n prev ts
+own_enough : (e : Entry) (margin end n : ℕ) (prev : Option ℕ) (ts : List ℕ) → RisingBehind prev ts → n ≤ latest_end e end prev → IsTimely e margin end n prev ts
 own_enough e margin end n prev [] rising lasts = lasts
 own_enough e margin end n prev (t ∷ ts) rising lasts =
     let grows = bound_grows e end prev t ts rising in
     (inl lasts, own_enough e margin end n (Some t) ts (rising_behind prev t ts rising) (omega arith))
 
 -- so an entry that, asked by itself, lasts until n is covered until n
-pub own_timely : (e : Entry) (margin end n : ℕ) (prev : Option ℕ) (ts : List ℕ) → RisingBehind prev ts → n ≤ own_end e margin (latest_end e end prev) ts → OwnTimely e margin end n prev ts
+pub own_timely : (e : Entry) (margin end n : ℕ) (prev : Option ℕ) (ts : List ℕ) → RisingBehind prev ts → n ≤ own_end e margin (latest_end e end prev) ts → IsTimely e margin end n prev ts
 unfolding own_end
 own_timely e margin end n prev [] rising lasts = lasts
 own_timely e margin end n prev (t ∷ ts) rising lasts =
@@ -130,7 +116,7 @@ own_timely e margin end n prev (t ∷ ts) rising lasts =
           (inr near, own_timely e margin end n (Some t) ts risen (subst Lasts next lasts))
     ]
 
-pub own_timely_first : (e : Entry) (margin end n s : ℕ) (ts : List ℕ) → IsRising s ts → n ≤ own_end e margin end ts → OwnTimely e margin end n None ts
+pub own_timely_first : (e : Entry) (margin end n s : ℕ) (ts : List ℕ) → IsRising s ts → n ≤ own_end e margin end ts → IsTimely e margin end n None ts
 unfolding latest_end
 own_timely_first e margin end n s ts rising lasts = own_timely e margin end n None ts (s, rising) lasts
 

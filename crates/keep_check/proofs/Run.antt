@@ -1,5 +1,6 @@
 -- A walk over the wake-ups of one run, behind its first: how far it goes, and where it stops.
 use Rattle.std.proofs.Common.{◌≡◌, ℕ, suc, zero, ◌+◌, ◌-◌, ◌*◌, ◌<◌, ◌≤◌, ◌⊎◌, ◌&&◌, ◌++◌, Bool, true, false, cond, List, [], ◌∷◌, Option, Some, None, max, nat_le, nat_lt, refl, sym, ap, ◌∙◌, subst, arith, inl, inr}
+use Rattle.std.proofs.lemmas.Bool.{and_from, and_right, false_from_ne_true}
 use Rattle.std.proofs.lemmas.Bool.Decides.{nat_tests}
 use Rattle.keep_tree.specs.declared.entry.Entry.{Entry}
 use Rattle.keep_tree.specs.Forest.{Grove, end_of, entry_at}
@@ -43,18 +44,11 @@ goes_on es margin s ends prev k w ws yes' yes'' =
 
 rises_later : (s t u : ℕ) → s ≤ u → t < u → rises s (Some t) u ≡ true
 unfolding rises
-rises_later s t u h l = both (nat_le s u) (nat_lt t u) (grind (arith, nat_tests)) (grind (arith, nat_tests)) where
-  both : (a b : Bool) → a ≡ true → b ≡ true → a && b ≡ true
-  both true true p q = refl
-  both true false p q = absurd cc
-  both false b p q = absurd cc
+rises_later s t u h l = and_from (nat_le s u) (nat_lt t u) (grind (arith, nat_tests)) (grind (arith, nat_tests))
 
 stays : (s t u : ℕ) → u ≤ t → rises s (Some t) u ≡ false
 unfolding rises
-stays s t u h = last (nat_le s u) (nat_lt t u) (grind (arith, nat_tests)) where
-  last : (a b : Bool) → b ≡ false → a && b ≡ false
-  last true b e = e
-  last false b e = refl
+stays s t u h = and_right (nat_le s u) (nat_lt t u) (grind (arith, nat_tests))
 
 -- the bound grows by no more than the moment does
 capped_slow : (c : Option ℕ) (x gap : ℕ) → capped c (x + gap) ≤ capped c x + gap
@@ -112,18 +106,14 @@ walks es margin s ends entry needed gap top going (suc q) (suc c) n t u k m rest
           Forced es margin s ends (Some t) (t + gap) entry needed
       by_bound short due = record { over = going.over; later = going.later; short = short; due = due }
 
-refused : (b : Bool) → (b ≡ true → ⊥) → b ≡ false
-refused true f = absurd (f refl)
-refused false f = refl
-
 -- the next wake-up is not forced where the bound has come to the need, or is later than the margin after it
 not_short : (es : List Entry) (margin s : ℕ) (ends : ℕ → ℕ) (t u entry needed : ℕ) → (entry_at es needed).need ≤ latest_end (entry_at es entry) (ends entry) (Some t) → is_forced es margin s ends (Some t) u entry needed ≡ false
 unfolding bound
-not_short es margin s ends t u entry needed long = refused (is_forced es margin s ends (Some t) u entry needed) (λ yes'. let f = forced_parts es margin s ends (Some t) u entry needed yes' in let l = f.short in omega arith)
+not_short es margin s ends t u entry needed long = false_from_ne_true (is_forced es margin s ends (Some t) u entry needed) (λ yes'. let f = forced_parts es margin s ends (Some t) u entry needed yes' in let l = f.short in omega arith)
 
 not_due : (es : List Entry) (margin s : ℕ) (ends : ℕ → ℕ) (t u entry needed : ℕ) → u + margin < latest_end (entry_at es entry) (ends entry) (Some t) → is_forced es margin s ends (Some t) u entry needed ≡ false
 unfolding bound
-not_due es margin s ends t u entry needed late = refused (is_forced es margin s ends (Some t) u entry needed) (λ yes'. let f = forced_parts es margin s ends (Some t) u entry needed yes' in let l = f.due in omega arith)
+not_due es margin s ends t u entry needed late = false_from_ne_true (is_forced es margin s ends (Some t) u entry needed) (λ yes'. let f = forced_parts es margin s ends (Some t) u entry needed yes' in let l = f.due in omega arith)
 
 pub stands_still : (es : List Entry) (margin s : ℕ) (ends : ℕ → ℕ) (entry needed t k n : ℕ) (rest : List Force) → 0 < n → fault es margin s ends (Some t) k (wakes_of (t + 0) 0 n entry needed ++ rest) ≡ Some (NotRising k)
 unfolding wakes_of

@@ -6,13 +6,14 @@ use Rattle.keep_rule.specs.declared.run.Run.{Run}
 use Rattle.keep_cert.specs.declared.cert.Body.{Body}
 use Rattle.keep_cert.specs.declared.cert.Body.TheVariants as body
 use Rattle.keep_cert.specs.declared.cert.Version.{Version}
-use Rattle.keep_cert.specs.CertificateText.{AreRuns, IsBody}
-use Rattle.keep_check.specs.Fit.{AllFit, CanBeJudged}
+use Rattle.keep_cert.specs.CertificateText.{AreRunsOf, IsBody}
+use Rattle.keep_check.specs.code.Steps.{AllFit}
+use Rattle.keep_check.specs.Fit.{CanBeJudged}
 use Rattle.keep_check.specs.Laws.{WrittenLaw}
 
-all_fit : (v : Version) (es : List Entry) (rs : List Run) → AreRuns v es rs → AllFit (length es) rs
+all_fit : (v : Version) (es : List Entry) (rs : List Run) → AreRunsOf v es rs → AllFit (length es) rs
 all_fit v es [] each = tt
-all_fit v es (r ∷ rs) each = (each.0.fit, all_fit v es rs each.1)
+all_fit v es (r ∷ rs) each = (record { among = each.0.among; moments = each.0.run.moments }, all_fit v es rs each.1)
 
 pub body_fits : (g : Grove) (v : Version) (b : Body) → IsBody v g.entries b → CanBeJudged g b
 body_fits g v (body.Runs rs) is = (all_fit v g.entries rs is.0, is.1.1)

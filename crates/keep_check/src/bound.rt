@@ -1,25 +1,10 @@
 ghost use Rattle.std.specs.Prelude.{◌≡◌, ℕ, ◌+◌, ◌<◌, ◌≤◌, Some, None, IfSome};
 ghost use Rattle.keep_moment.specs.declared.moment.TheConstants.{LAST};
-ghost use Rattle.keep_tree.specs.Renewal.{capped, renewal};
+ghost use Rattle.keep_tree.specs.Renewal.{capped};
 ghost use Rattle.keep_rule.specs.Forced.{latest_end};
 ghost use Rattle.keep_check.specs.code.Steps.{LongFrom};
 
-use keep_tree::Entry;
-
-/// The end that a granted renewal at `at` gives, in seconds since 1970-01-01T00:00:00Z.
-///
-/// Source: Vault, "Lease, renew, and revoke" (a renewal counts from now; maximum TTL).
-#[tactic(auto, unfolding(keep_tree::specs::Renewal::renewal, keep_tree::specs::Renewal::capped))]
-pub(crate) fn renewal(entry: &Entry, at: u64) -> u64
-    requires { at ≤ LAST }
-    ensures { result ≡ renewal entry.now at }
-{
-    let end = at + entry.step as u64;
-    match entry.ceiling {
-        None => end,
-        Some(ceiling) => end.min(ceiling),
-    }
-}
+use keep_tree::{Entry, renewal};
 
 /// The latest end that the entry can have after a wake-up at `previous`; its present end before any.
 #[tactic(auto, unfolding(keep_rule::specs::Forced::latest_end))]

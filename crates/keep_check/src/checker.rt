@@ -5,7 +5,8 @@ ghost use Rattle.keep_rule.specs.Runs.{all_wakes, counted};
 ghost use Rattle.keep_check.specs.declared.answer.Answer.TheVariants.{Yes};
 ghost use Rattle.keep_rule.specs.declared.limit.TheConstants.{LIMIT};
 ghost use Rattle.keep_check.specs.Answer.{IsAnswer, IsWalkAnswer};
-ghost use Rattle.keep_check.specs.Fit.{AllFit, CanBeJudged};
+ghost use Rattle.keep_check.specs.code.Steps.{AllFit};
+ghost use Rattle.keep_check.specs.Fit.{CanBeJudged};
 ghost use Rattle.keep_check.specs.Laws.{Holds};
 ghost use Rattle.keep_cert.specs.declared.cert.Body.TheVariants as body;
 

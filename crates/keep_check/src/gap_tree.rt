@@ -1,5 +1,5 @@
 ghost use Rattle.std.specs.Prelude.{◌≡◌, ℕ, ◌^◌, ◌+◌, ◌<◌, ◌≤◌, ◌⊎◌, IfOk, length};
-ghost use Rattle.keep_check.specs.Fit.{AllFit};
+ghost use Rattle.keep_check.specs.code.Steps.{AllFit};
 ghost use Rattle.keep_check.specs.code.Gaps.{HasMarks, IsFirstFrom, gap_from, gap_within, gaps_in, gaps_of, mark};
 
 use crate::walk::last_of;

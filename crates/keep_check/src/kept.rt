@@ -4,17 +4,15 @@ ghost use Rattle.keep_tree.specs.Forest.{end_of, entry_at};
 ghost use Rattle.keep_tree.specs.Push.{IsForest};
 ghost use Rattle.keep_rule.specs.Schedule.{RisesStrictly};
 ghost use Rattle.keep_rule.specs.Runs.{all_wakes, moments_of, wakes};
-ghost use Rattle.keep_check.specs.Fit.{AllFit};
+ghost use Rattle.keep_check.specs.code.Steps.{AllFit, FirstShort, Stops, least_with};
 ghost use Rattle.keep_check.specs.code.Gaps.{AllNarrow, HasMarks, IsIdleAt, gaps_in, gaps_of};
 ghost use Rattle.keep_check.specs.Kept.{own, own_end};
-ghost use Rattle.keep_check.specs.code.Steps.{FirstShort, Stops, least_with};
 
-use crate::bound::renewal;
 use crate::gap_tree::GapTree;
 use crate::gaps::gaps_until;
 use crate::walk::last_of;
 use keep_rule::Run;
-use keep_tree::{Entry, Forest};
+use keep_tree::{Entry, Forest, renewal};
 use std::alloc::{AllocError, Global};
 
 /// The lowest entry over which one, asked by itself at each moment of the runs, does not last until its need. For each entry

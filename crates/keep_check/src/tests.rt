@@ -1,8 +1,8 @@
 ghost use Rattle.std.specs.Prelude.{◌≡◌, ◌≤◌, IfSome, IsTrue};
 ghost use Rattle.keep_rule.specs.declared.limit.TheConstants.{LIMIT};
 ghost use Rattle.keep_rule.specs.Runs.{counted};
-ghost use Rattle.keep_cert.specs.CertificateText.{IsFit};
-ghost use Rattle.keep_check.specs.Fit.{AllFit};
+ghost use Rattle.keep_check.specs.code.Steps.{AllFit};
+ghost use Rattle.keep_check.specs.Fit.{IsFit};
 
 use crate::{Answer, Cause, LIMIT, check};
 use keep_cert::{Body, Cert, Runs, Version};

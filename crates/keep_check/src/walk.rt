@@ -6,9 +6,8 @@ ghost use Rattle.keep_rule.specs.Forced.{Forced, bound};
 ghost use Rattle.keep_rule.specs.Runs.{all_wakes, counted, wakes, wakes_of};
 ghost use Rattle.keep_rule.specs.declared.limit.TheConstants.{LIMIT};
 ghost use Rattle.keep_check.specs.Answer.{first_fault};
-ghost use Rattle.keep_cert.specs.CertificateText.{IsFit};
-ghost use Rattle.keep_check.specs.Fit.{AllFit};
-ghost use Rattle.keep_check.specs.code.Steps.{Finds};
+ghost use Rattle.keep_check.specs.code.Steps.{AllFit, Finds};
+ghost use Rattle.keep_check.specs.Fit.{IsFit};
 ghost use Rattle.keep_check.specs.Walk.{is_forced, rises};
 
 use crate::answer::Cause;

@@ -3,7 +3,7 @@ use Rattle.std.proofs.Common.{◌≡◌, ℕ, Bool, List, Option, Ok, String, Ve
 use Rattle.keep_engine.specs.declared.command.Command.{Command}
 use Rattle.keep_engine.specs.declared.command.Command.TheVariants as commands
 use Rattle.keep_inventory.specs.declared.limits.TheConstants.{MOST_INVENTORY}
-use Rattle.keep_engine.specs.declared.limits.TheConstants.{MOST_CERTIFICATE}
+use Rattle.keep_cert.specs.declared.cert.TheConstants.{MOST_CERTIFICATE}
 use Rattle.keep_report.specs.declared.exit.Exit.{Exit}
 use Rattle.keep_report.specs.Sent.{Sent}
 use Rattle.keep_engine.specs.CheckRun.{CheckRun}

@@ -60,8 +60,8 @@ same_run r q a b c d e =
 
 one_run : (r q : Run) (xs ys : List Force) → IsRun r → IsRun q → r.count ≡ q.count → wakes r ++ xs ≡ wakes q ++ ys → r ≡ q
 one_run r q xs ys is is' count same =
-    let some = is.some in
-    let one = first_same r.first r.step r.count r.entry r.needed q.first q.step q.count q.entry q.needed xs ys is.some count same in
+    let some = is.moments.some in
+    let one = first_same r.first r.step r.count r.entry r.needed q.first q.step q.count q.entry q.needed xs ys is.moments.some count same in
     elim (cases_lt 1 r.count) [
       | inl more ↦
           let two = first_same (r.first + r.step) r.step (r.count - 1) r.entry r.needed (q.first + q.step) q.step (q.count - 1) q.entry q.needed xs ys (omega arith) (omega arith) one.3 in
@@ -76,8 +76,8 @@ one_run r q xs ys is is' count same =
 
 pub one_runs : (rs qs : List Run) → AreRuns rs → AreRuns qs → AreLongest rs → AreLongest qs → all_wakes rs ≡ all_wakes qs → rs ≡ qs
 one_runs [] [] are are' long long' same = refl
-one_runs [] (q ∷ qs) are are' long long' same = absurd (let some = are'.0.some in let l = length_all_cons q qs in let e : 0 ≡ length (all_wakes (q ∷ qs)) = ap length same in omega arith)
-one_runs (r ∷ rs) [] are are' long long' same = absurd (let some = are.0.some in let l = length_all_cons r rs in let e : length (all_wakes (r ∷ rs)) ≡ 0 = ap length same in omega arith)
+one_runs [] (q ∷ qs) are are' long long' same = absurd (let some = are'.0.moments.some in let l = length_all_cons q qs in let e : 0 ≡ length (all_wakes (q ∷ qs)) = ap length same in omega arith)
+one_runs (r ∷ rs) [] are are' long long' same = absurd (let some = are.0.moments.some in let l = length_all_cons r rs in let e : length (all_wakes (r ∷ rs)) ≡ 0 = ap length same in omega arith)
 one_runs (r ∷ rs) (q ∷ qs) are are' long long' same =
     let below : q.count ≤ r.count = long.0 q (all_wakes qs) same in
     let above : r.count ≤ q.count = long'.0 r (all_wakes rs) (sym same) in

@@ -19,7 +19,7 @@ use Rattle.keep_check.proofs.Written.{body_fits}
 use Rattle.keep_inventory.proofs.Inventoried.{inventory_law}
 use Rattle.keep_report.specs.declared.exit.Exit.{Exit}
 use Rattle.keep_report.specs.declared.exit.Exit.TheVariants as exits
-use Rattle.keep_engine.specs.declared.limits.TheConstants.{MOST_CERTIFICATE}
+use Rattle.keep_cert.specs.declared.cert.TheConstants.{MOST_CERTIFICATE}
 use Rattle.keep_engine.specs.CheckRun.{IsAccepted}
 use Rattle.keep_engine.specs.Laws.{IsOwnText, OwnTextLaw}
 use Rattle.keep_engine.specs.PlanRun.{IsCertified}

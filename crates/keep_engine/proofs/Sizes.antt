@@ -16,9 +16,9 @@ use Rattle.keep_cert.specs.declared.cert.Body.{Body}
 use Rattle.keep_cert.specs.declared.cert.Body.TheVariants.{Runs, Unkeepable}
 use Rattle.keep_cert.specs.declared.cert.Version.TheVariants.{Two}
 use Rattle.keep_rule.specs.Runs.{counted}
-use Rattle.keep_cert.specs.CertificateText.{AreRuns, IsBody, IsRun, body_text, certificate_text, end_text, header_text, line_text, name_of, run_text, start_text, unkeepable_text}
+use Rattle.keep_cert.specs.CertificateText.{AreRunsOf, IsBody, IsRunOf, body_text, certificate_text, end_text, header_text, line_text, name_of, run_text, start_text, unkeepable_text}
 use Rattle.keep_cert.specs.Printing.{certified}
-use Rattle.keep_engine.specs.declared.limits.TheConstants.{MOST_CERTIFICATE}
+use Rattle.keep_cert.specs.declared.cert.TheConstants.{MOST_CERTIFICATE}
 
 -- the sizes of words, each with the byte behind it
 abbrev sizes : List (List ℕ) → ℕ
@@ -59,19 +59,19 @@ step_within r lone some within =
       | inr one ↦ let none = lone.1 (omega arith) in omega arith
     ]
 
-run_size : (g : Grove) → IsForest g → (r : Run) → IsRun Two g.entries r → r.count ≤ LIMIT → length (run_text Two g.entries r) ≤ 174
+run_size : (g : Grove) → IsForest g → (r : Run) → IsRunOf Two g.entries r → r.count ≤ LIMIT → length (run_text Two g.entries r) ≤ 174
 unfolding run_text
 run_size g forest r is few =
     let line = line_size (codes "run" ∷ decimal r.first ∷ decimal r.step ∷ decimal r.count ∷ name_of g.entries r.entry ∷ name_of g.entries r.needed ∷ []) in
-    let within = is.fit.within in
+    let within = is.run.moments.last in
     let a = number_size r.first (omega arith) in
-    let b = number_size r.step (step_within r is.lone is.fit.some within) in
+    let b = number_size r.step (step_within r is.run.lone is.run.moments.some within) in
     let c = number_size r.count (omega arith) in
-    let d = name_size g forest r.entry is.fit.entry in
-    let e = name_size g forest r.needed is.fit.needed in
+    let d = name_size g forest r.entry is.among.entry in
+    let e = name_size g forest r.needed is.among.needed in
     omega arith
 
-runs_size : (g : Grove) → IsForest g → (rs : List Run) → AreRuns Two g.entries rs → counted rs ≤ LIMIT → length (flat_map (run_text Two g.entries) rs) ≤ length rs * 174
+runs_size : (g : Grove) → IsForest g → (rs : List Run) → AreRunsOf Two g.entries rs → counted rs ≤ LIMIT → length (flat_map (run_text Two g.entries) rs) ≤ length rs * 174
 runs_size g forest [] each few = omega arith
 runs_size g forest (r ∷ rs) each few =
     let parts = length-append (run_text Two g.entries r) (flat_map (run_text Two g.entries) rs) in

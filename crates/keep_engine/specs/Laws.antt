@@ -16,7 +16,7 @@ use Rattle.keep_inventory.specs.Stock.{Stock}
 use Rattle.keep_inventory.specs.Inventory.{inventory}
 use Rattle.keep_report.specs.declared.exit.Exit.{Exit}
 use Rattle.keep_report.specs.declared.exit.Exit.TheVariants as exits
-use Rattle.keep_engine.specs.declared.limits.TheConstants.{MOST_CERTIFICATE}
+use Rattle.keep_cert.specs.declared.cert.TheConstants.{MOST_CERTIFICATE}
 use Rattle.keep_engine.specs.CheckRun.{IsAccepted, IsJudged}
 use Rattle.keep_engine.specs.PlanRun.{IsCertified}
 

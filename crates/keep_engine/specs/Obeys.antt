@@ -6,7 +6,7 @@ use Rattle.keep_report.specs.Sent.{Sent}
 use Rattle.keep_engine.specs.declared.command.Command.{Command}
 use Rattle.keep_engine.specs.declared.command.Command.TheVariants as commands
 use Rattle.keep_inventory.specs.declared.limits.TheConstants.{MOST_INVENTORY}
-use Rattle.keep_engine.specs.declared.limits.TheConstants.{MOST_CERTIFICATE}
+use Rattle.keep_cert.specs.declared.cert.TheConstants.{MOST_CERTIFICATE}
 use Rattle.keep_engine.specs.CheckRun.{CheckRun}
 use Rattle.keep_engine.specs.EndsRun.{EndsRun}
 use Rattle.keep_engine.specs.From.{Files, RunFrom}

@@ -3,13 +3,12 @@ ghost use Rattle.keep_engine.specs.EndsText.{OneEndsText};
 ghost use Rattle.keep_engine.specs.Laws.{OneCheckText, OnePlanText, OwnCertificateLaw, OwnTextLaw};
 ghost use Rattle.keep_engine.specs.ReachLaws.{UntilLaw, WhateverIsNeeded};
 ghost use Rattle.keep_engine.specs.ReachText.{OneReachText};
-ghost use Rattle.keep_engine.specs.declared.limits.TheConstants.{MOST_CERTIFICATE};
 ghost use Rattle.keep_engine.specs.Secrecy.{CheckSecrecy, EndsSecrecy, PlanSecrecy, ReachSecrecy};
 
 /// The law that own certificates are accepted. What `print` writes of a decision as `plan` gave it, with the start it was
 /// planned from, is read back over the same forest, and `keep_check::check` can answer nothing but Yes. And what the command
 /// `plan` writes of the bytes of an inventory, of exit 0 or 3, is a certificate of which the command `check` with the same
-/// bytes can say nothing but `yes`; it has at most [`MOST_CERTIFICATE`](crate::MOST_CERTIFICATE) bytes, so that a file of it
+/// bytes can say nothing but `yes`; it has at most [`MOST_CERTIFICATE`](keep_cert::MOST_CERTIFICATE) bytes, so that a file of it
 /// does not pass the limit.
 pub fn own_certificates_are_accepted()
     ensures printed { OwnCertificateLaw }
@@ -35,11 +34,6 @@ pub fn secrets_change_no_run()
     ensures plan { PlanSecrecy }
     ensures reach { ReachSecrecy }
     ensures check { CheckSecrecy }
-{}
-
-/// The limit of a certificate's file as a number. It does nothing.
-pub fn limits_law()
-    ensures { MOST_CERTIFICATE ≡ 16777216 }
 {}
 
 /// The law of what `reach` shows: an entry that alone is needed is kept by some plan until the moment that the line names,

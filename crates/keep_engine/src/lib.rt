@@ -15,7 +15,6 @@ mod ends;
 mod ends_text;
 mod inputs;
 mod laws;
-mod limits;
 mod outcome;
 mod plan;
 mod plan_text;
@@ -32,9 +31,6 @@ pub use ends::run_ends;
 pub use inputs::Inputs;
 pub use keep_report::{Exit, Stop, tell};
 pub use keep_run::{MOST_WAKES, run_rehearse};
-pub use laws::{
-    limits_law, no_secret_shows, own_certificates_are_accepted, secrets_change_no_run, until_law,
-};
-pub use limits::MOST_CERTIFICATE;
+pub use laws::{no_secret_shows, own_certificates_are_accepted, secrets_change_no_run, until_law};
 pub use plan::run_plan;
 pub use reach::run_reach;

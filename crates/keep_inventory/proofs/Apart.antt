@@ -2,7 +2,7 @@
 use Rattle.std.proofs.Common.{◌≡◌, ℕ, zero, suc, ◌+◌, ◌<◌, Bool, true, false, ◌||◌, List, ◌∷◌, [], ◌++◌, length, bytes_eq, get_or, refl, sym, ap, ◌∙◌, subst, arith, ⊎_elim}
 use Rattle.std.specs.List.{list_any}
 use Rattle.std.specs.Cmp.Lexicographic.{nat_list_eq_equiv}
-use Rattle.std.proofs.lemmas.Bool.{cases_lt}
+use Rattle.std.proofs.lemmas.Bool.{cases_lt, or_right}
 use Rattle.std.proofs.lemmas.List.{length_push, get_or_push}
 use Rattle.keep_inventory.specs.Values.{text}
 use Rattle.keep_inventory.specs.Stock.{credential_at}
@@ -23,10 +23,6 @@ text_old texts text i h = sym (first_half texts (text ∷ []) i h)
 text_new : (texts : List (List ℕ)) (text : List ℕ) → credential_at (texts ++ text ∷ []) (length texts) ≡ text
 unfolding credential_at
 text_new texts text = get_or_push texts text [] (length texts) refl
-
-or_right : (a b : Bool) → b ≡ true → a || b ≡ true
-or_right true b e = refl
-or_right false b e = e
 
 -- a text that stands there is held
 held : (texts : List (List ℕ)) (i : ℕ) → i < length texts → holds texts (credential_at texts i) ≡ true

@@ -9,6 +9,7 @@ use Rattle.std.specs.List.{list_any}
 use Rattle.std.specs.Map.{IsKeyTest, AreApart}
 use Rattle.std.specs.Ordering.{nat_cmp, is_eq}
 use Rattle.std.specs.Set.{KeepsOthers}
+use Rattle.keep_tree.proofs.Names.{apart}
 use Rattle.keep_inventory.specs.Found.{has}
 use Rattle.keep_inventory.specs.Intake.{holds}
 
@@ -16,10 +17,6 @@ use Rattle.keep_inventory.specs.Intake.{holds}
 pub has_none : (s : BTreeSet (Vec ℕ Global)) → IsEmpty s → (q : List ℕ) → has s q ≡ holds [] q
 unfolding holds
 has_none s empty q = ap (list_any (λ k. is_eq (slice_cmp nat_cmp q k.items))) empty
-
-apart : (bs cs ks : List ℕ) → bytes_eq bs cs ≡ false → is_eq (slice_cmp nat_cmp bs ks) ≡ true → is_eq (slice_cmp nat_cmp cs ks) ≡ false
-apart bs cs ks n y =
-    is_eq-slice_cmp cs ks ∙ nat_list_eq_equiv.symm cs ks ∙ sym (nat_list_eq_equiv.congr bs ks cs (sym (is_eq-slice_cmp bs ks) ∙ y)) ∙ n
 
 module _ {K : Type 0} (eq : K → K → Bool) (test : K → Bool) where
   other_keys : (old new : List K) → KeepsOthers eq test old new → (other : K → Bool) → IsKeyTest eq other → AreApart test other → list_any other new ≡ list_any other old

@@ -53,7 +53,7 @@ pub one_more :
     (old mid new : List Force → Type 0) (old_most mid_most new_most : ℕ) (taken : List Run) (room : ℕ) (r : Run) → IsTaken old mid old_most mid_most taken room → IsFirstRun mid new room r → r.count < room → new_most < mid_most →
     IsTaken old new old_most new_most (taken ++ r ∷ []) (room - r.count)
 one_more old mid new old_most mid_most new_most taken room r so_far first more fewer =
-    let is : IsRun r = record { some = first.some; lone = first.lone; last = first.moment } in
+    let is : IsRun r = first.run in
     let in_all = so_far.filled in
     let most = so_far.most in
     let counted = length_more taken r in

@@ -7,7 +7,7 @@ use Rattle.keep_tree.specs.Carried.{IsFrom, carried}
 use Rattle.keep_tree.proofs.Carrying.{carried_at_least, carried_is_of}
 use Rattle.keep_rule.specs.Reach.{reach}
 use Rattle.keep_rule.specs.Unkeepable.{Unkeepable}
-use Rattle.keep_plan.specs.Shortfall.{falls_short}
+use Rattle.keep_plan.specs.code.FallingShort.{falls_short}
 
 -- a need after s that is carried
 pub carried_after : (es : List Entry) (s i b : ℕ) → b < carried es s i → s < carried es s i

@@ -49,7 +49,7 @@ behind_none r one = cond-true (r.count == 1) None (Some (record r { first = r.fi
 
 pub behind_wakes : (r : Run) (rs : List Run) → IsRun r → all_wakes (r ∷ rs) ≡ first_wake r ∷ all_wakes (in_front (behind_first r) rs)
 behind_wakes r rs is =
-    let some = is.some in
+    let some = is.moments.some in
     let open' : wakes r ≡ first_wake r ∷ wakes_of (r.first + r.step) r.step (r.count - 1) r.entry r.needed = wakes_more r.first r.step r.count (r.count - 1) r.entry r.needed (omega arith) in
     elim (cases_Bool (r.count == 1)) [
       | inl one ↦
@@ -67,8 +67,8 @@ last_more a d c k is = ap (λ n. a + n * d) (let less : c - 1 ≡ suc k = omega 
 -- and that is a run again
 shortened_is : (r : Run) → IsRun r → r.count == 1 ≡ false → IsRun (record r { first = r.first + r.step; step = cond (r.count == 2) 0 r.step; count = r.count - 1 })
 shortened_is r is more =
-    let some = is.some in
-    let last = is.last in
+    let some = is.moments.some in
+    let last = is.moments.last in
     let lone = is.lone in
     let not_one : r.count ≢ 1 = λ e. absurd (let t : r.count == 1 ≡ true = grind (arith, nat_tests) in cc) in
     let same : r.first + (r.count - 1) * r.step ≡ (r.first + r.step) + (r.count - 2) * r.step = last_more r.first r.step r.count (r.count - 2) (omega arith) in
@@ -77,21 +77,13 @@ shortened_is r is more =
           let c : r.count ≡ 2 = grind (arith, nat_tests) in
           let step : cond (r.count == 2) 0 r.step ≡ 0 = cond-true (r.count == 2) 0 r.step two in
           let nothing : (r.count - 1 - 1) * cond (r.count == 2) 0 r.step ≡ 0 = ap (λ d. (r.count - 1 - 1) * d) step ∙ (let z : (r.count - 1 - 1) * 0 ≡ 0 = omega arith in z) in
-          record {
-            some = omega arith;
-            lone = (λ _. omega arith, λ _. step);
-            last = omega arith;
-          }
+          record { moments = record { some = omega arith; last = omega arith }; lone = (λ _. omega arith, λ _. step) }
       | inr other ↦
           let c : r.count ≢ 2 = λ e. absurd (let t : r.count == 2 ≡ true = grind (arith, nat_tests) in cc) in
           let step : cond (r.count == 2) 0 r.step ≡ r.step = cond-false (r.count == 2) 0 r.step other in
           let less : r.count - 1 - 1 ≡ r.count - 2 = omega arith in
           let rest : (r.count - 1 - 1) * cond (r.count == 2) 0 r.step ≡ (r.count - 2) * r.step = ap (λ d. (r.count - 1 - 1) * d) step ∙ ap (λ k. k * r.step) less in
-          record {
-            some = omega arith;
-            lone = (λ z. absurd (not_one (lone.0 (sym step ∙ z))), λ e. absurd (omega arith));
-            last = omega arith;
-          }
+          record { moments = record { some = omega arith; last = omega arith }; lone = (λ z. absurd (not_one (lone.0 (sym step ∙ z))), λ e. absurd (omega arith)) }
     ]
 
 behind_is : (r s : Run) → IsRun r → behind_first r ≡ Some s → IsRun s

@@ -1,6 +1,6 @@
 -- Shortfall: the pair that is named where no plan keeps.
 -- Source: this project's own, over Vault, "Lease, renew, and revoke" (maximum TTL).
-use Rattle.std.specs.Prelude.{ℕ, ◌≤◌, Bool, false, Option, Some, None, nat_lt}
+use Rattle.std.specs.Prelude.{ℕ, ◌≤◌}
 use Rattle.keep_tree.specs.Carried.{IsFrom}
 use Rattle.keep_tree.specs.Forest.{Grove, end_of}
 use Rattle.keep_rule.specs.Unkeepable.{Unkeepable}
@@ -11,8 +11,3 @@ pub record IsShortfall (g : Grove) (s entry needed : ℕ) : Type 0 where
   pub pair : Unkeepable g.entries g.margin s (end_of g.entries) entry needed
   pub lowest : (i f : ℕ) → Unkeepable g.entries g.margin s (end_of g.entries) i f → entry ≤ i
   pub from : IsFrom g.entries s entry needed
-
--- a reach that is less than a need: the question of the code
-abbrev pub falls_short : Option ℕ → ℕ → Bool
-falls_short None need = false
-falls_short (Some most) need = nat_lt most need

@@ -4,7 +4,8 @@ ghost use Rattle.keep_rule.specs.Reach.{reach};
 ghost use Rattle.keep_needs.specs.Carried.{IsCarried, load_at};
 ghost use Rattle.keep_rule.specs.Unkeepable.{AllKeepable};
 ghost use Rattle.keep_plan.specs.Decides.{NoneKeeps, SomeKeeps};
-ghost use Rattle.keep_plan.specs.Shortfall.{IsShortfall, falls_short};
+ghost use Rattle.keep_plan.specs.Shortfall.{IsShortfall};
+ghost use Rattle.keep_plan.specs.code.FallingShort.{falls_short};
 
 use crate::pair::Shortfall;
 use keep_moment::Moment;

@@ -6,15 +6,8 @@ use Rattle.std.specs.List.{list_all, list_any}
 use Rattle.keep_tree.specs.declared.entry.Entry.{Entry}
 use Rattle.keep_tree.specs.Over.{chain, is_over}
 use Rattle.keep_tree.specs.Renewal.{all_last}
+use Rattle.keep_tree.proofs.Carrying.{and_left, and_right, or_right}
 use Rattle.keep_rule.specs.Keeps.{Alive}
-
-and_left : (a b : Bool) → a && b ≡ true → a ≡ true
-and_left true b e = refl
-and_left false b e = absurd cc
-
-and_right : (a b : Bool) → a && b ≡ true → b ≡ true
-and_right true b e = e
-and_right false b e = absurd cc
 
 -- what all elements pass, an element passes
 each_of_all : (p : ℕ → Bool) (xs : List ℕ) (a : ℕ) → list_all p xs ≡ true → list_any (λ b. b == a) xs ≡ true → p a ≡ true
@@ -30,10 +23,7 @@ all_of_each p [] each = refl
 all_of_each p (x ∷ xs) each =
     let here : (x == x) ≡ true = grind (arith, nat_tests) in
     let head : p x ≡ true = each x (ap (λ b. b || list_any (λ c. c == x) xs) here) in
-    ap (λ b. b && list_all p xs) head ∙ all_of_each p xs (λ a any. each a (later (x == a) (list_any (λ c. c == a) xs) any)) where
-      later : (a b : Bool) → b ≡ true → a || b ≡ true
-      later true b e = refl
-      later false b e = e
+    ap (λ b. b && list_all p xs) head ∙ all_of_each p xs (λ a any. each a (or_right (x == a) (list_any (λ c. c == a) xs) any))
 
 pub alive_from_last : (es : List Entry) (ends : ℕ → ℕ) (m i : ℕ) → all_last es ends (m + 1) i ≡ true → Alive es ends m i
 unfolding all_last is_over

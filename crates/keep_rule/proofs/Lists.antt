@@ -1,6 +1,6 @@
 -- Lists as functions of the index, and one element more at a loop's turn: for the replay's loops.
 use Rattle.std.proofs.Common.{◌≡◌, ℕ, zero, suc, ◌+◌, ◌||◌, nat_le, ◌<◌, ◌≤◌, Bool, true, false, List, [], ◌∷◌, ◌++◌, length, get_or, drop, map, take, refl, subst, sym, ap, ◌∙◌, arith, inl, inr}
-use Rattle.std.proofs.lemmas.Bool.{cases_lt}
+use Rattle.std.proofs.lemmas.Bool.{cases_lt, or_parts}
 use Rattle.std.proofs.lemmas.List.{drop_more, ext_get_or, get_or_past, take_at}
 use Rattle.std.proofs.lemmas.List.FromFn.{get_or-map-range_with_len, length-map-range_with_len}
 use Rattle.std.proofs.lemmas.Bool.Decides.{nat_tests}
@@ -29,22 +29,14 @@ shown_present es ends count each = fun_ext λ k.
       | inr past ↦ get_or_past ends k 0 (omega arith) ∙ sym (ap (λ (e : Entry). e.end) (entry_at_past es k past))
     ]
 
-left_false : (a b : Bool) → a || b ≡ false → a ≡ false
-left_false true b e = absurd cc
-left_false false b e = refl
-
-right_false : (a b : Bool) → a || b ≡ false → b ≡ false
-right_false true b e = absurd cc
-right_false false b e = e
-
 -- no element of what asks nothing past n entries is past them
 pub asked_within : (n : ℕ) (asked : List ℕ) → asks_past n asked ≡ false → (i : ℕ) → i < length asked → get_or asked i 0 < n
 unfolding asks_past
 asked_within n [] none i h = absurd (omega arith)
 asked_within n (x ∷ xs) none zero h =
-    let t : nat_le n x ≡ false = left_false (nat_le n x) (list_any (λ j. nat_le n j) xs) none in
+    let t : nat_le n x ≡ false = (or_parts (nat_le n x) (list_any (λ j. nat_le n j) xs) none).0 in
     grind (arith, nat_tests)
-asked_within n (x ∷ xs) none (suc i) h = asked_within n xs (right_false (nat_le n x) (list_any (λ j. nat_le n j) xs) none) i (omega arith)
+asked_within n (x ∷ xs) none (suc i) h = asked_within n xs (or_parts (nat_le n x) (list_any (λ j. nat_le n j) xs) none).1 i (omega arith)
 
 pub read_within : (n : ℕ) (asked items : List ℕ) (i : ℕ) → items ≡ asked → asks_past n asked ≡ false → i < length items → get_or items i 0 < n
 read_within n asked items i same none h =

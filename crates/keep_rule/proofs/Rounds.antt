@@ -1,9 +1,10 @@
 -- One wake-up over a list of ends: what lasts over an entry is carried down, and each asked entry gets its end.
 use Rattle.std.proofs.Common.{◌≡◌, ◌==◌, ℕ, ◌+◌, ◌<◌, ◌&&◌, ◌||◌, Bool, true, false, cond, List, length, get_or, set, take, min, nat_le, Some, None, refl, sym, ap, ◌∙◌, subst, arith, inl, inr}
-use Rattle.std.proofs.lemmas.Bool.{cases_Bool, cases_eq, cond-true, cond-false}
+use Rattle.std.proofs.lemmas.Bool.{cases_Bool, cases_eq, cond-true, cond-false, or_right}
 use Rattle.std.proofs.lemmas.Bool.Decides.{nat_tests}
 use Rattle.std.proofs.lemmas.List.{get_or-set_same, get_or-set_other}
 use Rattle.std.proofs.lemmas.List.Folds.{list_any_more}
+use Rattle.std.proofs.Math.Bool.{or-false}
 use Rattle.std.proofs.Math.Path.{fun_ext}
 use Rattle.std.specs.List.{list_any}
 use Rattle.keep_tree.specs.declared.entry.Entry.{Entry}
@@ -29,7 +30,7 @@ pub lasts_root : (es : List Entry) (ends lasts : List ℕ) (i : ℕ) → i < len
 unfolding shown
 lasts_root es ends lasts i h root below = written es (λ k. get_or ends k 0) lasts i (get_or ends i 0) h below (λ m. sym (all_last_root es (λ k. get_or ends k 0) m i root))
 
-le_min : (m a b : ℕ) → nat_le m (min a b) ≡ nat_le m a && nat_le m b
+pub le_min : (m a b : ℕ) → nat_le m (min a b) ≡ nat_le m a && nat_le m b
 le_min m a b = grind (arith, nat_tests)
 
 pub lasts_child : (es : List Entry) (ends lasts : List ℕ) (i p : ℕ) → i < length lasts → ParentsFirst es → (entry_at es i).parent ≡ Some p → LastsBelow es (shown ends) lasts i → LastsBelow es (shown ends) (set lasts i (min (get_or ends i 0) (get_or lasts p 0))) (i + 1)
@@ -74,15 +75,8 @@ served_more es margin before lasts t asked now i j within is there entry carried
       | inr other ↦
           let miss : (get_or asked i 0 == k) ≡ false = grind (arith, nat_tests) in
           get_or-set_other now j k v 0 other ∙ served k
-          ∙ ap (λ b. cond b (renewed es margin (shown before) t k) (shown before k)) (sym (more ∙ ap (λ b. list_any (λ n. n == k) (take i asked) || b) miss ∙ or_false (list_any (λ n. n == k) (take i asked))))
-    ] where
-      or_right : (a b : Bool) → b ≡ true → a || b ≡ true
-      or_right true b e = refl
-      or_right false b e = e
-
-      or_false : (b : Bool) → b || false ≡ b
-      or_false true = refl
-      or_false false = refl
+          ∙ ap (λ b. cond b (renewed es margin (shown before) t k) (shown before k)) (sym (more ∙ ap (λ b. list_any (λ n. n == k) (take i asked) || b) miss ∙ or-false (list_any (λ n. n == k) (take i asked))))
+    ]
 
 pub served_all : (es : List Entry) (margin : ℕ) (before : List ℕ) (w : Wake) (now : List ℕ) (n : ℕ) → take n w.asked ≡ w.asked → ServedTo es margin before w.at w.asked now n → shown now ≡ after es margin (shown before) w
 unfolding shown after is_asked

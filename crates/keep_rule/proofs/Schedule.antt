@@ -59,9 +59,12 @@ unfolding with_asks
 moments_with_asks es margin s [] e = refl
 moments_with_asks es margin s (t ∷ ts) e = ap (λ us. t ∷ us) (moments_with_asks es margin s ts (after es margin e (asking es margin s e t (first_of ts))))
 
-rising_strictly : (ts : List ℕ) (from low : ℕ) → from ≤ low → RisesStrictly low ts → IsRising from ts
-rising_strictly [] from low le rises = tt
-rising_strictly (t ∷ ts) from low le rises = let start : low ≤ t = rises.0 in (omega arith, rising_strictly ts t (t + 1) (omega arith) rises.1)
+pub rising_strictly : (s : ℕ) (ts : List ℕ) → RisesStrictly s ts → IsRising s ts
+rising_strictly s [] rises = tt
+rising_strictly s (t ∷ ts) rises = (rises.0, weaker t ts rises.1) where
+  weaker : (u : ℕ) (us : List ℕ) → RisesStrictly (u + 1) us → IsRising u us
+  weaker u [] r = tt
+  weaker u (v ∷ vs) r = let l : u + 1 ≤ v = r.0 in (omega arith, weaker v vs r.1)
 
 pub schedule_is_best : ScheduleLaw
 schedule_is_best g s ends forest keepable ts schedule =
@@ -71,7 +74,7 @@ schedule_is_best g s ends forest keepable ts schedule =
     let same : moments plan ≡ ts = moments_with_asks es margin s ts ends in
     let rises = schedule_rises g forest s ends keepable ts None s (λ t next. next.late) schedule in
     let forced = schedule_forced g forest s ends keepable ts None schedule in
-    let kept = timely_keeps g forest s ends ts (rising_strictly ts s s (omega arith) rises) (schedule_timely g forest s ends keepable ts None schedule) in
+    let kept = timely_keeps g forest s ends ts (rising_strictly s ts rises) (schedule_timely g forest s ends keepable ts None schedule) in
     let in_order = schedule_in_order g forest s ends keepable ts None s s ends (omega arith) rises schedule in
     let best = forced_is_least es margin s ends plan in_order kept (subst (AllForced es margin s ends None) (sym same) forced) in
     (rises, (forced, (kept, subst (IsLeastAndLatest es margin s ends) same best)))

@@ -1,6 +1,6 @@
 -- An end that cannot pass a bound: under wake-ups that come too late for it, or give no more than it, it stays below.
 use Rattle.std.proofs.Common.{◌≡◌, ℕ, ◌+◌, ◌<◌, ◌≤◌, ◌⊎◌, ◌&&◌, Bool, true, false, cond, List, [], ◌∷◌, filter, max, nat_le, refl, sym, subst, arith, inl, inr}
-use Rattle.std.proofs.lemmas.Bool.{cases_Bool, cases_lt, cond-true, cond-false}
+use Rattle.std.proofs.lemmas.Bool.{and_parts, cases_Bool, cases_lt, cond-true, cond-false}
 use Rattle.std.proofs.lemmas.Bool.Decides.{nat_tests}
 use Rattle.keep_tree.specs.declared.entry.Entry.{Entry}
 use Rattle.keep_tree.specs.Forest.{entry_at}
@@ -19,16 +19,11 @@ abbrev pub AllStuck : List Entry → ℕ → ℕ → ℕ → List Wake → Type 
 AllStuck es margin i b [] = Unit {0}
 AllStuck es margin i b (w ∷ ws) = IsStuck es margin i b w.at × AllStuck es margin i b ws
 
-both_true : (a b : Bool) → a && b ≡ true → (a ≡ true) × (b ≡ true)
-both_true true true e = (refl, refl)
-both_true true false e = absurd cc
-both_true false b e = absurd cc
-
 -- a request that is granted finds the end at the margin or later, on an entry that is renewable
-granted_parts : (es : List Entry) (margin : ℕ) (ends : ℕ → ℕ) (t i : ℕ) → is_granted es margin ends t i ≡ true → ((entry_at es i).renewable ≡ true) × (t + margin ≤ ends i)
+pub granted_parts : (es : List Entry) (margin : ℕ) (ends : ℕ → ℕ) (t i : ℕ) → is_granted es margin ends t i ≡ true → ((entry_at es i).renewable ≡ true) × (t + margin ≤ ends i)
 unfolding is_granted
 granted_parts es margin ends t i granted =
-    let parts = both_true (entry_at es i).renewable (all_last es ends (t + margin) i) granted in (
+    let parts = and_parts (entry_at es i).renewable (all_last es ends (t + margin) i) granted in (
       parts.0,
       elim (cases_lt (ends i) (t + margin)) [
         | inl early ↦ absurd (

@@ -1,88 +1,97 @@
--- Timely moments: bounds alone tell that a list of moments is kept with its Asks.
-use Rattle.std.proofs.Common.{ℕ, ◌+◌, ◌<◌, ◌≤◌, List, [], ◌∷◌, Option, Some, None, length, arith, inl, inr}
-use Rattle.keep_moment.specs.declared.moment.TheConstants.{LAST}
+-- Timely moments: bounds alone tell that entries, with all that are over them, last under the Asks until the need of each.
+use Rattle.std.proofs.Common.{◌≡◌, ℕ, ◌+◌, ◌<◌, ◌≤◌, true, false, cond, List, [], ◌∷◌, Option, Some, None, filter, nat_le, sym, ap, ◌∙◌, subst, arith, inl, inr}
+use Rattle.std.proofs.lemmas.Bool.{cases_lt}
+use Rattle.std.proofs.lemmas.Bool.Decides.{nat_tests}
 use Rattle.keep_tree.specs.declared.entry.Entry.{Entry}
 use Rattle.keep_tree.specs.Carried.{carried}
-use Rattle.keep_tree.specs.Forest.{Grove}
+use Rattle.keep_tree.specs.Forest.{Grove, entry_at}
 use Rattle.keep_tree.specs.Push.{IsForest}
 use Rattle.keep_tree.proofs.Carrying.{carried_at_least, carried_up}
 use Rattle.keep_tree.proofs.Chains.{ParentsFirst}
 use Rattle.keep_tree.proofs.Placed.{parents_first}
-use Rattle.keep_rule.specs.Asks.{asking, asks, first_of, is_wanted, with_asks}
-use Rattle.keep_rule.specs.Ends.{after}
+use Rattle.keep_rule.specs.declared.wake.Wake.{Wake}
+use Rattle.keep_rule.specs.Asks.{asking, first_of, with_asks}
+use Rattle.keep_rule.specs.Ends.{after, ends_after}
 use Rattle.keep_rule.specs.Forced.{bound, latest_end}
-use Rattle.keep_rule.specs.Keeps.{Keeps}
-use Rattle.keep_rule.specs.code.Replay.{KeptBetween}
-use Rattle.keep_rule.proofs.Asking.{IsSafe, asks_within}
-use Rattle.keep_rule.proofs.Covering.{asks_grow, round_covers}
+use Rattle.keep_rule.specs.Keeps.{Keeps, ends_at}
+use Rattle.keep_rule.specs.Plans.{moments}
+use Rattle.keep_rule.proofs.Asking.{Covers, IsSafe}
+use Rattle.keep_rule.proofs.Covering.{CoversAll, IsNeeded, asks_grow, round_covers}
 use Rattle.keep_rule.proofs.Keeping.{IsRising}
-use Rattle.keep_rule.proofs.Lists.{need_within}
-use Rattle.keep_rule.proofs.Walk.{Rises, keeps_cons, keeps_nil}
+use Rattle.keep_rule.proofs.Tail.{moments_with_asks}
+use Rattle.keep_rule.proofs.Walk.{ends_from, ends_unchanged}
+
+-- a list of moments with its Asks rises as the moments do
+pub asks_rise :
+    (es : List Entry) (margin s : ℕ) (e : ℕ → ℕ) (t : ℕ) (ts : List ℕ) → IsRising t ts →
+    IsRising t (moments (asking es margin s e t (first_of ts) ∷ with_asks es margin s (after es margin e (asking es margin s e t (first_of ts))) ts))
+asks_rise es margin s e t ts rising =
+    subst (λ us. IsRising t (t ∷ us)) (sym (moments_with_asks es margin s (after es margin e (asking es margin s e t (first_of ts))) ts)) (omega arith, rising)
+
+-- for one entry: at each of these moments, and behind the last, the bound that the moment before it leaves covers it until n
+abbrev pub IsTimely : Entry → ℕ → ℕ → ℕ → Option ℕ → List ℕ → Type 0
+IsTimely e margin end n prev [] = Covers margin None n (latest_end e end prev)
+IsTimely e margin end n prev (t ∷ ts) = Covers margin (Some t) n (latest_end e end prev) × IsTimely e margin end n (Some t) ts
+
+timely_first : (e : Entry) (margin end n : ℕ) (prev : Option ℕ) (ts : List ℕ) → IsTimely e margin end n prev ts → Covers margin (first_of ts) n (latest_end e end prev)
+timely_first e margin end n prev [] timely = timely
+timely_first e margin end n prev (t ∷ ts) timely = timely.0
+
+covered_at : (margin t n m end : ℕ) → m < n → m < t → Covers margin (Some t) n end → m < end
+covered_at margin t n m end need before covers = elim covers [ inl lasts ↦ omega arith | inr granted ↦ omega arith ]
+
+-- timely moments for each of a set of entries: with their Asks each of these lasts until its need
+module _ (es : List Entry) (margin s : ℕ) (above : 0 < margin) (P : ℕ → Type 0) (need : ℕ → ℕ) (set : IsNeeded es s P need) where
+  lasts_from :
+      (ends : ℕ → ℕ) (ts : List ℕ) (prev : Option ℕ) (from : ℕ) (e : ℕ → ℕ) → ((i : ℕ) → ends i ≤ e i) → IsRising from ts → CoversAll P need margin e (first_of ts) →
+      ((i : ℕ) → P i → IsTimely (entry_at es i) margin (ends i) (need i) prev ts) →
+      (i m : ℕ) → P i → from ≤ m → m < need i → m < ends_at es margin e (with_asks es margin s e ts) m i
+  unfolding with_asks ends_at ends_after bound
+  lasts_from ends [] prev from e grown rising covers timely i m here start before =
+      let lasts : need i ≤ e i = covers i here in omega arith
+  lasts_from ends (t ∷ ts) prev from e grown rising covers timely i m here start before =
+      let w = asking es margin s e t (first_of ts) in
+      let rest = with_asks es margin s (after es margin e w) ts in
+      elim (cases_lt m t) [
+        | inl early ↦
+            subst (λ (f : ℕ → ℕ). m < f i) (sym (ends_unchanged es margin t m e (w ∷ rest) (asks_rise es margin s e t ts rising.1) early))
+            (covered_at margin t (need i) m (e i) before early (covers i here))
+        | inr due ↦
+            let grows : (k : ℕ) → ends k ≤ after es margin e w k = λ k. let l : ends k ≤ e k = grown k in let up = asks_grow es margin s e t (first_of ts) k in omega arith in
+            let round = round_covers es margin s above P need set ends e grown t (first_of ts) covers
+            (λ k there. timely_first (entry_at es k) margin (ends k) (need k) (Some t) ts (timely k there).1) in
+            subst (λ (f : ℕ → ℕ). m < f i) (sym (ends_from es margin e m w rest due))
+            (lasts_from ends ts (Some t) t (after es margin e w) grows rising.1 round (λ k there. (timely k there).1) i m here due before)
+      ]
+
+  pub timely_lasts :
+      (ends : ℕ → ℕ) (ts : List ℕ) → IsRising s ts → ((i : ℕ) → P i → IsTimely (entry_at es i) margin (ends i) (need i) None ts) →
+      (i m : ℕ) → P i → s ≤ m → m < need i → m < ends_at es margin ends (with_asks es margin s ends ts) m i
+  unfolding latest_end
+  timely_lasts ends ts rising timely =
+      lasts_from ends ts None s ends (λ i. omega arith) rising (λ i here. timely_first (entry_at es i) margin (ends i) (need i) None ts (timely i here)) timely
+
+-- ---- all entries, each with the need that it carries
 
 -- each moment comes in time: at it, and behind the last, the bounds that the moment before it leaves cover what is carried
 abbrev pub AllTimely : List Entry → ℕ → ℕ → (ℕ → ℕ) → Option ℕ → List ℕ → Type 0
 AllTimely es margin s ends prev [] = IsSafe es margin s (bound es ends prev) None
 AllTimely es margin s ends prev (t ∷ ts) = IsSafe es margin s (bound es ends prev) (Some t) × AllTimely es margin s ends (Some t) ts
 
-timely_first : (es : List Entry) (margin s : ℕ) (ends : ℕ → ℕ) (prev : Option ℕ) (ts : List ℕ) → AllTimely es margin s ends prev ts → IsSafe es margin s (bound es ends prev) (first_of ts)
-timely_first es margin s ends prev [] timely = timely
-timely_first es margin s ends prev (t ∷ ts) timely = timely.0
+timely_each : (es : List Entry) (margin s : ℕ) (ends : ℕ → ℕ) (prev : Option ℕ) (ts : List ℕ) → AllTimely es margin s ends prev ts → (i : ℕ) → IsTimely (entry_at es i) margin (ends i) (carried es s i) prev ts
+unfolding bound
+timely_each es margin s ends prev [] timely i = timely i
+timely_each es margin s ends prev (t ∷ ts) timely i = (timely.0 i, timely_each es margin s ends (Some t) ts timely.1 i)
 
--- ends that were covered until t are, after its Asks, covered until the next moment, where the bounds that t leaves are
-pub round_safe :
-    (es : List Entry) → ParentsFirst es → (margin s : ℕ) → 0 < margin → (ends e : ℕ → ℕ) → ((i : ℕ) → ends i ≤ e i) → (t : ℕ) (next : Option ℕ) →
-    IsSafe es margin s e (Some t) → IsSafe es margin s (bound es ends (Some t)) next → IsSafe es margin s (after es margin e (asking es margin s e t next)) next
-round_safe es first margin s above ends e grown t next safe bounds i =
-    round_covers es margin s above (λ k. Unit {0}) (carried es s) (record { up = λ a k here over. tt; more = λ a k here over. carried_up es first s a k over; carries = λ k here. omega arith })
-    ends e grown t next (λ k here. safe k) (λ k here. bounds k) i tt
-
-asks_rise : (es : List Entry) (margin s : ℕ) (ts : List ℕ) (e : ℕ → ℕ) (from : ℕ) → IsRising from ts → Rises (length es) from (with_asks es margin s e ts)
-unfolding with_asks asks
-asks_rise es margin s [] e from rising = tt
-asks_rise es margin s (t ∷ ts) e from rising = (
-  rising.0,
-  (asks_within (is_wanted es margin s e t (first_of ts)) (length es) 0 (length es) (omega arith), asks_rise es margin s ts (after es margin e (asking es margin s e t (first_of ts))) t rising.1),
-)
-
--- covered ends last until the next moment, and where there is none until each need
-safe_until : (es : List Entry) (margin s from t : ℕ) (e : ℕ → ℕ) → s ≤ from → IsSafe es margin s e (Some t) → KeptBetween es e from t
-safe_until es margin s from t e late safe i m start before need a over =
-    let carries = carried_at_least es s a i over (omega arith) in
-    elim (safe a) [ inl lasts ↦ omega (arith, carries) | inr granted ↦ omega arith ]
-
-safe_after : (es : List Entry) (margin s from t : ℕ) (e : ℕ → ℕ) → s ≤ from → IsSafe es margin s e None → KeptBetween es e from t
-safe_after es margin s from t e late safe i m start before need a over =
-    let carries = carried_at_least es s a i over (omega arith) in
-    let lasts : carried es s a ≤ e a = safe a in
-    omega (arith, carries)
-
-kept_from :
-    (g : Grove) → IsForest g → (s : ℕ) (ends : ℕ → ℕ) (ts : List ℕ) (prev : Option ℕ) (from : ℕ) (e : ℕ → ℕ) → s ≤ from → ((i : ℕ) → ends i ≤ e i) → IsRising from ts →
-    IsSafe g.entries g.margin s e (first_of ts) → AllTimely g.entries g.margin s ends prev ts → Keeps g.entries g.margin from e (with_asks g.entries g.margin s e ts)
-unfolding with_asks
-kept_from g forest s ends [] prev from e late grown rising safe timely =
-    (keeps_nil g.entries g.margin from e (need_within g forest)).0 (safe_after g.entries g.margin s from (LAST + 1) e late safe)
-kept_from g forest s ends (t ∷ ts) prev from e late grown rising safe timely =
-    let es = g.entries in
-    let margin = g.margin in
-    let w = asking es margin s e t (first_of ts) in
-    let start : from ≤ t = rising.0 in
-    let rounds = asks_rise es margin s (t ∷ ts) e from rising in
-    (keeps_cons es margin from (length es) e w (with_asks es margin s (after es margin e w) ts) rounds).0 (
-      safe_until es margin s from t e late safe,
-      kept_from g forest s ends ts (Some t) t (after es margin e w) (omega arith)
-          (λ i. let l : ends i ≤ e i = grown i in let k = asks_grow es margin s e t (first_of ts) i in omega arith) rising.1
-          (round_safe es (parents_first g forest) margin s forest.margin_above ends e grown t (first_of ts) safe (timely_first es margin s ends (Some t) ts timely.1)) timely.1,
-    )
-
-bound_none : (es : List Entry) (margin s : ℕ) (ends : ℕ → ℕ) (next : Option ℕ) → IsSafe es margin s (bound es ends None) next → IsSafe es margin s ends next
-unfolding bound latest_end
-bound_none es margin s ends next safe = safe
+all_needed : (es : List Entry) → ParentsFirst es → (s : ℕ) → IsNeeded es s (λ i. Unit {0}) (carried es s)
+all_needed es first s = record { up = λ a i here over. tt; more = λ a i here over. carried_up es first s a i over; carries = λ i here. omega arith }
 
 -- timely moments are kept with their Asks
 pub timely_keeps :
     (g : Grove) → IsForest g → (s : ℕ) (ends : ℕ → ℕ) (ts : List ℕ) → IsRising s ts → AllTimely g.entries g.margin s ends None ts →
     Keeps g.entries g.margin s ends (with_asks g.entries g.margin s ends ts)
-timely_keeps g forest s ends ts rising timely =
-    kept_from g forest s ends ts None s ends (omega arith) (λ i. omega arith) rising
-    (bound_none g.entries g.margin s ends (first_of ts) (timely_first g.entries g.margin s ends None ts timely)) timely
+timely_keeps g forest s ends ts rising timely i m start before a over =
+    let es = g.entries in
+    let carries = carried_at_least es s a i over (omega arith) in
+    timely_lasts es g.margin s forest.margin_above (λ k. Unit {0}) (carried es s) (all_needed es (parents_first g forest) s) ends ts rising
+    (λ k here. timely_each es g.margin s ends None ts timely k) a m tt start (omega (arith, carries))

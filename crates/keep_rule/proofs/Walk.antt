@@ -1,6 +1,6 @@
 -- A walk over the wake-ups: what is left to keep goes wake-up by wake-up.
 use Rattle.std.proofs.Common.{◌≡◌, ℕ, ◌+◌, ◌<◌, ◌≤◌, ◌↔◌, ◌&&◌, Bool, true, false, cond, List, [], ◌∷◌, Option, Some, None, length, filter, is_some, nat_le, nat_lt, refl, sym, ap, ◌∙◌, subst, arith, inl, inr, IsTrue}
-use Rattle.std.proofs.lemmas.Bool.{cases_lt}
+use Rattle.std.proofs.lemmas.Bool.{and_from, and_parts, cases_lt}
 use Rattle.std.proofs.lemmas.Bool.Decides.{nat_tests}
 use Rattle.keep_moment.specs.declared.moment.TheConstants.{LAST}
 use Rattle.keep_tree.specs.declared.entry.Entry.{Entry}
@@ -10,8 +10,9 @@ use Rattle.keep_rule.specs.declared.wake.WakeFault.{WakeFault}
 use Rattle.keep_rule.specs.declared.wake.WakeFault.TheVariants.{BeforeStart, Unordered, BadIndex}
 use Rattle.keep_rule.specs.Ends.{after, ends_after}
 use Rattle.keep_rule.specs.Keeps.{Keeps, ends_at}
-use Rattle.keep_rule.specs.Plans.{asks_past, fault_at, fault_from, first_some, wake_fault}
+use Rattle.keep_rule.specs.Plans.{asks_past, fault_at, fault_from, first_some, moments, wake_fault}
 use Rattle.keep_rule.specs.code.Replay.{KeptBetween}
+use Rattle.keep_rule.proofs.Keeping.{IsRising}
 
 -- wake-ups in order from s on, that ask no index past n entries
 abbrev pub Rises : ℕ → ℕ → List Wake → Type 0
@@ -67,19 +68,24 @@ pub ends_after_cons : (es : List Entry) (margin : ℕ) (ends : ℕ → ℕ) (w :
 unfolding ends_after
 ends_after_cons es margin ends w ws = refl
 
+rises_rising : (n s : ℕ) (ws : List Wake) → Rises n s ws → IsRising s (moments ws)
+rises_rising n s [] r = tt
+rises_rising n s (w ∷ ws) r = (r.0, rises_rising n w.at ws r.1.1)
+
 -- before the first wake-up no end has changed
-none_before : (n s m : ℕ) (ws : List Wake) → Rises n s ws → m < s → filter (λ w. nat_le w.at m) ws ≡ []
-none_before n s m [] r h = refl
-none_before n s m (w ∷ ws) r h =
-    let late : nat_le w.at m ≡ false = (let l : s ≤ w.at = r.0 in grind (arith, nat_tests)) in
-    let l : s ≤ w.at = r.0 in
-    ap (λ b. cond b (w ∷ filter (λ x. nat_le x.at m) ws) (filter (λ x. nat_le x.at m) ws)) late ∙ none_before n w.at m ws r.1.1 (omega arith)
+none_yet : (from m : ℕ) (ws : List Wake) → IsRising from (moments ws) → m < from → filter (λ w. nat_le w.at m) ws ≡ []
+none_yet from m [] rising h = refl
+none_yet from m (w ∷ ws) rising h =
+    let l : from ≤ w.at = rising.0 in
+    let late : nat_le w.at m ≡ false = grind (arith, nat_tests) in
+    ap (λ b. cond b (w ∷ filter (λ x. nat_le x.at m) ws) (filter (λ x. nat_le x.at m) ws)) late ∙ none_yet w.at m ws rising.1 (omega arith)
+
+pub ends_unchanged : (es : List Entry) (margin from m : ℕ) (e : ℕ → ℕ) (ws : List Wake) → IsRising from (moments ws) → m < from → ends_at es margin e ws m ≡ e
+unfolding ends_at ends_after
+ends_unchanged es margin from m e ws rising h = ap (ends_after es margin e) (none_yet from m ws rising h)
 
 ends_before : (es : List Entry) (margin : ℕ) (ends : ℕ → ℕ) (n m : ℕ) (w : Wake) (ws : List Wake) → Rises n w.at ws → m < w.at → ends_at es margin ends (w ∷ ws) m ≡ ends
-unfolding ends_at ends_after
-ends_before es margin ends n m w ws r h =
-    let late : nat_le w.at m ≡ false = grind (arith, nat_tests) in
-    ap (ends_after es margin ends) (ap (λ b. cond b (w ∷ filter (λ x. nat_le x.at m) ws) (filter (λ x. nat_le x.at m) ws)) late ∙ none_before n w.at m ws r h)
+ends_before es margin ends n m w ws r h = ends_unchanged es margin w.at m ends (w ∷ ws) (omega arith, rises_rising n w.at ws r) h
 
 pub ends_from : (es : List Entry) (margin : ℕ) (ends : ℕ → ℕ) (m : ℕ) (w : Wake) (ws : List Wake) → w.at ≤ m → ends_at es margin ends (w ∷ ws) m ≡ ends_at es margin (after es margin ends w) ws m
 unfolding ends_at ends_after
@@ -124,23 +130,13 @@ kept_first es margin s from ends present ws start same = (
   λ kept. (refl, subst (λ f. Keeps es margin from f ws) (sym same) (subst (λ n. Keeps es margin n present ws) (sym start) kept)),
 )
 
-both : (a b : Bool) → a ≡ true → b ≡ true → a && b ≡ true
-both true true p q = refl
-both true false p q = absurd cc
-both false b p q = absurd cc
-
-parts : (a b : Bool) → a && b ≡ true → (a ≡ true) × (b ≡ true)
-parts true true e = (refl, refl)
-parts true false e = absurd cc
-parts false b e = absurd cc
-
 pub kept_more :
     (es : List Entry) (margin n from : ℕ) (ends : ℕ → ℕ) (w : Wake) (ws : List Wake) (kept here : Bool) (P : Type 0) → Rises n from (w ∷ ws) → IsTrue here ↔ KeptBetween es ends from w.at →
     (IsTrue kept × Keeps es margin from ends (w ∷ ws)) ↔ P → (IsTrue (kept && here) × Keeps es margin w.at (after es margin ends w) ws) ↔ P
 kept_more es margin n from ends w ws kept here P r between whole =
     let walk = keeps_cons es margin from n ends w ws r in (
-      λ h. let k = parts kept here h.0 in whole.0 (k.0, walk.0 (between.0 k.1, h.1)),
-      λ p. let k = whole.1 p in let h = walk.1 k.1 in (both kept here k.0 (between.1 h.0), h.1),
+      λ h. let k = and_parts kept here h.0 in whole.0 (k.0, walk.0 (between.0 k.1, h.1)),
+      λ p. let k = whole.1 p in let h = walk.1 k.1 in (and_from kept here k.0 (between.1 h.0), h.1),
     )
 
 pub kept_last :
@@ -148,6 +144,6 @@ pub kept_last :
     (IsTrue kept × Keeps es margin from ends []) ↔ P → IsTrue (kept && here) ↔ P
 kept_last es margin from ends kept here P needs between whole =
     let walk = keeps_nil es margin from ends needs in (
-      λ h. let k = parts kept here h in whole.0 (k.0, walk.0 (between.0 k.1)),
-      λ p. let k = whole.1 p in both kept here k.0 (between.1 (walk.1 k.1)),
+      λ h. let k = and_parts kept here h in whole.0 (k.0, walk.0 (between.0 k.1)),
+      λ p. let k = whole.1 p in and_from kept here k.0 (between.1 (walk.1 k.1)),
     )

@@ -1,6 +1,7 @@
 -- Runs: wake-ups at equal distances with one force, and the wake-ups and moments that a list of runs means.
 -- Source: this project's own.
 use Rattle.std.specs.Prelude.{◌≡◌, ℕ, zero, suc, ◌+◌, ◌-◌, ◌*◌, ◌<◌, ◌≤◌, ◌↔◌, List, [], ◌∷◌, ◌++◌}
+use Rattle.std.specs.List.{AllByRecursion}
 use Rattle.keep_moment.specs.declared.moment.TheConstants.{LAST}
 use Rattle.keep_rule.specs.declared.force.Force.{Force}
 use Rattle.keep_rule.specs.declared.run.Run.{Run}
@@ -29,12 +30,20 @@ abbrev pub counted : List Run → ℕ
 counted [] = 0
 counted (r ∷ rs) = r.count + counted rs
 
--- one wake-up or more, the last of them at a moment; the step is 0 exactly where there is one
-pub record IsRun (r : Run) : Type 0 where
+-- one wake-up or more, the last of them at a moment
+pub record HasMoments (r : Run) : Type 0 where
   pub some : 0 < r.count
-  pub lone : (r.step ≡ 0) ↔ (r.count ≡ 1)
   pub last : r.first + (r.count - 1) * r.step ≤ LAST
 
+-- and the step is 0 exactly where there is one
+pub record IsRun (r : Run) : Type 0 where
+  pub moments : HasMoments r
+  pub lone : (r.step ≡ 0) ↔ (r.count ≡ 1)
+
 abbrev pub AreRuns : List Run → Type 0
-AreRuns [] = Unit {0}
-AreRuns (r ∷ rs) = IsRun r × AreRuns rs
+AreRuns rs = AllByRecursion IsRun rs
+
+-- the indices of a run are those of n entries
+pub record IsAmong (n : ℕ) (r : Run) : Type 0 where
+  pub entry : r.entry < n
+  pub needed : r.needed < n

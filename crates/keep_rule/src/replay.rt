@@ -6,10 +6,9 @@ ghost use Rattle.keep_rule.specs.Keeps.{Keeps};
 ghost use Rattle.keep_rule.specs.Plans.{asks_past, wake_fault};
 ghost use Rattle.keep_rule.specs.code.Replay.{KeptBetween, Lasts, renewed_by, shown};
 
-use crate::rule::renewal;
 use crate::wake::{Wake, WakeFault, wake_fault};
 use keep_moment::{LAST, Moment};
-use keep_tree::{Ends, Forest};
+use keep_tree::{Ends, Forest, renewal};
 use std::alloc::{AllocError, Global};
 
 /// The ends after these wake-ups, in seconds since 1970-01-01T00:00:00Z, one for each entry in order. All entries that
@@ -123,7 +122,7 @@ fn renewed_end(forest: &Forest, index: u32, at: Moment, last: u64, end: u64) -> 
 {
     let entry = forest.get(index);
     if entry.renewable && at.plus(forest.margin()) <= last {
-        renewal(entry, at)
+        renewal(entry, at.get())
     } else {
         end
     }

@@ -1,10 +1,10 @@
 ghost use Rattle.std.specs.Prelude.{◌≡◌, ℕ, ◌+◌, ◌<◌, ◌≤◌, length};
 ghost use Rattle.keep_tree.specs.Forest.{end_of};
-ghost use Rattle.keep_tree.specs.Renewal.{all_last, capped, is_granted, renewal, renewed};
+ghost use Rattle.keep_tree.specs.Renewal.{all_last, is_granted, renewed};
 ghost use Rattle.keep_rule.specs.Reach.{reach, reach_of};
 
 use keep_moment::Moment;
-use keep_tree::{Entry, Forest};
+use keep_tree::{Entry, Forest, renewal};
 
 /// The end, in seconds since 1970-01-01T00:00:00Z, that the entry at `index` has after it was asked at `at`, by the
 /// present ends: `at` and its step, at most its ceiling, where it is renewable and every entry over it ends the margin
@@ -18,7 +18,7 @@ pub fn granted_end(forest: &Forest, index: u32, at: Moment) -> u64
     ensures { result ≡ renewed forest.now.entries forest.now.margin (end_of forest.now.entries) at index }
 {
     if is_granted(forest, index, at) {
-        renewal(forest.get(index), at)
+        renewal(forest.get(index), at.get())
     } else {
         forest.get(index).end
     }
@@ -45,24 +45,6 @@ fn all_last(forest: &Forest, index: u32, moment: u64) -> bool
     match entry.parent {
         None => true,
         Some(parent) => all_last(forest, parent, moment),
-    }
-}
-
-/// The end that a granted renewal at `at` gives, in seconds since 1970-01-01T00:00:00Z.
-#[tactic(auto, unfolding(keep_tree::specs::Renewal::renewal))]
-pub(crate) fn renewal(entry: &Entry, at: Moment) -> u64
-    ensures { result ≡ renewal entry.now at }
-{
-    capped(entry.ceiling, at.plus(entry.step))
-}
-
-#[tactic(auto, unfolding(keep_tree::specs::Renewal::capped))]
-fn capped(ceiling: Option<u64>, end: u64) -> u64
-    ensures { result ≡ capped ceiling end }
-{
-    match ceiling {
-        None => end,
-        Some(ceiling) => end.min(ceiling),
     }
 }
 

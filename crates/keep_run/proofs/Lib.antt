@@ -16,7 +16,6 @@ pub mod Opens
 pub mod Goes
 pub mod Rounds
 pub mod Written
-pub mod Short
 pub mod Rehearsed
 pub mod FaultWord
 pub mod PlannedRun

@@ -1,5 +1,4 @@
 -- LiveTicks: what an event line comes to over an exchange, from what the calls of its code say.
-use Rattle.std.specs.Prelude.{◌≢◌}
 use Rattle.std.proofs.Common.{◌≡◌, ℕ, ◌<◌, ◌⊎◌, inl, inr, codes, List, [], ◌∷◌, ◌++◌, Option, Some, None, IfSome, OnOk, Result, Ok, Err, refl, sym, ap, ◌∙◌, subst, flat_map}
 use Rattle.std.proofs.lemmas.List.{append-nil, append_assoc}
 use Rattle.keep_core.specs.declared.event.Event.{Event}
@@ -10,62 +9,32 @@ use Rattle.keep_core.specs.History.{Turn}
 use Rattle.keep_core.specs.LawsOfSteps.{IsShaped}
 use Rattle.keep_core.specs.State.{State}
 use Rattle.keep_core.proofs.Shaped.{shape}
-use Rattle.keep_exchange.specs.declared.fault.ExchangeFault.{ExchangeFault}
-use Rattle.keep_exchange.specs.declared.fault.ExchangeFault.TheVariants.{OutOfMemory}
-use Rattle.keep_exchange.specs.Exchanges.{Behind, Exchanges}
-use Rattle.keep_exchange.specs.Requests.{asked_as as asked_by, request_of as request_by}
-use Rattle.keep_tree.specs.declared.entry.Entry.{Entry}
-use Rattle.keep_tree.specs.declared.entry.Kind.{Kind}
-use Rattle.keep_tree.specs.declared.entry.Kind.TheVariants.{Token, Lease}
-use Rattle.keep_tree.specs.Forest.{Grove, entry_at}
+use Rattle.keep_exchange.specs.Exchanges.{Behind}
 use Rattle.keep_inventory.specs.Stock.{Stock}
-use Rattle.mini_broker.specs.Step.{step}
-use Rattle.mini_broker.specs.Stream.{sent_of}
-use Rattle.vault_http.specs.declared.reply.Reply.{Reply}
-use Rattle.vault_http.specs.declared.request.Request.{Request}
-use Rattle.vault_http.specs.Written.{request_text}
-use Rattle.keep_run.specs.Closed.{AreAnswered, Beat, IsBeat, World, asked_in, closing, reply_in, taken}
+use Rattle.keep_run.specs.Closed.{AreAnswered, Beat, IsBeat, World, asked_in, closing, taken}
 use Rattle.keep_run.specs.Live.{Between, IsHeard, IsLate, IsNeeded, IsReady, TicksLive, last_line, next_line, tick_text}
 use Rattle.keep_run.specs.declared.event_line.Heard.{Heard}
 use Rattle.keep_run.specs.declared.event_line.Heard.TheVariants.{Need}
-use Rattle.keep_run.specs.Playing.{Answers, AnswersAll, Ticks, heard_of, stock_of}
-use Rattle.keep_run.specs.Renewing.{asked_as, event_for, request_of}
+use Rattle.keep_run.specs.Playing.{AnswersAll, Ticks, stock_of}
 use Rattle.keep_run.specs.Stops.{both}
-use Rattle.keep_run.specs.Text.{answer_line, answer_text, beat_text, short_lines, wake_line}
-use Rattle.keep_run.proofs.OneAnswer.{heard, heard_is, one_answer}
+use Rattle.keep_run.specs.Text.{answer_text, beat_text, short_lines, wake_line}
+use Rattle.keep_run.proofs.OneAnswer.{between_as, between_none}
 use Rattle.keep_run.proofs.Opens.{ticks_shaped}
 use Rattle.keep_run.proofs.Texts.{same_answer_texts, same_shorts, same_wake}
 
--- ---- what stands behind an exchange
-
-pub between_none : (o : Option Behind) (P : Behind → Behind → Type 0) → ((b : Behind) → P b b) → Between o o P
-between_none None P f = tt
-between_none (Some b) P f = (b, (refl, f b))
-
-pub between_more :
-    (o mid new : Option Behind) (P Q R : Behind → Behind → Type 0) → ((b m a : Behind) → P b m → Q m a → R b a) → Between o mid P → Between mid new Q → Between o new R
-between_more None mid new P Q R f first second = tt
-between_more (Some b) mid new P Q R f first second =
-    let m = first.0 in
-    let rest : Between (Some m) new Q = subst (λ u. Between u new Q) first.1.0 second in
-    (rest.0, (rest.1.0, f b m rest.0 first.1.1 rest.1.1))
-
-pub between_as : (o new : Option Behind) (P Q : Behind → Behind → Type 0) → ((b a : Behind) → P b a → Q b a) → Between o new P → Between o new Q
-between_as None new P Q f is = tt
-between_as (Some b) new P Q f is = (is.0, (is.1.0, f b is.0 is.1.1))
-
 -- ---- what a keeper stays
 
-pub ready_as : (cs : List (List ℕ)) (old new : State) → IsShaped old.forest new.forest → IsReady cs old → new.shortened ≡ [] → IsReady cs new
-ready_as cs old new like ready quiet = record { count = ready.count ∙ sym like.count; quiet = quiet }
+pub ready_as : (cs : List (List ℕ)) (old new : State) → IsShaped old.forest new.forest → IsReady cs old → new.shortened ≡ [] → new.round ≡ None → IsReady cs new
+ready_as cs old new like ready quiet closed = record { count = ready.count ∙ sym like.count; quiet = quiet; closed = closed }
 
 pub ready_on :
-    (cs : List (List ℕ)) (old k new : State) (event : Event) (output : Output) → IsReady cs old → Turn old event (Ok output) k → new ≡ taken k → IsReady cs new
-ready_on cs old k new event output ready turn quiet =
-    ready_as cs old new (subst (λ (s : State). IsShaped old.forest s.forest) (sym quiet) (shape old k event (Ok output) turn)) ready (ap (λ (s : State). s.shortened) quiet)
+    (cs : List (List ℕ)) (old k new : State) (event : Event) (output : Output) → IsReady cs old → Turn old event (Ok output) k → new ≡ taken k → new.round ≡ None → IsReady cs new
+ready_on cs old k new event output ready turn quiet closed =
+    ready_as cs old new (subst (λ (s : State). IsShaped old.forest s.forest) (sym quiet) (shape old k event (Ok output) turn)) ready (ap (λ (s : State). s.shortened) quiet) closed
 
-pub ticks_ready : (cs : List (List ℕ)) (t : ℕ) (old new : State) (output : Output) (before after : List ℕ) → Ticks t old output new before after → IsReady cs old → IsReady cs new
-ticks_ready cs t old new output before after ticks ready = ready_on cs old ticks.keeper new (Tick t) output ready ticks.turn ticks.is
+pub ticks_ready :
+    (cs : List (List ℕ)) (t : ℕ) (old new : State) (output : Output) (before after : List ℕ) → Ticks t old output new before after → IsReady cs old → new.round ≡ None → IsReady cs new
+ticks_ready cs t old new output before after ticks ready closed = ready_on cs old ticks.keeper new (Tick t) output ready ticks.turn ticks.is closed
 
 -- a tick that neither asks nor sleeps has nothing to do
 pub only_idle : (t : ℕ) (old new : State) (output : Output) → Turn old (Tick t) (Ok output) new → ((asked : List ℕ) → output ≡ out.Ask asked → ⊥) → ((w : ℕ) → output ≡ out.Sleep w → ⊥) → output ≡ out.Idle
@@ -75,34 +44,6 @@ only_idle t old new out.Idle turn no_ask no_sleep = refl
 only_idle t old new out.Waiting turn no_ask no_sleep = absurd turn.1
 only_idle t old new (out.Round next) turn no_ask no_sleep = absurd turn.1
 only_idle t old new out.Planned turn no_ask no_sleep = absurd turn.1
-
--- ---- one answer
-
-by_kind : (k : Kind) (port : ℕ) (cs : List (List ℕ)) (i : ℕ) (e : Entry) → asked_by k port cs i e ≡ asked_as k port cs i e
-by_kind Token port cs i e = refl
-by_kind Lease port cs i e = refl
-
-pub request_is : (port : ℕ) (cs : List (List ℕ)) (g : Grove) (i : ℕ) → request_by port cs g i ≡ request_of port cs g i
-unfolding request_by request_of
-request_is port cs g i = by_kind (entry_at g.entries i).kind port cs i (entry_at g.entries i)
-
-pub answer_between :
-    (o new : Option Behind) (cs : List (List ℕ)) (t i : ℕ) (old : State) (request : Request) (result : Result Reply ExchangeFault) (reply : Option Reply) (event : Event) (output : Output) (k after' : State) (before mid after : List ℕ) →
-    result ≢ Err OutOfMemory → reply ≡ heard_of result → IfSome o (λ b. Exchanges b.table t request result new) → request ≡ request_of 8200 cs old.forest i →
-    event ≡ event_for cs old.forest i reply → Turn old event (Ok output) k → after' ≡ taken k → mid ≡ before ++ answer_line old.forest event reply → after ≡ mid ++ short_lines after'.forest k.shortened →
-    Between o new (λ b a. Answers cs t (both old b) i output (both after' a) before after)
-answer_between None new cs t i old request result reply event output k after' before mid after some is exchanged asked means turn quiet told short = tt
-answer_between (Some b) new cs t i old request result reply event output k after' before mid after some is exchanged asked means turn quiet told short =
-    let e = heard b.table t request result new some exchanged in
-    let got : reply ≡ reply_in e.sent = is ∙ ap heard_of e.received_as ∙ heard_is e.sent in
-    let a : Behind = record { table = (step b.table t request).ledger; wire = request_text request ++ sent_of e.sent } in (
-      a,
-      (
-        e.is,
-        one_answer cs t i (both old b) e.sent output request event k after' a before mid after asked e.says refl
-            (means ∙ ap (event_for cs old.forest i) got) turn quiet (told ∙ ap (λ r. before ++ answer_line old.forest event r) got) short,
-      ),
-    )
 
 -- ---- a tick
 

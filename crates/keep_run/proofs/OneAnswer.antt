@@ -1,6 +1,5 @@
 -- One answer, from what the calls of its code say.
-use Rattle.std.specs.Prelude.{◌≢◌}
-use Rattle.std.proofs.Common.{◌≡◌, ℕ, ◌++◌, Bool, true, false, cond, List, Option, Some, None, Result, Ok, Err, bytes_eq, length, nat_le, refl, ap, ◌∙◌, sym, subst, ◌==◌}
+use Rattle.std.proofs.Common.{◌≡◌, ℕ, ◌++◌, Bool, true, false, cond, List, Option, Some, None, IfSome, Result, Ok, Err, bytes_eq, refl, ap, ◌∙◌, sym, subst, ◌==◌}
 use Rattle.std.proofs.lemmas.List.{append_assoc}
 use Rattle.keep_tree.specs.declared.entry.Kind.{Kind}
 use Rattle.keep_tree.specs.declared.entry.Kind.TheVariants.{Token, Lease}
@@ -10,15 +9,11 @@ use Rattle.vault_json.specs.declared.renewed.RenewedLease.{RenewedLease}
 use Rattle.vault_json.specs.Renewed.{renew_lease_answer, renew_self_answer}
 use Rattle.vault_http.specs.declared.reply.Reply.{Reply}
 use Rattle.vault_http.specs.declared.request.Request.{Request}
-use Rattle.vault_http.specs.Written.{reply_text, request_text}
-use Rattle.vault_http.specs.declared.http_fault.HttpFault.TheVariants as https
+use Rattle.vault_http.specs.Written.{request_text}
 use Rattle.mini_broker.specs.declared.served.Served.{Served}
-use Rattle.mini_broker.specs.declared.served.Served.TheVariants as served
 use Rattle.mini_broker.specs.Stream.{sent_of}
-use Rattle.keep_exchange.specs.declared.exchange.TheConstants.{MOST_REPLY}
-use Rattle.keep_exchange.specs.declared.fault.ExchangeFault.{ExchangeFault}
-use Rattle.keep_exchange.specs.declared.fault.ExchangeFault.TheVariants.{ConnectFailed, WriteFailed, Http, OutOfMemory}
-use Rattle.keep_exchange.specs.Exchanges.{Behind, Exchanges, IsExchanged, received}
+use Rattle.keep_exchange.specs.Exchanges.{Behind}
+use Rattle.keep_exchange.specs.Requests.{IsAsked, reply_in, request_of}
 use Rattle.mini_broker.specs.Ledger.{Ledger}
 use Rattle.mini_broker.specs.Step.{Says, step}
 use Rattle.keep_core.specs.LawsOfSteps.{IsShaped}
@@ -28,26 +23,27 @@ use Rattle.keep_core.specs.declared.event.Output.{Output}
 use Rattle.keep_core.specs.History.{Turn}
 use Rattle.keep_core.specs.State.{State}
 use Rattle.keep_core.proofs.Shaped.{shape}
-use Rattle.keep_run.specs.Closed.{World, event_in, reply_in, taken}
-use Rattle.keep_run.specs.Playing.{Answers, IsAnswerOf, heard_of, stock_of}
-use Rattle.keep_run.specs.Renewing.{event_for, event_of, of_lease, of_token, request_of, told_by}
+use Rattle.keep_run.specs.Closed.{World, event_in, taken}
+use Rattle.keep_run.specs.Live.{Between}
+use Rattle.keep_run.specs.Playing.{Answers, stock_of}
+use Rattle.keep_run.specs.Renewing.{IsAnswerOf, event_for, event_of, of_lease, of_token, told_by}
 use Rattle.keep_run.specs.Stops.{both}
 use Rattle.keep_run.specs.Text.{answer_line, answer_text, short_lines}
 use Rattle.keep_run.proofs.Texts.{same_shorts}
 
--- ---- what a reply means is an answer for its entry
+-- ---- what a reply means is an answer of its entry
 
 either : (i : ℕ) (b : Bool) (x y : Event) → IsAnswerOf i x → IsAnswerOf i y → IsAnswerOf i (cond b x y)
 either i true x y a c = a
 either i false x y a c = c
 
 token_for : (i : ℕ) (x : Result Renewed ReplyFault) → IsAnswerOf i (of_token i x)
-token_for i (Ok r) = refl
-token_for i (Err e) = refl
+token_for i (Ok r) = (tt, refl)
+token_for i (Err e) = (tt, refl)
 
 lease_for : (id : List ℕ) (i : ℕ) (x : Result RenewedLease ReplyFault) → IsAnswerOf i (of_lease id i x)
-lease_for id i (Ok r) = either i (bytes_eq r.lease_id id) (Told i r.seconds r.renewable) (Lost i) refl refl
-lease_for id i (Err e) = refl
+lease_for id i (Ok r) = either i (bytes_eq r.lease_id id) (Told i r.seconds r.renewable) (Lost i) (tt, refl) (tt, refl)
+lease_for id i (Err e) = (tt, refl)
 
 told_for : (kind : Kind) (id : List ℕ) (i : ℕ) (body : List ℕ) → IsAnswerOf i (told_by kind id i body)
 told_for Token id i body = token_for i (renew_self_answer body)
@@ -55,28 +51,13 @@ told_for Lease id i body = lease_for id i (renew_lease_answer body)
 
 pub answers_for : (kind : Kind) (id : List ℕ) (i : ℕ) (reply : Option Reply) → IsAnswerOf i (event_of kind id i reply)
 unfolding event_of
-answers_for kind id i None = refl
-answers_for kind id i (Some r) = either i (r.status == 200) _ _ (told_for kind id i r.body) (either i _ (Refused i) (Lost i) refl refl)
+answers_for kind id i None = (tt, refl)
+answers_for kind id i (Some r) = either i (r.status == 200) _ _ (told_for kind id i r.body) (either i _ (Refused i) (Lost i) (tt, refl) (tt, refl))
 
 -- ---- the answer
 
 behind_request : Ledger → ℕ → Served → Request → Behind
 behind_request l t sent r = record { table = (step l t r).ledger; wire = request_text r ++ sent_of sent }
-
--- what an exchange that did not want memory came to
-pub heard : (old : Ledger) (t : ℕ) (r : Request) (result : Result Reply ExchangeFault) (new : Option Behind) → result ≢ Err OutOfMemory → Exchanges old t r result new → IsExchanged old t r result new
-heard old t r (Ok reply) new some e = e
-heard old t r (Err ConnectFailed) new some e = e
-heard old t r (Err WriteFailed) new some e = e
-heard old t r (Err (Http fault)) new some e = e
-heard old t r (Err OutOfMemory) new some e = absurd (some refl)
-
-pub heard_is : (sent : Served) → heard_of (received sent) ≡ reply_in sent
-heard_is (served.Reply reply) = by_length (nat_le (length (reply_text reply)) MOST_REPLY) reply where
-  by_length : (b : Bool) (reply : Reply) → heard_of (cond b (Ok reply) (Err (Http https.TooLong))) ≡ cond b (Some reply) None
-  by_length true reply = refl
-  by_length false reply = refl
-heard_is served.Dropped = refl
 
 pub one_answer :
     (cs : List (List ℕ)) (t i : ℕ) (old : World) (sent : Served) (output : Output) (request : Request) (event : Event) (k new : State) (l : Behind) (before mid after : List ℕ) →
@@ -105,3 +86,41 @@ one_answer cs t i old sent output request event k new l before mid after asked s
           ∙ append_assoc before line (short_lines old.keeper.forest k.shortened)
           ∙ ap (λ e. before ++ (answer_line old.keeper.forest e (reply_in sent) ++ short_lines old.keeper.forest k.shortened)) means;
     }
+
+-- ---- over an exchange
+
+pub between_none : (o : Option Behind) (P : Behind → Behind → Type 0) → ((b : Behind) → P b b) → Between o o P
+between_none None P f = tt
+between_none (Some b) P f = (b, (refl, f b))
+
+pub between_more :
+    (o mid new : Option Behind) (P Q R : Behind → Behind → Type 0) → ((b m a : Behind) → P b m → Q m a → R b a) → Between o mid P → Between mid new Q → Between o new R
+between_more None mid new P Q R f first second = tt
+between_more (Some b) mid new P Q R f first second =
+    let m = first.0 in
+    let rest : Between (Some m) new Q = subst (λ u. Between u new Q) first.1.0 second in
+    (rest.0, (rest.1.0, f b m rest.0 first.1.1 rest.1.1))
+
+pub between_as : (o new : Option Behind) (P Q : Behind → Behind → Type 0) → ((b a : Behind) → P b a → Q b a) → Between o new P → Between o new Q
+between_as None new P Q f is = tt
+between_as (Some b) new P Q f is = (is.0, (is.1.0, f b is.0 is.1.1))
+
+pub between_some : (b a : Behind) (P : Behind → Behind → Type 0) → Between (Some b) (Some a) P → P b a
+between_some b a P is = subst (P b) (let same : is.0 ≡ a = (let e = is.1.0 in cc) in same) is.1.1
+
+pub answer_between :
+    (o new : Option Behind) (cs : List (List ℕ)) (t i port : ℕ) (old : State) (reply : Option Reply) (event : Event) (output : Output) (k after' : State) (before mid after : List ℕ) →
+    port ≡ 8200 → IfSome o (λ b. IsAsked b.table t (request_of port cs old.forest i) reply new) → event ≡ event_for cs old.forest i reply → Turn old event (Ok output) k → after' ≡ taken k →
+    mid ≡ before ++ answer_line old.forest event reply → after ≡ mid ++ short_lines after'.forest k.shortened → Between o new (λ b a. Answers cs t (both old b) i output (both after' a) before after)
+answer_between None new cs t i port old reply event output k after' before mid after at asks means turn quiet told short = tt
+answer_between (Some b) new cs t i port old reply event output k after' before mid after at asks means turn quiet told short =
+    let e = subst (λ p. IsAsked b.table t (request_of p cs old.forest i) reply new) at asks in
+    let request = request_of 8200 cs old.forest i in
+    let a : Behind = record { table = (step b.table t request).ledger; wire = request_text request ++ sent_of e.sent } in (
+      a,
+      (
+        e.is,
+        one_answer cs t i (both old b) e.sent output request event k after' a before mid after refl e.says refl
+            (means ∙ ap (event_for cs old.forest i) e.reply_is) turn quiet (told ∙ ap (λ r. before ++ answer_line old.forest event r) e.reply_is) short,
+      ),
+    )

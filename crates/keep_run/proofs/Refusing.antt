@@ -1,58 +1,49 @@
--- In a run, whatever the broker does, the keeper refuses nothing that the loop hands it, but where a plan is too long or memory is wanting.
-use Rattle.std.proofs.Common.{◌≡◌, ◌==◌, ℕ, zero, suc, ◌+◌, ◌<◌, ◌≤◌, ◌||◌, Bool, true, false, cond, List, [], ◌∷◌, ◌++◌, Option, Some, None, Result, Ok, Err, length, map, nat_le, nat_lt, filter, refl, sym, ap, ◌∙◌, subst, arith, inl, inr}
-use Rattle.std.proofs.lemmas.Bool.{cases_Bool, cond-true, cond-false}
+-- In a run, whatever the broker does, the keeper refuses nothing that the loop hands it, but for want of memory.
+use Rattle.std.specs.Prelude.{◌≢◌}
+use Rattle.std.proofs.Common.{◌≡◌, ℕ, ◌+◌, ◌<◌, ◌≤◌, true, false, List, [], ◌∷◌, ◌++◌, Option, Some, None, Result, Ok, Err, drop, get_or, length, map, nat_le, nat_lt, refl, sym, ap, ◌∙◌, subst, arith}
+use Rattle.std.proofs.lemmas.Bool.{cond-true, cond-false}
 use Rattle.std.proofs.lemmas.Bool.Decides.{nat_tests}
-use Rattle.std.proofs.lemmas.List.{length-set}
-use Rattle.std.specs.List.{range_with_len}
+use Rattle.std.proofs.lemmas.List.{drop_all, drop_more, length-set}
+use Rattle.std.proofs.lemmas.List.Elements.{All-head, All-tail}
+use Rattle.std.specs.List.{All}
 use Rattle.keep_moment.specs.declared.moment.TheConstants.{LAST}
 use Rattle.keep_tree.specs.Forest.{Grove, end_of, entry_at}
 use Rattle.keep_rule.specs.Asks.{asks, first_of, is_wanted}
 use Rattle.keep_rule.specs.Schedule.{RisesStrictly}
 use Rattle.keep_tree.specs.declared.entry.Entry.{Entry}
-use Rattle.keep_tree.specs.declared.entry.Kind.{Kind}
-use Rattle.keep_tree.specs.declared.entry.Kind.TheVariants.{Token, Lease}
-use Rattle.vault_json.specs.declared.fault.ReplyFault.{ReplyFault}
-use Rattle.vault_json.specs.declared.renewed.Renewed.{Renewed}
-use Rattle.vault_json.specs.declared.renewed.RenewedLease.{RenewedLease}
 use Rattle.keep_inventory.specs.Stock.{credential_at}
-use Rattle.vault_http.specs.declared.reply.Reply.{Reply}
-use Rattle.vault_json.specs.Renewed.{renew_lease_answer, renew_self_answer}
 use Rattle.keep_core.specs.declared.event.Event.{Event}
 use Rattle.keep_core.specs.declared.event.Event.TheVariants.{Tick, Told, Refused, Lost, Need}
 use Rattle.keep_core.specs.declared.event.Output.{Output}
 use Rattle.keep_core.specs.declared.event.Output.TheVariants as out
 use Rattle.keep_core.specs.declared.fault.StepFault.{StepFault}
 use Rattle.keep_core.specs.declared.fault.StepFault.TheVariants.{ClockBack, RoundOpen, NotAsked, BadIndex, OutOfRange, TooLong, OutOfMemory}
-use Rattle.keep_core.specs.Refusal.{refusal, unless_asked, unless_closed, waits_for}
+use Rattle.keep_core.specs.LawsOfHistories.{IsAnswer}
+use Rattle.keep_core.specs.LawsOfSteps.{IsShaped}
+use Rattle.keep_core.proofs.Shaped.{shape}
+use Rattle.keep_core.specs.Refusal.{TellsSpan, refusal, unless_asked, unless_closed, waits_for}
 use Rattle.keep_core.specs.Replan.{IsPlanOf, Replan}
 use Rattle.keep_core.specs.History.{Turn}
 use Rattle.keep_core.specs.Shorten.{shorten}
 use Rattle.keep_core.specs.State.{Round, State}
-use Rattle.keep_core.specs.Step.{StepAnswer, answered, change, heard, of_entry, without}
+use Rattle.keep_core.specs.States.{IsState}
+use Rattle.keep_core.specs.Step.{StepAnswer, StepTooLong, answered, change, heard, needed, of_entry, without}
 use Rattle.keep_core.proofs.Standing.{best_first}
-use Rattle.keep_run.specs.Closed.{AreAnswered, Beat, Exchanged, IsAnswered, Played, World, asked_in, closing, event_in, next_by, next_tick, reply_in, taken, told_next}
-use Rattle.keep_run.specs.Renewing.{event_for, event_of, of_lease, of_token, told_by}
-use Rattle.keep_run.specs.Stops.{IsAnswerFor, IsTakenOrLong, NeverRefusedLaw}
-use Rattle.keep_run.proofs.Midway.{filter_rises, here_first, is_among, without_first}
+use Rattle.keep_exchange.specs.Requests.{reply_in}
+use Rattle.keep_report.specs.declared.stop.Stop.TheVariants as stops
+use Rattle.keep_run.specs.Closed.{AreAnswered, Beat, Exchanged, IsAnswered, Played, World, asked_in, closing, event_in, next_by, next_tick, taken, told_next}
+use Rattle.keep_run.specs.Playing.{Comes, Hears, IsPlanFault, Leaves, Waits, stop_of}
+use Rattle.keep_run.specs.Renewing.{IsAnswerOf, event_for}
+use Rattle.keep_run.specs.Stops.{IsTaken, NeverRefusedLaw}
+use Rattle.keep_run.proofs.Midway.{filter_rises, here_first, without_first}
+use Rattle.keep_run.proofs.OneAnswer.{answers_for}
 use Rattle.keep_run.proofs.Running.{within_last}
-
--- when a moment may be told
-abbrev Comes : ℕ → Option ℕ → Type 0
-Comes last None = Unit {0}
-Comes last (Some u) = (last ≤ u) × (u ≤ LAST)
+use Rattle.keep_run.proofs.Within.{asked_within}
 
 -- no round is open, and the next tick comes, if there is one
 abbrev Rests : State → Option ℕ → Type 0
 Rests s None = Unit {0}
-Rests s (Some u) = (s.round ≡ None) × ((s.last ≤ u) × (u ≤ LAST))
-
--- a round is open at the last moment, with these unanswered, by index
-record Asks (s : State) (t : ℕ) (todo : List ℕ) : Type 0 where
-  round : s.round ≡ Some (record { at = t; unanswered = todo })
-  last : s.last ≡ t
-  low : ℕ
-  rises : RisesStrictly low todo
-  within : (i : ℕ) → is_among todo i ≡ true → i < length s.forest.entries
+Rests s (Some u) = (s.round ≡ None) × Comes s.last (Some u)
 
 first_comes : (g : Grove) (t : ℕ) (ts : List ℕ) → IsPlanOf g t ts → Comes t (first_of ts)
 first_comes g t [] plan = tt
@@ -68,89 +59,128 @@ replanned old t new closed r = (
   ),
 )
 
+comes_at : (t last : ℕ) (due : Option ℕ) → last ≡ t → Comes t due → Comes last due
+comes_at t last None same comes = tt
+comes_at t last (Some u) same comes = let le : t ≤ u = comes.0 in (omega arith, comes.1)
+
+-- a moment that is not before the last one comes
+pub told_comes : (t a b last c k : ℕ) → a ≡ t → b ≡ t → last ≡ k → c ≡ last → a ≤ LAST → c ≤ a → Comes k (Some b)
+told_comes t a b last c k a_is b_is last_is c_is late not_before = (omega arith, omega arith)
+
 -- ---- refusals
 
-tick_free : (s : State) (t : ℕ) → Rests s (Some t) → refusal s (Tick t) ≡ None
+tick_free : (s : State) (t : ℕ) → s.round ≡ None → Comes s.last (Some t) → refusal s (Tick t) ≡ None
 unfolding refusal
-tick_free s t r =
-    let late : t ≤ LAST = r.1.1 in
-    let le : s.last ≤ t = r.1.0 in
+tick_free s t closed comes =
+    let late : t ≤ LAST = comes.1 in
+    let le : s.last ≤ t = comes.0 in
     let a : nat_lt LAST t ≡ false = grind (arith, nat_tests) in
     let b : nat_lt t s.last ≡ false = grind (arith, nat_tests) in
-    cond-false (nat_lt LAST t) _ _ a ∙ cond-false (nat_lt t s.last) _ _ b ∙ ap (λ o. unless_closed (record s { round = o })) r.0
+    cond-false (nat_lt LAST t) _ _ a ∙ cond-false (nat_lt t s.last) _ _ b ∙ ap (λ o. unless_closed (record s { round = o })) closed
 
-asked_free : (s : State) (t i : ℕ) (todo : List ℕ) → Asks s t (i ∷ todo) → unless_asked s i ≡ None
-asked_free s t i todo a =
-    let within : i < length s.forest.entries = a.within i (here_first i todo) in
+asked_free : (s : State) (i : ℕ) → i < length s.forest.entries → waits_for s.round i ≡ true → unless_asked s i ≡ None
+asked_free s i within waits =
     let b : nat_le (length s.forest.entries) i ≡ false = grind (arith, nat_tests) in
-    cond-false (nat_le (length s.forest.entries) i) _ _ b ∙ ap (λ o. unless_asked_by o i) a.round ∙ cond-true (is_among (i ∷ todo) i) None _ (here_first i todo) where
-      unless_asked_by : Option Round → ℕ → Option StepFault
-      unless_asked_by o i = cond (waits_for o i) None (Some NotAsked)
+    cond-false (nat_le (length s.forest.entries) i) _ _ b ∙ cond-true (waits_for s.round i) None (Some NotAsked) waits
 
-answer_free : (s : State) (t i : ℕ) (todo : List ℕ) (event : Event) → Asks s t (i ∷ todo) → IsAnswerFor i event → refusal s event ≡ None
+answer_free : (s : State) (i : ℕ) (event : Event) → i < length s.forest.entries → waits_for s.round i ≡ true → IsAnswerOf i event → TellsSpan event → refusal s event ≡ None
 unfolding refusal
-answer_free s t i todo (Told j seconds renewable) a is =
-    let small : seconds ≤ 4294967295 = is.1 in
+answer_free s i (Told j seconds renewable) within waits of span =
+    let small : seconds ≤ 4294967295 = span in
     let b : nat_lt 4294967295 seconds ≡ false = grind (arith, nat_tests) in
-    cond-false (nat_lt 4294967295 seconds) _ (unless_asked s j) b ∙ ap (unless_asked s) is.0 ∙ asked_free s t i todo a
-answer_free s t i todo (Refused j) a is = ap (unless_asked s) is ∙ asked_free s t i todo a
-answer_free s t i todo (Lost j) a is = ap (unless_asked s) is ∙ asked_free s t i todo a
-answer_free s t i todo (Tick u) a is = absurd is
-answer_free s t i todo (Need j until) a is = absurd is
+    cond-false (nat_lt 4294967295 seconds) _ (unless_asked s j) b ∙ ap (unless_asked s) of.1 ∙ asked_free s i within waits
+answer_free s i (Refused j) within waits of span = ap (unless_asked s) of.1 ∙ asked_free s i within waits
+answer_free s i (Lost j) within waits of span = ap (unless_asked s) of.1 ∙ asked_free s i within waits
+answer_free s i (Tick u) within waits of span = absurd of.0
+answer_free s i (Need j until) within waits of span = absurd of.0
 
-free_taken : (s : State) (event : Event) → refusal s event ≡ None → (result : Result Output StepFault) (new : State) → Turn s event result new → IsTakenOrLong result
-free_taken s event free (Ok output) new turn = tt
-free_taken s event free (Err TooLong) new turn = tt
-free_taken s event free (Err OutOfMemory) new turn = tt
-free_taken s event free (Err ClockBack) new turn = absurd (let bad : None ≡ Some ClockBack = sym free ∙ turn.0 in cc)
-free_taken s event free (Err RoundOpen) new turn = absurd (let bad : None ≡ Some RoundOpen = sym free ∙ turn.0 in cc)
-free_taken s event free (Err NotAsked) new turn = absurd (let bad : None ≡ Some NotAsked = sym free ∙ turn.0 in cc)
-free_taken s event free (Err BadIndex) new turn = absurd (let bad : None ≡ Some BadIndex = sym free ∙ turn.0 in cc)
-free_taken s event free (Err OutOfRange) new turn = absurd (let bad : None ≡ Some OutOfRange = sym free ∙ turn.0 in cc)
+free_taken :
+    (s : State) (event : Event) → refusal s event ≡ None → (StepTooLong s event → ⊥) → (result : Result Output StepFault) (new : State) → Turn s event result new → IsTaken result
+free_taken s event free short (Ok output) new turn = tt
+free_taken s event free short (Err TooLong) new turn = absurd (short turn.1.0)
+free_taken s event free short (Err OutOfMemory) new turn = tt
+free_taken s event free short (Err ClockBack) new turn = absurd (let bad : None ≡ Some ClockBack = sym free ∙ turn.0 in cc)
+free_taken s event free short (Err RoundOpen) new turn = absurd (let bad : None ≡ Some RoundOpen = sym free ∙ turn.0 in cc)
+free_taken s event free short (Err NotAsked) new turn = absurd (let bad : None ≡ Some NotAsked = sym free ∙ turn.0 in cc)
+free_taken s event free short (Err BadIndex) new turn = absurd (let bad : None ≡ Some BadIndex = sym free ∙ turn.0 in cc)
+free_taken s event free short (Err OutOfRange) new turn = absurd (let bad : None ≡ Some OutOfRange = sym free ∙ turn.0 in cc)
+
+pub tick_taken : (s : State) (t : ℕ) → s.round ≡ None → Comes s.last (Some t) → (result : Result Output StepFault) (new : State) → Turn s (Tick t) result new → IsTaken result
+tick_taken s t closed comes = free_taken s (Tick t) (tick_free s t closed comes) (λ long. long)
+
+answer_short : (s : State) (event : Event) → IsAnswer event → StepTooLong s event → ⊥
+answer_short s (Told j seconds renewable) is long = long
+answer_short s (Refused j) is long = long
+answer_short s (Lost j) is long = long
+answer_short s (Tick u) is long = long
+answer_short s (Need j until) is long = is
+
+pub answer_taken :
+    (s : State) (i : ℕ) (event : Event) → i < length s.forest.entries → waits_for s.round i ≡ true → IsAnswerOf i event → TellsSpan event →
+    (result : Result Output StepFault) (new : State) → Turn s event result new → IsTaken result
+answer_taken s i event within waits of span = free_taken s event (answer_free s i event within waits of span) (answer_short s event of.0)
+
+-- what is refused for want of memory alone stops a run as just that
+pub taken_stop : (fault : StepFault) → IsTaken (Err fault) → IsPlanFault fault × (stop_of fault ≡ stops.Memory)
+taken_stop OutOfMemory is = (tt, refl)
+taken_stop TooLong is = absurd is
+taken_stop ClockBack is = absurd is
+taken_stop RoundOpen is = absurd is
+taken_stop NotAsked is = absurd is
+taken_stop BadIndex is = absurd is
+taken_stop OutOfRange is = absurd is
+
+-- a new need is refused because the plan would be too long, or for want of memory
+pub need_fault :
+    (s : State) (i until : ℕ) (fault : StepFault) (new : State) → i < length s.forest.entries → until ≤ LAST → s.round ≡ None → Turn s (Need i until) (Err fault) new → IsPlanFault fault
+unfolding refusal
+need_fault s i until fault new within late closed turn = by_fault fault turn where
+  a : nat_lt LAST until ≡ false
+  a = grind (arith, nat_tests)
+
+  b : nat_le (length s.forest.entries) i ≡ false
+  b = grind (arith, nat_tests)
+
+  free : refusal s (Need i until) ≡ None
+  free = cond-false (nat_lt LAST until) _ _ a ∙ cond-false (nat_le (length s.forest.entries) i) _ _ b ∙ ap (λ o. unless_closed (record s { round = o })) closed
+
+  by_fault : (f : StepFault) → Turn s (Need i until) (Err f) new → IsPlanFault f
+  by_fault TooLong turn' = tt
+  by_fault OutOfMemory turn' = tt
+  by_fault ClockBack turn' = absurd (let bad : None ≡ Some ClockBack = sym free ∙ turn'.0 in cc)
+  by_fault RoundOpen turn' = absurd (let bad : None ≡ Some RoundOpen = sym free ∙ turn'.0 in cc)
+  by_fault NotAsked turn' = absurd (let bad : None ≡ Some NotAsked = sym free ∙ turn'.0 in cc)
+  by_fault BadIndex turn' = absurd (let bad : None ≡ Some BadIndex = sym free ∙ turn'.0 in cc)
+  by_fault OutOfRange turn' = absurd (let bad : None ≡ Some OutOfRange = sym free ∙ turn'.0 in cc)
+
+-- it leaves no round open
+pub needed_closed : (old : State) (i until : ℕ) (output : Output) (new : State) → old.round ≡ None → Turn old (Need i until) (Ok output) new → new.round ≡ None
+needed_closed old i until out.Planned new closed turn = (replanned (needed old i until) old.last new closed turn.1).0
+needed_closed old i until out.Idle new closed turn = absurd turn.1
+needed_closed old i until (out.Sleep w) new closed turn = absurd turn.1
+needed_closed old i until (out.Ask asked) new closed turn = absurd turn.1
+needed_closed old i until out.Waiting new closed turn = absurd turn.1
+needed_closed old i until (out.Round next) new closed turn = absurd turn.1
 
 -- ---- an answer
 
--- every reply means an answer for its entry
-record IsFor (i : ℕ) (event : Event) : Type 0 where
-  of : of_entry event ≡ i
-  steps : (old new : State) (output : Output) → Turn old event (Ok output) new → StepAnswer old event output new
-
-told_for : (i n : ℕ) (b : Bool) → IsFor i (Told i n b)
-told_for i n b = record { of = refl; steps = λ old new output turn. turn.1 }
-
-refused_for : (i : ℕ) → IsFor i (Refused i)
-refused_for i = record { of = refl; steps = λ old new output turn. turn.1 }
-
-lost_for : (i : ℕ) → IsFor i (Lost i)
-lost_for i = record { of = refl; steps = λ old new output turn. turn.1 }
-
-either : (i : ℕ) (b : Bool) (x y : Event) → IsFor i x → IsFor i y → IsFor i (cond b x y)
-either i true x y a c = a
-either i false x y a c = c
-
-event_is_for : (kind : Kind) (id : List ℕ) (i : ℕ) (reply : Option Reply) → IsFor i (event_of kind id i reply)
-unfolding event_of
-event_is_for kind id i None = lost_for i
-event_is_for kind id i (Some r) = either i (r.status == 200) _ _ (told_is_for kind id i r.body) (either i _ (Refused i) (Lost i) (refused_for i) (lost_for i)) where
-  token_for : (i : ℕ) (x : Result Renewed ReplyFault) → IsFor i (of_token i x)
-  token_for i (Ok r) = told_for i r.seconds r.renewable
-  token_for i (Err e) = lost_for i
-
-  lease_for : (id : List ℕ) (i : ℕ) (x : Result RenewedLease ReplyFault) → IsFor i (of_lease id i x)
-  lease_for id i (Ok r) = either i _ (Told i r.seconds r.renewable) (Lost i) (told_for i r.seconds r.renewable) (lost_for i)
-  lease_for id i (Err e) = lost_for i
-
-  told_is_for : (kind : Kind) (id : List ℕ) (i : ℕ) (body : List ℕ) → IsFor i (told_by kind id i body)
-  told_is_for Token id i body = token_for i (renew_self_answer body)
-  told_is_for Lease id i body = lease_for id i (renew_lease_answer body)
+answer_steps : (old new : State) (event : Event) (output : Output) → IsAnswer event → Turn old event (Ok output) new → StepAnswer old event output new
+answer_steps old new (Told j seconds renewable) output is turn = turn.1
+answer_steps old new (Refused j) output is turn = turn.1
+answer_steps old new (Lost j) output is turn = turn.1
+answer_steps old new (Tick u) output is turn = absurd is
+answer_steps old new (Need j until) output is turn = absurd is
 
 change_count : (g : Grove) (i : ℕ) (f : Entry → Entry) → length (change g i f).entries ≡ length g.entries
 change_count g i f = length-set g.entries i (f (entry_at g.entries i))
 
--- what an answer leads to: others are waited for, or the round is closed
-abbrev Leads : ℕ → List ℕ → Option ℕ → Output → State → Type 0
-Leads t [] before output new = Rests new (told_next before output)
-Leads t (j ∷ more) before output new = Asks new t (j ∷ more)
+-- what is left of a round: others are waited for, or it is closed and the next moment comes
+abbrev pub Stands : ℕ → List ℕ → Option ℕ → State → Type 0
+Stands t [] next s = (s.round ≡ None) × Comes s.last next
+Stands t (j ∷ more) next s = Waits s t (j ∷ more)
+
+abbrev pub Leads : ℕ → List ℕ → Option ℕ → Output → State → Type 0
+Leads t todo before output new = Stands t todo (told_next before output) new
 
 rises_on : (low i : ℕ) (todo : List ℕ) → RisesStrictly low (i ∷ todo) → RisesStrictly (i + 1) todo
 rises_on low i todo r = r.1
@@ -159,26 +189,21 @@ round_is : (s : State) (t : ℕ) (todo : List ℕ) (round : Round) → s.round �
 round_is s t todo round one two =
     let same : record { at = t; unanswered = todo } ≡ round = (let e = sym one ∙ two in cc) in (ap (λ (r : Round). r.at) (sym same), ap (λ (r : Round). r.unanswered) (sym same))
 
-comes_rests : (s : State) (t : ℕ) (due : Option ℕ) → s.round ≡ None → s.last ≡ t → Comes t due → Rests s due
-comes_rests s t None closed last comes = tt
-comes_rests s t (Some u) closed last comes = let le : t ≤ u = comes.0 in (closed, (omega arith, comes.1))
-
 answer_leads :
-    (old new : State) (t i : ℕ) (todo : List ℕ) (event : Event) (output : Output) (before : Option ℕ) → Asks old t (i ∷ todo) → IsFor i event → StepAnswer old event output new → Leads t todo before output new
+    (old new : State) (t i : ℕ) (todo : List ℕ) (event : Event) (output : Output) (before : Option ℕ) → Waits old t (i ∷ todo) → of_entry event ≡ i → StepAnswer old event output new → Leads t todo before output new
 answer_leads old new t i [] event out.Waiting before a is step =
     let round = step.0 in
     let parts = round_is old t (i ∷ []) round a.round step.1.0 in
-    let gone : without (of_entry event) round.unanswered ≡ [] = ap (λ k. without k round.unanswered) is.of ∙ ap (without i) parts.1 ∙ without_first i [] tt in
+    let gone : without (of_entry event) round.unanswered ≡ [] = ap (λ k. without k round.unanswered) is ∙ ap (without i) parts.1 ∙ without_first i [] tt in
     absurd (step.1.1.0 gone)
 answer_leads old new t i [] event (out.Round next) before a is step =
     let round = step.0 in
-    let parts = round_is old t (i ∷ []) round a.round step.1.0 in
     let anew = replanned (heard old event round.at None) round.at new refl step.1.1.1.0 in
-    comes_rests new round.at next anew.0 anew.1.0 (subst (Comes round.at) (sym step.1.1.1.1) anew.1.1)
+    (anew.0, comes_at round.at new.last next anew.1.0 (subst (Comes round.at) (sym step.1.1.1.1) anew.1.1))
 answer_leads old new t i (j ∷ more) event out.Waiting before a is step =
     let round = step.0 in
     let parts = round_is old t (i ∷ j ∷ more) round a.round step.1.0 in
-    let gone : without (of_entry event) round.unanswered ≡ j ∷ more = ap (λ k. without k round.unanswered) is.of ∙ ap (without i) parts.1 ∙ without_first i (j ∷ more) a.rises.1 in
+    let gone : without (of_entry event) round.unanswered ≡ j ∷ more = ap (λ k. without k round.unanswered) is ∙ ap (without i) parts.1 ∙ without_first i (j ∷ more) a.rises.1 in
     let now = step.1.1.1 in
     let count : length new.forest.entries ≡ length old.forest.entries = ap (λ (s : State). length s.forest.entries) now ∙ change_count old.forest (of_entry event) (answered round.at event) in
     record {
@@ -186,50 +211,76 @@ answer_leads old new t i (j ∷ more) event out.Waiting before a is step =
       last = ap (λ (s : State). s.last) now ∙ a.last;
       low = i + 1;
       rises = rises_on a.low i (j ∷ more) a.rises;
-      within = λ k there. let old_within = a.within k (or_too (i == k) (is_among (j ∷ more) k) there) in omega arith;
-    } where
-      or_too : (x y : Bool) → y ≡ true → x || y ≡ true
-      or_too true y e = refl
-      or_too false y e = e
+      within = subst (λ n. All (λ k. k < n) (j ∷ more)) (sym count) (All-tail (λ k. k < length old.forest.entries) i (j ∷ more) a.within);
+    }
 answer_leads old new t i (j ∷ more) event (out.Round next) before a is step =
     let round = step.0 in
     let parts = round_is old t (i ∷ j ∷ more) round a.round step.1.0 in
-    let gone : without (of_entry event) round.unanswered ≡ j ∷ more = ap (λ k. without k round.unanswered) is.of ∙ ap (without i) parts.1 ∙ without_first i (j ∷ more) a.rises.1 in
+    let gone : without (of_entry event) round.unanswered ≡ j ∷ more = ap (λ k. without k round.unanswered) is ∙ ap (without i) parts.1 ∙ without_first i (j ∷ more) a.rises.1 in
     absurd (let bad : j ∷ more ≡ [] = sym gone ∙ step.1.1.0 in cc)
 answer_leads old new t i todo event (out.Sleep w) before a is step = absurd step
 answer_leads old new t i todo event out.Idle before a is step = absurd step
 answer_leads old new t i todo event (out.Ask asked) before a is step = absurd step
 answer_leads old new t i todo event out.Planned before a is step = absurd step
 
-asks_taken : (s : State) (t : ℕ) (todo : List ℕ) → Asks s t todo → Asks (taken s) t todo
-asks_taken s t todo a = record { round = a.round; last = a.last; low = a.low; rises = a.rises; within = a.within }
+waits_taken : (s : State) (t : ℕ) (todo : List ℕ) → Waits s t todo → Waits (taken s) t todo
+waits_taken s t todo a = record { round = a.round; last = a.last; low = a.low; rises = a.rises; within = a.within }
 
-rests_taken : (s : State) (due : Option ℕ) → Rests s due → Rests (taken s) due
-rests_taken s None r = tt
-rests_taken s (Some u) r = r
+leads_taken : (s : State) (t : ℕ) (todo : List ℕ) (before : Option ℕ) (output : Output) → Leads t todo before output s → Leads t todo before output (taken s)
+leads_taken s t [] before output l = l
+leads_taken s t (j ∷ more) before output l = waits_taken s t (j ∷ more) l
+
+-- what an answer that is taken leads to
+pub hears_leads :
+    (old new : State) (t i : ℕ) (todo : List ℕ) (output : Output) (before : Option ℕ) → Waits old t (i ∷ todo) → Hears i old output new → Leads t todo before output new
+hears_leads old new t i todo output before a h =
+    subst (Leads t todo before output) (sym h.is)
+    (leads_taken h.keeper t todo before output (answer_leads old h.keeper t i todo h.event output before a h.of.1 (answer_steps old h.keeper h.event output h.of.0 h.turn)))
+
+pub hears_shaped : (old new : State) (i : ℕ) (output : Output) → Hears i old output new → IsShaped old.forest new.forest
+hears_shaped old new i output h = subst (λ (s : State). IsShaped old.forest s.forest) (sym h.is) (shape old h.keeper h.event (Ok output) h.turn)
+
+-- a round, by how many have answered
+pub stands_first : (t : ℕ) (asked : List ℕ) (next : Option ℕ) (s : State) → Waits s t asked → asked ≢ [] → Stands t asked next s
+stands_first t [] next s waits some = absurd (some refl)
+stands_first t (i ∷ more) next s waits some = waits
+
+pub stands_now : (t k : ℕ) (asked : List ℕ) (next : Option ℕ) (s : State) → k < length asked → Stands t (drop k asked) next s → Waits s t (get_or asked k 0 ∷ drop (k + 1) asked)
+stands_now t k asked next s here stands = subst (λ todo. Stands t todo next s) (drop_more asked k 0 here) stands
+
+pub stands_last : (t k : ℕ) (asked : List ℕ) (next : Option ℕ) (s : State) → length asked ≤ k → Stands t (drop k asked) next s → (s.round ≡ None) × Comes s.last next
+stands_last t k asked next s past stands = subst (λ todo. Stands t todo next s) (drop_all k asked past) stands
+
+pub first_within : (s : State) (t i : ℕ) (todo : List ℕ) → Waits s t (i ∷ todo) → i < length s.forest.entries
+first_within s t i todo a = All-head (λ k. k < length s.forest.entries) i todo a.within
+
+pub first_waits : (s : State) (t i : ℕ) (todo : List ℕ) → Waits s t (i ∷ todo) → waits_for s.round i ≡ true
+first_waits s t i todo a = ap (λ o. waits_for o i) a.round ∙ here_first i todo
+
+rests_of : (s : State) (due : Option ℕ) → s.round ≡ None → Comes s.last due → Rests s due
+rests_of s None closed comes = tt
+rests_of s (Some u) closed comes = (closed, comes)
 
 one_leads :
-    (port : ℕ) (cs : List (List ℕ)) (t : ℕ) (old new : World) (x : Exchanged) (todo : List ℕ) (before : Option ℕ) → Asks old.keeper t (x.entry ∷ todo) → IsAnswered port cs t old x new → Leads t todo before x.output new.keeper
+    (port : ℕ) (cs : List (List ℕ)) (t : ℕ) (old new : World) (x : Exchanged) (todo : List ℕ) (before : Option ℕ) → Waits old.keeper t (x.entry ∷ todo) → IsAnswered port cs t old x new → Leads t todo before x.output new.keeper
 unfolding event_in
-one_leads port cs t old new x [] before a one =
-    let is = event_is_for (entry_at old.keeper.forest.entries x.entry).kind (credential_at cs x.entry) x.entry (reply_in x.sent) in
-    let leads = answer_leads old.keeper one.keeper t x.entry [] (event_for cs old.keeper.forest x.entry (reply_in x.sent)) x.output before a is (is.steps old.keeper one.keeper x.output one.turn) in
-    subst (λ (w : World). Rests w.keeper (told_next before x.output)) (sym one.is) (rests_taken one.keeper (told_next before x.output) leads)
-one_leads port cs t old new x (j ∷ more) before a one =
-    let is = event_is_for (entry_at old.keeper.forest.entries x.entry).kind (credential_at cs x.entry) x.entry (reply_in x.sent) in
-    let leads = answer_leads old.keeper one.keeper t x.entry (j ∷ more) (event_for cs old.keeper.forest x.entry (reply_in x.sent)) x.output before a is (is.steps old.keeper one.keeper x.output one.turn) in
-    subst (λ (w : World). Asks w.keeper t (j ∷ more)) (sym one.is) (asks_taken one.keeper t (j ∷ more) leads)
+one_leads port cs t old new x todo before a one =
+    let e = entry_at old.keeper.forest.entries x.entry in
+    let of = answers_for e.kind (credential_at cs x.entry) x.entry (reply_in x.sent) in
+    hears_leads old.keeper new.keeper t x.entry todo x.output before a
+    (record { event = event_for cs old.keeper.forest x.entry (reply_in x.sent); of = of; keeper = one.keeper; turn = one.turn; is = ap (λ (w : World). w.keeper) one.is })
 
-all_lead : (port : ℕ) (cs : List (List ℕ)) (t : ℕ) (x : Exchanged) (xs : List Exchanged) (old new : World) (before : Option ℕ) → Asks old.keeper t (map (λ (y : Exchanged). y.entry) (x ∷ xs)) → AreAnswered port cs t old (x ∷ xs) new → Rests new.keeper (closing before (x ∷ xs))
+all_lead : (port : ℕ) (cs : List (List ℕ)) (t : ℕ) (x : Exchanged) (xs : List Exchanged) (old new : World) (before : Option ℕ) → Waits old.keeper t (map (λ (y : Exchanged). y.entry) (x ∷ xs)) → AreAnswered port cs t old (x ∷ xs) new → Rests new.keeper (closing before (x ∷ xs))
 all_lead port cs t x [] old new before a answers =
-    subst (λ (w : World). Rests w.keeper (told_next before x.output)) (sym answers.1.1) (one_leads port cs t old answers.0 x [] before a answers.1.0)
+    let leads = one_leads port cs t old answers.0 x [] before a answers.1.0 in
+    subst (λ (w : World). Rests w.keeper (told_next before x.output)) (sym answers.1.1) (rests_of answers.0.keeper (told_next before x.output) leads.0 leads.1)
 all_lead port cs t x (y ∷ ys) old new before a answers =
     all_lead port cs t y ys answers.0 new (told_next before x.output) (one_leads port cs t old answers.0 x (map (λ (z : Exchanged). z.entry) (y ∷ ys)) before a answers.1.0) answers.1.1
 
 some_lead :
-    (port : ℕ) (cs : List (List ℕ)) (t : ℕ) (xs : List Exchanged) (i : ℕ) (others : List ℕ) (old now : World) → Asks old.keeper t (map (λ (y : Exchanged). y.entry) xs ++ (i ∷ others)) → AreAnswered port cs t old xs now →
-    Asks now.keeper t (i ∷ others)
-some_lead port cs t [] i others old now a answers = subst (λ (w : World). Asks w.keeper t (i ∷ others)) (sym answers) a
+    (port : ℕ) (cs : List (List ℕ)) (t : ℕ) (xs : List Exchanged) (i : ℕ) (others : List ℕ) (old now : World) → Waits old.keeper t (map (λ (y : Exchanged). y.entry) xs ++ (i ∷ others)) → AreAnswered port cs t old xs now →
+    Waits now.keeper t (i ∷ others)
+some_lead port cs t [] i others old now a answers = subst (λ (w : World). Waits w.keeper t (i ∷ others)) (sym answers) a
 some_lead port cs t (x ∷ []) i others old now a answers =
     some_lead port cs t [] i others answers.0 now (one_leads port cs t old answers.0 x (i ∷ others) None a answers.1.0) answers.1.1
 some_lead port cs t (x ∷ y ∷ ys) i others old now a answers =
@@ -237,29 +288,11 @@ some_lead port cs t (x ∷ y ∷ ys) i others old now a answers =
 
 -- ---- a tick
 
-in_range : (p : ℕ → Bool) (n a i : ℕ) → is_among (filter p (range_with_len a n)) i ≡ true → i < a + n
-in_range p zero a i there = absurd cc
-in_range p (suc n) a i there =
-    let rest = filter p (range_with_len (a + 1) n) in
-    elim (cases_Bool (p a)) [
-      | inl passes ↦
-          let there' : (a == i) || is_among rest i ≡ true = sym (ap (λ b. is_among (cond b (a ∷ rest) rest) i) passes) ∙ there in
-          elim (cases_Bool (a == i)) [
-            | inl same ↦ (let e : a ≡ i = grind (arith, nat_tests) in omega arith)
-            | inr apart ↦ (let h = in_range p n (a + 1) i (sym (ap (λ b. b || is_among rest i) apart) ∙ there') in omega arith)
-          ]
-      | inr fails ↦ (let h = in_range p n (a + 1) i (sym (ap (λ b. is_among (cond b (a ∷ rest) rest) i) fails) ∙ there) in omega arith)
-    ]
-
-asks_within : (g : Grove) (t : ℕ) (next : Option ℕ) (i : ℕ) → is_among (asks g.entries g.margin t (end_of g.entries) t next) i ≡ true → i < length g.entries
-unfolding asks
-asks_within g t next i there = let h = in_range (is_wanted g.entries g.margin t (end_of g.entries) t next) (length g.entries) 0 i there in omega arith
-
 asks_rise : (g : Grove) (t : ℕ) (next : Option ℕ) → RisesStrictly 0 (asks g.entries g.margin t (end_of g.entries) t next)
 unfolding asks
 asks_rise g t next = filter_rises (is_wanted g.entries g.margin t (end_of g.entries) t next) (length g.entries) 0
 
-tick_opens : (old : State) (t : ℕ) (asked : List ℕ) (new : State) → Turn old (Tick t) (Ok (out.Ask asked)) new → Asks new t asked
+tick_opens : (old : State) (t : ℕ) (asked : List ℕ) (new : State) → Turn old (Tick t) (Ok (out.Ask asked)) new → Waits new t asked
 tick_opens old t asked new turn =
     let step = turn.1 in
     let mid = step.0 in
@@ -271,11 +304,37 @@ tick_opens old t asked new turn =
       last = ap (λ (s : State). s.last) is ∙ ap (λ (s : State). s.last) step.1.0.is;
       low = 0;
       rises = subst (RisesStrictly 0) (sym who) (asks_rise mid.forest t (first_of rest));
-      within = λ i there.
-          let h = asks_within mid.forest t (first_of rest) i (ap (λ us. is_among us i) (sym who) ∙ there) in
-          let same = ap (λ (s : State). length s.forest.entries) is in
-          omega arith;
+      within = asked_within old new t (out.Ask asked) turn;
     }
+
+-- what a tick leaves
+pub tick_leaves : (old k new : State) (t : ℕ) (output : Output) → old.round ≡ None → IsState k → Turn old (Tick t) (Ok output) k → new ≡ taken k → Leaves t output new
+tick_leaves old k new t (out.Ask asked) closed state turn is =
+    let opens = tick_opens old t asked k turn in
+    (subst (λ (s : State). Waits s t asked) (sym is) (waits_taken k t asked opens), state.waits (record { at = t; unanswered = asked }) opens.round)
+tick_leaves old k new t (out.Sleep w) closed state turn is =
+    let anew = replanned old t k closed turn.1.0 in
+    let comes : Comes k.last (Some w) = comes_at t k.last (Some w) anew.1.0 (subst (Comes t) turn.1.1.0 anew.1.1) in
+    subst (λ (s : State). (s.round ≡ None) × Comes s.last (Some w)) (sym is) (anew.0, comes)
+tick_leaves old k new t out.Idle closed state turn is = let anew = replanned old t k closed turn.1.0 in ap (λ (s : State). s.round) is ∙ anew.0
+tick_leaves old k new t out.Waiting closed state turn is = absurd turn.1
+tick_leaves old k new t (out.Round next) closed state turn is = absurd turn.1
+tick_leaves old k new t out.Planned closed state turn is = absurd turn.1
+
+pub leaves_asked : (t : ℕ) (output : Output) (asked : List ℕ) (new : State) → output ≡ out.Ask asked → Leaves t output new → Waits new t asked × (asked ≢ [])
+leaves_asked t output asked new is leaves = subst (λ (o : Output). Leaves t o new) is leaves
+
+pub leaves_sleeping : (t : ℕ) (output : Output) (w : ℕ) (new : State) → output ≡ out.Sleep w → Leaves t output new → (new.round ≡ None) × Comes new.last (Some w)
+leaves_sleeping t output w new is leaves = subst (λ (o : Output). Leaves t o new) is leaves
+
+pub leaves_closed :
+    (t : ℕ) (output : Output) (new : State) → ((asked : List ℕ) → output ≡ out.Ask asked → ⊥) → ((w : ℕ) → output ≡ out.Sleep w → ⊥) → Leaves t output new → new.round ≡ None
+leaves_closed t (out.Ask asked) new no_ask no_sleep leaves = absurd (no_ask asked refl)
+leaves_closed t (out.Sleep w) new no_ask no_sleep leaves = absurd (no_sleep w refl)
+leaves_closed t out.Idle new no_ask no_sleep leaves = leaves
+leaves_closed t out.Waiting new no_ask no_sleep leaves = leaves
+leaves_closed t (out.Round next) new no_ask no_sleep leaves = leaves
+leaves_closed t out.Planned new no_ask no_sleep leaves = leaves
 
 nobody : (xs : List Exchanged) → map (λ (y : Exchanged). y.entry) xs ≡ [] → xs ≡ []
 nobody [] e = refl
@@ -290,13 +349,13 @@ beat_rests port cs t (out.Sleep w) xs old keeper start new closed is turn who an
     let stays : new ≡ start = subst (λ ys. AreAnswered port cs t start ys new) none answers in
     let step = turn.1 in
     let anew = replanned old t keeper closed step.0 in
-    let rests : Rests keeper (Some w) = comes_rests keeper t (Some w) anew.0 anew.1.0 (subst (Comes t) step.1.0 anew.1.1) in
+    let rests : Rests keeper (Some w) = (anew.0, comes_at t keeper.last (Some w) anew.1.0 (subst (Comes t) step.1.0 anew.1.1)) in
     subst (λ (s : State). Rests s (Some w)) (sym (ap (λ (v : World). v.keeper) stays ∙ is)) rests
 beat_rests port cs t (out.Ask asked) [] old keeper start new closed is turn who answers = tt
 beat_rests port cs t (out.Ask asked) (x ∷ xs) old keeper start new closed is turn who answers =
     let opens = tick_opens old t asked keeper turn in
     all_lead port cs t x xs start new None
-    (subst (λ (s : State). Asks s t (map (λ (y : Exchanged). y.entry) (x ∷ xs))) (sym is) (asks_taken keeper t (map (λ (y : Exchanged). y.entry) (x ∷ xs)) (subst (Asks keeper t) (sym who) opens))) answers
+    (subst (λ (s : State). Waits s t (map (λ (y : Exchanged). y.entry) (x ∷ xs))) (sym is) (waits_taken keeper t (map (λ (y : Exchanged). y.entry) (x ∷ xs)) (subst (Waits keeper t) (sym who) opens))) answers
 beat_rests port cs t out.Waiting xs old keeper start new closed is turn who answers = tt
 beat_rests port cs t (out.Round next) xs old keeper start new closed is turn who answers = tt
 beat_rests port cs t out.Planned xs old keeper start new closed is turn who answers = tt
@@ -316,9 +375,9 @@ never_refused stock faults start port short opening final beats t late o played 
     let first : Rests o.keeper (Some start) = (ap (λ (s : State). s.round) o.planned.is, (let l = ap (λ (s : State). s.last) o.planned.is in omega arith, late)) in
     let begins : Rests opening.keeper (Some start) = subst (λ (s : State). Rests s (Some start)) (sym keeper_is) first in
     let rests = run_rests port stock.credentials beats opening final (Some start) (Some t) begins played in (
-      free_taken final.keeper (Tick t) (tick_free final.keeper t rests),
-      λ asked keeper turn xs now i others who answers event result new is.
+      tick_taken final.keeper t rests.0 rests.1,
+      λ asked keeper turn xs now i others who answers event result new of span.
           let opens = tick_opens final.keeper t asked keeper turn in
-          let waits = some_lead port stock.credentials t xs i others (record { keeper = taken keeper; behind = final.behind }) now (asks_taken keeper t _ (subst (Asks keeper t) (sym who) opens)) answers in
-          free_taken now.keeper event (answer_free now.keeper t i others event waits is) result new,
+          let waits = some_lead port stock.credentials t xs i others (record { keeper = taken keeper; behind = final.behind }) now (waits_taken keeper t _ (subst (Waits keeper t) (sym who) opens)) answers in
+          answer_taken now.keeper i event (first_within now.keeper t i others waits) (first_waits now.keeper t i others waits) of span result new,
     )

@@ -1,5 +1,5 @@
 -- Rehearsed: from playing a run to the rehearsal.
-use Rattle.std.proofs.Common.{◌≡◌, ◌∙◌, ℕ, ◌≤◌, Bool, List, [], ◌++◌, Option, Some, None, Result, Ok, Err, ap, codes, flat_map, inl, inr, refl, subst, sym, ◌⊎◌}
+use Rattle.std.proofs.Common.{◌≡◌, ◌∙◌, ℕ, ◌≤◌, Bool, List, [], ◌++◌, Option, Some, None, Result, Ok, Err, ap, arith, codes, flat_map, inl, inr, length, refl, subst, sym, ◌⊎◌}
 use Rattle.std.proofs.lemmas.List.{append_assoc}
 use Rattle.std.proofs.KnownBytes.{Keeps-refl}
 use Rattle.std.specs.Result.{IsErr, IsErrAnd}
@@ -8,6 +8,7 @@ use Rattle.keep_device.specs.Front.{AppendsFront}
 use Rattle.keep_inventory.specs.declared.fault.InvFault.{InvFault}
 use Rattle.keep_inventory.specs.Inventory.{inventory}
 use Rattle.keep_inventory.specs.Stock.{IsStock, Stock}
+use Rattle.keep_moment.specs.declared.moment.TheConstants.{LAST}
 use Rattle.keep_tree.specs.Forest.{Grove}
 use Rattle.mini_broker.specs.Ledger.{Ledger}
 use Rattle.mini_broker.specs.declared.fault.NumberedFault.{NumberedFault}
@@ -25,13 +26,12 @@ use Rattle.keep_report.specs.Sent.{IsUntouched, Sent}
 use Rattle.keep_report.specs.Told.{Reports}
 use Rattle.keep_run.specs.Closed.{IsOpening, World, taken}
 use Rattle.keep_run.specs.FaultWords.{SetsFaults, faults_of}
-use Rattle.keep_run.specs.Playing.{Fits, Goes, IsText, Plays, PlaysFront, stock_of}
+use Rattle.keep_run.specs.Live.{IsReady}
+use Rattle.keep_run.specs.Playing.{Comes, Goes, IsText, Plays, PlaysFront, stock_of}
 use Rattle.keep_run.specs.Rehearse.{IsCalled, IsRunText, Rehearses, RehearseRun, RehearseTold, WritesFront, fresh}
 use Rattle.keep_run.specs.Stops.{IsStopped, SoFar, both}
 use Rattle.keep_run.specs.Text.{beat_text, course_text, done_text, short_lines}
 use Rattle.keep_run.proofs.Loops.{at_end}
-use Rattle.keep_run.proofs.Rounds.{fits_as}
-use Rattle.keep_run.proofs.Short.{fits_stock}
 use Rattle.keep_run.proofs.Texts.{same_beat_texts, same_shorts}
 
 -- ---- the run of an inventory, from that of a keeper
@@ -213,9 +213,18 @@ plays_on bytes words stock faults start at g cs k now behind lines result new ou
     let p4 = subst (λ t. Plays stock.credentials (both (taken k) (fresh stock faults)) t lines result new out) is_at p3 in
     rehearsed bytes words stock faults start k lines result new out old (record { read = read; faults_are = taken' }) (subst (λ h. Replan (unplanned h) start k) is_g r) lines_are p4
 
--- the entries of the keeper can be asked
-pub fits_opened : (stock : Stock) (g : Grove) (cs : List (List ℕ)) (start : ℕ) (k now : State) → IsStock stock → g ≡ stock.grove → cs ≡ stock.credentials → Replan (unplanned g) start k → now ≡ taken k → Fits cs now.forest
-fits_opened stock g cs start k now sound is_g is_cs r is_now =
+-- the keeper is ready for its first tick
+pub ready_opened : (stock : Stock) (g : Grove) (cs : List (List ℕ)) (start : ℕ) (k now : State) → IsStock stock → g ≡ stock.grove → cs ≡ stock.credentials → Replan (unplanned g) start k → now ≡ taken k → IsReady cs now
+ready_opened stock g cs start k now sound is_g is_cs r is_now =
     let r' = subst (λ h. Replan (unplanned h) start k) is_g r in
-    subst (λ c. Fits c now.forest) (sym is_cs) (subst (λ (s : State). Fits stock.credentials s.forest) (sym is_now)
-    (fits_as stock.credentials stock.grove k.forest (replanned stock.grove (unplanned stock.grove) start k (same stock.grove) r') (fits_stock stock sound)))
+    let like = replanned stock.grove (unplanned stock.grove) start k (same stock.grove) r' in
+    record {
+      count = ap length is_cs ∙ sound.credentials ∙ sym (ap (λ (s : State). length s.forest.entries) is_now ∙ like.count);
+      quiet = ap (λ (s : State). s.shortened) is_now;
+      closed = ap (λ (s : State). s.round) is_now ∙ ap (λ (s : State). s.round) r'.is;
+    }
+
+pub comes_first : (g : Grove) (start at : ℕ) (k now : State) → Replan (unplanned g) start k → now ≡ taken k → at ≡ start → start ≤ LAST → Comes now.last (Some at)
+comes_first g start at k now r is_now is_at late =
+    let last : now.last ≡ start = ap (λ (s : State). s.last) is_now ∙ ap (λ (s : State). s.last) r.is in
+    (omega arith, omega arith)

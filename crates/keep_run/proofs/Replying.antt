@@ -1,5 +1,5 @@
 -- The reply to a renewal that was granted: the keeper is told the renewal rule's end.
-use Rattle.std.proofs.Common.{◌≡◌, ◌==◌, ℕ, ◌-◌, ◌<◌, ◌≤◌, true, List, None, Some, IsUtf8, bytes_eq, length, min, nat_le, refl, ap, ◌∙◌, arith}
+use Rattle.std.proofs.Common.{◌≡◌, ◌==◌, ℕ, ◌-◌, ◌<◌, ◌≤◌, true, List, Some, IsUtf8, bytes_eq, length, min, refl, ap, ◌∙◌, arith}
 use Rattle.std.proofs.lemmas.Bool.{cond-true}
 use Rattle.std.specs.Cmp.Lexicographic.{bytes_decides}
 use Rattle.keep_moment.specs.declared.moment.TheConstants.{LAST}
@@ -20,11 +20,8 @@ use Rattle.mini_broker.specs.Rows.{row_of}
 use Rattle.mini_broker.specs.Step.{IsBody, Says, Tells, seconds_to, tells}
 use Rattle.keep_core.specs.declared.event.Event.TheVariants.{Told, Refused, Lost}
 use Rattle.keep_run.specs.Renewing.{event_of, of_lease, of_token, refuses, told_by}
-use Rattle.keep_run.specs.Closed.{reply_in}
+use Rattle.keep_exchange.specs.Requests.{reply_in}
 use Rattle.keep_run.proofs.Mirroring.{renewal_within}
-use Rattle.keep_run.proofs.Short.{credential_few, reply_short}
-use Rattle.vault_http.specs.Written.{reply_text}
-use Rattle.std.proofs.lemmas.Bool.Decides.{nat_tests}
 use Rattle.mini_broker.specs.Granted.{call_for}
 use Rattle.keep_run.proofs.Serving.{credential_in, renewable_in, renewed_row}
 
@@ -46,17 +43,11 @@ body_told Lease id i t row body same text is =
     ∙ ap (of_lease id i) (renewed_lease_is_read id n row.renewable (text refl) (omega arith))
     ∙ cond-true (bytes_eq id id) (Told i n row.renewable) (Lost i) ((bytes_decides id id).1 refl)
 
--- a reply that is short is received
-is_received : (reply : Reply) → length (reply_text reply) ≤ 1048576 → reply_in (served.Reply reply) ≡ Some reply
-is_received reply short = cond-true (nat_le (length (reply_text reply)) 1048576) (Some reply) None (grind (arith, nat_tests, short))
-
 sent_told :
-    (kind : Kind) (id : List ℕ) (i t : ℕ) (row : Row) → row.credential ≡ id → length id ≤ 256 → (kind ≡ Lease → IsUtf8 id) → (sent : Served) → Tells t (call_for kind) row sent →
+    (kind : Kind) (id : List ℕ) (i t : ℕ) (row : Row) → row.credential ≡ id → (kind ≡ Lease → IsUtf8 id) → (sent : Served) → Tells t (call_for kind) row sent →
     event_of kind id i (reply_in sent) ≡ Told i (seconds_to row.end t) row.renewable
-sent_told kind id i t row same few text (served.Reply reply) says =
-    ap (event_of kind id i) (is_received reply (reply_short kind t row reply (let e = ap length same in omega arith) says.0 says.1))
-    ∙ ok_is_told kind id i reply says.0 ∙ body_told kind id i t row reply.body same text says.1
-sent_told kind id i t row same few text served.Dropped says = absurd says
+sent_told kind id i t row same text (served.Reply reply) says = ok_is_told kind id i reply says.0 ∙ body_told kind id i t row reply.body same text says.1
+sent_told kind id i t row same text served.Dropped says = absurd says
 
 -- the reply tells the seconds to the rule's end
 pub tells_rule :
@@ -67,6 +58,6 @@ tells_rule s supplied t i late within able sent says =
     let e = entry_at s.grove.entries i in
     let end = renewal e t in
     let far = renewal_within e t late (supplied.steps i within) in
-    sent_told e.kind (credential_at s.credentials i) i t (renewed_row s t i) (credential_in s i) (credential_few s supplied i within) (λ lease. credential_text s supplied i within) sent says
+    sent_told e.kind (credential_at s.credentials i) i t (renewed_row s t i) (credential_in s i) (λ lease. credential_text s supplied i within) sent says
     ∙ ap (λ n. Told i n (row_of s i).renewable) (let k : min (end - t) 4294967295 ≡ end - t = omega arith in k)
     ∙ ap (λ b. Told i (end - t) b) (renewable_in s i ∙ able)

@@ -25,11 +25,12 @@ use Rattle.keep_core.specs.History.{Turn}
 use Rattle.keep_core.specs.State.{State}
 use Rattle.keep_core.proofs.Once.{once}
 use Rattle.keep_core.proofs.Standing.{tail_kept}
-use Rattle.keep_run.specs.Closed.{AreAnswered, Exchanged, IsAnswered, World, closing, event_in, reply_in, taken, told_next}
+use Rattle.keep_run.specs.Closed.{AreAnswered, Exchanged, IsAnswered, World, closing, event_in, taken, told_next}
 use Rattle.keep_run.specs.Laws.{IsToldByRule}
 use Rattle.mini_broker.specs.Listed.{listed}
 use Rattle.keep_run.specs.Listed.{Mirrors, ended, with_forest}
-use Rattle.keep_run.specs.Renewing.{event_for, event_of, request_of}
+use Rattle.keep_run.specs.Renewing.{event_for, event_of}
+use Rattle.keep_exchange.specs.Requests.{reply_in, request_of}
 use Rattle.keep_run.proofs.Mirroring.{ended_other, ended_same, ended_supplied, mirrors_listed, renewal_within, with_row_listed}
 use Rattle.keep_run.proofs.Midway.{Midway, heard_as, heard_state, here_first, is_due, midway_last, midway_more, settled, told_turn, waiting}
 use Rattle.keep_run.proofs.Replying.{tells_rule}

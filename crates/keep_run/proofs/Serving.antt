@@ -25,7 +25,7 @@ use Rattle.mini_broker.specs.Rows.{row_of}
 use Rattle.mini_broker.specs.Step.{step, tells}
 use Rattle.mini_broker.specs.Sweep.{swept}
 use Rattle.mini_broker.proofs.Granting.{by_the_rule, renewed_by}
-use Rattle.keep_run.specs.Renewing.{asked_as, request_of}
+use Rattle.keep_exchange.specs.Requests.{asked_as, request_of}
 
 -- the row of i, renewed at t
 abbrev pub renewed_row : Stock → ℕ → ℕ → Row

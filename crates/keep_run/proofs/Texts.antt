@@ -10,7 +10,8 @@ use Rattle.keep_core.specs.declared.event.Event.TheVariants.{Tick, Told, Refused
 use Rattle.keep_core.specs.declared.event.Output.{Output}
 use Rattle.keep_core.specs.declared.event.Output.TheVariants as out
 use Rattle.keep_core.specs.declared.shortened.ShortNeed.{ShortNeed}
-use Rattle.keep_run.specs.Closed.{Beat, Exchanged, event_in, reply_in}
+use Rattle.keep_exchange.specs.Requests.{reply_in}
+use Rattle.keep_run.specs.Closed.{Beat, Exchanged, event_in}
 use Rattle.keep_run.specs.Renewing.{event_of}
 use Rattle.keep_run.specs.Text.{answer_line, answer_text, beat_text, line, name_of, names_of, short_line, short_lines, status_in, wake_line}
 

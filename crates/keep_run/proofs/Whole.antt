@@ -37,10 +37,12 @@ use Rattle.keep_core.proofs.Kept.{keepable}
 use Rattle.keep_core.proofs.Once.{once}
 use Rattle.keep_core.proofs.Shortening.{needed_within}
 use Rattle.keep_core.proofs.Standing.{best_from, best_keepable}
-use Rattle.keep_run.specs.Closed.{Beat, IsOpening, World, reply_in, requests_of, rounds, taken, Played}
+use Rattle.keep_exchange.specs.Requests.{reply_in}
+use Rattle.keep_run.specs.Closed.{Beat, IsOpening, World, requests_of, rounds, taken, Played}
 use Rattle.keep_run.specs.Renewing.{event_for}
 use Rattle.keep_run.specs.Text.{beat_text, course_text, done_text, short_lines}
-use Rattle.keep_run.specs.Laws.{AnswersTakenLaw, IsTaken, LeastLaw, PlannedRunLaw, RehearsalLaw, SoFarLaw, StandsLaw}
+use Rattle.keep_run.specs.Stops.{IsTaken}
+use Rattle.keep_run.specs.Laws.{AnswersTakenLaw, LeastLaw, PlannedRunLaw, RehearsalLaw, SoFarLaw, StandsLaw}
 use Rattle.mini_broker.specs.Listed.{is_alive, listed}
 use Rattle.keep_run.specs.Listed.{with_forest}
 use Rattle.keep_run.proofs.Midway.{settled}

@@ -20,11 +20,11 @@ use Rattle.keep_report.specs.Exits.{stop_of_sink}
 use Rattle.keep_report.proofs.Counting.{failed_once}
 use Rattle.keep_report.specs.Sent.{IsAll, Sent}
 use Rattle.keep_run.specs.Closed.{World}
-use Rattle.keep_run.specs.Playing.{Ends, Finishes, Fits, Goes, IsText, LastFront, LastPlays, Plays, PlaysFront, stock_of}
+use Rattle.keep_run.specs.Live.{IsReady}
+use Rattle.keep_run.specs.Playing.{Comes, Ends, Finishes, Goes, IsText, LastFront, LastPlays, Plays, PlaysFront, stock_of}
 use Rattle.keep_run.specs.Stops.{both}
 use Rattle.keep_run.specs.Text.{done_text}
 use Rattle.keep_run.proofs.Goes.{ends_go, goes_as, goes_nowhere, goes_on}
-use Rattle.keep_run.proofs.Rounds.{fits_as}
 
 -- ---- one text behind another
 
@@ -55,22 +55,22 @@ pub record Going (cs : List (List ℕ)) (old : World) (start : ℕ) (before : Li
   pub goes : Goes (stock_of cs old.keeper.forest) old (Some start) now (Some due) wakes asked lines
   pub all : Appends first written (before ++ lines)
   pub count : failed_now ≡ failed
-  pub fits : Fits cs now.keeper.forest
+  pub ready : IsReady cs now.keeper
+  pub comes : Comes now.keeper.last (Some due)
   pub like : IsShaped old.keeper.forest now.keeper.forest
-  pub quiet : now.keeper.shortened ≡ []
   pub few : asked ≤ wakes * 4096
 
 pub going_first :
-    (cs : List (List ℕ)) (old : World) (start : ℕ) (before : List ℕ) (first : Option (List ℕ)) (failed : ℕ) (written : Option (List ℕ)) (failed_now : ℕ) → Fits cs old.keeper.forest → old.keeper.shortened ≡ [] →
+    (cs : List (List ℕ)) (old : World) (start : ℕ) (before : List ℕ) (first : Option (List ℕ)) (failed : ℕ) (written : Option (List ℕ)) (failed_now : ℕ) → IsReady cs old.keeper → Comes old.keeper.last (Some start) →
     Appends first written before → failed_now ≡ failed → Going cs old start before first failed old start 0 0 written failed_now
-going_first cs old start before first failed written failed_now fits quiet all count = record {
+going_first cs old start before first failed written failed_now ready comes all count = record {
   lines = [];
   goes = goes_nowhere (stock_of cs old.keeper.forest) old (Some start);
   all = subst (Appends first written) (sym (append-nil before)) all;
   count = count;
-  fits = fits;
+  ready = ready;
+  comes = comes;
   like = same old.keeper.forest;
-  quiet = quiet;
   few = omega arith;
 }
 
@@ -87,16 +87,16 @@ module _ (cs : List (List ℕ)) (old : World) (start : ℕ) (before : List ℕ) 
   -- a wake-up more, and its lines were written
   pub going_more :
       (new : World) (then' a : ℕ) (text : List ℕ) (after : Option (List ℕ)) (failed_after : ℕ) → Goes (stock_of cs now.keeper.forest) now (Some due) new (Some then') 1 a text → IsShaped now.keeper.forest new.keeper.forest →
-      new.keeper.shortened ≡ [] → a ≤ 4096 → Appends written after text → failed_after ≡ failed_now → Going cs old start before first failed new then' (wakes + 1) (asked + a) after failed_after
+      IsReady cs new.keeper → Comes new.keeper.last (Some then') → a ≤ 4096 → Appends written after text → failed_after ≡ failed_now → Going cs old start before first failed new then' (wakes + 1) (asked + a) after failed_after
   unfolding on
-  going_more new then' a text after failed_after more like quiet few all count = record {
+  going_more new then' a text after failed_after more like ready comes few all count = record {
     lines = g.lines ++ text;
     goes = on new (Some then') 1 a text more;
     all = subst (Appends first after) (append_assoc before g.lines text) (appends_then first written after (before ++ g.lines) text g.all all);
     count = count ∙ g.count;
-    fits = fits_as cs now.keeper.forest new.keeper.forest like g.fits;
+    ready = ready;
+    comes = comes;
     like = both_shaped old.keeper.forest now.keeper.forest new.keeper.forest g.like like;
-    quiet = quiet;
     few = (let f = g.few in omega arith);
   }
 

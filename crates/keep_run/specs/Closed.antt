@@ -1,16 +1,14 @@
 -- Closed run: the Keeper step and the Broker step in turn.
 -- Source: this project's own.
-use Rattle.std.specs.Prelude.{◌≡◌, ℕ, ◌≤◌, Bool, true, false, if◌then◌else◌, List, [], ◌∷◌, ◌++◌, Option, Some, None, Ok, length, map, nat_le}
+use Rattle.std.specs.Prelude.{◌≡◌, ℕ, ◌≤◌, Bool, true, false, List, [], ◌∷◌, ◌++◌, Option, Some, None, Ok, length, map}
 use Rattle.std.specs.List.{filter, sum_by}
 use Rattle.keep_tree.specs.Forest.{Grove}
 use Rattle.keep_inventory.specs.Stock.{Stock}
-use Rattle.vault_http.specs.declared.reply.Reply.{Reply}
-use Rattle.vault_http.specs.Written.{reply_text, request_text}
-use Rattle.keep_exchange.specs.declared.exchange.TheConstants.{MOST_REPLY}
+use Rattle.vault_http.specs.Written.{request_text}
 use Rattle.keep_exchange.specs.Exchanges.{Behind}
+use Rattle.keep_exchange.specs.Requests.{reply_in, request_of}
 use Rattle.mini_broker.specs.declared.fault.NumberedFault.{NumberedFault}
 use Rattle.mini_broker.specs.declared.served.Served.{Served}
-use Rattle.mini_broker.specs.declared.served.Served.TheVariants as served
 use Rattle.mini_broker.specs.Rows.{rows_of}
 use Rattle.mini_broker.specs.Step.{Says, step}
 use Rattle.mini_broker.specs.Stream.{sent_of}
@@ -22,7 +20,7 @@ use Rattle.keep_core.specs.declared.shortened.ShortNeed.{ShortNeed}
 use Rattle.keep_core.specs.Replan.{Replan}
 use Rattle.keep_core.specs.History.{Turn}
 use Rattle.keep_core.specs.State.{State, unplanned}
-use Rattle.keep_run.specs.Renewing.{event_for, request_of}
+use Rattle.keep_run.specs.Renewing.{event_for}
 
 -- both sides: the keeper, whose shortened needs were taken, and what stands behind the exchange: the broker's table, and the
 -- bytes of the last request and its reply
@@ -45,11 +43,6 @@ pub record Beat : Type 0 where
   pub answers : List Exchanged
 
 -- ---- one answer
-
--- what of that is received: nothing of a reply that is dropped, nor of one of more bytes than are read
-abbrev pub reply_in : Served → Option Reply
-reply_in (served.Reply reply) = if nat_le (length (reply_text reply)) MOST_REPLY then Some reply else None
-reply_in served.Dropped = None
 
 -- a keeper whose shortened needs are taken
 abbrev pub taken : State → State

@@ -24,13 +24,14 @@ use Rattle.keep_core.specs.declared.event.Event.TheVariants.{Tick, Told}
 use Rattle.keep_core.specs.declared.event.Output.{Output}
 use Rattle.keep_core.specs.declared.event.Output.TheVariants as out
 use Rattle.keep_core.specs.declared.fault.StepFault.{StepFault}
-use Rattle.keep_core.specs.declared.fault.StepFault.TheVariants.{OutOfMemory}
 use Rattle.keep_core.specs.declared.shortened.ShortNeed.{ShortNeed}
 use Rattle.keep_core.specs.Replan.{IsPlanOf}
 use Rattle.keep_core.specs.History.{Turn}
 use Rattle.keep_core.specs.State.{State}
-use Rattle.keep_run.specs.Closed.{AreAnswered, Beat, Course, Exchanged, IsClosedRun, IsOpening, Played, World, event_in, reply_in, requests_of, rounds, taken}
-use Rattle.keep_run.specs.Renewing.{event_for, request_of}
+use Rattle.keep_run.specs.Closed.{AreAnswered, Beat, Course, Exchanged, IsClosedRun, IsOpening, Played, World, event_in, requests_of, rounds, taken}
+use Rattle.keep_run.specs.Renewing.{event_for}
+use Rattle.keep_exchange.specs.Requests.{reply_in, request_of}
+use Rattle.keep_run.specs.Stops.{IsTaken}
 use Rattle.keep_run.specs.Text.{beat_text, course_text, done_text}
 
 -- the entry was told the end that the renewal rule gives at t, and nothing was shortened
@@ -43,12 +44,6 @@ pub record IsToldByRule (stock : Stock) (t : ℕ) (x : Exchanged) : Type 0 where
 pub record IsQuiet (stock : Stock) (b : Beat) : Type 0 where
   pub short : b.short ≡ []
   pub told : All (IsToldByRule stock b.at) b.answers
-
--- a step that is refused at most for want of memory
-abbrev pub IsTaken : Result Output StepFault → Type 0
-IsTaken (Ok output) = Unit {0}
-IsTaken (Err OutOfMemory) = Unit {0}
-IsTaken (Err fault) = ⊥
 
 -- the ticks so far of a run by a plan at these moments: its rounds are at the first of them, all are where no tick is next;
 -- who was asked was told by the rule, and nothing was shortened; the next tick is not refused; and at a moment from the

@@ -72,10 +72,11 @@ IsHeard cs old Unknown new text = (new ≡ old) × (text ≡ codes "fault unknow
 abbrev pub Between : Option Behind → Option Behind → (Behind → Behind → Type 0) → Type 0
 Between old new P = IfSome old (λ b. (after : Behind) × ((new ≡ Some after) × P b after))
 
--- the keeper is of these credentials, and its shortened needs are taken
+-- the keeper is of these credentials, its shortened needs are taken, and no round is open
 pub record IsReady (cs : List (List ℕ)) (keeper : State) : Type 0 where
   pub count : length cs ≡ length keeper.forest.entries
   pub quiet : keeper.shortened ≡ []
+  pub closed : keeper.round ≡ None
 
 -- why an event line stops a run
 abbrev pub IsHearingStop : Stop → Type 0

@@ -1,25 +1,21 @@
 -- Playing: words for the parts of a rehearsal. No public clause cites them.
 -- Source: this project's own.
-use Rattle.std.specs.Prelude.{◌≡◌, ℕ, ◌<◌, ◌≤◌, ◌++◌, ◌⊎◌, IsUtf8, List, [], Option, Some, None, Result, Ok, Err, length, map}
+use Rattle.std.specs.Prelude.{◌≡◌, ◌≢◌, ℕ, ◌<◌, ◌≤◌, ◌++◌, ◌⊎◌, List, [], Option, Some, None, Result, Ok, Err, length, map}
 use Rattle.std.specs.Io.KnownBytes.{Keeps}
-use Rattle.std.specs.List.{flat_map}
-use Rattle.keep_tree.specs.declared.entry.Kind.TheVariants.{Lease}
-use Rattle.keep_tree.specs.Forest.{Grove, entry_at}
-use Rattle.keep_inventory.specs.Stock.{Stock, credential_at}
+use Rattle.std.specs.List.{All, flat_map}
+use Rattle.keep_moment.specs.declared.moment.TheConstants.{LAST}
+use Rattle.keep_tree.specs.Forest.{Grove}
+use Rattle.keep_rule.specs.Schedule.{RisesStrictly}
+use Rattle.keep_inventory.specs.Stock.{Stock}
 use Rattle.keep_exchange.specs.Exchanges.{Behind}
 use Rattle.keep_core.specs.declared.event.Event.{Event}
-use Rattle.keep_core.specs.declared.event.Event.TheVariants.{Tick, Told, Refused, Lost, Need}
+use Rattle.keep_core.specs.declared.event.Event.TheVariants.{Tick}
 use Rattle.keep_core.specs.declared.event.Output.{Output}
 use Rattle.keep_core.specs.declared.event.Output.TheVariants as out
+use Rattle.keep_core.specs.declared.fault.StepFault.{StepFault}
+use Rattle.keep_core.specs.declared.fault.StepFault.TheVariants.{TooLong, OutOfMemory}
 use Rattle.keep_core.specs.History.{Turn}
 use Rattle.keep_core.specs.State.{State}
-use Rattle.vault_http.specs.declared.request.Request.{Request}
-use Rattle.vault_http.specs.declared.reply.Reply.{Reply}
-use Rattle.keep_exchange.specs.declared.fault.ExchangeFault.{ExchangeFault}
-use Rattle.vault_http.specs.RoundTripRequest.{IsWritable}
-use Rattle.vault_http.specs.Written.{request_text}
-use Rattle.mini_broker.specs.declared.stream.TheConstants.{MOST_REQUEST}
-use Rattle.keep_run.specs.Renewing.{request_of}
 use Rattle.keep_run.specs.declared.opening.Opened.{Opened}
 use Rattle.keep_run.specs.declared.waking.Woken.{Woken}
 use Rattle.keep_run.specs.Closed.{AreAnswered, Beat, Exchanged, IsAnswered, Played, World, closing, requests_of, rounds, taken}
@@ -28,30 +24,54 @@ use Rattle.keep_device.specs.Front.{AppendsFront}
 use Rattle.keep_report.specs.declared.stop.Stop.{Stop}
 use Rattle.keep_report.specs.declared.stop.Stop.TheVariants as stops
 use Rattle.keep_report.specs.Sent.{IsAll, Sent}
+use Rattle.keep_run.specs.Renewing.{IsAnswerOf}
 use Rattle.keep_run.specs.Stops.{IsDue, both}
 use Rattle.keep_run.specs.Text.{answer_text, beat_text, done_text, short_lines, wake_line}
-
--- an answer for i
-abbrev pub IsAnswerOf : ℕ → Event → Type 0
-IsAnswerOf i (Told j seconds renewable) = j ≡ i
-IsAnswerOf i (Refused j) = j ≡ i
-IsAnswerOf i (Lost j) = j ≡ i
-IsAnswerOf i event = ⊥
 
 -- an inventory of these credentials and this forest
 abbrev pub stock_of : List (List ℕ) → Grove → Stock
 stock_of cs g = record { grove = g; credentials = cs; terms = [] }
 
--- a request that can be sent, and is no longer than what is read
-pub record IsAsking (r : Request) : Type 0 where
-  pub writable : IsWritable r
-  pub short : length (request_text r) ≤ MOST_REQUEST
+-- ---- what the keeper takes
 
--- credentials that the entries of a forest can be asked with
-pub record Fits (cs : List (List ℕ)) (g : Grove) : Type 0 where
-  pub count : length cs ≡ length g.entries
-  pub texts : (i : ℕ) → i < length g.entries → (entry_at g.entries i).kind ≡ Lease → IsUtf8 (credential_at cs i)
-  pub asked : (i : ℕ) → i < length g.entries → IsAsking (request_of 8200 cs g i)
+-- the next moment, if there is one, may be told: it does not come before the last one
+abbrev pub Comes : ℕ → Option ℕ → Type 0
+Comes last None = Unit {0}
+Comes last (Some t) = (last ≤ t) × (t ≤ LAST)
+
+-- a round is open since the last moment, t, and waits for these, by index
+pub record Waits (s : State) (t : ℕ) (asked : List ℕ) : Type 0 where
+  pub round : s.round ≡ Some (record { at = t; unanswered = asked })
+  pub last : s.last ≡ t
+  pub low : ℕ
+  pub rises : RisesStrictly low asked
+  pub within : All (λ i. i < length s.forest.entries) asked
+
+-- what a tick at t leaves: a round, or none and the moment of the next tick, if there is one
+abbrev pub Leaves : ℕ → Output → State → Type 0
+Leaves t (out.Ask asked) new = Waits new t asked × (asked ≢ [])
+Leaves t (out.Sleep w) new = (new.round ≡ None) × Comes new.last (Some w)
+Leaves t output new = new.round ≡ None
+
+-- an answer of i is taken, and the needs that it shortened are
+pub record Hears (i : ℕ) (old : State) (output : Output) (new : State) : Type 0 where
+  pub event : Event
+  pub of : IsAnswerOf i event
+  pub keeper : State
+  pub turn : Turn old event (Ok output) keeper
+  pub is : new ≡ taken keeper
+
+-- why there is no plan
+abbrev pub IsPlanFault : StepFault → Type 0
+IsPlanFault TooLong = Unit {0}
+IsPlanFault OutOfMemory = Unit {0}
+IsPlanFault fault = ⊥
+
+abbrev pub stop_of : StepFault → Stop
+stop_of TooLong = stops.TooLong
+stop_of fault = stops.Memory
+
+-- ---- what a run comes to
 
 -- one answer and its text, which follows before
 pub record Answers (cs : List (List ℕ)) (t : ℕ) (old : World) (i : ℕ) (output : Output) (new : World) (before after : List ℕ) : Type 0 where
@@ -101,6 +121,11 @@ abbrev pub OpensOrEnds : List (List ℕ) → Behind → State → ℕ → Option
 OpensOrEnds cs behind old due None new before after = Ends cs behind old due new before after
 OpensOrEnds cs behind old due (Some o) new before after = Opens cs behind old due o.at o.asked new before after
 
+-- what opening a wake-up leaves
+abbrev pub LeavesOpen : Option Opened → State → Type 0
+LeavesOpen None new = new.round ≡ None
+LeavesOpen (Some o) new = Waits new o.at o.asked × (o.asked ≢ [])
+
 abbrev pub asked_of : Option Opened → List ℕ
 asked_of None = []
 asked_of (Some o) = o.asked
@@ -113,6 +138,10 @@ pub record Goes (s : Stock) (old : World) (due : Option ℕ) (new : World) (next
   pub wakes_are : wakes ≡ length (rounds beats)
   pub asked_are : asked ≡ requests_of beats
   pub text_is : text ≡ flat_map (beat_text s) beats
+
+abbrev pub next_in : Option Woken → Option ℕ
+next_in None = None
+next_in (Some w) = w.next
 
 abbrev pub requests_in : Option Woken → ℕ
 requests_in None = 0
@@ -182,8 +211,3 @@ Plays cs old start before (Err stops.TooLong) new out = PlaysLong (stock_of cs o
 Plays cs old start before (Err stops.Write) new out = HasFailed out.failed_before out.failed_after × PlaysFront (stock_of cs old.keeper.forest) old start before out
 Plays cs old start before (Err stops.Memory) new out = PlaysFront (stock_of cs old.keeper.forest) old start before out
 Plays cs old start before (Err stop) new out = ⊥
-
--- what an exchange came to for who asked: what was received, if anything; want of memory is no lost answer
-abbrev pub heard_of : Result Reply ExchangeFault → Option Reply
-heard_of (Ok reply) = Some reply
-heard_of (Err fault) = None

@@ -1,34 +1,20 @@
--- Renewing: what an entry is asked with, and the event that a reply gives.
+-- Renewing: the event that a reply to a renewal gives.
 -- Source: Vault, HTTP API: `auth/token`, "Renew a token (self)"; `sys/leases`, "Renew lease". Which status means what is this
 -- project's own.
-use Rattle.std.specs.Prelude.{ℕ, ◌==◌, ◌&&◌, not, List, Option, Some, None, Result, Ok, Err, codes, option_map, bytes_eq, nat_le, nat_lt, if◌then◌else◌}
-use Rattle.keep_tree.specs.declared.entry.Entry.{Entry}
+use Rattle.std.specs.Prelude.{◌≡◌, ℕ, ◌==◌, ◌&&◌, not, List, Option, Some, None, Result, Ok, Err, bytes_eq, nat_le, nat_lt, if◌then◌else◌}
 use Rattle.keep_tree.specs.declared.entry.Kind.{Kind}
 use Rattle.keep_tree.specs.declared.entry.Kind.TheVariants.{Token, Lease}
 use Rattle.keep_tree.specs.Forest.{Grove, entry_at}
 use Rattle.keep_inventory.specs.Stock.{credential_at}
 use Rattle.keep_core.specs.declared.event.Event.{Event}
 use Rattle.keep_core.specs.declared.event.Event.TheVariants.{Told, Refused, Lost}
-use Rattle.vault_http.specs.declared.request.Request.{Request}
+use Rattle.keep_core.specs.LawsOfHistories.{IsAnswer}
+use Rattle.keep_core.specs.Step.{of_entry}
 use Rattle.vault_http.specs.declared.reply.Reply.{Reply}
 use Rattle.vault_json.specs.declared.fault.ReplyFault.{ReplyFault}
 use Rattle.vault_json.specs.declared.renewed.Renewed.{Renewed}
 use Rattle.vault_json.specs.declared.renewed.RenewedLease.{RenewedLease}
 use Rattle.vault_json.specs.Renewed.{renew_lease_answer, renew_self_answer}
-use Rattle.vault_json.specs.Written.{lease_text, renew_text}
-
--- ---- the request
-
--- a token is asked with its own credential, a lease with that of the token it belongs to; each for its fixed step
-abbrev pub asked_as : Kind → ℕ → List (List ℕ) → ℕ → Entry → Request
-asked_as Token port cs i e = record { method = codes "POST"; path = codes "/v1/auth/token/renew-self"; token = Some (credential_at cs i); body = renew_text e.step; port = port }
-asked_as Lease port cs i e = record { method = codes "POST"; path = codes "/v1/sys/leases/renew"; token = option_map (credential_at cs) e.parent; body = lease_text (credential_at cs i) e.step; port = port }
-
--- the request for the entry i, to a broker at that port
-unfoldable pub request_of : ℕ → List (List ℕ) → Grove → ℕ → Request
-request_of port cs g i = asked_as (entry_at g.entries i).kind port cs i (entry_at g.entries i)
-
--- ---- the event
 
 abbrev pub of_token : ℕ → Result Renewed ReplyFault → Event
 of_token i (Ok r) = Told i r.seconds r.renewable
@@ -55,3 +41,7 @@ event_of kind id i (Some r) = if r.status == 200 then told_by kind id i r.body e
 -- the same for the entry i of a forest
 abbrev pub event_for : List (List ℕ) → Grove → ℕ → Option Reply → Event
 event_for cs g i reply = event_of (entry_at g.entries i).kind (credential_at cs i) i reply
+
+-- an answer of the entry i
+abbrev pub IsAnswerOf : ℕ → Event → Type 0
+IsAnswerOf i event = IsAnswer event × (of_entry event ≡ i)

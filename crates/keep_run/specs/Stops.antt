@@ -9,16 +9,17 @@ use Rattle.keep_exchange.specs.Exchanges.{Behind}
 use Rattle.mini_broker.specs.Step.{Says, step}
 use Rattle.keep_moment.specs.declared.moment.TheConstants.{LAST}
 use Rattle.keep_core.specs.declared.event.Event.{Event}
-use Rattle.keep_core.specs.declared.event.Event.TheVariants.{Tick, Told, Refused, Lost}
+use Rattle.keep_core.specs.declared.event.Event.TheVariants.{Tick}
 use Rattle.keep_core.specs.declared.event.Output.{Output}
 use Rattle.keep_core.specs.declared.fault.StepFault.{StepFault}
 use Rattle.keep_core.specs.declared.event.Output.TheVariants as out
-use Rattle.keep_core.specs.declared.fault.StepFault.TheVariants.{OutOfMemory, TooLong}
+use Rattle.keep_core.specs.declared.fault.StepFault.TheVariants.{OutOfMemory}
 use Rattle.keep_core.specs.declared.shortened.ShortNeed.{ShortNeed}
 use Rattle.keep_core.specs.History.{Turn}
+use Rattle.keep_core.specs.Refusal.{TellsSpan}
 use Rattle.keep_core.specs.State.{State}
-use Rattle.keep_run.specs.Renewing.{event_for, request_of}
-use Rattle.keep_run.specs.Closed.{AreAnswered, Beat, Course, Exchanged, IsAnswered, IsBeat, IsClosedRun, IsOpening, Played, World, closing, next_tick, reply_in, requests_of, rounds, taken, told_next}
+use Rattle.keep_run.specs.Renewing.{IsAnswerOf}
+use Rattle.keep_run.specs.Closed.{AreAnswered, Beat, Course, Exchanged, IsAnswered, IsBeat, IsClosedRun, IsOpening, Played, World, closing, next_tick, requests_of, rounds, taken, told_next}
 use Rattle.keep_run.specs.Text.{answer_line, answer_text, beat_text, course_text, done_text, short_lines, wake_line}
 
 -- ---- what the loops keep
@@ -76,30 +77,22 @@ EndLaw =
 
 -- ---- no refusals
 
--- a step that is refused at most because the plan would be too long, or for want of memory
-abbrev pub IsTakenOrLong : Result Output StepFault → Type 0
-IsTakenOrLong (Ok output) = Unit {0}
-IsTakenOrLong (Err TooLong) = Unit {0}
-IsTakenOrLong (Err OutOfMemory) = Unit {0}
-IsTakenOrLong (Err fault) = ⊥
+-- a step that is refused at most for want of memory
+abbrev pub IsTaken : Result Output StepFault → Type 0
+IsTaken (Ok output) = Unit {0}
+IsTaken (Err OutOfMemory) = Unit {0}
+IsTaken (Err fault) = ⊥
 
--- an answer for i, which tells a duration if it tells any
-abbrev pub IsAnswerFor : ℕ → Event → Type 0
-IsAnswerFor i (Told j seconds renewable) = (j ≡ i) × (seconds ≤ 4294967295)
-IsAnswerFor i (Refused j) = j ≡ i
-IsAnswerFor i (Lost j) = j ≡ i
-IsAnswerFor i event = ⊥
-
--- whatever the broker does, the keeper refuses neither the next tick nor the next answer of a round but for these two
+-- whatever the broker does, the keeper refuses neither the next tick nor the next answer of a round, but for want of memory
 abbrev pub NeverRefusedLaw : Type 0
 NeverRefusedLaw =
     (stock : Stock) (faults : List NumberedFault) (start port : ℕ) (short : List ShortNeed) (opening final : World) (beats : List Beat) (t : ℕ) → start ≤ LAST → IsOpening stock faults start short opening →
     Played port stock.credentials opening (Some start) beats final (Some t) →
-    ((result : Result Output StepFault) (new : State) → Turn final.keeper (Tick t) result new → IsTakenOrLong result)
+    ((result : Result Output StepFault) (new : State) → Turn final.keeper (Tick t) result new → IsTaken result)
     × ((asked : List ℕ) (keeper : State) → Turn final.keeper (Tick t) (Ok (out.Ask asked)) keeper →
     (xs : List Exchanged) (now : World) (i : ℕ) (others : List ℕ) → map (λ (x : Exchanged). x.entry) xs ++ (i ∷ others) ≡ asked →
     AreAnswered port stock.credentials t (record { keeper = taken keeper; behind = final.behind }) xs now →
-    (event : Event) (result : Result Output StepFault) (new : State) → IsAnswerFor i event → Turn now.keeper event result new → IsTakenOrLong result)
+    (event : Event) (result : Result Output StepFault) (new : State) → IsAnswerOf i event → TellsSpan event → Turn now.keeper event result new → IsTaken result)
 
 -- ---- the code of one answer
 

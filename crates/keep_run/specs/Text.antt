@@ -10,7 +10,8 @@ use Rattle.keep_core.specs.declared.event.Event.TheVariants.{Tick, Told, Refused
 use Rattle.keep_core.specs.declared.event.Output.{Output}
 use Rattle.keep_core.specs.declared.event.Output.TheVariants as out
 use Rattle.keep_core.specs.declared.shortened.ShortNeed.{ShortNeed}
-use Rattle.keep_run.specs.Closed.{Beat, Course, Exchanged, event_in, reply_in, requests_of, rounds}
+use Rattle.keep_exchange.specs.Requests.{reply_in}
+use Rattle.keep_run.specs.Closed.{Beat, Course, Exchanged, event_in, requests_of, rounds}
 
 -- words parted by one space, and a line feed behind the last
 abbrev pub line : List (List ℕ) → List ℕ

@@ -1,23 +1,18 @@
 //! Event lines, one after another: each is heard by the keeper, and whom it then asks is asked.
-ghost use Rattle.std.specs.Prelude.{◌≡◌, ◌++◌, ◌⊎◌, ◌<◌, ◌≤◌, List, ℕ, [], IfOk, OnOk, codes, length};
-ghost use Rattle.std.specs.List.{All};
+ghost use Rattle.std.specs.Prelude.{◌≡◌, ◌++◌, ◌⊎◌, ◌<◌, List, ℕ, OnOk, length};
 ghost use Rattle.std.specs.Result.{IfErr};
-ghost use Rattle.keep_core.specs.LawsOfSteps.{IsShaped};
 ghost use Rattle.keep_exchange.specs.Exchanges.{Behind};
-ghost use Rattle.keep_report.specs.declared.stop.Stop.TheVariants as stops;
 ghost use Rattle.keep_run.specs.EventLines.{IsWithin};
 ghost use Rattle.keep_run.specs.Live.{Between, IsHeard, IsHearingStop, IsLate, IsNeeded, IsReady, TicksLive};
-ghost use Rattle.keep_run.specs.Playing.{Answers, AnswersAll};
 ghost use Rattle.keep_run.specs.Stops.{both};
 
 use crate::event_line::Heard;
-use crate::lines::{push_answer_line, push_next, push_short_lines, push_sleep};
+use crate::lines::{push_next, push_short_lines, push_sleep};
 use crate::opening::tick;
-use crate::renewing::event_from;
-use crate::served_entry::heard_of;
-use crate::waking::told_next;
-use keep_core::{Event, Keeper, Output, StepFault};
-use keep_exchange::{Exchange, request_for};
+use crate::refused::stop_of;
+use crate::waking::round;
+use keep_core::{Event, Keeper, Output};
+use keep_exchange::Exchange;
 use keep_inventory::Credentials;
 use keep_moment::Moment;
 use keep_report::Stop;
@@ -74,8 +69,7 @@ fn hear_need(
     };
     match keeper.step(event) {
         Ok(_) => {}
-        Err(StepFault::TooLong) => return Err(Stop::TooLong),
-        Err(_) => return Err(Stop::Memory),
+        Err(fault) => return Err(stop_of(fault)),
     }
     let short = keeper.take_shortened();
     push_short_lines(alloc, keeper.forest(), short.list(), text)?;
@@ -126,61 +120,4 @@ fn hear_tick<E: Exchange>(
             Ok(())
         }
     }
-}
-
-/// The asked entries send their requests at `t`, one after another; the moment of the next wake-up, if there is one.
-fn round<E: Exchange>(
-    alloc: Global,
-    keeper: &mut Keeper,
-    exchange: &mut E,
-    credentials: &Credentials,
-    port: u16,
-    t: Moment,
-    asked: &[u32],
-    text: &mut Vec<u8>,
-) -> Result<Option<u64>, Stop>
-    requires within { All (λ i. i < length keeper.old.forest.entries) asked.now }
-    requires ready { IsReady credentials.now keeper.old }
-    ensures memory { IfErr result (λ stop. stop ≡ stops.Memory) }
-    ensures answers { IfOk result (λ next. port ≡ 8200 → Between (E.behind exchange.old) (E.behind exchange.new) (λ b a. AnswersAll credentials.now t (both keeper.old b) asked.now next (both keeper.new a) text.old.items text.new.items)) }
-    ensures shaped { IfOk result (λ _. IsShaped keeper.old.forest keeper.new.forest) }
-    ensures ready { IfOk result (λ _. IsReady credentials.now keeper.new) }
-{
-    let mut next = None;
-    for i in asked {
-        let output = answer(alloc, keeper, exchange, credentials, port, t, *i, text)?;
-        next = told_next(next, &output);
-    }
-    Ok(next)
-}
-
-/// The entry `i` sends its request at `t`, and the keeper is handed what the reply means; the lines of it are appended.
-fn answer<E: Exchange>(
-    alloc: Global,
-    keeper: &mut Keeper,
-    exchange: &mut E,
-    credentials: &Credentials,
-    port: u16,
-    t: Moment,
-    i: u32,
-    text: &mut Vec<u8>,
-) -> Result<Output, Stop>
-    requires within { i < length keeper.old.forest.entries }
-    requires ready { IsReady credentials.now keeper.old }
-    ensures memory { IfErr result (λ stop. stop ≡ stops.Memory) }
-    ensures answers { IfOk result (λ output. port ≡ 8200 → Between (E.behind exchange.old) (E.behind exchange.new) (λ b a. Answers credentials.now t (both keeper.old b) i output (both keeper.new a) text.old.items text.new.items)) }
-    ensures shaped { IfOk result (λ _. IsShaped keeper.old.forest keeper.new.forest) }
-    ensures ready { IfOk result (λ _. IsReady credentials.now keeper.new) }
-{
-    let request = request_for(alloc, port, credentials, keeper.forest(), i)?;
-    let kind = keeper.forest().get(i).kind;
-    let reply = heard_of(exchange.exchange(alloc, t, &request))?;
-    let event = event_from(alloc, kind, credentials.get(i), i, &reply)?;
-    push_answer_line(alloc, keeper.forest(), i, event, &reply, text)?;
-    let Ok(output) = keeper.step(event) else {
-        return Err(Stop::Memory);
-    };
-    let short = keeper.take_shortened();
-    push_short_lines(alloc, keeper.forest(), short.list(), text)?;
-    Ok(output)
 }

@@ -1,14 +1,14 @@
 //! Ticks, until one asks.
-ghost use Rattle.std.specs.Prelude.{◌≡◌, ◌<◌, ◌≤◌, [], IfOk, List, ℕ, length};
-ghost use Rattle.std.specs.List.{All};
+ghost use Rattle.std.specs.Prelude.{◌≡◌, ◌≤◌, [], IfOk, List, None, Some, ℕ, length};
 ghost use Rattle.std.specs.Result.{IfErr};
 ghost use Rattle.keep_report.specs.declared.stop.Stop.TheVariants as stops;
 ghost use Rattle.keep_core.specs.LawsOfSteps.{IsShaped};
 ghost use Rattle.keep_exchange.specs.Exchanges.{Behind};
 ghost use Rattle.keep_run.specs.Closed.{asked_in};
-ghost use Rattle.keep_run.specs.Playing.{OpensOrEnds, Ticks, asked_of};
+ghost use Rattle.keep_run.specs.Playing.{Comes, Leaves, LeavesOpen, OpensOrEnds, Ticks, asked_of};
 
 use crate::lines::{push_short_lines, push_wake_line};
+use crate::refused::stop_of;
 use keep_core::{Event, Keeper, Output};
 use keep_report::Stop;
 use keep_tree::Indices;
@@ -29,15 +29,19 @@ pub(crate) fn tick(
     text: &mut Vec<u8>,
 ) -> Result<Output, Stop>
     requires quiet { keeper.old.shortened ≡ [] }
+    requires closed { keeper.old.round ≡ None }
+    requires comes { Comes keeper.old.last (Some t) }
     ensures memory { IfErr result (λ stop. stop ≡ stops.Memory) }
     ensures ticks { IfOk result (λ output. Ticks t keeper.old output keeper.new text.old.items text.new.items) }
-    ensures within { IfOk result (λ output. All (λ i. i < length keeper.new.forest.entries) (asked_in output)) }
+    ensures leaves { IfOk result (λ output. Leaves t output keeper.new) }
     ensures few { IfOk result (λ output. length (asked_in output) ≤ 4096) }
 {
     let _entries = keeper.forest().len();
-    let Ok(output) = keeper.step(Event::Tick(t)) else {
-        return Err(Stop::Memory);
+    let output = match keeper.step(Event::Tick(t)) {
+        Ok(output) => output,
+        Err(fault) => return Err(stop_of(fault)),
     };
+    let _round = keeper.open_round();
     let short = keeper.take_shortened();
     push_short_lines(alloc, keeper.forest(), short.list(), text)?;
     if let Output::Ask(asked) = &output {
@@ -54,9 +58,11 @@ pub(crate) fn open(
     text: &mut Vec<u8>,
 ) -> Result<Option<Opened>, Stop>
     requires quiet { keeper.old.shortened ≡ [] }
+    requires closed { keeper.old.round ≡ None }
+    requires comes { Comes keeper.old.last (Some t) }
     ensures memory { IfErr result (λ stop. stop ≡ stops.Memory) }
     ensures opens { IfOk result (λ opened. (cs : List (List ℕ)) (behind : Behind) → OpensOrEnds cs behind keeper.old t opened keeper.new text.old.items text.new.items) }
-    ensures within { IfOk result (λ opened. All (λ i. i < length keeper.new.forest.entries) (asked_of opened)) }
+    ensures leaves { IfOk result (λ opened. LeavesOpen opened keeper.new) }
     ensures few { IfOk result (λ opened. length (asked_of opened) ≤ 4096) }
     ensures taken { IfOk result (λ _. keeper.new.shortened ≡ []) }
     ensures shaped { IfOk result (λ _. IsShaped keeper.old.forest keeper.new.forest) }

@@ -1,8 +1,9 @@
 //! The wake-ups of a run, one after another, with their lines.
-ghost use Rattle.std.specs.Prelude.{◌≡◌, ◌++◌, [], List, ℕ};
+ghost use Rattle.std.specs.Prelude.{◌≡◌, ◌++◌, [], List, None, Some, ℕ};
 ghost use Rattle.keep_exchange.specs.Exchanges.{Behind};
 ghost use Rattle.keep_run.specs.Text.{done_text};
-ghost use Rattle.keep_run.specs.Playing.{Finishes, Fits, LastPlays, Plays};
+ghost use Rattle.keep_run.specs.Live.{IsReady};
+ghost use Rattle.keep_run.specs.Playing.{Comes, Finishes, LastPlays, Plays};
 ghost use Rattle.keep_run.specs.Stops.{both};
 
 use crate::lines::push_done;
@@ -29,8 +30,8 @@ pub(crate) fn play<W: Sink>(
     lines: &[u8],
     out: &mut W,
 ) -> Result<(), Stop>
-    requires fits { Fits credentials.now keeper.old.forest }
-    requires quiet { keeper.old.shortened ≡ [] }
+    requires ready { IsReady credentials.now keeper.old }
+    requires comes { Comes keeper.old.last (Some start) }
     ensures { Plays credentials.now (both keeper.old exchange.old) start lines.now result (both keeper.new exchange.new) (⟦<W as Watched>⟧.sent out.old out.new) }
 {
     write_all(out, lines)?;
@@ -60,6 +61,8 @@ fn last<W: Sink>(
     out: &mut W,
 ) -> Result<(), Stop>
     requires quiet { keeper.old.shortened ≡ [] }
+    requires closed { keeper.old.round ≡ None }
+    requires comes { Comes keeper.old.last (Some due) }
     ensures { (cs : List (List ℕ)) (behind : Behind) → LastPlays cs behind keeper.old due requests result keeper.new (⟦<W as Watched>⟧.sent out.old out.new) }
 {
     let mut text = Vec::new(alloc);

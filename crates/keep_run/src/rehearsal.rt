@@ -8,7 +8,8 @@ ghost use Rattle.keep_run.specs.Rehearse.{RehearseRun, RehearseTold, Rehearses};
 use crate::fault_words::set_faults;
 use crate::lines::push_short_lines;
 use crate::playing::play;
-use keep_core::{Keeper, StepFault};
+use crate::refused::stop_of;
+use keep_core::Keeper;
 use keep_device::Sink;
 use keep_exchange::MemoryExchange;
 use keep_inventory::read;
@@ -90,7 +91,6 @@ pub(crate) fn opened(alloc: Global, forest: Forest, start: Moment) -> Result<Kee
 {
     match Keeper::new(alloc, forest, start) {
         Ok(keeper) => Ok(keeper),
-        Err((StepFault::TooLong, _)) => Err(Stop::TooLong),
-        Err(_) => Err(Stop::Memory),
+        Err((fault, _)) => Err(stop_of(fault)),
     }
 }

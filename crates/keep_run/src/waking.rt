@@ -1,17 +1,17 @@
 //! One wake-up: ticks until one asks, and the answers of those who are asked.
-ghost use Rattle.std.specs.Prelude.{◌≡◌, ◌<◌, ◌≤◌, [], IfOk, length};
-ghost use Rattle.std.specs.List.{All};
+ghost use Rattle.std.specs.Prelude.{◌≡◌, ◌≢◌, ◌≤◌, [], IfOk, Some, length};
 ghost use Rattle.std.specs.Result.{IfErr};
 ghost use Rattle.keep_report.specs.declared.stop.Stop.TheVariants as stops;
 ghost use Rattle.keep_core.specs.LawsOfSteps.{IsShaped};
-ghost use Rattle.keep_run.specs.Playing.{AnswersAll, Fits, Wakes, requests_in};
+ghost use Rattle.keep_run.specs.Live.{Between, IsReady};
+ghost use Rattle.keep_run.specs.Playing.{AnswersAll, Comes, Waits, Wakes, next_in, requests_in};
 ghost use Rattle.keep_run.specs.Closed.{told_next};
 ghost use Rattle.keep_run.specs.Stops.{both};
 
 use crate::opening::open;
 use crate::served_entry::answer;
 use keep_core::{Keeper, Output};
-use keep_exchange::MemoryExchange;
+use keep_exchange::{Exchange, MemoryExchange};
 use keep_inventory::Credentials;
 use keep_moment::Moment;
 use keep_report::Stop;
@@ -33,13 +33,14 @@ pub(crate) fn wake(
     due: u64,
     text: &mut Vec<u8>,
 ) -> Result<Option<Woken>, Stop>
-    requires fits { Fits credentials.now keeper.old.forest }
-    requires quiet { keeper.old.shortened ≡ [] }
+    requires ready { IsReady credentials.now keeper.old }
+    requires comes { Comes keeper.old.last (Some due) }
     ensures memory { IfErr result (λ stop. stop ≡ stops.Memory) }
     ensures wakes { IfOk result (λ woken. Wakes credentials.now (both keeper.old exchange.old) due woken (both keeper.new exchange.new) text.old.items text.new.items) }
     ensures few { IfOk result (λ woken. requests_in woken ≤ 4096) }
     ensures shaped { IfOk result (λ _. IsShaped keeper.old.forest keeper.new.forest) }
-    ensures taken { IfOk result (λ _. keeper.new.shortened ≡ []) }
+    ensures ready { IfOk result (λ _. IsReady credentials.now keeper.new) }
+    ensures comes { IfOk result (λ woken. Comes keeper.new.last (next_in woken)) }
 {
     let Some(opened) = open(alloc, keeper, due, text)? else {
         return Ok(None);
@@ -47,11 +48,13 @@ pub(crate) fn wake(
     let Some(at) = Moment::new(opened.at) else {
         unreachable!()
     };
+    let port = exchange.port();
     let next = round(
         alloc,
         keeper,
         exchange,
         credentials,
+        port,
         at,
         opened.asked.list(),
         text,
@@ -63,26 +66,29 @@ pub(crate) fn wake(
 }
 
 /// The asked entries send their requests at `t`, one after another; the moment of the next tick, if there is one.
-fn round(
+pub(crate) fn round<E: Exchange>(
     alloc: Global,
     keeper: &mut Keeper,
-    exchange: &mut MemoryExchange,
+    exchange: &mut E,
     credentials: &Credentials,
+    port: u16,
     t: Moment,
     asked: &[u32],
     text: &mut Vec<u8>,
 ) -> Result<Option<u64>, Stop>
-    requires within { All (λ i. i < length keeper.old.forest.entries) asked.now }
-    requires fits { Fits credentials.now keeper.old.forest }
+    requires waits { Waits keeper.old t asked.now }
+    requires some { asked.now ≢ [] }
+    requires count { length credentials.now ≡ length keeper.old.forest.entries }
     requires quiet { keeper.old.shortened ≡ [] }
     ensures memory { IfErr result (λ stop. stop ≡ stops.Memory) }
-    ensures answers { IfOk result (λ next. AnswersAll credentials.now t (both keeper.old exchange.old) asked.now next (both keeper.new exchange.new) text.old.items text.new.items) }
+    ensures answers { IfOk result (λ next. port ≡ 8200 → Between (E.behind exchange.old) (E.behind exchange.new) (λ b a. AnswersAll credentials.now t (both keeper.old b) asked.now next (both keeper.new a) text.old.items text.new.items)) }
     ensures shaped { IfOk result (λ _. IsShaped keeper.old.forest keeper.new.forest) }
-    ensures taken { IfOk result (λ _. keeper.new.shortened ≡ []) }
+    ensures ready { IfOk result (λ _. IsReady credentials.now keeper.new) }
+    ensures comes { IfOk result (λ next. Comes keeper.new.last next) }
 {
     let mut next = None;
     for i in asked {
-        let output = answer(alloc, keeper, exchange, credentials, t, *i, text)?;
+        let output = answer(alloc, keeper, exchange, credentials, port, t, *i, text)?;
         next = told_next(next, &output);
     }
     Ok(next)

@@ -24,8 +24,9 @@ use Rattle.keep_needs.specs.Carried.{CarriedNeed, IsCarried, NamesFrom, load_at}
 use Rattle.keep_rule.specs.declared.force.Force.{Force}
 use Rattle.keep_rule.specs.Runs.{moments_of}
 use Rattle.keep_schedule.specs.Forces.{AreForces}
-use Rattle.keep_schedule.specs.Prospect.{IsInSight, Prospect, terms_of}
-use Rattle.keep_schedule.specs.Terms.{AreLed, IsSound, Terms, deadline}
+use Rattle.keep_schedule.specs.code.Sound.{IsInSight, IsSound}
+use Rattle.keep_schedule.specs.Prospect.{Prospect, terms_of}
+use Rattle.keep_schedule.specs.Terms.{AreLed, Terms, deadline}
 use Rattle.keep_schedule.proofs.Leading.{ahead}
 
 -- the entry whose need is carried

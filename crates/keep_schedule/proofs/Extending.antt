@@ -8,7 +8,8 @@ use Rattle.keep_schedule.specs.declared.groups.Next.{Next}
 use Rattle.keep_schedule.specs.code.Groups.{IsGrouped, IsHead, Joins, Settles, Waits}
 use Rattle.keep_schedule.specs.code.Line.{FirstOf}
 use Rattle.keep_schedule.specs.code.Stretches.{Stretches}
-use Rattle.keep_schedule.specs.Terms.{Ahead, IsSound, Leads, Terms}
+use Rattle.keep_schedule.specs.Terms.{Ahead, Leads, Terms}
+use Rattle.keep_schedule.specs.code.Sound.{IsSound}
 use Rattle.keep_schedule.proofs.Grouping.{join_leads, later}
 use Rattle.keep_schedule.proofs.Leading.{ahead}
 use Rattle.keep_schedule.proofs.Moves.{first_key, none_ahead}

@@ -1,6 +1,6 @@
 -- The list of forces: there is one where there is a schedule, and no other.
 use Rattle.std.proofs.Common.{◌≡◌, ◌==◌, ℕ, zero, suc, ◌+◌, ◌-◌, ◌<◌, ◌≤◌, ◌&&◌, Bool, true, false, List, [], ◌∷◌, Option, Some, None, nat_lt, refl, sym, ap, ◌∙◌, subst, arith, inl, inr}
-use Rattle.std.proofs.lemmas.Bool.{cases_Bool, cases_eq, cases_lt}
+use Rattle.std.proofs.lemmas.Bool.{and_from, cases_Bool, cases_eq, cases_lt}
 use Rattle.std.proofs.lemmas.Bool.Decides.{nat_tests}
 use Rattle.keep_tree.specs.declared.entry.Entry.{Entry}
 use Rattle.keep_tree.specs.Carried.{IsFrom, carried}
@@ -56,19 +56,16 @@ find p (suc d) k n is none passes =
 lowest : (p : ℕ → Bool) (n : ℕ) → p n ≡ true → (m : ℕ) × ((p m ≡ true) × ((i : ℕ) → p i ≡ true → m ≤ i))
 lowest p n passes = find p n 0 n (omega arith) (λ i h y. omega arith) passes
 
-both : (a b : Bool) → a ≡ true → b ≡ true → a && b ≡ true
-both a b p q = ap (λ x. x && b) p ∙ q
-
 from_exists : (es : List Entry) (s i : ℕ) → 0 < carried es s i → (n : ℕ) × IsFrom es s i n
 from_exists es s i some =
     let found = carrier es s i some in
     let p : ℕ → Bool = λ f. is_over es i f && ((entry_at es f).need == carried es s i) in
-    let least = lowest p found.0 (both (is_over es i found.0) ((entry_at es found.0).need == carried es s i) found.1 (let e : (entry_at es found.0).need ≡ carried es s i = found.3 in grind (arith, nat_tests))) in (
+    let least = lowest p found.0 (and_from (is_over es i found.0) ((entry_at es found.0).need == carried es s i) found.1 (let e : (entry_at es found.0).need ≡ carried es s i = found.3 in grind (arith, nat_tests))) in (
       least.0,
       record {
         over = and_left (is_over es i least.0) _ least.1.0;
         need = (let e : ((entry_at es least.0).need == carried es s i) ≡ true = and_right (is_over es i least.0) _ least.1.0 in grind (arith, nat_tests));
-        lowest = λ f over need. least.1.1 f (both (is_over es i f) ((entry_at es f).need == carried es s i) over (grind (arith, nat_tests)));
+        lowest = λ f over need. least.1.1 f (and_from (is_over es i f) ((entry_at es f).need == carried es s i) over (grind (arith, nat_tests)));
       },
     )
 
@@ -77,7 +74,7 @@ force_exists es margin s ends prev w next =
     let b : ℕ → ℕ = bound es ends prev in
     let p : ℕ → Bool = λ i. nat_lt (b i) (carried es s i) && (b i == b next.entry) in
     let s0 = next.short in
-    let least = lowest p next.entry (both (nat_lt (b next.entry) (carried es s next.entry)) (b next.entry == b next.entry) (grind (arith, nat_tests)) (grind (arith, nat_tests))) in
+    let least = lowest p next.entry (and_from (nat_lt (b next.entry) (carried es s next.entry)) (b next.entry == b next.entry) (grind (arith, nat_tests)) (grind (arith, nat_tests))) in
     let f = least.0 in
     let short : b f < carried es s f = (let e = and_left (nat_lt (b f) (carried es s f)) _ least.1.0 in grind (arith, nat_tests)) in
     let same : b f ≡ b next.entry = (let e = and_right (nat_lt (b f) (carried es s f)) _ least.1.0 in grind (arith, nat_tests)) in
@@ -88,7 +85,7 @@ force_exists es margin s ends prev w next =
           short = short;
           moment = next.moment ∙ ap (λ k. k - margin) (sym same);
           least = λ i h. let l = next.earliest i h in (let k : b f ≤ b i = omega arith in k);
-          lowest = λ i h e. least.1.1 i (both (nat_lt (b i) (carried es s i)) (b i == b next.entry) (grind (arith, nat_tests)) (let k : b i ≡ b next.entry = e ∙ same in grind (arith, nat_tests)));
+          lowest = λ i h e. least.1.1 i (and_from (nat_lt (b i) (carried es s i)) (b i == b next.entry) (grind (arith, nat_tests)) (let k : b i ≡ b next.entry = e ∙ same in grind (arith, nat_tests)));
           from = needed.1;
         },
         refl,

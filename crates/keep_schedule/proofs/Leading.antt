@@ -2,7 +2,8 @@
 use Rattle.std.proofs.Common.{◌≡◌, ℕ, ◌+◌, ◌-◌, ◌<◌, ◌≤◌, max, List, [], ◌∷◌, Option, Some, None, refl, sym, ap, ◌∙◌, subst, arith, inl, inr}
 use Rattle.std.proofs.lemmas.Bool.{cases_lt}
 use Rattle.keep_rule.specs.declared.force.Force.{Force}
-use Rattle.keep_schedule.specs.Terms.{Ahead, AreLed, IsSound, Leads, Terms, deadline}
+use Rattle.keep_schedule.specs.Terms.{Ahead, AreLed, Leads, Terms, deadline}
+use Rattle.keep_schedule.specs.code.Sound.{IsSound}
 
 pub ahead : (x i y j : ℕ) → x ≤ y → (x ≡ y → i ≤ j) → Ahead x i y j
 ahead x i y j le tie = elim (cases_lt x y) [ inl less ↦ inl less | inr more ↦ let e : x ≡ y = omega arith in inr (e, tie e) ]

@@ -15,11 +15,12 @@ use Rattle.keep_schedule.specs.Courses.{IsToCome}
 use Rattle.keep_schedule.specs.code.Groups.{IsGrouped, IsKeyed, Joins, Settles, Waits}
 use Rattle.keep_schedule.specs.code.Line.{FirstOf, Lined, Spot, spot}
 use Rattle.keep_schedule.specs.Prospect.{Prospect, terms_of}
-use Rattle.keep_schedule.specs.Queues.{Fills, IsBegun, IsDue, IsReady}
+use Rattle.keep_schedule.specs.code.Queueing.{Fills, IsBegun, IsDue, IsReady}
 use Rattle.keep_rule.specs.Runs.{wakes, wakes_of}
 use Rattle.keep_schedule.specs.Given.{GivesHead, GivesRun, IsFirstRun}
 use Rattle.keep_schedule.specs.code.Stretches.{IsOther, Stretches}
-use Rattle.keep_schedule.specs.Terms.{Ahead, AreLed, IsSound, Leads, Terms, deadline}
+use Rattle.keep_schedule.specs.Terms.{Ahead, AreLed, Leads, Terms, deadline}
+use Rattle.keep_schedule.specs.code.Sound.{IsSound}
 use Rattle.keep_schedule.proofs.Bridge.{need_past}
 use Rattle.keep_schedule.proofs.Grouping.{first_leads, join_leads, later, none_lacks, wait_leads}
 use Rattle.keep_schedule.proofs.Leading.{end_below_deadline, one_leads, one_led, same_force, short_before}
@@ -216,10 +217,8 @@ taken o n prev f first most more last s needed old mid new now next sound begun 
     let are = wakes_are first s d more f needed (t.from f) is step in
     let splits = split_run t prev f first d more last (wakes_of first s (more + 1) f needed) begun.leads at refl gains reached stretch.leads ends are in
     record {
-      some = omega arith;
+      run = record { moments = record { some = omega arith; last = last_moment more s d first last step ends moment }; lone = lone_step more s d step (omega arith) };
       within = omega arith;
-      lone = lone_step more s d step (omega arith);
-      moment = last_moment more s d first last step ends moment;
       joins = λ rest led. subst (λ l. AreLed t prev (l ++ rest)) (sym are)
           (begun.leads, (at, (refl, run_led t f d more first refl gains reached stretch.leads rest (subst (λ (w : ℕ). AreLed t (Some w) rest) ends led))));
       splits = splits;
@@ -272,7 +271,7 @@ one_wake r is = ap (λ k. wakes_of r.first r.step k r.entry r.needed) is
 -- a run of one wake-up is the head of the list
 pub head_of_run : (old new : List Force → Type 0) (r : Run) (x : Force) → IsFirstRun old new 1 r → x.at ≡ r.first → x.entry ≡ r.entry → x.needed ≡ r.needed → GivesHead old new (Some x)
 head_of_run old new r x first at entry needed =
-    let some = first.some in
+    let some = first.run.moments.some in
     let within = first.within in
     let is : wakes r ≡ x ∷ [] = one_wake r (omega arith) ∙ ap (λ y. y ∷ []) (sym (same_force x (record { at = r.first; entry = r.entry; needed = r.needed }) at entry needed)) in (
       λ rest h. subst (λ l. old (l ++ rest)) is (first.joins rest h),

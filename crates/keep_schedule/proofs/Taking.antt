@@ -2,7 +2,8 @@
 use Rattle.std.proofs.Common.{◌≡◌, ℕ, ◌-◌, List, [], ◌∷◌, length, Option, Some, None, sym, ap, ◌∙◌, subst, arith, inl, inr}
 use Rattle.std.proofs.lemmas.Bool.{cases_lt}
 use Rattle.keep_rule.specs.declared.force.Force.{Force}
-use Rattle.keep_schedule.specs.Courses.{IsLeader, IsToCome, LeadsBelow}
+use Rattle.keep_schedule.specs.code.Scanning.{IsLeader, LeadsBelow}
+use Rattle.keep_schedule.specs.Courses.{IsToCome}
 use Rattle.keep_schedule.specs.Prospect.{Prospect, terms_of}
 use Rattle.keep_schedule.specs.Given.{GivesHead}
 use Rattle.keep_schedule.specs.Terms.{AreLed, Leads, deadline}

@@ -1,10 +1,9 @@
 -- Given: what it means to give the head, or a run, of a list of wake-ups to come.
 -- Source: this project's own.
-use Rattle.std.specs.Prelude.{◌≡◌, ℕ, ◌+◌, ◌-◌, ◌*◌, ◌≤◌, ◌<◌, ◌↔◌, List, [], ◌∷◌, ◌++◌, Option, Some, None}
-use Rattle.keep_moment.specs.declared.moment.TheConstants.{LAST}
+use Rattle.std.specs.Prelude.{◌≡◌, ℕ, ◌≤◌, ◌<◌, List, [], ◌∷◌, ◌++◌, Option, Some, None}
 use Rattle.keep_rule.specs.declared.force.Force.{Force}
 use Rattle.keep_rule.specs.declared.run.Run.{Run}
-use Rattle.keep_rule.specs.Runs.{wakes}
+use Rattle.keep_rule.specs.Runs.{IsRun, wakes}
 
 -- what stood for the list that begins with the answer stands for its tail now; with no answer it stood for the empty list
 -- alone, and still stands for that
@@ -13,12 +12,10 @@ GivesHead old new None = old [] × (new [] × ((xs : List Force) → old xs → 
 GivesHead old new (Some x) = ((rest : List Force) → new rest → old (x ∷ rest)) × ((xs : List Force) → old xs → (rest : List Force) × ((xs ≡ x ∷ rest) × new rest))
 
 -- the list to come begins with the wake-ups of a run, and is now what follows them. It is the longest run of at most `most`
--- wake-ups with which the list begins, and its last wake-up is at a moment
+-- wake-ups with which the list begins
 pub record IsFirstRun (old new : List Force → Type 0) (most : ℕ) (r : Run) : Type 0 where
-  pub some : 0 < r.count
+  pub run : IsRun r
   pub within : r.count ≤ most
-  pub lone : (r.step ≡ 0) ↔ (r.count ≡ 1)
-  pub moment : r.first + (r.count - 1) * r.step ≤ LAST
   pub joins : (rest : List Force) → new rest → old (wakes r ++ rest)
   pub splits : (xs : List Force) → old xs → (rest : List Force) × ((xs ≡ wakes r ++ rest) × new rest)
   pub longest : (other : Run) (rest : List Force) → old (wakes other ++ rest) → other.count ≤ most → other.count ≤ r.count

@@ -1,9 +1,9 @@
 -- Prospect: the terms that a forest and its carried needs give.
 -- Source: this project's own.
-use Rattle.std.specs.Prelude.{◌≡◌, List, length, unwrap_or}
+use Rattle.std.specs.Prelude.{List, unwrap_or}
 use Rattle.keep_tree.specs.Forest.{Grove, end_of, entry_at}
 use Rattle.keep_needs.specs.Carried.{CarriedNeed, load_at}
-use Rattle.keep_schedule.specs.Terms.{IsSound, Terms}
+use Rattle.keep_schedule.specs.Terms.{Terms}
 
 -- what a schedule looks at: a forest, and what its entries carry
 pub record Prospect : Type 0 where
@@ -19,8 +19,3 @@ terms_of o = record {
   from = λ i. unwrap_or (load_at o.loads i).from 0;
   margin = o.grove.margin;
 }
-
--- what is known of its terms
-pub record IsInSight (o : Prospect) : Type 0 where
-  pub count : length o.loads ≡ length o.grove.entries
-  pub sound : IsSound (terms_of o)

@@ -1,7 +1,6 @@
 -- Terms: which entry forces the next wake-up, by four numbers for each entry, where none of them is led past its ceiling.
 -- Source: this project's own.
 use Rattle.std.specs.Prelude.{◌≡◌, ℕ, ◌+◌, ◌-◌, ◌≤◌, ◌<◌, ◌⊎◌, max, List, [], ◌∷◌, Option, Some, None}
-use Rattle.keep_moment.specs.declared.moment.TheConstants.{LAST}
 use Rattle.keep_rule.specs.declared.force.Force.{Force}
 
 -- of the entry at an index: its end, its step, the need that it carries, and the entry that has this need; and the margin
@@ -31,9 +30,3 @@ abbrev pub AreLed : Terms → Option ℕ → List Force → Type 0
 AreLed t prev [] = (i : ℕ) → t.need i ≤ deadline t prev i
 AreLed t prev (x ∷ xs) =
     Leads t prev x.entry × ((x.at ≡ deadline t prev x.entry - t.margin) × ((x.needed ≡ t.from x.entry) × AreLed t (Some x.at) xs))
-
--- each entry that falls short can be asked the margin before its end, gains by it, and is needed at a moment at most
-pub record IsSound (t : Terms) : Type 0 where
-  pub step : (i : ℕ) → t.end i < t.need i → t.margin < t.step i
-  pub end : (i : ℕ) → t.end i < t.need i → t.margin ≤ t.end i
-  pub need : (i : ℕ) → t.need i ≤ LAST

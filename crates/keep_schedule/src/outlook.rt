@@ -5,8 +5,9 @@ ghost use Rattle.keep_tree.specs.Push.{IsForest};
 ghost use Rattle.keep_rule.specs.Unkeepable.{AllKeepable};
 ghost use Rattle.keep_needs.specs.Carried.{IsCarried};
 ghost use Rattle.keep_schedule.specs.Courses.{IsWithin};
-ghost use Rattle.keep_schedule.specs.Prospect.{IsInSight, terms_of};
-ghost use Rattle.keep_schedule.specs.Terms.{IsSound, deadline};
+ghost use Rattle.keep_schedule.specs.code.Sound.{IsInSight, IsSound};
+ghost use Rattle.keep_schedule.specs.Prospect.{terms_of};
+ghost use Rattle.keep_schedule.specs.Terms.{deadline};
 
 use keep_moment::Moment;
 use keep_needs::Carried;
@@ -21,7 +22,8 @@ pub(crate) struct Outlook<'a> {
 }
 
 impl<'a> Model for Outlook<'a> {
-    ghost use Rattle.keep_schedule.specs.Prospect.{IsInSight, Prospect};
+    ghost use Rattle.keep_schedule.specs.code.Sound.{IsInSight};
+    ghost use Rattle.keep_schedule.specs.Prospect.{Prospect};
 
     ghost Value = { Prospect };
 

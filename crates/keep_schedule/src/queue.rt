@@ -8,7 +8,7 @@ ghost use Rattle.keep_schedule.specs.Courses.{IsToCome, IsWithin};
 ghost use Rattle.keep_schedule.specs.Forces.{AreForces};
 ghost use Rattle.keep_schedule.specs.code.Groups.{Waits};
 ghost use Rattle.keep_schedule.specs.Prospect.{terms_of};
-ghost use Rattle.keep_schedule.specs.Queues.{Fills, IsBegun, IsReady, runs_left};
+ghost use Rattle.keep_schedule.specs.code.Queueing.{Fills, IsBegun, IsReady, runs_left};
 ghost use Rattle.keep_schedule.specs.Given.{GivesRun, LeavesFewer};
 
 use crate::fault::ScheduleFault;
@@ -39,7 +39,8 @@ impl<'a> Model for QueueSchedule<'a> {
     ghost use Rattle.std.specs.Prelude.{length};
     ghost use Rattle.keep_schedule.specs.Courses.{IsWithin};
     ghost use Rattle.keep_schedule.specs.Prospect.{terms_of};
-    ghost use Rattle.keep_schedule.specs.Queues.{IsReady, Queue, runs_left};
+    ghost use Rattle.keep_schedule.specs.code.Queueing.{IsReady, runs_left};
+    ghost use Rattle.keep_schedule.specs.Queues.{Queue};
 
     ghost Value = { Queue };
 

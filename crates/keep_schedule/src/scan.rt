@@ -3,9 +3,11 @@ ghost use Rattle.keep_tree.specs.Forest.{end_of};
 ghost use Rattle.keep_rule.specs.Unkeepable.{AllKeepable};
 ghost use Rattle.keep_needs.specs.Carried.{IsCarried};
 ghost use Rattle.keep_rule.specs.declared.force.Force.{Force};
-ghost use Rattle.keep_schedule.specs.Courses.{IsLeader, IsToCome, IsWithin, TakesLead};
+ghost use Rattle.keep_schedule.specs.code.Scanning.{IsLeader, TakesLead};
+ghost use Rattle.keep_schedule.specs.Courses.{IsToCome, IsWithin};
 ghost use Rattle.keep_schedule.specs.Forces.{AreForces};
-ghost use Rattle.keep_schedule.specs.Prospect.{IsInSight, terms_of};
+ghost use Rattle.keep_schedule.specs.code.Sound.{IsInSight};
+ghost use Rattle.keep_schedule.specs.Prospect.{terms_of};
 
 use crate::outlook::Outlook;
 use crate::schedule::Schedule;

@@ -3,7 +3,8 @@ ghost use Rattle.keep_moment.specs.declared.moment.TheConstants.{LAST};
 ghost use Rattle.keep_schedule.specs.code.Groups.{IsGrouped, IsHead, Joins, Waits};
 ghost use Rattle.keep_schedule.specs.Prospect.{terms_of};
 ghost use Rattle.keep_schedule.specs.code.Stretches.{IsOther, Stretches};
-ghost use Rattle.keep_schedule.specs.Terms.{IsSound, Leads};
+ghost use Rattle.keep_schedule.specs.code.Sound.{IsSound};
+ghost use Rattle.keep_schedule.specs.Terms.{Leads};
 
 use crate::groups::{Groups, Next, settle};
 use crate::outlook::Outlook;

@@ -1,6 +1,7 @@
 -- The carried need: it is at least each need that it carries, it is one of them, and it grows up the tree.
 use Rattle.std.proofs.Common.{◌≡◌, ℕ, zero, suc, ◌<◌, ◌≤◌, ◌&&◌, ◌||◌, ◌==◌, Bool, true, false, List, length, max, nat_lt, refl, sym, ap, ◌∙◌, subst, arith, inl, inr}
-use Rattle.std.proofs.lemmas.Bool.{cases_Bool, cases_eq, cases_lt, cond-true, cond-false}
+use Rattle.std.proofs.lemmas.Bool.{and_from, and_parts, cases_Bool, cases_eq, cases_lt, cond-true, cond-false}
+pub use Rattle.std.proofs.lemmas.Bool.{or_left, or_right}
 use Rattle.std.proofs.lemmas.Bool.Decides.{nat_tests}
 use Rattle.keep_tree.specs.declared.entry.Entry.{Entry}
 use Rattle.keep_tree.specs.Forest.{entry_at}
@@ -13,31 +14,11 @@ pub or_parts : (a b : Bool) (P : Type 0) → a || b ≡ true → (a ≡ true →
 or_parts true b P e left right = left refl
 or_parts false b P e left right = right e
 
-pub or_left : (a b : Bool) → a ≡ true → a || b ≡ true
-or_left true b e = refl
-or_left false b e = absurd cc
-
-pub or_right : (a b : Bool) → b ≡ true → a || b ≡ true
-or_right true b e = refl
-or_right false b e = e
-
 pub and_left : (a b : Bool) → a && b ≡ true → a ≡ true
-and_left true b e = refl
-and_left false b e = absurd cc
+and_left a b e = (and_parts a b e).0
 
 pub and_right : (a b : Bool) → a && b ≡ true → b ≡ true
-and_right true b e = e
-and_right false b e = absurd cc
-
-both : (a b : Bool) → a ≡ true → b ≡ true → a && b ≡ true
-both true true p q = refl
-both true false p q = absurd cc
-both false b p q = absurd cc
-
-parts : (a b : Bool) → a && b ≡ true → (a ≡ true) × (b ≡ true)
-parts true true e = (refl, refl)
-parts true false e = absurd cc
-parts false b e = absurd cc
+and_right a b e = (and_parts a b e).1
 
 carried_least : (es : List Entry) (s i n f : ℕ) → f < n → Over es i f → s < (entry_at es f).need → (entry_at es f).need ≤ carried_of es s i n
 unfolding carried_of
@@ -47,7 +28,7 @@ carried_least es s i (suc n) f h over later =
     let test = is_over es i n && nat_lt s need in
     elim (cases_eq f n) [
       | inl same ↦
-          let here : test ≡ true = both (is_over es i n) (nat_lt s need) (subst (λ k. is_over es i k ≡ true) same over) (let l : s < need = subst (λ k. s < (entry_at es k).need) same later in grind (arith, nat_tests)) in
+          let here : test ≡ true = and_from (is_over es i n) (nat_lt s need) (subst (λ k. is_over es i k ≡ true) same over) (let l : s < need = subst (λ k. s < (entry_at es k).need) same later in grind (arith, nat_tests)) in
           let is = cond-true test (max (carried_of es s i n) need) (carried_of es s i n) here in
           let e : (entry_at es f).need ≡ need = ap (λ k. (entry_at es k).need) same in
           omega (arith, is)
@@ -69,7 +50,7 @@ carried_from es s i (suc n) b h =
     elim (cases_Bool test) [
       | inl yes' ↦
           let is = cond-true test (max (carried_of es s i n) need) (carried_of es s i n) yes' in
-          let two = parts (is_over es i n) (nat_lt s need) yes' in
+          let two = and_parts (is_over es i n) (nat_lt s need) yes' in
           elim (cases_lt b need) [
             | inl here ↦ (n, two.0, (let t : nat_lt s need ≡ true = two.1 in grind (arith, nat_tests)), here)
             | inr below ↦ carried_from es s i n b (omega (arith, is))

@@ -1,19 +1,13 @@
 -- The chain of an entry: its two laws, and that it stays where the parents stay.
 use Rattle.std.proofs.Common.{◌≡◌, ◌==◌, ◌||◌, ◌&&◌, nat_le, ℕ, suc, zero, ◌<◌, Bool, true, false, List, [], ◌∷◌, Option, Some, None, refl, sym, ap, ◌∙◌, arith}
+use Rattle.std.proofs.lemmas.Bool.{and_left, or_left}
 use Rattle.std.proofs.lemmas.Bool.Decides.{nat_tests}
+use Rattle.std.proofs.Math.Bool.{and-true, or-false}
 use Rattle.std.specs.List.{list_all, list_any}
 use Rattle.keep_tree.specs.declared.entry.Entry.{Entry}
 use Rattle.keep_tree.specs.Forest.{entry_at}
 use Rattle.keep_tree.specs.Over.{chain_of, chain, is_over}
 use Rattle.keep_tree.specs.Renewal.{all_last}
-
-or_false : (b : Bool) → b || false ≡ b
-or_false true = refl
-or_false false = refl
-
-and_true : (b : Bool) → b && true ≡ b
-and_true true = refl
-and_true false = refl
 
 -- each parent stands before its child
 abbrev pub ParentsFirst : List Entry → Type 0
@@ -78,34 +72,26 @@ eqb_same n = grind (arith, nat_tests)
 -- an entry is over itself; over it and nothing else where it has no parent; over it is what is over its parent
 pub over_root : (es : List Entry) (a i : ℕ) → (entry_at es i).parent ≡ None → is_over es a i ≡ (i == a)
 unfolding is_over
-over_root es a i root = ap (list_any (λ b. b == a)) (chain_root es i root) ∙ or_false (i == a)
+over_root es a i root = ap (list_any (λ b. b == a)) (chain_root es i root) ∙ or-false (i == a)
 
 pub over_child : (es : List Entry) (a i p : ℕ) → ParentsFirst es → (entry_at es i).parent ≡ Some p → is_over es a i ≡ (i == a) || is_over es a p
 unfolding is_over
 over_child es a i p first child = ap (list_any (λ b. b == a)) (chain_child es i p first child)
 
-true_or : (a b : Bool) → a ≡ true → a || b ≡ true
-true_or true b e = refl
-true_or false b e = absurd cc
-
 pub over_self : (es : List Entry) (i : ℕ) → is_over es i i ≡ true
 unfolding is_over chain chain_of
-over_self es i = true_or (i == i) _ (eqb_same i)
+over_self es i = or_left (i == i) _ (eqb_same i)
 
 -- what lasts up the chain of an entry
 pub all_last_root : (es : List Entry) (ends : ℕ → ℕ) (m i : ℕ) → (entry_at es i).parent ≡ None → all_last es ends m i ≡ nat_le m (ends i)
 unfolding all_last
-all_last_root es ends m i root = ap (list_all (λ a. nat_le m (ends a))) (chain_root es i root) ∙ and_true (nat_le m (ends i))
+all_last_root es ends m i root = ap (list_all (λ a. nat_le m (ends a))) (chain_root es i root) ∙ and-true (nat_le m (ends i))
 
 pub all_last_child : (es : List Entry) (ends : ℕ → ℕ) (m i p : ℕ) → ParentsFirst es → (entry_at es i).parent ≡ Some p → all_last es ends m i ≡ nat_le m (ends i) && all_last es ends m p
 unfolding all_last
 all_last_child es ends m i p first child = ap (list_all (λ a. nat_le m (ends a))) (chain_child es i p first child)
 
 -- an entry that does not last ends its chain
-false_and : (a b : Bool) → a ≡ false → a && b ≡ false
-false_and true b e = absurd cc
-false_and false b e = refl
-
 pub all_last_head : (es : List Entry) (ends : ℕ → ℕ) (m i : ℕ) → nat_le m (ends i) ≡ false → all_last es ends m i ≡ false
 unfolding all_last chain chain_of
-all_last_head es ends m i short = false_and (nat_le m (ends i)) _ short
+all_last_head es ends m i short = and_left (nat_le m (ends i)) _ short

@@ -21,7 +21,7 @@ pub none_at_bytes : (m : BTreeMap (Vec ℕ Global) ℕ) → IsEmpty m → (q : L
 unfolding index_named
 none_at_bytes m empty q = ap (lookup (λ k. is_eq (slice_cmp nat_cmp q k.items))) empty
 
-apart : (bs cs ks : List ℕ) → bytes_eq bs cs ≡ false → is_eq (slice_cmp nat_cmp bs ks) ≡ true → is_eq (slice_cmp nat_cmp cs ks) ≡ false
+pub apart : (bs cs ks : List ℕ) → bytes_eq bs cs ≡ false → is_eq (slice_cmp nat_cmp bs ks) ≡ true → is_eq (slice_cmp nat_cmp cs ks) ≡ false
 apart bs cs ks n y =
     is_eq-slice_cmp cs ks ∙ nat_list_eq_equiv.symm cs ks ∙ sym (nat_list_eq_equiv.congr bs ks cs (sym (is_eq-slice_cmp bs ks) ∙ y)) ∙ n
 
@@ -30,7 +30,7 @@ module _ {K : Type 0} (eq : K → K → Bool) (test : K → Bool) where
   unfolding KeepsOthers
   other_entries old new h = h
 
-at_bytes-insert : (m n : BTreeMap (Vec ℕ Global) ℕ) (key : Vec ℕ Global) (w : Option ℕ) → Updates (λ x y. slice_cmp nat_cmp x.items y.items) m n key w → (q : List ℕ) → at_bytes n q ≡ cond (bytes_eq key.items q) w (at_bytes m q)
+pub at_bytes-insert : (m n : BTreeMap (Vec ℕ Global) ℕ) (key : Vec ℕ Global) (w : Option ℕ) → Updates (λ x y. slice_cmp nat_cmp x.items y.items) m n key w → (q : List ℕ) → at_bytes n q ≡ cond (bytes_eq key.items q) w (at_bytes m q)
 at_bytes-insert m n key w h q =
     ⊎_elim
     (λ y. subst (λ l. at_bytes n l ≡ w) ((bytes_decides key.items q).0 y) h.1 ∙ sym (cond-true (bytes_eq key.items q) w (at_bytes m q) y))

@@ -3,7 +3,8 @@
 use Rattle.std.proofs.Common.{◌≡◌, ℕ, ◌+◌, ◌<◌, ◌≤◌, Bool, true, false, cond, not, ◌&&◌, ◌||◌, List, [], ◌∷◌, ◌++◌, Option, Some, None, length, set, nat_lt, nat_le, bytes_eq, is_some, is_none, IfSome, refl, sym, ap, ◌∙◌, arith, subst, inl, inr}
 use Rattle.std.proofs.lemmas.Bool.Decides.{nat_tests}
 use Rattle.std.proofs.lemmas.List.{length_push, length-set}
-use Rattle.std.proofs.lemmas.Bool.{cases_lt, cases_eq}
+use Rattle.std.proofs.lemmas.Bool.{cases_lt, cases_eq, not-false}
+use Rattle.std.proofs.Math.Bool.{or-true}
 use Rattle.std.specs.Cmp.Lexicographic.{nat_list_eq_equiv}
 use Rattle.keep_moment.specs.declared.moment.TheConstants.{LAST}
 use Rattle.keep_tree.specs.declared.entry.Entry.{Entry}
@@ -111,10 +112,6 @@ passed : (met : Bool) (fault : TreeFault) (others : Option TreeFault) → cond m
 passed true fault others e = absurd cc
 passed false fault others e = (refl, e)
 
-not_false : (b : Bool) → not b ≡ false → b ≡ true
-not_false true e = refl
-not_false false e = absurd cc
-
 pub taken_from_refusal : (g : Grove) (e : Entry) → refusal g e ≡ None → IsTaken g e
 taken_from_refusal g e none =
     let a = passed _ _ _ none in
@@ -127,7 +124,7 @@ taken_from_refusal g e none =
     let j = passed _ _ _ i.1 in
     let k = passed _ _ _ j.1 in
     record {
-      named = not_false (is_name e.name) a.0;
+      named = not-false (is_name e.name) a.0;
       new = b.0;
       parent_there = c.0;
       parent_is_token = d.0;
@@ -238,12 +235,8 @@ pub record InRange (e : Entry) : Type 0 where
   pub ceiling : is_too_high e.ceiling ≡ false
   pub need : e.need ≤ LAST
 
-or_true : (b : Bool) → b || true ≡ true
-or_true true = refl
-or_true false = refl
-
 range_tests : (end need : ℕ) (high : Bool) → nat_lt END_MAX end || (high || nat_lt LAST need) ≡ false → (end ≤ END_MAX) × ((high ≡ false) × (need ≤ LAST))
-range_tests end need true e = absurd (let t = or_true (nat_lt END_MAX end) in cc)
+range_tests end need true e = absurd (let t = or-true (nat_lt END_MAX end) in cc)
 range_tests end need false e = (grind (arith, nat_tests), (refl, grind (arith, nat_tests)))
 
 pub range_parts : (e : Entry) → is_out_of_range e ≡ false → InRange e

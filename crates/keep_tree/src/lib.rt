@@ -1,8 +1,9 @@
 //! The forest: the tokens and leases that an agent keeps, each with what is over it.
 //!
 //! The contract for the layers above: a [`Forest`] is a list of entries and a margin; `push` appends or names the first
-//! of nine refusals, and a setter changes its one field (`set_terms` two). The definitions of what is over an entry and
-//! of what a renewal gives stand in this crate's `specs/`. Begin with `entry`.
+//! of nine refusals, and a setter changes its one field (`set_terms` two). [`renewal`] is the end that a granted renewal
+//! gives. The definitions of what is over an entry and of what a renewal gives stand in this crate's `specs/`. Begin with
+//! `entry`.
 #![tactic(auto)]
 
 mod ends;
@@ -11,6 +12,7 @@ mod fault;
 mod forest;
 mod indices;
 mod limits;
+mod renewing;
 #[cfg(test)]
 mod tests;
 
@@ -20,3 +22,4 @@ pub use fault::TreeFault;
 pub use forest::{END_MAX, Forest, MARGIN_MAX, MAX_DEPTH, MAX_ENTRIES, NAME_MAX};
 pub use indices::Indices;
 pub use limits::limits_law;
+pub use renewing::{capped, renewal};

@@ -4,7 +4,8 @@ use Rattle.std.proofs.lemmas.List.Splits.{slice_split_first, slice_split_none, l
 use Rattle.std.proofs.lemmas.List.Sums.{fails_before_first}
 use Rattle.std.specs.List.{position_or_len, slice_split}
 use Rattle.std.specs.Option.{option_map}
-use Rattle.keep_words.specs.Pieces.{first_place, pieces, two, three, four, six}
+use Rattle.keep_words.specs.code.Cutting.{first_place}
+use Rattle.keep_words.specs.Pieces.{pieces, two, three, four, six}
 
 chosen : (b : Bool) (m n : ℕ) → cond b (Some m) None ≡ Some n → (b ≡ true) × (m ≡ n)
 chosen true m n e = (refl, cc)

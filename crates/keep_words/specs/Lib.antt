@@ -1,3 +1,4 @@
 pub mod Numbers
 pub mod Pieces
 pub mod Laws
+pub mod code

@@ -1,15 +1,11 @@
 -- Pieces: those of a text between the bytes of one value, and the words of a line between its spaces, empty ones included.
 -- Source: this project's own.
 use Rattle.std.specs.Prelude.{ℕ, ◌==◌, List, [], ◌∷◌, Option, Some, None}
-use Rattle.std.specs.List.{slice_split, position}
+use Rattle.std.specs.List.{slice_split}
 
 -- the pieces of a text between the bytes b: one more than there are such bytes
 unfoldable pub pieces : ℕ → List ℕ → List (List ℕ)
 pieces b text = slice_split (λ c. c == b) text
-
--- the place of the first byte b
-unfoldable pub first_place : ℕ → List ℕ → Option ℕ
-first_place b text = position (λ c. c == b) text
 
 -- the pieces of a text by what stands before the first byte b and what follows it, where there is one
 abbrev pub parted : ℕ → List ℕ → Option (List ℕ × List ℕ) → List (List ℕ)

@@ -1,6 +1,7 @@
 ghost use Rattle.std.specs.Prelude.{◌≡◌, ◌<◌, ◌≤◌, ◌∷◌, ◌++◌, IfSome, drop, length};
 ghost use Rattle.std.specs.Option.{option_map};
-ghost use Rattle.keep_words.specs.Pieces.{first_place, parted, pieces};
+ghost use Rattle.keep_words.specs.code.Cutting.{first_place};
+ghost use Rattle.keep_words.specs.Pieces.{parted, pieces};
 
 /// What stands before the first byte of this value, and what follows it; `None` where there is none.
 pub fn cut(text: &[u8], byte: u8) -> Option<(&[u8], &[u8])>
@@ -11,7 +12,7 @@ pub fn cut(text: &[u8], byte: u8) -> Option<(&[u8], &[u8])>
 }
 
 /// The index of the first such byte.
-#[tactic(auto, unfolding(crate::specs::Pieces::first_place))]
+#[tactic(auto, unfolding(crate::specs::code::Cutting::first_place))]
 fn first_place(text: &[u8], byte: u8) -> Option<usize>
     ensures value { result ≡ first_place byte text.now }
     ensures within { IfSome result (λ i. i < length text.now) }

@@ -1,5 +1,5 @@
-"""`leasekeep run` itself, as a process in simulated time: while it has something to do, time stands still, and while its
-broker answers, time goes on as the scenario says."""
+"""`leasekeep run` itself, as a process in simulated time: while it has something to do, time stands still, and while
+its broker answers, time goes on as the scenario says."""
 
 from __future__ import annotations
 

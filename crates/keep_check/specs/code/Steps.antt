@@ -1,11 +1,14 @@
 -- Words for the steps of the code, which goes run by run. No public clause cites them.
 use Rattle.std.specs.Prelude.{◌≡◌, ℕ, ◌+◌, ◌*◌, ◌≤◌, ◌<◌, ◌⊎◌, max, min, slice_index, true, false, List, [], ◌∷◌, ◌++◌, length, Option, Some, None}
+use Rattle.std.specs.List.{AllByRecursion}
 use Rattle.keep_tree.specs.declared.entry.Entry.{Entry}
 use Rattle.keep_tree.specs.Forest.{Grove, end_of, entry_at}
 use Rattle.keep_tree.specs.Renewal.{all_last, renewal}
 use Rattle.keep_rule.specs.Forced.{latest_end}
 use Rattle.keep_rule.specs.declared.force.Force.{Force}
+use Rattle.keep_rule.specs.declared.run.Run.{Run}
 use Rattle.keep_check.specs.declared.answer.Cause.{Cause}
+use Rattle.keep_check.specs.Fit.{IsFit}
 use Rattle.keep_check.specs.Walk.{fault}
 
 -- what a walk over the wake-ups us finds, by the present ends, whatever follows them: with no fault in them it goes on
@@ -52,3 +55,7 @@ AllBridged gap t (u ∷ us) = (u ≤ t + gap) × AllBridged gap u us
 abbrev pub last_behind : ℕ → List ℕ → ℕ
 last_behind t [] = t
 last_behind t (u ∷ us) = last_behind u us
+
+-- each of these runs is fit, among n entries
+abbrev pub AllFit : ℕ → List Run → Type 0
+AllFit n rs = AllByRecursion (IsFit n) rs

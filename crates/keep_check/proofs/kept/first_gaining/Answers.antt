@@ -4,7 +4,7 @@ use Rattle.std.proofs.lemmas.List.Sorted.{IsPartitionPoint-from_clause, IsPartit
 use Rattle.keep_rule.specs.declared.run.Run.{Run}
 use Rattle.keep_rule.specs.Runs.{all_wakes, moments_of}
 use Rattle.keep_check.proofs.Jumps.{firsts_rise}
-use Rattle.keep_check.proofs.Keeping.{rising_strictly}
+use Rattle.keep_rule.proofs.Schedule.{rising_strictly}
 use Rattle.keep_check.proofs.OwnRuns.{blank}
 use Rattle.keep_check.proofs.kept.first_gaining.Goals as goal
 

@@ -6,7 +6,7 @@ use Rattle.keep_rule.specs.declared.run.Run.{Run}
 use Rattle.keep_rule.specs.Runs.{all_wakes, moments_of}
 use Rattle.keep_check.specs.Kept.{own_end}
 use Rattle.keep_check.proofs.Jumps.{fit_at, jumps, rising_from, skips}
-use Rattle.keep_check.proofs.Keeping.{rising_strictly}
+use Rattle.keep_rule.proofs.Schedule.{rising_strictly}
 use Rattle.keep_check.proofs.OwnRuns.{blank, own_done, own_nothing, own_turn}
 use Rattle.keep_check.proofs.kept.renewed_end.Goals as goal
 
@@ -23,7 +23,7 @@ loop-at-init c =
 
 pub overflow_add-runs : goal.overflow_add-runs
 overflow_add-runs c =
-    let within = (fit_at c.requires.fit.0 c.args.runs.now c.loop-at.at c.requires.fit.1 c.loop-at-test.true).within in
+    let within = (fit_at c.requires.fit.0 c.args.runs.now c.loop-at.at c.requires.fit.1 c.loop-at-test.true).moments.last in
     omega (arith, within, c.ranges.margin.fits)
 
 pub returns-then-end-runs : goal.returns-then-end-runs
@@ -35,7 +35,7 @@ returns-then-end-runs c =
     let r = get_or runs l.at blank in
     let rest = drop (l.at + 1) runs in
     let same = drop_more runs l.at blank c.loop-at-test.true in
-    let some = (fit_at c.requires.fit.0 runs l.at c.requires.fit.1 c.loop-at-test.true).some in
+    let some = (fit_at c.requires.fit.0 runs l.at c.requires.fit.1 c.loop-at-test.true).moments.some in
     let risen = rising_from c.args.start l.at runs (rising_strictly c.args.start (moments_of (all_wakes runs)) c.requires.rising) in
     let rising = subst (λ (rs : List Run). IsRising risen.0 (moments_of (all_wakes rs))) same risen.1 in
     sym (ap (λ (rs : List Run). own_end e m l.end (moments_of (all_wakes rs))) same ∙ own_done e m l.end risen.0 r rest some rising c.if-end-runs.true) ∙ l.invariant
@@ -44,14 +44,14 @@ pub bounds-runs-wide : goal.bounds-runs-wide
 bounds-runs-wide c = omega (arith, c.wide_from-wide.ensures.within, c.if-at-wide.true)
 
 pub last_of-requires-clause-some : goal.last_of-requires-clause-some
-last_of-requires-clause-some c = (fit_at c.requires.fit.0 c.args.runs.now (c.wide_from-wide.result - 1) c.requires.fit.1 (omega (arith, c.wide_from-wide.ensures.within, c.if-at-wide.true))).some
+last_of-requires-clause-some c = (fit_at c.requires.fit.0 c.args.runs.now (c.wide_from-wide.result - 1) c.requires.fit.1 (omega (arith, c.wide_from-wide.ensures.within, c.if-at-wide.true))).moments.some
 
 pub last_of-requires-clause-within : goal.last_of-requires-clause-within
-last_of-requires-clause-within c = (fit_at c.requires.fit.0 c.args.runs.now (c.wide_from-wide.result - 1) c.requires.fit.1 (omega (arith, c.wide_from-wide.ensures.within, c.if-at-wide.true))).within
+last_of-requires-clause-within c = (fit_at c.requires.fit.0 c.args.runs.now (c.wide_from-wide.result - 1) c.requires.fit.1 (omega (arith, c.wide_from-wide.ensures.within, c.if-at-wide.true))).moments.last
 
 pub renewal-requires : goal.renewal-requires
 renewal-requires c =
-    let within = (fit_at c.requires.fit.0 c.args.runs.now (c.wide_from-wide.result - 1) c.requires.fit.1 (omega (arith, c.wide_from-wide.ensures.within, c.if-at-wide.true))).within in
+    let within = (fit_at c.requires.fit.0 c.args.runs.now (c.wide_from-wide.result - 1) c.requires.fit.1 (omega (arith, c.wide_from-wide.ensures.within, c.if-at-wide.true))).moments.last in
     omega (arith, within, c.last_of.ensures)
 
 pub loop-at-preserved-then-at-wide : goal.loop-at-preserved-then-at-wide
@@ -70,10 +70,10 @@ loop-at-preserved-then-at-wide c =
     c.wide_from-wide.ensures.within c.wide_from-wide.ensures.narrow c.if-end-runs.false l.invariant
 
 pub own_after_run-end-requires-clause-some : goal.own_after_run-end-requires-clause-some
-own_after_run-end-requires-clause-some c = (fit_at c.requires.fit.0 c.args.runs.now c.loop-at.at c.requires.fit.1 c.loop-at-test.true).some
+own_after_run-end-requires-clause-some c = (fit_at c.requires.fit.0 c.args.runs.now c.loop-at.at c.requires.fit.1 c.loop-at-test.true).moments.some
 
 pub own_after_run-end-requires-clause-within : goal.own_after_run-end-requires-clause-within
-own_after_run-end-requires-clause-within c = (fit_at c.requires.fit.0 c.args.runs.now c.loop-at.at c.requires.fit.1 c.loop-at-test.true).within
+own_after_run-end-requires-clause-within c = (fit_at c.requires.fit.0 c.args.runs.now c.loop-at.at c.requires.fit.1 c.loop-at-test.true).moments.last
 
 pub loop-at-preserved : goal.loop-at-preserved
 loop-at-preserved c =

@@ -1,7 +1,7 @@
 use Rattle.std.proofs.Common.{◌+◌, ◌≤◌, drop}
 use Rattle.keep_rule.specs.declared.limit.TheConstants.{LIMIT}
 use Rattle.keep_rule.specs.Runs.{counted}
-use Rattle.keep_check.specs.Fit.{AllFit}
+use Rattle.keep_check.specs.code.Steps.{AllFit}
 use Rattle.keep_check.proofs.tests.fit_count.Given as goal
 
 abbrev pub invariant-loop-run : goal.invariant-loop-run

@@ -15,7 +15,7 @@ returns-then-not-rises c = λ rest.
     let r = c.args.run.now in
     let w : Force = record { at = r.first; entry = r.entry; needed = r.needed } in
     let us = wakes_of (r.first + r.step) r.step (r.count - 1) r.entry r.needed in
-    ap (λ ws. fault g.entries g.margin c.args.start (end_of g.entries) c.args.previous c.args.count (ws ++ rest)) (run_first r.first r.step r.count r.entry r.needed c.requires.fit.some)
+    ap (λ ws. fault g.entries g.margin c.args.start (end_of g.entries) c.args.previous c.args.count (ws ++ rest)) (run_first r.first r.step r.count r.entry r.needed c.requires.fit.moments.some)
     ∙ falls g.entries g.margin c.args.start (end_of g.entries) c.args.previous c.args.count w (us ++ rest) (sym c.rises.ensures ∙ c.if-not-rises.true)
 
 pub returns-then-not-is_forced : goal.returns-then-not-is_forced
@@ -24,7 +24,7 @@ returns-then-not-is_forced c = λ rest.
     let r = c.args.run.now in
     let w : Force = record { at = r.first; entry = r.entry; needed = r.needed } in
     let us = wakes_of (r.first + r.step) r.step (r.count - 1) r.entry r.needed in
-    ap (λ ws. fault g.entries g.margin c.args.start (end_of g.entries) c.args.previous c.args.count (ws ++ rest)) (run_first r.first r.step r.count r.entry r.needed c.requires.fit.some)
+    ap (λ ws. fault g.entries g.margin c.args.start (end_of g.entries) c.args.previous c.args.count (ws ++ rest)) (run_first r.first r.step r.count r.entry r.needed c.requires.fit.moments.some)
     ∙ unforced g.entries g.margin c.args.start (end_of g.entries) c.args.previous c.args.count w (us ++ rest) (sym c.rises.ensures ∙ c.if-not-rises.false) (sym c.is_forced.ensures ∙ c.if-not-is_forced.true)
 
 pub fault_after_first-requires-clause-start : goal.fault_after_first-requires-clause-start
@@ -59,7 +59,7 @@ returns c =
     let w : Force = record { at = r.first; entry = r.entry; needed = r.needed } in
     let us = wakes_of (r.first + r.step) r.step (r.count - 1) r.entry r.needed in
     let last = r.first + (r.count - 1) * r.step in
-    let some : 0 < r.count = c.requires.fit.some in
+    let some : 0 < r.count = c.requires.fit.moments.some in
     let number : c.args.count + 1 + (r.count - 1) ≡ c.args.count + r.count = omega arith in
     subst (λ ws. Finds g c.args.start c.args.previous c.args.count ws last (c.args.count + r.count) c.fault_after_first.result) (sym (run_first r.first r.step r.count r.entry r.needed some))
     (subst (λ k. Finds g c.args.start c.args.previous c.args.count (w ∷ us) last k c.fault_after_first.result) number

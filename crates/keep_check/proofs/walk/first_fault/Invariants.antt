@@ -3,7 +3,7 @@ use Rattle.keep_moment.specs.declared.moment.TheConstants.{LAST}
 use Rattle.keep_tree.specs.Forest.{end_of}
 use Rattle.keep_rule.specs.Runs.{all_wakes, counted}
 use Rattle.keep_check.specs.Answer.{first_fault}
-use Rattle.keep_check.specs.Fit.{AllFit}
+use Rattle.keep_check.specs.code.Steps.{AllFit}
 use Rattle.keep_check.specs.Walk.{fault}
 use Rattle.keep_check.proofs.walk.first_fault.Given as goal
 

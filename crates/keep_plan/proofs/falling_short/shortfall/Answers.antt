@@ -7,7 +7,7 @@ use Rattle.keep_rule.specs.Reach.{reach}
 use Rattle.keep_rule.specs.Unkeepable.{Unkeepable}
 use Rattle.keep_needs.specs.Carried.{NamesFrom}
 use Rattle.keep_schedule.proofs.Bridge.{carried_past}
-use Rattle.keep_plan.specs.Shortfall.{falls_short}
+use Rattle.keep_plan.specs.code.FallingShort.{falls_short}
 use Rattle.keep_plan.proofs.Deciding.{none_keeps, some_keeps}
 use Rattle.keep_plan.proofs.Unkeepables.{not_unkeepable, unkeepable_from}
 use Rattle.keep_plan.proofs.falling_short.shortfall.Goals as goal

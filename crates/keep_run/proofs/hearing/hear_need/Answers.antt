@@ -1,9 +1,11 @@
-use Rattle.std.proofs.Common.{◌≡◌, ap, ◌∙◌, Ok, length, sym, subst}
+use Rattle.std.proofs.Common.{◌≡◌, ◌≤◌, ap, ◌∙◌, Ok, length, sym, subst}
+use Rattle.keep_moment.specs.declared.moment.TheConstants.{LAST}
 use Rattle.keep_tree.specs.Forest.{Grove}
 use Rattle.keep_core.specs.declared.event.Event.TheVariants.{Need}
 use Rattle.keep_core.specs.State.{State}
 use Rattle.keep_core.proofs.Shaped.{shape}
 use Rattle.keep_run.proofs.LiveTicks.{ready_on}
+use Rattle.keep_run.proofs.Refusing.{need_fault, needed_closed}
 use Rattle.keep_run.proofs.Within.{AreOf, short_within}
 use Rattle.keep_run.proofs.hearing.hear_need.Goals as goal
 
@@ -16,3 +18,7 @@ push_short_lines-requires c =
 pub returns-clause-ready : goal.returns-clause-ready
 returns-clause-ready c =
     ready_on c.args.credentials.now c.args.keeper.now c.step.new.self c.take_shortened-short.new.self (Need c.args.i c.get.result) c.in-Ok.field-0 c.requires.ready c.in-Ok.ensures c.take_shortened-short.ensures.after
+    (ap (λ (s : State). s.round) c.take_shortened-short.ensures.after ∙ needed_closed c.args.keeper.now c.args.i c.get.result c.in-Ok.field-0 c.step.new.self c.requires.ready.closed c.in-Ok.ensures)
+
+pub stop_of-requires : goal.stop_of-requires
+stop_of-requires c = need_fault c.args.keeper.now c.args.i c.get.result c.in-Err.fault c.step.new.self c.requires.within (subst (λ n. n ≤ LAST) (sym c.get.ensures.value) (subst (λ n. n ≤ LAST) c.get.ensures.value c.get.ensures.within)) c.requires.ready.closed c.in-Err.ensures

@@ -1,7 +1,7 @@
 use Rattle.std.proofs.Common.{◌≡◌, ◌∙◌, ap, length, refl, sym, subst}
 use Rattle.keep_tree.specs.Forest.{Grove}
 use Rattle.keep_core.specs.State.{State}
-use Rattle.keep_run.proofs.Rehearsed.{fits_opened}
+use Rattle.keep_run.proofs.Rehearsed.{ready_opened}
 use Rattle.keep_run.proofs.Within.{AreOf, replan_within}
 use Rattle.keep_run.proofs.live.live.Goals as goal
 
@@ -14,6 +14,5 @@ push_short_lines-requires g c =
 
 pub listen-requires : goal.listen-requires
 listen-requires g c =
-    let fits = fits_opened c.look_all_up.new.inventory c.into_parts-forest.result.0 c.into_parts-forest.result.1 c.args.start c.in_ok-keeper.keeper c.take_shortened-short.new.self c.into_parts-forest.ensures.sound
-    c.into_parts-forest.ensures.forest c.into_parts-forest.ensures.credentials c.in_ok-keeper.ensures.opened c.take_shortened-short.ensures.after in
-    record { count = fits.count; quiet = ap (λ (s : State). s.shortened) c.take_shortened-short.ensures.after }
+    ready_opened c.look_all_up.new.inventory c.into_parts-forest.result.0 c.into_parts-forest.result.1 c.args.start c.in_ok-keeper.keeper c.take_shortened-short.new.self c.into_parts-forest.ensures.sound
+    c.into_parts-forest.ensures.forest c.into_parts-forest.ensures.credentials c.in_ok-keeper.ensures.opened c.take_shortened-short.ensures.after

@@ -1,10 +1,10 @@
 use Rattle.std.proofs.Common.{ap, ◌∙◌, arith, sym, subst}
-use Rattle.std.proofs.lemmas.List.Elements.{All-nil}
 use Rattle.keep_core.specs.declared.event.Output.TheVariants as out
 use Rattle.keep_core.specs.State.{State}
 use Rattle.keep_core.proofs.Shaped.{both_shaped}
 use Rattle.keep_run.specs.Playing.{Ticks}
 use Rattle.keep_run.proofs.Opens.{after_sleep, at_once, ends, then_asks, ticks_shaped}
+use Rattle.keep_run.proofs.Refusing.{leaves_asked, leaves_closed, leaves_sleeping}
 use Rattle.keep_run.proofs.opening.open.Goals as goal
 
 pub unreachable-requires : goal.unreachable-requires
@@ -33,11 +33,23 @@ returns-in-Ask-2-clause-shaped c =
     (ticks_shaped c.args.t c.args.keeper.now c.tick.new.keeper c.in_ok-asked.field-0 c.args.text.now.items c.tick.new.text.items c.in_ok-asked.ensures.ticks)
     (ticks_shaped c.in-Sleep.later c.tick.new.keeper c.tick-in-Sleep.new.keeper c.in_ok-asked-in-Sleep.field-0 c.tick.new.text.items c.tick-in-Sleep.new.text.items c.in_ok-asked-in-Sleep.ensures.ticks)
 
+pub returns-in-Ask-clause-leaves : goal.returns-in-Ask-clause-leaves
+returns-in-Ask-clause-leaves c = leaves_asked c.args.t c.in_ok-asked.field-0 c.in-Ask.asked c.tick.new.keeper c.in-Ask.is c.in_ok-asked.ensures.leaves
+
+pub returns-in-Ask-2-clause-leaves : goal.returns-in-Ask-2-clause-leaves
+returns-in-Ask-2-clause-leaves c = leaves_asked c.in-Sleep.later c.in_ok-asked-in-Sleep.field-0 c.in-Ask-2.asked c.tick-in-Sleep.new.keeper c.in-Ask-2.is c.in_ok-asked-in-Sleep.ensures.leaves
+
+pub tick-requires-in-Sleep-clause-closed : goal.tick-requires-in-Sleep-clause-closed
+tick-requires-in-Sleep-clause-closed c = (leaves_sleeping c.args.t c.in_ok-asked.field-0 c.in-Sleep.later c.tick.new.keeper c.in-Sleep.is c.in_ok-asked.ensures.leaves).0
+
+pub tick-requires-in-Sleep-clause-comes : goal.tick-requires-in-Sleep-clause-comes
+tick-requires-in-Sleep-clause-comes c = (leaves_sleeping c.args.t c.in_ok-asked.field-0 c.in-Sleep.later c.tick.new.keeper c.in-Sleep.is c.in_ok-asked.ensures.leaves).1
+
 pub returns-in_default : goal.returns-in_default
 returns-in_default c = record {
   opens = λ cs behind. ends cs behind c.args.t c.args.keeper.now c.tick.new.keeper c.in_ok-asked.field-0 c.args.text.now.items c.tick.new.text.items c.in_ok-asked.ensures.ticks c.in_default.not-Sleep c.in_default.not-Ask;
   memory = tt;
-  within = All-nil _;
+  leaves = leaves_closed c.args.t c.in_ok-asked.field-0 c.tick.new.keeper c.in_default.not-Ask c.in_default.not-Sleep c.in_ok-asked.ensures.leaves;
   few = omega arith;
   taken = ap (λ (s : State). s.shortened) c.in_ok-asked.ensures.ticks.is;
   shaped = ticks_shaped c.args.t c.args.keeper.now c.tick.new.keeper c.in_ok-asked.field-0 c.args.text.now.items c.tick.new.text.items c.in_ok-asked.ensures.ticks;

@@ -1,10 +1,11 @@
-use Rattle.std.proofs.Common.{ap, ◌∙◌, ◌<◌, ◌≤◌, Ok, arith, length, sym, subst}
+use Rattle.std.proofs.Common.{ap, ◌∙◌, ◌<◌, ◌≤◌, Err, Ok, arith, length, sym, subst}
 use Rattle.std.specs.List.{All}
 use Rattle.keep_tree.specs.Forest.{Grove}
 use Rattle.keep_core.specs.State.{State}
 use Rattle.keep_run.specs.Closed.{asked_in}
 use Rattle.keep_core.specs.declared.event.Event.TheVariants.{Tick}
 use Rattle.keep_core.proofs.Shaped.{shape}
+use Rattle.keep_run.proofs.Refusing.{taken_stop, tick_leaves, tick_taken}
 use Rattle.keep_run.proofs.Within.{AreOf, short_within, asked_few, asked_within}
 use Rattle.keep_run.proofs.opening.tick.Goals as goal
 
@@ -21,10 +22,17 @@ push_wake_line-requires c =
     let who = ap asked_in c.in-Ask.is ∙ sym c.list-in-Ask.ensures in
     subst (λ n. All (λ i. i < n) c.list-in-Ask.result.now) (sym count) (subst (All (λ i. i < length c.step.new.self.forest.entries)) who all)
 
-pub returns-clause-within : goal.returns-clause-within
-returns-clause-within c =
-    let all = asked_within c.args.keeper.now c.step.new.self c.args.t c.in-Ok.output c.in-Ok.ensures in
-    subst (λ n. All (λ i. i < n) (asked_in c.in-Ok.output)) (sym (ap (λ (s : State). length s.forest.entries) c.take_shortened-short.ensures.after)) all
+pub stop_of-requires : goal.stop_of-requires
+stop_of-requires c =
+    (taken_stop c.in-Err.fault (tick_taken c.args.keeper.now c.args.t c.requires.closed c.requires.comes (Err c.in-Err.fault) c.step.new.self c.in-Err.ensures)).0
+
+pub returns-in-Err-clause-memory : goal.returns-in-Err-clause-memory
+returns-in-Err-clause-memory c =
+    c.stop_of.ensures ∙ (taken_stop c.in-Err.fault (tick_taken c.args.keeper.now c.args.t c.requires.closed c.requires.comes (Err c.in-Err.fault) c.step.new.self c.in-Err.ensures)).1
+
+pub returns-clause-leaves : goal.returns-clause-leaves
+returns-clause-leaves c =
+    tick_leaves c.args.keeper.now c.step.new.self c.take_shortened-short.new.self c.args.t c.in-Ok.output c.requires.closed c.open_round-round.ensures.state c.in-Ok.ensures c.take_shortened-short.ensures.after
 
 pub returns-clause-few : goal.returns-clause-few
 returns-clause-few c =

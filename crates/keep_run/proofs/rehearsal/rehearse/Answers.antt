@@ -1,11 +1,12 @@
-use Rattle.std.proofs.Common.{◌≡◌, ◌∙◌, ◌++◌, [], ap, length, refl, sym, subst}
+use Rattle.std.proofs.Common.{◌≡◌, ◌∙◌, ◌++◌, ◌≤◌, [], ap, length, refl, sym, subst}
+use Rattle.keep_moment.specs.declared.moment.TheConstants.{LAST}
 use Rattle.keep_tree.specs.Forest.{Grove}
 use Rattle.keep_core.specs.State.{State}
 use Rattle.mini_broker.specs.Ledger.{Ledger}
 use Rattle.keep_exchange.specs.Exchanges.{Behind}
 use Rattle.keep_run.specs.Stops.{both}
 use Rattle.keep_run.specs.Text.{short_lines}
-use Rattle.keep_run.proofs.Rehearsed.{fits_opened, memory_stopped, opening_stopped, plays_on, words_stopped}
+use Rattle.keep_run.proofs.Rehearsed.{comes_first, ready_opened, memory_stopped, opening_stopped, plays_on, words_stopped}
 use Rattle.keep_run.proofs.Within.{AreOf, replan_within}
 use Rattle.keep_run.proofs.rehearsal.rehearse.Goals as goal
 
@@ -33,10 +34,14 @@ pub returns-in_err-push_short_lines : goal.returns-in_err-push_short_lines
 returns-in_err-push_short_lines g c =
     memory_stopped c.args.inventory.now c.args.start c.args.words.now c.from_residual-in_err-push_short_lines.result _ _ _ _ c.args.exchange.now c.give.new.self c.from_residual-in_err-push_short_lines.ensures
 
-pub play-requires-clause-fits : goal.play-requires-clause-fits
-play-requires-clause-fits g c =
-    fits_opened c.in_ok-inventory.inventory c.into_parts-forest.result.0 c.into_parts-forest.result.1 c.args.start c.in_ok-keeper.keeper c.take_shortened-short.new.self c.into_parts-forest.ensures.sound
+pub play-requires-clause-ready : goal.play-requires-clause-ready
+play-requires-clause-ready g c =
+    ready_opened c.in_ok-inventory.inventory c.into_parts-forest.result.0 c.into_parts-forest.result.1 c.args.start c.in_ok-keeper.keeper c.take_shortened-short.new.self c.into_parts-forest.ensures.sound
     c.into_parts-forest.ensures.forest c.into_parts-forest.ensures.credentials c.in_ok-keeper.ensures.opened c.take_shortened-short.ensures.after
+
+pub play-requires-clause-comes : goal.play-requires-clause-comes
+play-requires-clause-comes g c =
+    comes_first c.into_parts-forest.result.0 c.args.start c.get.result c.in_ok-keeper.keeper c.take_shortened-short.new.self c.in_ok-keeper.ensures.opened c.take_shortened-short.ensures.after c.get.ensures.value (subst (λ n. n ≤ LAST) c.get.ensures.value c.get.ensures.within)
 
 pub returns : goal.returns
 returns g c =

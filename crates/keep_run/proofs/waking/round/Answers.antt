@@ -1,39 +1,75 @@
-use Rattle.std.proofs.Common.{◌≡◌, ap, ◌∙◌, ◌++◌, ◌∷◌, [], length, sym, subst, take, get_or, arith}
-use Rattle.std.proofs.lemmas.List.{take_more}
+use Rattle.std.proofs.Common.{◌≡◌, ap, ◌∙◌, ◌+◌, ◌++◌, ◌∷◌, [], drop, length, sym, subst, take, get_or, arith}
+use Rattle.std.proofs.lemmas.List.{take_all, take_more}
 use Rattle.keep_core.proofs.Shaped.{both_shaped, same}
-use Rattle.keep_run.specs.Closed.{told_next}
-use Rattle.keep_run.specs.Playing.{AnswersAll}
-use Rattle.keep_run.proofs.Rounds.{answers_more, fits_as, none_answered, within_as}
+use Rattle.keep_run.specs.Live.{Between}
+use Rattle.keep_run.specs.Playing.{Answers, AnswersAll}
 use Rattle.keep_run.specs.Stops.{both}
+use Rattle.keep_run.proofs.OneAnswer.{between_more, between_none}
+use Rattle.keep_run.proofs.Refusing.{Stands, first_waits, first_within, hears_leads, hears_shaped, stands_first, stands_last, stands_now}
+use Rattle.keep_run.proofs.Rounds.{answers_more, none_answered}
 use Rattle.keep_run.proofs.waking.round.Goals as goal
 
 pub loop-i-init : goal.loop-i-init
-loop-i-init c = record {
-  answers = none_answered c.args.credentials.now c.args.t (both c.args.keeper.now c.args.exchange.now) c.args.text.now.items;
+loop-i-init g c = record {
+  answers = λ port. between_none (g.E.Exchange.behind c.args.exchange.now) _ (λ b. none_answered c.args.credentials.now c.args.t (both c.args.keeper.now b) c.args.text.now.items);
   shaped = same c.args.keeper.now.forest;
-  taken = c.requires.quiet;
+  count = c.requires.count;
+  quiet = c.requires.quiet;
+  stands = stands_first c.args.t c.args.asked.now _ c.args.keeper.now c.requires.waits c.requires.some;
 }
 
 pub loop-i-preserved : goal.loop-i-preserved
-loop-i-preserved c =
+loop-i-preserved g c =
     let cs = c.args.credentials.now in
     let asked = c.args.asked.now in
     let k = c.loop-i.i-index in
-    let old = both c.args.keeper.now c.args.exchange.now in
-    let mid = both c.loop-i.keeper c.loop-i.exchange in
-    let new = both c.answer.new.keeper c.answer.new.exchange in
+    let start = c.args.keeper.now in
     let before = c.args.text.now.items in
+    let middle = c.loop-i.text.items in
     let after = c.answer.new.text.items in
-    let more = answers_more cs c.args.t old mid new (take k asked) (get_or asked k 0) c.loop-i.next c.in_ok-output.output before c.loop-i.text.items after c.loop-i.invariant.shaped c.loop-i.invariant.answers c.in_ok-output.ensures.answers in
+    let hears = c.in_ok-output.ensures.hears in
+    let waits = stands_now c.args.t k asked c.loop-i.next c.loop-i.keeper c.loop-i-test.true c.loop-i.invariant.stands in
+    let like = hears_shaped c.loop-i.keeper c.answer.new.keeper (get_or asked k 0) c.in_ok-output.output hears in
     record {
-      answers = subst (λ is. AnswersAll cs c.args.t old is c.told_next-next.result new before after) (sym (take_more asked k 0 c.loop-i-test.true))
-          (subst (λ n. AnswersAll cs c.args.t old (take k asked ++ get_or asked k 0 ∷ []) n new before after) (sym c.told_next-next.ensures) more);
-      shaped = both_shaped c.args.keeper.now.forest c.loop-i.keeper.forest c.answer.new.keeper.forest c.loop-i.invariant.shaped c.in_ok-output.ensures.shaped;
-      taken = c.in_ok-output.ensures.taken;
+      answers = λ port. between_more (g.E.Exchange.behind c.args.exchange.now) (g.E.Exchange.behind c.loop-i.exchange) (g.E.Exchange.behind c.answer.new.exchange)
+          (λ b m. AnswersAll cs c.args.t (both start b) (take k asked) c.loop-i.next (both c.loop-i.keeper m) before middle)
+          (λ m a. Answers cs c.args.t (both c.loop-i.keeper m) (get_or asked k 0) c.in_ok-output.output (both c.answer.new.keeper a) middle after)
+          _
+          (λ b m a first second.
+          subst (λ is. AnswersAll cs c.args.t (both start b) is c.told_next-next.result (both c.answer.new.keeper a) before after) (sym (take_more asked k 0 c.loop-i-test.true))
+          (subst (λ n. AnswersAll cs c.args.t (both start b) (take k asked ++ get_or asked k 0 ∷ []) n (both c.answer.new.keeper a) before after) (sym c.told_next-next.ensures)
+          (answers_more cs c.args.t (both start b) (both c.loop-i.keeper m) (both c.answer.new.keeper a) (take k asked) (get_or asked k 0) c.loop-i.next c.in_ok-output.output before middle after c.loop-i.invariant.shaped first second)))
+          (c.loop-i.invariant.answers port) (c.in_ok-output.ensures.answers port);
+      shaped = both_shaped start.forest c.loop-i.keeper.forest c.answer.new.keeper.forest c.loop-i.invariant.shaped like;
+      count = c.loop-i.invariant.count ∙ sym like.count;
+      quiet = ap (λ s. s.shortened) hears.is;
+      stands = subst (λ n. Stands c.args.t (drop (k + 1) asked) n c.answer.new.keeper) (sym c.told_next-next.ensures)
+          (hears_leads c.loop-i.keeper c.answer.new.keeper c.args.t (get_or asked k 0) (drop (k + 1) asked) c.in_ok-output.output c.loop-i.next waits hears);
     }
 
 pub answer-requires-clause-within : goal.answer-requires-clause-within
-answer-requires-clause-within c = within_as c.args.keeper.now.forest c.loop-i.keeper.forest c.args.asked.now c.loop-i.i-index c.loop-i.invariant.shaped c.requires.within c.loop-i-test.true
+answer-requires-clause-within g c =
+    first_within c.loop-i.keeper c.args.t (get_or c.args.asked.now c.loop-i.i-index 0) (drop (c.loop-i.i-index + 1) c.args.asked.now)
+    (stands_now c.args.t c.loop-i.i-index c.args.asked.now c.loop-i.next c.loop-i.keeper c.loop-i-test.true c.loop-i.invariant.stands)
 
-pub answer-requires-clause-fits : goal.answer-requires-clause-fits
-answer-requires-clause-fits c = fits_as c.args.credentials.now c.args.keeper.now.forest c.loop-i.keeper.forest c.loop-i.invariant.shaped c.requires.fits
+pub answer-requires-clause-waits : goal.answer-requires-clause-waits
+answer-requires-clause-waits g c =
+    first_waits c.loop-i.keeper c.args.t (get_or c.args.asked.now c.loop-i.i-index 0) (drop (c.loop-i.i-index + 1) c.args.asked.now)
+    (stands_now c.args.t c.loop-i.i-index c.args.asked.now c.loop-i.next c.loop-i.keeper c.loop-i-test.true c.loop-i.invariant.stands)
+
+pub returns-clause-answers : goal.returns-clause-answers
+returns-clause-answers g c = λ port.
+    subst (λ is. Between (g.E.Exchange.behind c.args.exchange.now) (g.E.Exchange.behind c.loop-i.exchange)
+    (λ b a. AnswersAll c.args.credentials.now c.args.t (both c.args.keeper.now b) is c.loop-i.next (both c.loop-i.keeper a) c.args.text.now.items c.loop-i.text.items))
+    (take_all c.loop-i.i-index c.args.asked.now (let past = c.loop-i-test.false in omega arith)) (c.loop-i.invariant.answers port)
+
+pub returns-clause-ready : goal.returns-clause-ready
+returns-clause-ready g c = record {
+  count = c.loop-i.invariant.count;
+  quiet = c.loop-i.invariant.quiet;
+  closed = (stands_last c.args.t c.loop-i.i-index c.args.asked.now c.loop-i.next c.loop-i.keeper (let past = c.loop-i-test.false in omega arith) c.loop-i.invariant.stands).0;
+}
+
+pub returns-clause-comes : goal.returns-clause-comes
+returns-clause-comes g c =
+    (stands_last c.args.t c.loop-i.i-index c.args.asked.now c.loop-i.next c.loop-i.keeper (let past = c.loop-i-test.false in omega arith) c.loop-i.invariant.stands).1

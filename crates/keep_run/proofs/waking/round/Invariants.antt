@@ -1,12 +1,17 @@
-use Rattle.std.proofs.Common.{◌≡◌, [], take}
+use Rattle.std.proofs.Common.{◌≡◌, [], drop, length, take}
 use Rattle.keep_core.specs.LawsOfSteps.{IsShaped}
+use Rattle.keep_run.specs.Live.{Between}
 use Rattle.keep_run.specs.Playing.{AnswersAll}
 use Rattle.keep_run.specs.Stops.{both}
+use Rattle.keep_run.proofs.Refusing.{Stands}
 use Rattle.keep_run.proofs.waking.round.Given as goal
 
 abbrev pub invariant-loop-i : goal.invariant-loop-i
-invariant-loop-i l = record {
-  answers : AnswersAll l.credentials l.t (both l.fn.keeper l.fn.exchange) (take l.i-index l.asked) l.next (both l.keeper l.exchange) l.fn.text.items l.text.items;
+invariant-loop-i g l = record {
+  answers : l.port ≡ 8200 → Between (g.E.Exchange.behind l.fn.exchange) (g.E.Exchange.behind l.exchange)
+      (λ b a. AnswersAll l.credentials l.t (both l.fn.keeper b) (take l.i-index l.asked) l.next (both l.keeper a) l.fn.text.items l.text.items);
   shaped : IsShaped l.fn.keeper.forest l.keeper.forest;
-  taken : l.keeper.shortened ≡ [];
+  count : length l.credentials ≡ length l.keeper.forest.entries;
+  quiet : l.keeper.shortened ≡ [];
+  stands : Stands l.t (drop l.i-index l.asked) l.next l.keeper;
 }

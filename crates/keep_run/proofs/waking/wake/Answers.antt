@@ -1,9 +1,10 @@
-use Rattle.std.proofs.Common.{◌≡◌, ap, ◌∙◌, ◌++◌, List, ℕ, None, Some, length, sym, subst, true, false}
-use Rattle.keep_run.specs.Playing.{AnswersAll, Goes, OpensOrEnds, stock_of}
+use Rattle.std.specs.Prelude.{◌≢◌}
+use Rattle.std.proofs.Common.{◌≡◌, ap, ◌∙◌, ◌++◌, List, [], ℕ, None, Some, length, sym, subst, true, false}
+use Rattle.keep_run.specs.Playing.{AnswersAll, Goes, LeavesOpen, OpensOrEnds, Waits, stock_of}
 use Rattle.keep_core.specs.declared.event.Output.TheVariants as out
 use Rattle.keep_run.specs.Stops.{both}
 use Rattle.keep_run.proofs.Goes.{ends_go, round_goes_on}
-use Rattle.keep_run.proofs.Rounds.{fits_as}
+use Rattle.keep_run.proofs.OneAnswer.{between_some}
 use Rattle.keep_run.proofs.Within.{told_in_range}
 use Rattle.keep_run.proofs.waking.wake.Goals as goal
 
@@ -25,11 +26,30 @@ returns-clause-wakes c =
     let opens = subst (λ o. OpensOrEnds cs c.args.exchange.now c.args.keeper.now c.args.due o c.open.new.keeper c.args.text.now.items c.open.new.text.items) c.in-Some.is (c.in_ok-opened.ensures.opens cs c.args.exchange.now) in
     let at : c.in-Some-new.at ≡ c.in-Some.opened.at = c.in-Some-new.ensures.value in
     let answers = subst (λ t. AnswersAll cs t (both c.open.new.keeper c.args.exchange.now) c.in-Some.opened.asked c.in_ok-next.next (both c.round.new.keeper c.round.new.exchange) c.open.new.text.items c.round.new.text.items) at
-    (subst (λ is. AnswersAll cs c.in-Some-new.at (both c.open.new.keeper c.args.exchange.now) is c.in_ok-next.next (both c.round.new.keeper c.round.new.exchange) c.open.new.text.items c.round.new.text.items) c.list.ensures c.in_ok-next.ensures.answers) in
+    (subst (λ is. AnswersAll cs c.in-Some-new.at (both c.open.new.keeper c.args.exchange.now) is c.in_ok-next.next (both c.round.new.keeper c.round.new.exchange) c.open.new.text.items c.round.new.text.items) c.list.ensures
+    (between_some c.args.exchange.now c.round.new.exchange (λ b a. AnswersAll cs c.in-Some-new.at (both c.open.new.keeper b) c.list.result.now c.in_ok-next.next (both c.round.new.keeper a) c.open.new.text.items c.round.new.text.items)
+    (c.in_ok-next.ensures.answers c.port-port.ensures))) in
     let goes = round_goes_on cs c.args.exchange.now c.args.keeper.now c.open.new.keeper (both c.round.new.keeper c.round.new.exchange) c.args.due c.in-Some.opened.at c.in-Some.opened.asked c.args.text.now.items c.open.new.text.items c.round.new.text.items
     c.in_ok-next.next c.in_ok-opened.ensures.shaped opens answers in
     subst (λ n. (text : List ℕ) × (Goes (stock_of cs c.args.keeper.now.forest) (both c.args.keeper.now c.args.exchange.now) (Some c.args.due) (both c.round.new.keeper c.round.new.exchange) c.in_ok-next.next 1 n text × (c.round.new.text.items ≡ c.args.text.now.items ++ text)))
     (ap length (sym c.list-2.ensures)) goes
 
-pub round-requires-clause-fits : goal.round-requires-clause-fits
-round-requires-clause-fits c = fits_as c.args.credentials.now c.args.keeper.now.forest c.open.new.keeper.forest c.in_ok-opened.ensures.shaped c.requires.fits
+pub round-requires-clause-waits : goal.round-requires-clause-waits
+round-requires-clause-waits c =
+    let leaves = subst (λ o. LeavesOpen o c.open.new.keeper) c.in-Some.is c.in_ok-opened.ensures.leaves in
+    subst (λ t. Waits c.open.new.keeper t c.list.result.now) (sym c.in-Some-new.ensures.value) (subst (Waits c.open.new.keeper c.in-Some.opened.at) (sym c.list.ensures) leaves.0)
+
+pub round-requires-clause-some : goal.round-requires-clause-some
+round-requires-clause-some c =
+    let leaves = subst (λ o. LeavesOpen o c.open.new.keeper) c.in-Some.is c.in_ok-opened.ensures.leaves in
+    subst (λ asked. asked ≢ []) (sym c.list.ensures) leaves.1
+
+pub round-requires-clause-count : goal.round-requires-clause-count
+round-requires-clause-count c = c.requires.ready.count ∙ sym c.in_ok-opened.ensures.shaped.count
+
+pub returns-in_default-clause-ready : goal.returns-in_default-clause-ready
+returns-in_default-clause-ready c = record {
+  count = c.requires.ready.count ∙ sym c.in_ok-opened.ensures.shaped.count;
+  quiet = c.in_ok-opened.ensures.taken;
+  closed = subst (λ o. LeavesOpen o c.open.new.keeper) c.in_default.is c.in_ok-opened.ensures.leaves;
+}

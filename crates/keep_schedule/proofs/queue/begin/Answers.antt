@@ -1,6 +1,6 @@
 use Rattle.std.proofs.Common.{◌-◌, length, subst, sym, arith}
 use Rattle.keep_schedule.specs.Prospect.{terms_of}
-use Rattle.keep_schedule.specs.Queues.{IsBegun, IsReady}
+use Rattle.keep_schedule.specs.code.Queueing.{IsBegun, IsReady}
 use Rattle.keep_schedule.proofs.Queueing.{begun_waiting}
 use Rattle.keep_schedule.proofs.queue.begin.Goals as goal
 

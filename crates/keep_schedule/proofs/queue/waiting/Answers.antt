@@ -3,7 +3,7 @@ use Rattle.std.proofs.lemmas.List.Sorted.{length_permutation}
 use Rattle.std.specs.List.Sorted.{IsPermutation}
 use Rattle.keep_schedule.specs.code.Line.{spot}
 use Rattle.keep_schedule.specs.Prospect.{terms_of}
-use Rattle.keep_schedule.specs.Queues.{Fills}
+use Rattle.keep_schedule.specs.code.Queueing.{Fills}
 use Rattle.keep_schedule.proofs.Queueing.{fills_added, fills_kept}
 use Rattle.keep_schedule.proofs.queue.waiting.Goals as goal
 use Rattle.keep_schedule.proofs.queue.waiting.Goals.{else-end-need, then-end-need}

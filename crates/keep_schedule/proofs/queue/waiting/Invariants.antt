@@ -1,6 +1,6 @@
 use Rattle.std.proofs.Common.{length}
 use Rattle.keep_schedule.specs.Prospect.{terms_of}
-use Rattle.keep_schedule.specs.Queues.{Fills}
+use Rattle.keep_schedule.specs.code.Queueing.{Fills}
 use Rattle.keep_schedule.proofs.queue.waiting.Given as goal
 
 abbrev pub invariant-loop-index : goal.invariant-loop-index

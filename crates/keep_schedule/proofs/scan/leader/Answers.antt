@@ -1,5 +1,5 @@
 use Rattle.std.proofs.Common.{◌≡◌, length, subst, arith}
-use Rattle.keep_schedule.specs.Courses.{LeadsBelow}
+use Rattle.keep_schedule.specs.code.Scanning.{LeadsBelow}
 use Rattle.keep_schedule.specs.Prospect.{terms_of}
 use Rattle.keep_schedule.proofs.Taking.{leader_of}
 use Rattle.keep_schedule.proofs.scan.leader.Goals as goal

@@ -1,6 +1,6 @@
 use Rattle.std.proofs.Common.{◌<◌, length}
 use Rattle.std.specs.Option.{IfSome}
-use Rattle.keep_schedule.specs.Courses.{LeadsBelow}
+use Rattle.keep_schedule.specs.code.Scanning.{LeadsBelow}
 use Rattle.keep_schedule.specs.Prospect.{terms_of}
 use Rattle.keep_schedule.proofs.scan.leader.Given as goal
 

@@ -2,7 +2,7 @@ use Rattle.std.proofs.Common.{◌≡◌, ◌∙◌, [], ap, length, None, subst,
 use Rattle.keep_schedule.specs.declared.groups.Groups.{Groups}
 use Rattle.keep_schedule.specs.code.Line.{FirstOf}
 use Rattle.keep_schedule.specs.Prospect.{terms_of}
-use Rattle.keep_schedule.specs.Queues.{IsReady}
+use Rattle.keep_schedule.specs.code.Queueing.{IsReady}
 use Rattle.keep_schedule.proofs.Queueing.{new_done, new_due}
 use Rattle.keep_schedule.proofs.Taking.{comes_forces}
 use Rattle.keep_schedule.proofs.queue.QueueSchedule.new.Goals as goal

@@ -1,7 +1,8 @@
 use Rattle.std.proofs.Common.{◌≡◌, ◌+◌, ◌-◌, ◌<◌, ◌⊎◌, None, Some, length, subst, inl, inr, arith}
 use Rattle.keep_schedule.specs.Courses.{IsToCome}
 use Rattle.keep_schedule.specs.Prospect.{terms_of}
-use Rattle.keep_schedule.specs.Queues.{IsReady, Queue}
+use Rattle.keep_schedule.specs.code.Queueing.{IsReady}
+use Rattle.keep_schedule.specs.Queues.{Queue}
 use Rattle.keep_schedule.specs.Given.{GivesRun, IsFirstRun}
 use Rattle.keep_schedule.proofs.Queueing.{gives_no_run, ready_settled, taken}
 use Rattle.keep_schedule.proofs.queue.QueueSchedule.next_run.Goals as goal

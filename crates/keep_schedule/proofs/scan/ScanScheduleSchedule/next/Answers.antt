@@ -1,6 +1,7 @@
 use Rattle.std.proofs.Common.{◌≡◌, ◌-◌, None, Some, subst, rules}
 use Rattle.keep_rule.specs.declared.force.Force.{Force}
-use Rattle.keep_schedule.specs.Courses.{Course, IsLeader, IsToCome}
+use Rattle.keep_schedule.specs.Courses.{Course, IsToCome}
+use Rattle.keep_schedule.specs.code.Scanning.{IsLeader}
 use Rattle.keep_schedule.specs.Prospect.{terms_of}
 use Rattle.keep_schedule.specs.Given.{GivesHead}
 use Rattle.keep_schedule.proofs.Taking.{gives_head, gives_none}

@@ -1,0 +1,153 @@
+"""What a stranger may send or write: nothing of it raises anything but the fault that says so."""
+
+from __future__ import annotations
+
+import asyncio
+import random
+import tempfile
+import unittest
+from pathlib import Path
+from typing import Callable, Iterator
+
+from leasekeepd_lib.broker import read_grant, read_lease_lookup, read_token_lookup
+from leasekeepd_lib.discover import DiscoverFault, read_short_list
+from leasekeepd_lib.http_client import MOST, Response, read_response
+from leasekeepd_lib.inventory import Entry, Kind
+from leasekeepd_lib.inventory_file import read_inventory
+from leasekeepd_lib.lint import lint
+from leasekeepd_lib.run_lines import LineFault, read_line
+
+CASES = 1500
+DIGITS = b"9" * 5000
+"""Python reads no number of so many digits, and says so by a ValueError of its own."""
+TOKEN = Entry("app", Kind.TOKEN, None, 0, 1, increment=2, credential="s.app")
+LEASE = Entry("db", Kind.LEASE, "app", 0, 1, increment=2, credential="db/1")
+BODIES = (
+    b'{"data":{"creation_time":1000,"ttl":"60s","renewable":true,"orphan":true,"expire_time":null}}',
+    b'{"data":{"id":"db/1","issue_time":"1970-01-01T00:16:40.5Z","ttl":60,"renewable":true}}',
+    b'{"auth":{"lease_duration":"60","renewable":true}}',
+    b'{"lease_id":"db/1","lease_duration":60,"renewable":true}',
+)
+SHORT = b"""margin = 60
+[[token]]
+name = "app"
+secret = "s.app"
+need = "1970-01-01T00:20:00Z"
+[[lease]]
+name = "db"
+token = "app"
+lease_id_file = "id"
+max_ttl = 9000
+"""
+INVENTORY = b"""system_max = 40000
+[[token]]
+name = "app"
+issued = 1000
+end = "1970-01-01T00:18:20Z"
+increment = 100
+secret = "s.app"
+[[lease]]
+name = "db"
+token = "app"
+issued = 1000
+end = 1060
+increment = 60
+lease_id = "db/1"
+"""
+PIECES = (
+    b"\n", b"\r\n", b'"', b"[", b"{", b"}", b"null", b"true", b"-1", b"1.5", b"1e999", b"nan", b'"1h"', b'""',
+    b"[[token]]\n", b"\xff", b"\x00", "²".encode("latin-1"), DIGITS, b'"' + DIGITS + b'"', b'"' + DIGITS + b'h"',
+    b"[" * 60_000, b"{a=" * 20_000, b"0x" + b"f" * 9000, b"1979-05-27T07:32:00Z", b"token = 5\n", b"lease = [1]\n",
+    b'margin = "x"\n', b'lease_id_file = "\\u0000"\n', b"Date: Mon, 23 Nov 99999999999 03:00:00 GMT\r\n",
+    b"Content-Length: " + DIGITS + b"\r\n",
+)
+
+
+def mutated(text: bytes, chance: random.Random) -> bytes:
+    """The text with a few changes."""
+    for _ in range(chance.choice((1, 1, 2, 4))):
+        first, last = sorted(chance.randint(0, len(text)) for _ in range(2))
+        text = chance.choice((
+            lambda: text[:first] + chance.choice(PIECES) + text[first:],
+            lambda: text[:first] + chance.choice(PIECES) + text[min(last, first + 8):],
+            lambda: text[:first] + text[min(last, first + 30):],
+            lambda: text[:first],
+            lambda: text[:first] + bytes([chance.randrange(256)]) + text[first + 1:],
+        ))()
+    return text
+
+
+def cases(texts: tuple[bytes, ...], seed: int) -> Iterator[bytes]:
+    chance = random.Random(seed)
+    return (mutated(chance.choice(texts), chance) for _ in range(CASES))
+
+
+def response(text: bytes) -> Response | None:
+    """The reply that the bytes are; None where they are none."""
+    async def go() -> Response:
+        reader = asyncio.StreamReader(limit=MOST)
+        reader.feed_data(text)
+        reader.feed_eof()
+        return await read_response(reader)
+    try:
+        return asyncio.run(go())
+    except (OSError, ValueError, asyncio.IncompleteReadError, asyncio.LimitOverrunError):
+        return None  # These the transport takes for a reply that is none.
+
+
+class Hostile(unittest.TestCase):
+    def test_bodies(self) -> None:
+        readers: tuple[Callable[[bytes], object], ...] = (
+            lambda body: read_token_lookup(body, ""), lambda body: read_lease_lookup(body, "db/1"),
+            lambda body: read_grant(body, TOKEN), lambda body: read_grant(body, LEASE))
+        for body in cases(BODIES, 1):
+            for read in readers:
+                read(body)
+
+    def test_a_duration_of_many_digits(self) -> None:
+        body = b'{"auth":{"lease_duration":"%s","renewable":true}}'
+        self.assertIsNone(read_grant(body % (DIGITS + b"s"), TOKEN))
+        grant = read_grant(body % (b"0" * 5000 + b"60s"), TOKEN)
+        self.assertEqual(None if grant is None else grant.seconds, 60)
+
+    def test_replies(self) -> None:
+        replies = tuple(head + body for body in BODIES for head in (
+            b"HTTP/1.1 200 OK\r\nContent-Length: %d\r\n\r\n" % len(body),
+            b"HTTP/1.1 200 OK\r\nDate: Mon, 23 Nov 2026 03:00:00 GMT\r\n\r\n",
+            b"HTTP/1.1 200 OK\r\nTransfer-Encoding: chunked\r\n\r\n%x\r\n" % len(body)))
+        for text in cases(replies, 2):
+            response(text)
+
+    def test_inventories(self) -> None:
+        for text in cases((INVENTORY,), 3):
+            reading = read_inventory(text)
+            self.assertTrue(reading.faults or reading.inventory is not None)
+            for finding in lint(text, 0o600, 5, 1e9):
+                self.assertNotIn("s.app", finding.text("file"))
+
+    def test_inventories_that_python_cannot_read(self) -> None:
+        for text in (b"x = " + b"[" * 60_000, b"margin = " + DIGITS, b"x = " + b"{a=" * 20_000):
+            (fault,) = read_inventory(text).faults
+            self.assertEqual(fault.problem, "the file is no TOML document")
+
+    def test_short_lists(self) -> None:
+        with tempfile.TemporaryDirectory() as folder:
+            file = Path(folder) / "list"
+            (Path(folder) / "id").write_text("db/1\n")
+            for text in cases((SHORT, SHORT.partition(b"[[")[0]), 4):
+                file.write_bytes(text)
+                try:
+                    read_short_list(file)
+                except DiscoverFault as fault:
+                    self.assertNotIn("s.app", str(fault))
+
+    def test_lines_of_a_run(self) -> None:
+        for text in cases((b"told app 60", b"wake 1059 app db", b"next none", b"short db 1150"), 5):
+            try:
+                read_line(text.decode("ascii", "replace"))
+            except LineFault:
+                pass
+
+
+if __name__ == "__main__":
+    unittest.main()
