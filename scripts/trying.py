@@ -4,11 +4,9 @@ replies are written by hand."""
 from __future__ import annotations
 
 import re
-import signal
 import socket
 import struct
 import subprocess
-import sys
 import threading
 from collections.abc import Callable
 from dataclasses import dataclass
@@ -245,8 +243,3 @@ def serve_well(_number: int, stream: socket.socket, request: bytes) -> None:
 def reset(stream: socket.socket) -> None:
     """Breaks the connection off, so that the other side's read fails."""
     stream.setsockopt(socket.SOL_SOCKET, socket.SO_LINGER, struct.pack("ii", 1, 0))
-
-
-def leave_no_child() -> None:
-    """Ends a script that is terminated by an exception, so that what it has started is cleaned up."""
-    signal.signal(signal.SIGTERM, lambda number, frame: sys.exit(128 + number))

@@ -5,8 +5,8 @@ use Rattle.std.proofs.lemmas.Fmt.{decimal_by_steps}
 use Rattle.std.proofs.lemmas.List.Folds.{list_all-append}
 use Rattle.std.proofs.lemmas.List.Splits.{join_with_byte-slice_split, slice_split_at, slice_split_none}
 use Rattle.std.proofs.lemmas.List.Sums.{AllPass-from_list_all}
-use Rattle.std.specs.List.{join_with_byte, list_all}
-use Rattle.keep_words.specs.Laws.{AllLack, CutBack, JoinedBack, Lacks}
+use Rattle.std.specs.List.{join_with_byte}
+use Rattle.keep_words.specs.Laws.{CutBack, JoinedBack, Lacks}
 use Rattle.keep_words.specs.Pieces.{pieces}
 
 pub lacks_each : (b : ℕ) (text : List ℕ) → Lacks b text → All (λ x. (x == b) ≡ false) text
