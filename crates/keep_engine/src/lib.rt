@@ -2,7 +2,8 @@
 //!
 //! The contract for the program above: a run's output is the text of its definition in `specs/`, from the bytes of an
 //! inventory alone. Begin with `plan` and `check`: the headline stands in their contracts (`PlanRun`, `CheckRun`), over
-//! `specs/Running`, which says for all commands how a run ends.
+//! `specs/Running`, which says for all commands how a run ends. The rehearsal, the live run and the exchanges are those of the
+//! layers below, under their names there.
 #![tactic(auto)]
 
 mod bound;
@@ -29,8 +30,11 @@ pub use command::{Command, obey};
 pub use deliver::PROGRAM;
 pub use ends::run_ends;
 pub use inputs::Inputs;
+pub use keep_exchange::{
+    Exchange, ExchangeFault, MemoryExchange, SelfServed, TcpExchange, UnixExchange,
+};
 pub use keep_report::{Exit, Stop, tell};
-pub use keep_run::{MOST_WAKES, run_rehearse};
+pub use keep_run::{MOST_WAKES, run_live, run_rehearse};
 pub use laws::{no_secret_shows, own_certificates_are_accepted, secrets_change_no_run, until_law};
 pub use plan::run_plan;
 pub use reach::run_reach;

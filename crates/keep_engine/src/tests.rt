@@ -6,6 +6,7 @@ mod exits;
 mod faulty;
 mod fronts;
 mod inventories;
+mod obeyed;
 mod plans;
 mod reaches;
 
