@@ -6,9 +6,12 @@ mod exits;
 mod faulty;
 mod fronts;
 mod inventories;
+mod live;
 mod obeyed;
 mod plans;
 mod reaches;
+mod rehearsals;
+mod secrets;
 
 use keep_moment::Moment;
 use std::test::Fail;

@@ -21,8 +21,6 @@ mod refused;
 mod rehearsal;
 mod renewing;
 mod served_entry;
-#[cfg(test)]
-mod tests;
 mod waking;
 
 pub use event_line::{Heard, MOST_LINE, heard_in};

@@ -1,33 +1,15 @@
 //! Rehearsals over whole inventories: exit, output, fault line and wire.
-use crate::run_rehearse;
-use keep_device::MemorySink;
+use super::inventories::{LOW_CEILING, PAY, TOKEN_AND_LEASE, WEB, WEB_BASE_AND_BIG};
+use crate::{Exit, run_rehearse};
+use keep_device::{MemorySink, MemorySource};
 use keep_exchange::MemoryExchange;
 use keep_inventory::read;
 use keep_moment::{Moment, Text};
-use keep_report::Exit;
 use mini_broker::Table;
 use std::alloc::Global;
 use std::process::Abort;
 use std::test::Fail;
-
-const WEB: &str =
-    "[[token]]\nname = \"web\"\nissued = 1000\nend = 1060\nincrement = 60\nmax_ttl = 9000\nneed = 1200\n";
-
-const TOKEN_AND_LEASE: &str =
-    "[[token]]\nname = \"T\"\nissued = 1000\nend = 1100\nincrement = 100\nmax_ttl = 9000\n\n\
-    [[lease]]\nname = \"L\"\ntoken = \"T\"\nissued = 1000\nend = 1060\nincrement = 60\nmax_ttl = 9000\nneed = 1200\n";
-
-const LOW_CEILING: &str =
-    "[[token]]\nname = \"T\"\nissued = 1000\nend = 1100\nincrement = 100\nmax_ttl = 150\n\n\
-    [[lease]]\nname = \"L\"\ntoken = \"T\"\nissued = 1000\nend = 1060\nincrement = 60\nmax_ttl = 9000\nneed = 1200\n";
-
-const PAY: &str =
-    "[[token]]\nname = \"pay\"\nissued = 900\nend = 1060\nperiod = 60\nexplicit_max_ttl = 200\nneed = 1100\n";
-
-const WEB_BASE_AND_BIG: &str =
-    "[[token]]\nname = \"web\"\nissued = 1000\nend = 1060\nincrement = 60\nmax_ttl = 9000\nneed = 1200\n\n\
-    [[token]]\nname = \"base\"\nissued = 1000\nend = 6000\nincrement = 60\nmax_ttl = 9000\n\n\
-    [[lease]]\nname = \"big\"\ntoken = \"base\"\nissued = 1000\nend = 5000\nincrement = 60\nmax_ttl = 9000\nneed = 4000\n";
+use vault_http::{read_reply, read_request};
 
 // The web example with a margin of ten seconds.
 const WIDE: &str =
@@ -38,7 +20,7 @@ const TOKEN_LATER: &str =
     "[[token]]\nname = \"T\"\nissued = 1000\nend = 1130\nincrement = 100\nmax_ttl = 9000\n\n\
     [[lease]]\nname = \"L\"\ntoken = \"T\"\nissued = 1000\nend = 1060\nincrement = 60\nmax_ttl = 9000\nneed = 1200\n";
 
-const AS_PLANNED: &str =
+pub(super) const AS_PLANNED: &str =
     "wake 1059 web\ntold web 60\nwake 1118 web\ntold web 60\nwake 1177 web\ntold web 60\ndone 3 3\n";
 
 // Inventories, FAULT words and the lines of their rehearsals from 1000 on.
@@ -178,12 +160,12 @@ const BAD_WORDS: [(&str, u64); 17] = [
     ("1=drop x 1=drop", 2),
 ];
 
-fn start() -> Result<Moment, Fail> {
+pub(super) fn start() -> Result<Moment, Fail> {
     Ok(Moment::new(1000).ok_or("a moment")?)
 }
 
 // The words of a line, one after another.
-fn words_of(alloc: Global, line: &str) -> Result<Vec<Text>, Fail> {
+pub(super) fn words_of(alloc: Global, line: &str) -> Result<Vec<Text>, Fail> {
     let mut words = Vec::new(alloc);
     if !line.is_empty() {
         for word in line.as_bytes().split(|byte| *byte == b' ') {
@@ -194,7 +176,7 @@ fn words_of(alloc: Global, line: &str) -> Result<Vec<Text>, Fail> {
 }
 
 // An exchange over the table of an empty inventory.
-fn nobody(alloc: Global) -> Result<MemoryExchange, Fail> {
+pub(super) fn nobody(alloc: Global) -> Result<MemoryExchange, Fail> {
     let inventory = read(alloc, b"").ok().ok_or("an inventory")?;
     Ok(MemoryExchange::new(alloc, Table::load(alloc, &inventory)?))
 }
@@ -258,7 +240,16 @@ fn an_inventory_at_fault_is_told_first(rt: HostRuntime) -> Result<(), Fail> {
     )
 }
 
-// The wire is the last request and its reply.
+// The last request of the web example, and the reply to it.
+const REQUEST: &[u8] =
+    b"POST /v1/auth/token/renew-self HTTP/1.1\r\nHost: 127.0.0.1:8200\r\nX-Vault-Token: web\r\n\
+    Content-Type: application/json\r\nContent-Length: 16\r\nConnection: close\r\n\r\n{\"increment\":60}";
+
+const REPLY: &[u8] =
+    b"HTTP/1.1 200 OK\r\nContent-Type: application/json\r\nContent-Length: 47\r\nConnection: close\r\n\r\n\
+    {\"auth\":{\"lease_duration\":60,\"renewable\":true}}";
+
+// The wire is the last request and its reply; each is read as it was meant.
 #[test]
 fn the_wire_of_a_rehearsal_is_its_last_exchange(rt: HostRuntime) -> Result<(), Fail> {
     let alloc = rt.alloc();
@@ -274,12 +265,36 @@ fn the_wire_of_a_rehearsal_is_its_last_exchange(rt: HostRuntime) -> Result<(), F
         &mut errors,
         &mut exchange,
     );
-    let wire: &[u8] =
-        b"POST /v1/auth/token/renew-self HTTP/1.1\r\nHost: 127.0.0.1:8200\r\nX-Vault-Token: web\r\n\
-        Content-Type: application/json\r\nContent-Length: 16\r\nConnection: close\r\n\r\n{\"increment\":60}\
-        HTTP/1.1 200 OK\r\nContent-Type: application/json\r\nContent-Length: 47\r\nConnection: close\r\n\r\n\
-        {\"auth\":{\"lease_duration\":60,\"renewable\":true}}";
-    assert!(rt; exchange.wire() == wire, "the wire");
     assert!(rt; exchange.table().end_of(b"web") == Some(1237), "the end");
+    let wire = exchange.wire();
+    assert!(rt; wire.get(..REQUEST.len()) == Some(REQUEST), "the request");
+    assert!(rt; wire.get(REQUEST.len()..) == Some(REPLY), "the reply");
+    let mut source = source_of(alloc, REQUEST)?;
+    let request = read_request(alloc, &mut source, 1048576)
+        .ok()
+        .ok_or("a request")?;
+    assert!(rt;
+        request.method.as_str() == "POST"
+            && request.path.list() == b"/v1/auth/token/renew-self".as_slice()
+    );
+    assert!(rt;
+        request
+            .token
+            .is_some_and(|token| token.list() == b"web".as_slice())
+    );
+    assert!(rt; request.body.list() == b"{\"increment\":60}".as_slice());
+    let mut source = source_of(alloc, REPLY)?;
+    let reply = read_reply(alloc, &mut source, 1048576)
+        .ok()
+        .ok_or("a reply")?;
+    assert!(rt; reply.status == 200);
+    assert!(rt;
+        reply.body.list() == b"{\"auth\":{\"lease_duration\":60,\"renewable\":true}}".as_slice()
+    );
     Ok(())
+}
+
+// A source of these bytes, whole.
+fn source_of(alloc: Global, bytes: &[u8]) -> Result<MemorySource, Fail> {
+    Ok(MemorySource::new(Vec::from_slice(alloc, bytes)?, Vec::new(alloc), None))
 }

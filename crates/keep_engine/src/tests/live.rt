@@ -1,0 +1,253 @@
+//! Live runs in memory: exit, output and fault line, however the event lines come.
+use super::inventories::{TOKEN_AND_LEASE, WEB};
+use super::moment;
+use keep_device::{MemorySink, MemorySource};
+use keep_exchange::MemoryExchange;
+use keep_inventory::read;
+use keep_report::Exit;
+use keep_run::run_live;
+use mini_broker::{Fault, Table};
+use std::alloc::Global;
+use std::process::Abort;
+use std::test::Fail;
+
+const TWO_TICKS: &str = "tick 1059\ntick 1118\n";
+
+const TWICE_RENEWED: &str =
+    "entry web 1060\nwake 1059 web\ntold web 60\nnext 1118\nwake 1118 web\ntold web 60\nnext 1177\n";
+
+const ONCE_RENEWED: &str = "entry web 1060\nwake 1059 web\ntold web 60\nnext 1118\n";
+
+// Inventories, event lines, how many reads go well, and the exit, the lines and the fault line of the run from 1000 on.
+const HEARD: [(&str, &str, Option<u64>, Exit, &str, &str); 11] = [
+    (WEB, TWO_TICKS, None, Exit::Done, TWICE_RENEWED, ""),
+    (
+        TOKEN_AND_LEASE,
+        "",
+        None,
+        Exit::Done,
+        "entry T 1100\nentry L 1060\n",
+        "",
+    ),
+    // a line that is refused, or names nobody, ends no run
+    (
+        WEB,
+        "tick 1061\ntick 1050\nneed nobody 5\nneed web 1300\n",
+        None,
+        Exit::Done,
+        "entry web 1060\nshort web 1060\nidle\nfault clock-back\nfault unknown-name\nshort web 1060\nplanned\n",
+        "",
+    ),
+    (
+        WEB,
+        "need nobody 5\ntick 1059\n",
+        None,
+        Exit::Done,
+        "entry web 1060\nfault unknown-name\nwake 1059 web\ntold web 60\nnext 1118\n",
+        "",
+    ),
+    // a moment over the last, a line that says nothing, an empty one, and one without its line feed
+    (
+        WEB,
+        "tick 253402300800\n",
+        None,
+        Exit::Device,
+        "entry web 1060\n",
+        "leasekeep: line 1\n",
+    ),
+    (
+        WEB,
+        "tick 1059\ntock 1118\ntick 1118\n",
+        None,
+        Exit::Device,
+        ONCE_RENEWED,
+        "leasekeep: line 2\n",
+    ),
+    (
+        WEB,
+        "tick 1059\n\ntick 1118\n",
+        None,
+        Exit::Device,
+        ONCE_RENEWED,
+        "leasekeep: line 2\n",
+    ),
+    (
+        WEB,
+        "tick 1059\ntick 1118",
+        None,
+        Exit::Device,
+        ONCE_RENEWED,
+        "leasekeep: line 2\n",
+    ),
+    // a read that fails, behind all lines, before any, and behind a part of one
+    (
+        WEB,
+        TWO_TICKS,
+        Some(1),
+        Exit::Device,
+        TWICE_RENEWED,
+        "leasekeep: read\n",
+    ),
+    (
+        WEB,
+        TWO_TICKS,
+        Some(0),
+        Exit::Device,
+        "entry web 1060\n",
+        "leasekeep: read\n",
+    ),
+    (
+        WEB,
+        "tick 1059\ntick 11",
+        Some(1),
+        Exit::Device,
+        ONCE_RENEWED,
+        "leasekeep: read\n",
+    ),
+];
+
+// A run from 1000 on over the inventory's own table, with a fault at the first renewal, if there is one.
+fn runs<R: AllocGlobal + Abort>(
+    rt: &R,
+    inventory: &str,
+    fault: Option<Fault>,
+    events: MemorySource,
+) -> Result<(Exit, MemorySink, MemorySink, u64), Fail> {
+    let alloc = rt.alloc();
+    let entries = read(alloc, inventory.as_bytes())
+        .ok()
+        .ok_or("an inventory")?;
+    let mut table = Table::load(alloc, &entries)?;
+    if let Some(fault) = fault {
+        assert!(rt; table.set_fault(1, fault).is_ok(), "a fault");
+    }
+    let mut exchange = MemoryExchange::new(alloc, table);
+    let mut out = MemorySink::new(alloc, None);
+    let mut errors = MemorySink::new(alloc, None);
+    let mut events = events;
+    let exit = run_live(
+        alloc,
+        inventory.as_bytes(),
+        moment(1000)?,
+        &mut events,
+        &mut exchange,
+        &mut out,
+        &mut errors,
+    );
+    Ok((exit, out, errors, events.reads()))
+}
+
+// Event lines that come in pieces of these lengths, and then whole.
+fn source(
+    alloc: Global,
+    events: &[u8],
+    pieces: &[usize],
+    before_failure: Option<u64>,
+) -> Result<MemorySource, Fail> {
+    Ok(MemorySource::new(
+        Vec::from_slice(alloc, events)?,
+        Vec::from_slice(alloc, pieces)?,
+        before_failure,
+    ))
+}
+
+#[test]
+fn live_runs_are_written(rt: HostRuntime) -> Result<(), Fail> {
+    for (inventory, lines, before_failure, exit, text, fault) in HEARD {
+        let events = source(rt.alloc(), lines.as_bytes(), &[], before_failure)?;
+        let (got, out, errors, _) = runs(&rt, inventory, None, events)?;
+        assert_eq!(rt; got, exit, "{lines}");
+        assert!(rt; out.bytes() == text.as_bytes(), "{lines}");
+        assert!(rt; errors.bytes() == fault.as_bytes(), "{lines}");
+    }
+    Ok(())
+}
+
+// A line in pieces, and several lines in one piece, are the same run; the last read tells the end.
+#[test]
+fn live_runs_are_the_same_in_pieces(rt: HostRuntime) -> Result<(), Fail> {
+    let cuts: [(&[usize], u64); 5] = [
+        (&[], 2),
+        (&[10, 10], 3),
+        (&[3, 9, 1, 7], 5),
+        (&[19], 3),
+        (&[1; 20], 21),
+    ];
+    for (pieces, reads) in cuts {
+        let events = source(rt.alloc(), TWO_TICKS.as_bytes(), pieces, None)?;
+        let (exit, out, errors, made) = runs(&rt, WEB, None, events)?;
+        assert_eq!(rt; exit, Exit::Done);
+        assert!(rt; out.bytes() == TWICE_RENEWED.as_bytes(), "{reads}");
+        assert!(rt; errors.bytes().is_empty(), "{reads}");
+        assert_eq!(rt; made, reads);
+    }
+    Ok(())
+}
+
+#[test]
+fn live_runs_tell_what_a_broker_answers(rt: HostRuntime) -> Result<(), Fail> {
+    for (fault, text) in [
+        (
+            Fault::Deny,
+            "entry web 1060\nwake 1059 web\nrefused web 403\nshort web 1060\nnext none\n",
+        ),
+        (
+            Fault::Drop,
+            "entry web 1060\nwake 1059 web\nlost web\nnext 1059\n",
+        ),
+        (
+            Fault::Short(30),
+            "entry web 1060\nwake 1059 web\ntold web 30\nnext 1088\n",
+        ),
+    ] {
+        let events = source(rt.alloc(), b"tick 1059\n", &[], None)?;
+        let (exit, out, errors, _) = runs(&rt, WEB, Some(fault), events)?;
+        assert_eq!(rt; exit, Exit::Done);
+        assert!(rt; out.bytes() == text.as_bytes(), "{text}");
+        assert!(rt; errors.bytes().is_empty(), "{text}");
+    }
+    Ok(())
+}
+
+// So many lines `need NAME 5` with a name of so many bytes, which nobody has.
+fn needs_of(alloc: Global, lines: usize, name: usize) -> Result<Vec<u8>, Fail> {
+    let mut line = Vec::from_slice(alloc, b"need ")?;
+    for _ in 0..name {
+        line.push(b'x')?;
+    }
+    line.extend_from_slice(b" 5\n")?;
+    let mut events = Vec::new(alloc);
+    for _ in 0..lines {
+        events.extend_from_slice(&line)?;
+    }
+    Ok(events)
+}
+
+// The longest line has 256 bytes, the events 1 MiB, and 65,536 reads are the most; and one more of each.
+#[test]
+fn live_runs_know_their_limits(rt: HostRuntime) -> Result<(), Fail> {
+    let alloc = rt.alloc();
+    let mut long = needs_of(alloc, 65536, 8)?;
+    long.push(b't')?;
+    let cases = [
+        (needs_of(alloc, 1, 248)?, 0, 34, ""),
+        (needs_of(alloc, 1, 249)?, 0, 15, "leasekeep: line 1\n"),
+        (needs_of(alloc, 65536, 8)?, 0, 1245199, ""),
+        (long, 0, 1245199, "leasekeep: read\n"),
+        (needs_of(alloc, 4369, 7)?, 65535, 83026, ""),
+        (needs_of(alloc, 4096, 8)?, 65536, 77839, "leasekeep: read\n"),
+    ];
+    for (bytes, ones, written, fault) in cases {
+        let pieces = vec![in alloc; 1usize; ones]?;
+        let (exit, out, errors, _) = runs(&rt, WEB, None, MemorySource::new(bytes, pieces, None))?;
+        let wanted = if fault.is_empty() {
+            Exit::Done
+        } else {
+            Exit::Device
+        };
+        assert_eq!(rt; exit, wanted, "{written}");
+        assert_eq!(rt; out.bytes().len(), written, "{written}");
+        assert!(rt; errors.bytes() == fault.as_bytes(), "{written}");
+    }
+    Ok(())
+}

@@ -1,0 +1,77 @@
+//! No secret shows: inventories that differ in secrets and lease ids alone are rehearsed alike, whatever goes wrong.
+use super::rehearsals::{nobody, start, words_of};
+use crate::{Exit, run_rehearse};
+use keep_device::MemorySink;
+use std::alloc::Global;
+use std::test::Fail;
+
+// A token with a lease and a child token, with these secrets.
+fn family(alloc: Global, token: &str, lease: &str, child: &str) -> Result<String, Fail> {
+    Ok(format!(in alloc;
+        "[[token]]\nname = \"T\"\nsecret = \"{token}\"\nissued = 1000\nend = 1100\nincrement = 100\nmax_ttl = 9000\n\n\
+        [[lease]]\nname = \"L\"\ntoken = \"T\"\nlease_id = \"{lease}\"\nissued = 1000\nend = 1060\nincrement = 60\nmax_ttl = 9000\nneed = 1200\n\n\
+        [[token]]\nname = \"C\"\nparent = \"T\"\nsecret = \"{child}\"\nissued = 1000\nend = 1090\nincrement = 90\nmax_ttl = 9000\nneed = 1300\n"
+    )?)
+}
+
+// Secrets of the token, its lease and its child.
+const SECRETS: [(&str, &str, &str); 6] = [
+    ("T", "L", "C"),
+    ("C", "T", "T2"),
+    (
+        "s.0123456789abcdef",
+        "database/creds/app/u4Zr",
+        "s.fedcba9876543210",
+    ),
+    ("z", "a", "a"),
+    ("1=drop", "\\\\\\\"/{}", "told"),
+    ("!", "~", "~"),
+];
+
+const FAULTS: [&str; 12] = [
+    "",
+    "1=drop",
+    "2=drop",
+    "3=drop",
+    "1=deny",
+    "2=deny",
+    "3=deny",
+    "1=short:10",
+    "2=short:0",
+    "3=short:1",
+    "2=deny 4=drop",
+    "5=short:20 6=drop 7=deny",
+];
+
+#[test]
+fn a_rehearsal_shows_no_secret(rt: HostRuntime) -> Result<(), Fail> {
+    let alloc = rt.alloc();
+    for words in FAULTS {
+        let mut first = MemorySink::new(alloc, None);
+        for (at, (token, lease, child)) in SECRETS.iter().enumerate() {
+            let inventory = family(alloc, token, lease, child)?;
+            let mut out = MemorySink::new(alloc, None);
+            let mut errors = MemorySink::new(alloc, None);
+            let got = run_rehearse(
+                alloc,
+                inventory.as_bytes(),
+                start()?,
+                &words_of(alloc, words)?,
+                &mut out,
+                &mut errors,
+                &mut nobody(alloc)?,
+            );
+            assert_eq!(rt; got, Exit::Done, "{words} {at}");
+            assert!(rt;
+                errors.bytes().is_empty() && !out.bytes().is_empty(),
+                "{words} {at}"
+            );
+            if at == 0 {
+                first = out;
+            } else {
+                assert!(rt; out.bytes() == first.bytes(), "{words} {at}");
+            }
+        }
+    }
+    Ok(())
+}
