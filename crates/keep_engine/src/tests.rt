@@ -1,6 +1,7 @@
 //! Each command over whole inventories: its exit, its output and its fault line.
 
 mod checks;
+mod cut_rehearsals;
 mod ends;
 mod exits;
 mod faulty;
