@@ -5,7 +5,7 @@ use Rattle.std.proofs.lemmas.List.{append-nil}
 use Rattle.std.proofs.lemmas.List.Splits.{join_with_byte-slice_split, slice_split-cons_no, slice_split-cons_yes}
 use Rattle.std.specs.List.{onto_first}
 use Rattle.keep_tree.specs.declared.entry.Entry.{Entry}
-use Rattle.keep_tree.specs.Forest.{Grove}
+use Rattle.keep_tree.specs.Forest.{Forest}
 use Rattle.keep_tree.specs.Push.{IsForest}
 use Rattle.keep_cert.specs.declared.fault.CertFault.{CertFault}
 use Rattle.keep_cert.specs.declared.fault.CertFault.TheVariants.{BadHeader, BadLine, UnknownName, BadNumber, Truncated, Trailing, OutOfMemory}
@@ -71,7 +71,7 @@ some_behind : (behind : List (List ℕ)) (n all : ℕ) → behind ≢ [] → all
 some_behind [] n all some e = absurd (some refl)
 some_behind (l ∷ ls) n all some e = omega (arith, e)
 
-module _ (g : Grove) (f : IsForest g) (text : List ℕ) where
+module _ (g : Forest) (f : IsForest g) (text : List ℕ) where
   module _ (e : CertFault) (front : List (List ℕ)) (s : StopsAt (all_of g.entries) (length front + 1) front (lines text) e) where
     fed_behind : HasFeed text (length front + 1) → s.behind ≢ []
     fed_behind more none =
@@ -121,7 +121,7 @@ module _ (g : Grove) (f : IsForest g) (text : List ℕ) where
       (t.0, t.1, joined h.1, joined_some h.1 h.3 h.4, text_is text h.0 h.1 h.3 h.2 ∙ ap (λ x. x ++ joined h.1) t.2)
   says OutOfMemory h = absurd h.2.at
 
-pub fault_says : (g : Grove) → IsForest g → (text : List ℕ) (e : CertFault) → certificate_of g.entries text ≡ Err e → Says g.entries text e
+pub fault_says : (g : Forest) → IsForest g → (text : List ℕ) (e : CertFault) → certificate_of g.entries text ≡ Err e → Says g.entries text e
 fault_says g f text e h = says g f text e (all_faulty g.entries (lines text) e (has_piece 10 text) (sym (read_by_lines g.entries text) ∙ h))
 
 -- ---- one line alone

@@ -2,7 +2,7 @@
 use Rattle.std.proofs.Common.{◌≡◌, ℕ, zero, suc, ◌<◌, ◌≤◌, ◌++◌, All, List, [], ◌∷◌, Option, Some, None, length, refl, ap, subst, arith, inl, inr}
 use Rattle.std.proofs.lemmas.Bool.{cases_lt}
 use Rattle.keep_tree.specs.declared.entry.Entry.{Entry}
-use Rattle.keep_tree.specs.Forest.{Grove, end_of, entry_at}
+use Rattle.keep_tree.specs.Forest.{Forest, end_of, entry_at}
 use Rattle.keep_tree.specs.Over.{Over}
 use Rattle.keep_tree.specs.Push.{IsForest}
 use Rattle.keep_tree.proofs.Entries.{entry_at_past}
@@ -46,10 +46,10 @@ needed_within es i some =
       | inr past ↦ absurd (let none : (entry_at es i).need ≡ 0 = ap (λ (e : Entry). e.need) (entry_at_past es i past) in omega arith)
     ]
 
-over_within : (g : Grove) → IsForest g → (a f : ℕ) → Over g.entries a f → f < length g.entries → a < length g.entries
+over_within : (g : Forest) → IsForest g → (a f : ℕ) → Over g.entries a f → f < length g.entries → a < length g.entries
 over_within g forest a f over within = let below = over_at_most g.entries (parents_first g forest) a f over in omega arith
 
-force_within : (g : Grove) → IsForest g → (s : ℕ) (prev : Option ℕ) (x : Force) → IsForce g.entries g.margin s (end_of g.entries) prev x → (x.entry < length g.entries) × (x.needed < length g.entries)
+force_within : (g : Forest) → IsForest g → (s : ℕ) (prev : Option ℕ) (x : Force) → IsForce g.entries g.margin s (end_of g.entries) prev x → (x.entry < length g.entries) × (x.needed < length g.entries)
 force_within g forest s prev x force =
     let short = force.short in
     let need = force.from.need in
@@ -62,14 +62,14 @@ forces_behind es margin s ends prev [] ys forces = (prev, forces)
 forces_behind es margin s ends prev (x ∷ xs) ys forces = forces_behind es margin s ends (Some x.at) xs ys forces.1
 
 -- the first wake-up of a run names its entries
-first_of_run : (g : Grove) → IsForest g → (s : ℕ) (prev : Option ℕ) (first step n entry needed : ℕ) (rest : List Force) → 0 < n
+first_of_run : (g : Forest) → IsForest g → (s : ℕ) (prev : Option ℕ) (first step n entry needed : ℕ) (rest : List Force) → 0 < n
     → AreForces g.entries g.margin s (end_of g.entries) prev (wakes_of first step n entry needed ++ rest) → (entry < length g.entries) × (needed < length g.entries)
 unfolding wakes_of
 first_of_run g forest s prev first step zero entry needed rest some forces = absurd (omega arith)
 first_of_run g forest s prev first step (suc n) entry needed rest some forces =
     force_within g forest s prev (record { at = first; entry = entry; needed = needed }) forces.0
 
-pub runs_within : (g : Grove) → IsForest g → (s : ℕ) (prev : Option ℕ) (rs : List Run) → of_rule.AreRuns rs → AreForces g.entries g.margin s (end_of g.entries) prev (all_wakes rs) → AreRunsOf Two g.entries rs
+pub runs_within : (g : Forest) → IsForest g → (s : ℕ) (prev : Option ℕ) (rs : List Run) → of_rule.AreRuns rs → AreForces g.entries g.margin s (end_of g.entries) prev (all_wakes rs) → AreRunsOf Two g.entries rs
 runs_within g forest s prev [] runs forces = tt
 runs_within g forest s prev (r ∷ rs) runs forces =
     let here = first_of_run g forest s prev r.first r.step r.count r.entry r.needed (all_wakes rs) runs.0.moments.some forces in
@@ -86,7 +86,7 @@ decided_is_of g s decision.TooLong forest decides = tt
 
 -- ---- reading back
 
-pub claim_is_body : (g : Grove) (s : ℕ) (d : Decision) (body : Body) → IsForest g → Decides g s d → claim d ≡ Some body → IsBody Two g.entries body
+pub claim_is_body : (g : Forest) (s : ℕ) (d : Decision) (body : Body) → IsForest g → Decides g s d → claim d ≡ Some body → IsBody Two g.entries body
 claim_is_body g s (decision.Keep p) body forest decides is =
     let runs = runs_within g forest s None p.runs decides.best.runs decides.best.forces in
     let few_runs = decides.best.few_runs in

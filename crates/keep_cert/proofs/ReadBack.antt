@@ -10,7 +10,7 @@ use Rattle.std.specs.Option.{ok_or}
 use Rattle.std.specs.Str.Parse.{digits_value}
 use Rattle.keep_moment.specs.declared.moment.TheConstants.{LAST}
 use Rattle.keep_tree.specs.declared.entry.Entry.{Entry}
-use Rattle.keep_tree.specs.Forest.{Grove}
+use Rattle.keep_tree.specs.Forest.{Forest}
 use Rattle.keep_tree.specs.Push.{IsForest}
 use Rattle.keep_rule.specs.declared.run.Run.{Run}
 use Rattle.keep_cert.specs.declared.cert.Version.{Version}
@@ -29,7 +29,7 @@ pub number_back : (n k : ℕ) → k ≤ LAST → number_at n (decimal k) ≡ Ok 
 unfolding number_at
 number_back n k few = ap (λ o. ok_or o (BadNumber n)) (numbers.number_back LAST (omega arith) k few)
 
-module _ (g : Grove) (f : IsForest g) where
+module _ (g : Forest) (f : IsForest g) where
   pub entry_back : (n i : ℕ) → i < length g.entries → entry_named n g.entries (name_of g.entries i) ≡ Ok i
   unfolding entry_named name_of
   entry_back n i inside = ap (λ o. ok_or o (UnknownName n)) ((f.placed i inside).alone)
@@ -77,7 +77,7 @@ step_within first step count lone some within =
 pub run_small : (v : Version) (es : List Entry) (r : Run) → IsRunOf v es r → r.count ≤ LIMIT → AreSmall r
 run_small v es r h few = record { first = omega (arith, h.run.moments.last); step = step_within r.first r.step r.count h.run.lone h.run.moments.some h.run.moments.last; count = omega (arith, few) }
 
-module _ (g : Grove) (f : IsForest g) where
+module _ (g : Forest) (f : IsForest g) where
   pub run_words_are : (v : Version) (r : Run) → IsRunOf v g.entries r → r.count ≤ LIMIT → AreWords (run_words v g.entries r)
   run_words_are One r h few =
       let s = run_small One g.entries r h few in
@@ -98,7 +98,7 @@ is_run_back before first step count few some lone within =
     and_from _ _ (le-leb _ _ few) (and_from _ _ (lt-ltb _ _ some)
     (and_from _ _ (both_same (step == 0) (count == 1) (λ h. eq-eqb _ _ (lone.0 (eqb-true _ _ h)), λ h. eq-eqb _ _ (lone.1 (eqb-true _ _ h)))) (le-leb _ _ within)))
 
-module _ (g : Grove) (f : IsForest g) (n before : ℕ) (r : Run) where
+module _ (g : Forest) (f : IsForest g) (n before : ℕ) (r : Run) where
   wake_back : IsRunOf One g.entries r → r.count ≤ LIMIT → wake_of n g.entries (run_as_line One g.entries r) ≡ Ok r
   unfolding wake_of four_words
   wake_back h few =
@@ -129,18 +129,18 @@ module _ (g : Grove) (f : IsForest g) (n before : ℕ) (r : Run) where
       ∙ value_on (entry_named n es (name_of es r.entry)) _ r.entry (entry_back g f n r.entry h.among.entry)
       ∙ value_on (entry_named n es (name_of es r.needed)) _ r.needed (entry_back g f n r.needed h.among.needed)
 
-pub run_line_back : (g : Grove) → IsForest g → (v : Version) (n before : ℕ) (r : Run) → IsRunOf v g.entries r → before + r.count ≤ LIMIT
+pub run_line_back : (g : Forest) → IsForest g → (v : Version) (n before : ℕ) (r : Run) → IsRunOf v g.entries r → before + r.count ≤ LIMIT
     → run_line v n g.entries before (run_as_line v g.entries r) ≡ Ok r
 unfolding run_line
 run_line_back g f One n before r h room = wake_back g f n before r h (omega (arith, room))
 run_line_back g f Two n before r h room = run_back g f n before r h (omega (arith, room)) room
 
-pub run_keyword_back : (g : Grove) → IsForest g → (v : Version) (r : Run) → IsRunOf v g.entries r → r.count ≤ LIMIT → bytes_eq (keyword (run_as_line v g.entries r)) (run_keyword v) ≡ true
+pub run_keyword_back : (g : Forest) → IsForest g → (v : Version) (r : Run) → IsRunOf v g.entries r → r.count ≤ LIMIT → bytes_eq (keyword (run_as_line v g.entries r)) (run_keyword v) ≡ true
 unfolding run_keyword
 run_keyword_back g f One r h few = keyword_test _ (codes "wake") _ (words_back (codes "wake") (wake_tail g.entries r) (run_words_are g f One r h few))
 run_keyword_back g f Two r h few = keyword_test _ (codes "run") _ (words_back (codes "run") (run_tail g.entries r) (run_words_are g f Two r h few))
 
 -- no line of a run begins with another word
-pub run_is_not : (g : Grove) → IsForest g → (v : Version) (r : Run) → IsRunOf v g.entries r → r.count ≤ LIMIT → bytes_eq (keyword (run_as_line v g.entries r)) (codes "unkeepable") ≡ false
+pub run_is_not : (g : Forest) → IsForest g → (v : Version) (r : Run) → IsRunOf v g.entries r → r.count ≤ LIMIT → bytes_eq (keyword (run_as_line v g.entries r)) (codes "unkeepable") ≡ false
 run_is_not g f One r h few = ap (λ w. bytes_eq w (codes "unkeepable")) (keyword_back _ (codes "wake") _ (words_back (codes "wake") (wake_tail g.entries r) (run_words_are g f One r h few)))
 run_is_not g f Two r h few = ap (λ w. bytes_eq w (codes "unkeepable")) (keyword_back _ (codes "run") _ (words_back (codes "run") (run_tail g.entries r) (run_words_are g f Two r h few)))

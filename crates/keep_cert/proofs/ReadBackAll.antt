@@ -6,7 +6,7 @@ use Rattle.std.specs.Option.{ok_or}
 use Rattle.std.specs.List.{join_with_byte}
 use Rattle.keep_moment.specs.declared.moment.TheConstants.{LAST}
 use Rattle.keep_tree.specs.declared.entry.Entry.{Entry}
-use Rattle.keep_tree.specs.Forest.{Grove}
+use Rattle.keep_tree.specs.Forest.{Forest}
 use Rattle.keep_tree.specs.Push.{IsForest}
 use Rattle.keep_rule.specs.declared.run.Run.{Run}
 use Rattle.keep_cert.specs.declared.cert.Body.{Body}
@@ -74,7 +74,7 @@ runs_text_more : (v : Version) (es : List Entry) (r : Run) (rs : List Run) (tota
 unfolding runs_text
 runs_text_more v es r rs total = append_assoc (run_text v es r) (flat_map (run_text v es) rs) (end_text total) ∙ ap (λ l. l ++ (flat_map (run_text v es) rs ++ end_text total)) (run_text_is v es r)
 
-module _ (g : Grove) (f : IsForest g) (v : Version) where
+module _ (g : Forest) (f : IsForest g) (v : Version) where
   run_pieces : (r : Run) (rs : List Run) (total : ℕ) → IsRunOf v g.entries r → r.count ≤ LIMIT → pieces 10 (runs_text v g.entries (r ∷ rs) total) ≡ run_as_line v g.entries r ∷ pieces 10 (runs_text v g.entries rs total)
   run_pieces r rs total h few = ap (pieces 10) (runs_text_more v g.entries r rs total) ∙ line_back (run_words v g.entries r) (runs_text v g.entries rs total) (run_words_are g f v r h few)
 
@@ -192,7 +192,7 @@ start_back start within =
 
 -- ---- all of it
 
-pub written_is_read : (g : Grove) → IsForest g → (text : List ℕ) (c : Cert) → Writes g.entries text c → certificate_of g.entries text ≡ Ok c
+pub written_is_read : (g : Forest) → IsForest g → (text : List ℕ) (c : Cert) → Writes g.entries text c → certificate_of g.entries text ≡ Ok c
 unfolding certificate_of certificate_text
 written_is_read g f text c w =
     let es = g.entries in

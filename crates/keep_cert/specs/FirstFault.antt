@@ -2,7 +2,7 @@
 -- Source: this project's own.
 use Rattle.std.specs.Prelude.{◌≡◌, ◌≢◌, ℕ, ◌+◌, ◌<◌, List, [], ◌∷◌, ◌++◌, Err, length}
 use Rattle.keep_tree.specs.declared.entry.Entry.{Entry}
-use Rattle.keep_tree.specs.Forest.{Grove}
+use Rattle.keep_tree.specs.Forest.{Forest}
 use Rattle.keep_tree.specs.Push.{IsForest}
 use Rattle.keep_cert.specs.declared.cert.Cert.{Cert}
 use Rattle.keep_cert.specs.declared.fault.CertFault.{CertFault}
@@ -48,7 +48,7 @@ Says es text OutOfMemory = ⊥
 
 -- so says the fault of each text that writes no certificate over a forest
 abbrev pub FirstFaultLaw : Type 0
-FirstFaultLaw = (g : Grove) → IsForest g → (text : List ℕ) (fault : CertFault) → certificate_of g.entries text ≡ Err fault → Says g.entries text fault
+FirstFaultLaw = (g : Forest) → IsForest g → (text : List ℕ) (fault : CertFault) → certificate_of g.entries text ≡ Err fault → Says g.entries text fault
 
 -- at most one line of a text is the first at fault
 abbrev pub OneFirstLaw : Type 0

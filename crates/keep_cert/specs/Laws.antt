@@ -2,7 +2,7 @@
 use Rattle.std.specs.Prelude.{◌≡◌, ℕ, ◌≤◌, List, Some, Ok}
 use Rattle.keep_moment.specs.declared.moment.TheConstants.{LAST}
 use Rattle.keep_tree.specs.declared.entry.Entry.{Entry}
-use Rattle.keep_tree.specs.Forest.{Grove}
+use Rattle.keep_tree.specs.Forest.{Forest}
 use Rattle.keep_tree.specs.Push.{IsForest}
 use Rattle.keep_plan.specs.declared.decision.Decision.{Decision}
 use Rattle.keep_plan.specs.Decides.{Decides}
@@ -18,14 +18,14 @@ ReadIsWritten = (es : List Entry) (text : List ℕ) (c : Cert) → certificate_o
 
 -- a text that writes a certificate over a forest is read as that certificate
 abbrev pub WrittenIsRead : Type 0
-WrittenIsRead = (g : Grove) → IsForest g → (text : List ℕ) (c : Cert) → Writes g.entries text c → certificate_of g.entries text ≡ Ok c
+WrittenIsRead = (g : Forest) → IsForest g → (text : List ℕ) (c : Cert) → Writes g.entries text c → certificate_of g.entries text ≡ Ok c
 
 -- a decision for a forest has the indices of its entries
 abbrev pub DecidedIsOf : Type 0
-DecidedIsOf = (g : Grove) (s : ℕ) (d : Decision) → IsForest g → Decides g s d → IsOf g.entries d
+DecidedIsOf = (g : Forest) (s : ℕ) (d : Decision) → IsForest g → Decides g s d → IsOf g.entries d
 
 -- what is printed of a decision for a forest is read as what it claims
 abbrev pub PrintedIsRead : Type 0
 PrintedIsRead =
-    (g : Grove) (s : ℕ) (d : Decision) (body : Body) → IsForest g → s ≤ LAST → Decides g s d → claim d ≡ Some body →
+    (g : Forest) (s : ℕ) (d : Decision) (body : Body) → IsForest g → s ≤ LAST → Decides g s d → claim d ≡ Some body →
     certificate_of g.entries (certificate_text g.entries (certified s body)) ≡ Ok (certified s body)

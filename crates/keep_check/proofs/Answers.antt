@@ -4,7 +4,7 @@ use Rattle.std.proofs.lemmas.Bool.{and_from, and_parts, cases_lt}
 use Rattle.std.proofs.lemmas.Bool.Decides.{nat_tests}
 use Rattle.keep_moment.specs.declared.moment.TheConstants.{LAST}
 use Rattle.keep_tree.specs.declared.entry.Entry.{Entry}
-use Rattle.keep_tree.specs.Forest.{Grove, end_of, entry_at}
+use Rattle.keep_tree.specs.Forest.{Forest, end_of, entry_at}
 use Rattle.keep_tree.specs.Over.{is_over}
 use Rattle.keep_rule.specs.Asks.{with_asks}
 use Rattle.keep_rule.specs.Forced.{AllForced, Forced, bound}
@@ -62,10 +62,10 @@ forced_test es margin s ends prev t entry needed = (forced_parts es margin s end
 
 -- One answer: a No names the fault of the walk, or else the lowest entry that is not kept.
 
-abbrev NamesEntry : Grove → ℕ → List Force → Cause → Type 0
+abbrev NamesEntry : Forest → ℕ → List Force → Cause → Type 0
 NamesEntry g s ws cause = (i : ℕ) × (cause ≡ NotKept i) × (first_fault g s ws ≡ None) × (IsKept g s ws i → ⊥) × ((j : ℕ) → j < i → IsKept g s ws j)
 
-walk_no : (g : Grove) (s : ℕ) (ws : List Force) (cause : Cause) → IsWalkAnswer g s ws (No cause) → (first_fault g s ws ≡ Some cause) ⊎ NamesEntry g s ws cause
+walk_no : (g : Forest) (s : ℕ) (ws : List Force) (cause : Cause) → IsWalkAnswer g s ws (No cause) → (first_fault g s ws ≡ Some cause) ⊎ NamesEntry g s ws cause
 walk_no g s ws (NotRising k) says = inl says
 walk_no g s ws (NotForced k) says = inl says
 walk_no g s ws (NotKept i) says = inr (i, refl, says.0, says.1.0, says.1.1)
@@ -77,7 +77,7 @@ both_faults found c d e f = cc
 no_and_some : (found : Option Cause) (c : Cause) → found ≡ None → found ≡ Some c → ⊥
 no_and_some found c e f = cc
 
-same_entry : (g : Grove) (s : ℕ) (ws : List Force) (c d : Cause) → NamesEntry g s ws c → NamesEntry g s ws d → c ≡ d
+same_entry : (g : Forest) (s : ℕ) (ws : List Force) (c d : Cause) → NamesEntry g s ws c → NamesEntry g s ws d → c ≡ d
 same_entry g s ws c d x y =
     elim (cases_lt x.0 y.0) [
       | inl less ↦ absurd (x.3 (y.4 x.0 less))
@@ -87,14 +87,14 @@ same_entry g s ws c d x y =
       ]
     ]
 
-not_yes : (g : Grove) (s : ℕ) (ws : List Force) (c : Cause) → IsWalkAnswer g s ws Yes → IsWalkAnswer g s ws (No c) → ⊥
+not_yes : (g : Forest) (s : ℕ) (ws : List Force) (c : Cause) → IsWalkAnswer g s ws Yes → IsWalkAnswer g s ws (No c) → ⊥
 not_yes g s ws c yes' no' =
     elim (walk_no g s ws c no') [
       | inl found ↦ no_and_some (first_fault g s ws) c yes'.0 found
       | inr entry ↦ entry.3 (yes'.1 entry.0)
     ]
 
-one_walk_answer : (g : Grove) (s : ℕ) (ws : List Force) (x y : Answer) → IsWalkAnswer g s ws x → IsWalkAnswer g s ws y → x ≡ y
+one_walk_answer : (g : Forest) (s : ℕ) (ws : List Force) (x y : Answer) → IsWalkAnswer g s ws x → IsWalkAnswer g s ws y → x ≡ y
 one_walk_answer g s ws Yes Yes a b = refl
 one_walk_answer g s ws Yes (No d) a b = absurd (not_yes g s ws d a b)
 one_walk_answer g s ws (No c) Yes a b = absurd (not_yes g s ws c b a)
@@ -110,19 +110,19 @@ one_walk_answer g s ws (No c) (No d) a b =
       ]
     ])
 
-pair_no : (g : Grove) (s entry needed : ℕ) (cause : Cause) → IsPairAnswer g s entry needed (No cause) → (cause ≡ NotUnkeepable) × (Unkeepable g.entries g.margin s (end_of g.entries) entry needed → ⊥)
+pair_no : (g : Forest) (s entry needed : ℕ) (cause : Cause) → IsPairAnswer g s entry needed (No cause) → (cause ≡ NotUnkeepable) × (Unkeepable g.entries g.margin s (end_of g.entries) entry needed → ⊥)
 pair_no g s entry needed (NotRising k) says = absurd says
 pair_no g s entry needed (NotForced k) says = absurd says
 pair_no g s entry needed (NotKept i) says = absurd says
 pair_no g s entry needed NotUnkeepable says = (refl, says)
 
-one_pair_answer : (g : Grove) (s entry needed : ℕ) (x y : Answer) → IsPairAnswer g s entry needed x → IsPairAnswer g s entry needed y → x ≡ y
+one_pair_answer : (g : Forest) (s entry needed : ℕ) (x y : Answer) → IsPairAnswer g s entry needed x → IsPairAnswer g s entry needed y → x ≡ y
 one_pair_answer g s entry needed Yes Yes a b = refl
 one_pair_answer g s entry needed Yes (No d) a b = absurd ((pair_no g s entry needed d b).1 a)
 one_pair_answer g s entry needed (No c) Yes a b = absurd ((pair_no g s entry needed c a).1 b)
 one_pair_answer g s entry needed (No c) (No d) a b = ap No ((pair_no g s entry needed c a).0 ∙ sym (pair_no g s entry needed d b).0)
 
-one_body_answer : (g : Grove) (s : ℕ) (b : Body) (x y : Answer) → IsBodyAnswer g s b x → IsBodyAnswer g s b y → x ≡ y
+one_body_answer : (g : Forest) (s : ℕ) (b : Body) (x y : Answer) → IsBodyAnswer g s b x → IsBodyAnswer g s b y → x ≡ y
 one_body_answer g s (body.Runs rs) x y = one_walk_answer g s (all_wakes rs) x y
 one_body_answer g s (body.Unkeepable entry needed) x y = one_pair_answer g s entry needed x y
 
@@ -190,7 +190,7 @@ in_order : (from low : ℕ) (ws : List Force) → low ≤ from → RisesStrictly
 in_order from low [] h rises most = tt
 in_order from low (w ∷ ws) h rises most = let l : from ≤ w.at = rises.0 in (omega arith, (most.0, in_order (w.at + 1) w.at ws (omega arith) rises.1 most.1))
 
-yes_of_walk : (g : Grove) (s : ℕ) (rs : List Run) → AllFit (length g.entries) rs → IsWalkAnswer g s (all_wakes rs) Yes → IsLeastAndLatest g.entries g.margin s (end_of g.entries) (moments_of (all_wakes rs))
+yes_of_walk : (g : Forest) (s : ℕ) (rs : List Run) → AllFit (length g.entries) rs → IsWalkAnswer g s (all_wakes rs) Yes → IsLeastAndLatest g.entries g.margin s (end_of g.entries) (moments_of (all_wakes rs))
 yes_of_walk g s rs fit answer =
     let es = g.entries in
     let ts = moments_of (all_wakes rs) in
@@ -201,7 +201,7 @@ yes_of_walk g s rs fit answer =
     subst (IsLeastAndLatest es g.margin s (end_of es)) same
     (forced_is_least es g.margin s (end_of es) plan order (λ i. answer.1 i) (subst (AllForced es g.margin s (end_of es) None) (sym same) walk.1))
 
-pub yes_of_body : (g : Grove) (s : ℕ) (b : Body) → CanBeJudged g b → IsBodyAnswer g s b Yes → Holds g s b
+pub yes_of_body : (g : Forest) (s : ℕ) (b : Body) → CanBeJudged g b → IsBodyAnswer g s b Yes → Holds g s b
 yes_of_body g s (body.Runs rs) fit answer = yes_of_walk g s rs fit.0 answer
 yes_of_body g s (body.Unkeepable entry needed) fit answer = unkeepable g.entries g.margin s (end_of g.entries) entry needed answer
 

@@ -2,7 +2,7 @@
 use Rattle.std.proofs.Common.{◌≡◌, ℕ, ◌+◌, ◌-◌, ◌<◌, ◌≤◌, Bool, true, false, cond, List, [], ◌∷◌, Option, Some, None, length, sym, ap, subst, arith, inl, inr}
 use Rattle.std.proofs.lemmas.Bool.{cases_lt}
 use Rattle.keep_tree.specs.declared.entry.Entry.{Entry}
-use Rattle.keep_tree.specs.Forest.{Grove, end_of, entry_at}
+use Rattle.keep_tree.specs.Forest.{Forest, end_of, entry_at}
 use Rattle.keep_tree.specs.Push.{IsForest}
 use Rattle.keep_tree.specs.Renewal.{all_last}
 use Rattle.keep_tree.proofs.Entries.{entry_at_past}
@@ -32,7 +32,7 @@ no_entry es margin s ends prev k i (w ∷ ws) names =
       by_test true false rest none e = absurd cc
       by_test false b rest none e = absurd cc
 
-pub walk_fault : (g : Grove) (s : ℕ) (ws : List Force) (cause : Cause) → Some cause ≡ first_fault g s ws → IsWalkAnswer g s ws (No cause)
+pub walk_fault : (g : Forest) (s : ℕ) (ws : List Force) (cause : Cause) → Some cause ≡ first_fault g s ws → IsWalkAnswer g s ws (No cause)
 walk_fault g s ws (NotRising k) found = sym found
 walk_fault g s ws (NotForced k) found = sym found
 walk_fault g s ws (NotKept i) found = absurd (no_entry g.entries g.margin s (end_of g.entries) None 1 i ws (sym found))
@@ -40,7 +40,7 @@ walk_fault g s ws NotUnkeepable found = sym found
 
 -- an entry over which each end, asked by itself, lasts until its need is kept, and so is one with no need after s
 kept_where_last :
-    (g : Grove) → IsForest g → (s : ℕ) (ws : List Force) → RisesStrictly s (moments_of ws) → (i : ℕ) →
+    (g : Forest) → IsForest g → (s : ℕ) (ws : List Force) → RisesStrictly s (moments_of ws) → (i : ℕ) →
     (s < (entry_at g.entries i).need → all_last g.entries (own g.entries g.margin (end_of g.entries) (moments_of ws)) (entry_at g.entries i).need i ≡ true) → IsKept g s ws i
 kept_where_last g forest s ws rises i last =
     let need = (entry_at g.entries i).need in
@@ -53,11 +53,11 @@ kept_where_last g forest s ws rises i last =
           (kept_law g s (end_of g.entries) (moments_of ws) forest rises i later).1 (λ a over. let l = alive_from_last g.entries owns (need - 1) i all a over in omega arith)
     ]
 
-pub kept_past : (g : Grove) (s : ℕ) (ws : List Force) (i : ℕ) → length g.entries ≤ i → IsKept g s ws i
+pub kept_past : (g : Forest) (s : ℕ) (ws : List Force) (i : ℕ) → length g.entries ≤ i → IsKept g s ws i
 kept_past g s ws i past = λ m start before a over. absurd (let none : (entry_at g.entries i).need ≡ 0 = ap (λ (e : Entry). e.need) (entry_at_past g.entries i past) in omega arith)
 
 unkept_where_short :
-    (g : Grove) → IsForest g → (s : ℕ) (ws : List Force) → RisesStrictly s (moments_of ws) → (i : ℕ) → s < (entry_at g.entries i).need →
+    (g : Forest) → IsForest g → (s : ℕ) (ws : List Force) → RisesStrictly s (moments_of ws) → (i : ℕ) → s < (entry_at g.entries i).need →
     all_last g.entries (own g.entries g.margin (end_of g.entries) (moments_of ws)) (entry_at g.entries i).need i ≡ false → IsKept g s ws i → ⊥
 unkept_where_short g forest s ws rises i later short kept =
     let found = short_over g.entries (own g.entries g.margin (end_of g.entries) (moments_of ws)) (entry_at g.entries i).need i short in
@@ -65,7 +65,7 @@ unkept_where_short g forest s ws rises i later short kept =
     let less = found.2 in
     omega arith
 
-pub walk_yes : (g : Grove) → IsForest g → (s : ℕ) (ws : List Force) → None ≡ first_fault g s ws → FirstShort g s (own g.entries g.margin (end_of g.entries) (moments_of ws)) None → IsWalkAnswer g s ws Yes
+pub walk_yes : (g : Forest) → IsForest g → (s : ℕ) (ws : List Force) → None ≡ first_fault g s ws → FirstShort g s (own g.entries g.margin (end_of g.entries) (moments_of ws)) None → IsWalkAnswer g s ws Yes
 walk_yes g forest s ws found all =
     let rises = (faultless g.entries g.margin s (end_of g.entries) None 1 ws (sym found)).0 in (
       sym found,
@@ -75,12 +75,12 @@ walk_yes g forest s ws found all =
       ],
     )
 
-pub walk_unkept : (g : Grove) → IsForest g → (s : ℕ) (ws : List Force) (i : ℕ) → None ≡ first_fault g s ws → FirstShort g s (own g.entries g.margin (end_of g.entries) (moments_of ws)) (Some i) → IsWalkAnswer g s ws (No (NotKept i))
+pub walk_unkept : (g : Forest) → IsForest g → (s : ℕ) (ws : List Force) (i : ℕ) → None ≡ first_fault g s ws → FirstShort g s (own g.entries g.margin (end_of g.entries) (moments_of ws)) (Some i) → IsWalkAnswer g s ws (No (NotKept i))
 walk_unkept g forest s ws i found short =
     let rises = (faultless g.entries g.margin s (end_of g.entries) None 1 ws (sym found)).0 in (
       sym found,
       (unkept_where_short g forest s ws rises i short.1.0 short.1.1.0, λ j less. kept_where_last g forest s ws rises j (λ later. short.1.1.1 j less later)),
     )
 
-pub walk_rises : (g : Grove) (s : ℕ) (ws : List Force) → None ≡ first_fault g s ws → RisesStrictly s (moments_of ws)
+pub walk_rises : (g : Forest) (s : ℕ) (ws : List Force) → None ≡ first_fault g s ws → RisesStrictly s (moments_of ws)
 walk_rises g s ws found = (faultless g.entries g.margin s (end_of g.entries) None 1 ws (sym found)).0

@@ -5,7 +5,7 @@ use Rattle.std.proofs.lemmas.Bool.{cases_Bool, cases_lt, cond-true, cond-false}
 use Rattle.std.proofs.lemmas.Bool.Decides.{nat_tests}
 use Rattle.keep_tree.specs.declared.entry.Entry.{Entry}
 use Rattle.keep_tree.specs.Carried.{carried}
-use Rattle.keep_tree.specs.Forest.{Grove, entry_at}
+use Rattle.keep_tree.specs.Forest.{Forest, entry_at}
 use Rattle.keep_tree.specs.Over.{Over}
 use Rattle.keep_tree.specs.Push.{IsForest}
 use Rattle.keep_tree.specs.Renewal.{all_last, is_granted, renewal, renewed}
@@ -37,7 +37,7 @@ over_needed es first s i later = record {
 }
 
 lasts_kept :
-    (g : Grove) → IsForest g → (s i : ℕ) → s < (entry_at g.entries i).need → (ends : ℕ → ℕ) (ts : List ℕ) → IsRising s ts →
+    (g : Forest) → IsForest g → (s i : ℕ) → s < (entry_at g.entries i).need → (ends : ℕ → ℕ) (ts : List ℕ) → IsRising s ts →
     ((a : ℕ) → Over g.entries a i → (entry_at g.entries i).need ≤ own_end (entry_at g.entries a) g.margin (ends a) ts) →
     KeptTo g.entries g.margin s ends (with_asks g.entries g.margin s ends ts) i (entry_at g.entries i).need
 lasts_kept g forest s i later ends ts rising lasts m start before a over =

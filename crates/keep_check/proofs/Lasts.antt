@@ -3,7 +3,7 @@ use Rattle.std.proofs.Common.{◌≡◌, ℕ, ◌+◌, ◌<◌, ◌≤◌, ◌&&
 use Rattle.std.proofs.lemmas.Bool.{cases_eq}
 use Rattle.std.proofs.lemmas.Bool.Decides.{nat_tests}
 use Rattle.std.proofs.lemmas.List.{get_or_append_left, get_or_push}
-use Rattle.keep_tree.specs.Forest.{Grove, entry_at}
+use Rattle.keep_tree.specs.Forest.{Forest, entry_at}
 use Rattle.keep_tree.specs.Push.{IsForest}
 use Rattle.keep_tree.specs.Renewal.{all_last}
 use Rattle.keep_tree.proofs.Chains.{all_last_child, all_last_root}
@@ -12,7 +12,7 @@ use Rattle.keep_rule.proofs.Rounds.{LastsBelow, le_min}
 use Rattle.keep_check.specs.code.Steps.{AllLast, least_with}
 
 least_by :
-    (g : Grove) → IsForest g → (owns : ℕ → ℕ) (lasts : List ℕ) (i : ℕ) (parent : Option ℕ) → (entry_at g.entries i).parent ≡ parent → LastsBelow g.entries owns lasts i →
+    (g : Forest) → IsForest g → (owns : ℕ → ℕ) (lasts : List ℕ) (i : ℕ) (parent : Option ℕ) → (entry_at g.entries i).parent ≡ parent → LastsBelow g.entries owns lasts i →
     (m : ℕ) → nat_le m (least_with parent (owns i) lasts) ≡ all_last g.entries owns m i
 least_by g forest owns lasts i None root below m = sym (all_last_root g.entries owns m i root)
 least_by g forest owns lasts i (Some p) child below m =
@@ -21,13 +21,13 @@ least_by g forest owns lasts i (Some p) child below m =
 
 -- what is carried for an entry is the least own end over it
 pub least_here :
-    (g : Grove) → IsForest g → (owns : ℕ → ℕ) (lasts : List ℕ) (i end last : ℕ) → LastsBelow g.entries owns lasts i → end ≡ owns i → last ≡ least_with (entry_at g.entries i).parent end lasts →
+    (g : Forest) → IsForest g → (owns : ℕ → ℕ) (lasts : List ℕ) (i end last : ℕ) → LastsBelow g.entries owns lasts i → end ≡ owns i → last ≡ least_with (entry_at g.entries i).parent end lasts →
     (m : ℕ) → nat_le m last ≡ all_last g.entries owns m i
 least_here g forest owns lasts i end last below own is m =
     ap (nat_le m) (is ∙ ap (λ e. least_with (entry_at g.entries i).parent e lasts) own) ∙ least_by g forest owns lasts i (entry_at g.entries i).parent refl below m
 
 pub least_pushed :
-    (g : Grove) (owns : ℕ → ℕ) (lasts : List ℕ) (i last : ℕ) → length lasts ≡ i → LastsBelow g.entries owns lasts i → ((m : ℕ) → nat_le m last ≡ all_last g.entries owns m i) →
+    (g : Forest) (owns : ℕ → ℕ) (lasts : List ℕ) (i last : ℕ) → length lasts ≡ i → LastsBelow g.entries owns lasts i → ((m : ℕ) → nat_le m last ≡ all_last g.entries owns m i) →
     LastsBelow g.entries owns (lasts ++ last ∷ []) (i + 1)
 least_pushed g owns lasts i last count below here k m within =
     elim (cases_eq k i) [
@@ -37,7 +37,7 @@ least_pushed g owns lasts i last count below here k m within =
 
 -- one entry more
 pub all_last_more :
-    (g : Grove) (s : ℕ) (owns : ℕ → ℕ) (i last : ℕ) → ((m : ℕ) → nat_le m last ≡ all_last g.entries owns m i) → AllLast g s owns i → (s < (entry_at g.entries i).need → (entry_at g.entries i).need ≤ last) → AllLast g s owns (i + 1)
+    (g : Forest) (s : ℕ) (owns : ℕ → ℕ) (i last : ℕ) → ((m : ℕ) → nat_le m last ≡ all_last g.entries owns m i) → AllLast g s owns i → (s < (entry_at g.entries i).need → (entry_at g.entries i).need ≤ last) → AllLast g s owns (i + 1)
 all_last_more g s owns i last here before lasts j within later =
     elim (cases_eq j i) [
       | inl same ↦
@@ -47,5 +47,5 @@ all_last_more g s owns i last here before lasts j within later =
       | inr other ↦ before j (omega arith) later
     ]
 
-pub short_here : (g : Grove) (owns : ℕ → ℕ) (i last : ℕ) → ((m : ℕ) → nat_le m last ≡ all_last g.entries owns m i) → last < (entry_at g.entries i).need → all_last g.entries owns (entry_at g.entries i).need i ≡ false
+pub short_here : (g : Forest) (owns : ℕ → ℕ) (i last : ℕ) → ((m : ℕ) → nat_le m last ≡ all_last g.entries owns m i) → last < (entry_at g.entries i).need → all_last g.entries owns (entry_at g.entries i).need i ≡ false
 short_here g owns i last here short = sym (here (entry_at g.entries i).need) ∙ (let l : nat_le (entry_at g.entries i).need last ≡ false = grind (arith, nat_tests) in l)

@@ -3,7 +3,7 @@ use Rattle.std.proofs.Common.{◌≡◌, ℕ, suc, zero, ◌+◌, ◌-◌, ◌*�
 use Rattle.std.proofs.lemmas.Bool.{and_from, and_right, false_from_ne_true}
 use Rattle.std.proofs.lemmas.Bool.Decides.{nat_tests}
 use Rattle.keep_tree.specs.declared.entry.Entry.{Entry}
-use Rattle.keep_tree.specs.Forest.{Grove, end_of, entry_at}
+use Rattle.keep_tree.specs.Forest.{Forest, end_of, entry_at}
 use Rattle.keep_tree.specs.Over.{Over}
 use Rattle.keep_tree.specs.Renewal.{capped, renewal}
 use Rattle.keep_rule.specs.Forced.{Forced, bound, latest_end}
@@ -166,7 +166,7 @@ walks_into es margin s ends entry needed gap top going q n t k rest start due lo
 
 -- what a walk finds behind a first wake-up that rises and is forced, it finds
 pub found_behind :
-    (g : Grove) (s : ℕ) (prev : Option ℕ) (k : ℕ) (w : Force) (us : List Force) (last k' : ℕ) (found : Option Cause) → rises s prev w.at ≡ true →
+    (g : Forest) (s : ℕ) (prev : Option ℕ) (k : ℕ) (w : Force) (us : List Force) (last k' : ℕ) (found : Option Cause) → rises s prev w.at ≡ true →
     is_forced g.entries g.margin s (end_of g.entries) prev w.at w.entry w.needed ≡ true → Finds g s (Some w.at) (k + 1) us last k' found → Finds g s prev k (w ∷ us) last k' found
 found_behind g s prev k w us last k' None yes' forced finds = λ rest. goes_on g.entries g.margin s (end_of g.entries) prev k w (us ++ rest) yes' forced ∙ finds rest
 found_behind g s prev k w us last k' (Some cause) yes' forced finds = λ rest. goes_on g.entries g.margin s (end_of g.entries) prev k w (us ++ rest) yes' forced ∙ finds rest

@@ -1,7 +1,7 @@
 -- What a text writes can be judged.
 use Rattle.std.proofs.Common.{List, [], ◌∷◌, length}
 use Rattle.keep_tree.specs.declared.entry.Entry.{Entry}
-use Rattle.keep_tree.specs.Forest.{Grove}
+use Rattle.keep_tree.specs.Forest.{Forest}
 use Rattle.keep_rule.specs.declared.run.Run.{Run}
 use Rattle.keep_cert.specs.declared.cert.Body.{Body}
 use Rattle.keep_cert.specs.declared.cert.Body.TheVariants as body
@@ -15,7 +15,7 @@ all_fit : (v : Version) (es : List Entry) (rs : List Run) → AreRunsOf v es rs 
 all_fit v es [] each = tt
 all_fit v es (r ∷ rs) each = (record { among = each.0.among; moments = each.0.run.moments }, all_fit v es rs each.1)
 
-pub body_fits : (g : Grove) (v : Version) (b : Body) → IsBody v g.entries b → CanBeJudged g b
+pub body_fits : (g : Forest) (v : Version) (b : Body) → IsBody v g.entries b → CanBeJudged g b
 body_fits g v (body.Runs rs) is = (all_fit v g.entries rs is.0, is.1.1)
 body_fits g v (body.Unkeepable entry needed) is = is
 

@@ -1,7 +1,7 @@
 -- Fit: which certificates can be judged over a forest, as each that was read from a text can.
 -- Source: this project's own.
 use Rattle.std.specs.Prelude.{ℕ, List, length}
-use Rattle.keep_tree.specs.Forest.{Grove}
+use Rattle.keep_tree.specs.Forest.{Forest}
 use Rattle.keep_rule.specs.declared.run.Run.{Run}
 use Rattle.keep_cert.specs.declared.cert.Body.{Body}
 use Rattle.keep_rule.specs.Runs.{HasMoments, IsAmong}
@@ -13,5 +13,5 @@ pub record IsFit (n : ℕ) (r : Run) : Type 0 where
   pub moments : HasMoments r
 
 -- each run is fit, and they have at most LIMIT wake-ups; or the indices of the pair are those of entries
-abbrev pub CanBeJudged : Grove → Body → Type 0
+abbrev pub CanBeJudged : Forest → Body → Type 0
 CanBeJudged g body = IsMadeOf (IsFit (length g.entries)) g.entries body

@@ -1,7 +1,7 @@
 -- Laws of the checker. Each is the contract of a public function without a body.
 use Rattle.std.specs.Prelude.{◌≡◌, ◌↔◌, ℕ, ◌≤◌, ◌<◌, List, Option, true}
 use Rattle.keep_tree.specs.declared.entry.Entry.{Entry}
-use Rattle.keep_tree.specs.Forest.{Grove, end_of, entry_at}
+use Rattle.keep_tree.specs.Forest.{Forest, end_of, entry_at}
 use Rattle.keep_tree.specs.Over.{Over}
 use Rattle.keep_tree.specs.Push.{IsForest}
 use Rattle.keep_rule.specs.declared.wake.Wake.{Wake}
@@ -26,7 +26,7 @@ use Rattle.keep_check.specs.Walk.{is_forced}
 -- moments with their Asks keep an entry exactly where each entry over it, asked by itself, lasts until its need
 abbrev pub KeptLaw : Type 0
 KeptLaw =
-    (g : Grove) (s : ℕ) (ends : ℕ → ℕ) (ts : List ℕ) → IsForest g → RisesStrictly s ts → (i : ℕ) → s < (entry_at g.entries i).need →
+    (g : Forest) (s : ℕ) (ends : ℕ → ℕ) (ts : List ℕ) → IsForest g → RisesStrictly s ts → (i : ℕ) → s < (entry_at g.entries i).need →
     KeptTo g.entries g.margin s ends (with_asks g.entries g.margin s ends ts) i (entry_at g.entries i).need
     ↔ ((a : ℕ) → Over g.entries a i → (entry_at g.entries i).need ≤ own g.entries g.margin ends ts a)
 
@@ -38,17 +38,17 @@ ForcedTestLaw =
 
 -- at most one answer to a certificate is right
 abbrev pub AnswerLaw : Type 0
-AnswerLaw = (g : Grove) (c : Cert) (x y : Answer) → IsAnswer g c x → IsAnswer g c y → x ≡ y
+AnswerLaw = (g : Forest) (c : Cert) (x y : Answer) → IsAnswer g c x → IsAnswer g c y → x ≡ y
 
 -- what a certificate claims: its moments are least and latest, or no plan keeps
-abbrev pub Holds : Grove → ℕ → Body → Type 0
+abbrev pub Holds : Forest → ℕ → Body → Type 0
 Holds g s (body.Runs rs) = IsLeastAndLatest g.entries g.margin s (end_of g.entries) (moments_of (all_wakes rs))
 Holds g s (body.Unkeepable entry needed) = (plan : List Wake) → IsPlan s plan → Keeps g.entries g.margin s (end_of g.entries) plan → ⊥
 
 -- what gets Yes holds
 abbrev pub YesLaw : Type 0
-YesLaw = (g : Grove) (c : Cert) → CanBeJudged g c.body → IsAnswer g c Yes → Holds g c.start c.body
+YesLaw = (g : Forest) (c : Cert) → CanBeJudged g c.body → IsAnswer g c Yes → Holds g c.start c.body
 
 -- a certificate that a text writes over a forest can be judged over it
 abbrev pub WrittenLaw : Type 0
-WrittenLaw = (g : Grove) (text : List ℕ) (c : Cert) → Writes g.entries text c → CanBeJudged g c.body
+WrittenLaw = (g : Forest) (text : List ℕ) (c : Cert) → Writes g.entries text c → CanBeJudged g c.body

@@ -5,7 +5,7 @@ use Rattle.std.proofs.lemmas.Bool.Decides.{nat_tests}
 use Rattle.std.proofs.lemmas.List.{get_or-set_other, get_or-set_same, length-set}
 use Rattle.std.specs.List.{list_any}
 use Rattle.keep_tree.specs.declared.entry.Entry.{Entry}
-use Rattle.keep_tree.specs.Forest.{Grove, end_of, entry_at}
+use Rattle.keep_tree.specs.Forest.{Forest, end_of, entry_at}
 use Rattle.keep_tree.specs.Push.{IsForest}
 use Rattle.keep_tree.specs.Renewal.{renewal}
 use Rattle.keep_tree.proofs.Carrying.{and_left}
@@ -30,7 +30,7 @@ use Rattle.keep_core.proofs.Standing.{best_keepable, tail_kept}
 use Rattle.keep_core.proofs.Waiting.{waits_flag}
 
 -- the moments of a least and latest plan rise strictly
-pub rises_strictly : (g : Grove) → IsForest g → (s : ℕ) (ts : List ℕ) → IsPlanOf g s ts → RisesStrictly s ts
+pub rises_strictly : (g : Forest) → IsForest g → (s : ℕ) (ts : List ℕ) → IsPlanOf g s ts → RisesStrictly s ts
 rises_strictly g forest s ts best =
     let ends = end_of g.entries in
     let keepable = best_keepable g s ts best in
@@ -54,7 +54,7 @@ neither false b f = refl
 
 -- at the opening nobody has answered
 pub opens_by_rule :
-    (h : Grove) → IsForest h → (t : ℕ) (x : Force) (p : Planned) → x.at ≡ t → IsPlanOf h t (t ∷ moments_of (to_come p)) → AllForcedAs h.entries h.margin t (end_of h.entries) None (x ∷ to_come p) →
+    (h : Forest) → IsForest h → (t : ℕ) (x : Force) (p : Planned) → x.at ≡ t → IsPlanOf h t (t ∷ moments_of (to_come p)) → AllForcedAs h.entries h.margin t (end_of h.entries) None (x ∷ to_come p) →
     (flags : List Bool) → waited_for flags ≡ asks h.entries h.margin t (end_of h.entries) t (first_of (moments_of (to_come p))) → IsByRule h t p flags
 unfolding is_asked
 opens_by_rule h forest t x p at best forced flags same =
@@ -80,7 +80,7 @@ unfolding is_wanted
 asked_renewable es margin t ends next i asked = and_left (entry_at es i).renewable _ (sym (asks_wanted es margin t ends t next i) ∙ asked)
 
 -- an entry that is waited for is as it was at the opening
-pub waits_as_was : (h : Grove) (t : ℕ) (p : Planned) (flags : List Bool) (rule : IsByRule h t p flags) (i : ℕ) → flag flags i ≡ true → entry_at h.entries i ≡ entry_at rule.g.entries i
+pub waits_as_was : (h : Forest) (t : ℕ) (p : Planned) (flags : List Bool) (rule : IsByRule h t p flags) (i : ℕ) → flag flags i ≡ true → entry_at h.entries i ≡ entry_at rule.g.entries i
 waits_as_was h t p flags rule i yes' =
     let g = rule.g in
     let asked = is_asked (asking g.entries g.margin t (end_of g.entries) t (first_of (moments_of (to_come p)))) i in
@@ -90,7 +90,7 @@ waits_as_was h t p flags rule i yes' =
 
 -- one more answer that is the rule's
 pub more_by_rule :
-    (h : Grove) (t : ℕ) (p : Planned) (flags : List Bool) → IsByRule h t p flags → (i end : ℕ) → i < length flags → i < length h.entries → flag flags i ≡ true →
+    (h : Forest) (t : ℕ) (p : Planned) (flags : List Bool) → IsByRule h t p flags → (i end : ℕ) → i < length flags → i < length h.entries → flag flags i ≡ true →
     end ≡ renewal (entry_at h.entries i) t →
     IsByRule (record { entries = set h.entries i (record (entry_at h.entries i) { end = end; renewable = true }); margin = h.margin }) t p (set flags i false)
 more_by_rule h t p flags rule i end there within yes' is =
@@ -141,7 +141,7 @@ and_true false = refl
 
 -- where all have answered, the rest of the plan is what planning anew gives, with its forces, and nothing is shortened
 pub closes_by_rule :
-    (h : Grove) (t : ℕ) (p : Planned) (flags : List Bool) → IsByRule h t p flags → waited_for flags ≡ [] →
+    (h : Forest) (t : ℕ) (p : Planned) (flags : List Bool) → IsByRule h t p flags → waited_for flags ≡ [] →
     (shorten h t ≡ h) × (pairs h t ≡ []) × IsPlanOf h t (moments_of (to_come p)) × AllForcedAs h.entries h.margin t (end_of h.entries) None (to_come p)
 closes_by_rule h t p flags rule none =
     let g = rule.g in

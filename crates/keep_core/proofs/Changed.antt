@@ -3,7 +3,7 @@ use Rattle.std.proofs.Common.{ℕ, ◌+◌, ◌<◌, ◌≤◌, Bool, false, len
 use Rattle.keep_moment.specs.declared.moment.TheConstants.{LAST}
 use Rattle.keep_tree.specs.declared.entry.Entry.{Entry}
 use Rattle.keep_tree.specs.declared.forest.TheConstants.{END_MAX}
-use Rattle.keep_tree.specs.Forest.{Grove, entry_at}
+use Rattle.keep_tree.specs.Forest.{Forest, entry_at}
 use Rattle.keep_tree.specs.Push.{IsForest}
 use Rattle.keep_tree.proofs.Placed.{read_range, read_step, replaced_is_forest, replaces_read}
 use Rattle.keep_core.specs.declared.event.Event.{Event}
@@ -13,7 +13,7 @@ use Rattle.keep_core.specs.Step.{answered, change}
 
 -- a forest with an entry changed, in its end within the range, in its need, or in whether it is renewable
 changed_forest :
-    (g : Grove) → IsForest g → (i : ℕ) → i < length g.entries → (end need : ℕ) (renewable : Bool) → end ≤ END_MAX → need ≤ LAST →
+    (g : Forest) → IsForest g → (i : ℕ) → i < length g.entries → (end need : ℕ) (renewable : Bool) → end ≤ END_MAX → need ≤ LAST →
     IsForest (change g i (λ e. record e { end = end; need = need; renewable = renewable }))
 changed_forest g forest i within end need renewable far late =
     let x = entry_at g.entries i in
@@ -21,13 +21,13 @@ changed_forest g forest i within end need renewable far late =
     let old = read_range g forest i x within refl in
     replaced_is_forest g forest i e (replaces_read g forest i x e within refl refl refl refl (read_step g forest i x within refl) (record { end = far; ceiling = old.ceiling; need = late }))
 
-pub needed_forest : (g : Grove) → IsForest g → (i : ℕ) → i < length g.entries → (until : ℕ) → until ≤ LAST → IsForest (change g i (λ e. record e { need = until }))
+pub needed_forest : (g : Forest) → IsForest g → (i : ℕ) → i < length g.entries → (until : ℕ) → until ≤ LAST → IsForest (change g i (λ e. record e { need = until }))
 needed_forest g forest i within until late =
     let x = entry_at g.entries i in
     changed_forest g forest i within x.end until x.renewable (read_range g forest i x within refl).end late
 
 pub answered_forest :
-    (g : Grove) → IsForest g → (event : Event) → TellsSpan event → (i : ℕ) → i < length g.entries → (at : ℕ) → at ≤ LAST →
+    (g : Forest) → IsForest g → (event : Event) → TellsSpan event → (i : ℕ) → i < length g.entries → (at : ℕ) → at ≤ LAST →
     IsForest (change g i (answered at event))
 unfolding answered
 answered_forest g forest event seconds i within at late = by_event event seconds where

@@ -4,7 +4,7 @@ use Rattle.std.proofs.lemmas.Bool.{cases_Bool, cases_lt, cond-true}
 use Rattle.std.proofs.lemmas.List.Elements.{All-head, All-tail}
 use Rattle.std.specs.List.{All}
 use Rattle.keep_tree.specs.declared.entry.Entry.{Entry}
-use Rattle.keep_tree.specs.Forest.{Grove, end_of, entry_at}
+use Rattle.keep_tree.specs.Forest.{Forest, end_of, entry_at}
 use Rattle.keep_tree.specs.Over.{Over}
 use Rattle.keep_tree.specs.Push.{IsForest}
 use Rattle.keep_tree.specs.Renewal.{renewal}
@@ -25,7 +25,7 @@ use Rattle.keep_core.proofs.Standing.{after_answers, answered_alike, best_first}
 
 -- a need that a bound falls short of comes after the plan's first moment: until then the ends last
 need_later :
-    (g : Grove) (s t : ℕ) (ts : List ℕ) → IsPlanOf g s ts → All (λ u. t ≤ u) ts → (prev : Option ℕ) (entry needed : ℕ) → Over g.entries entry needed → s < (entry_at g.entries needed).need →
+    (g : Forest) (s t : ℕ) (ts : List ℕ) → IsPlanOf g s ts → All (λ u. t ≤ u) ts → (prev : Option ℕ) (entry needed : ℕ) → Over g.entries entry needed → s < (entry_at g.entries needed).need →
     bound g.entries (end_of g.entries) prev entry < (entry_at g.entries needed).need → t < (entry_at g.entries needed).need
 need_later g s t ts best after_none prev entry needed over later short =
     let es = g.entries in
@@ -42,7 +42,7 @@ need_later g s t ts best after_none prev entry needed over later short =
 
 -- the same pairs force from a later start that comes after no moment
 forced_later :
-    (g : Grove) (s t : ℕ) (ts : List ℕ) → IsPlanOf g s ts → All (λ u. t ≤ u) ts → (xs : List Force) (prev : Option ℕ) →
+    (g : Forest) (s t : ℕ) (ts : List ℕ) → IsPlanOf g s ts → All (λ u. t ≤ u) ts → (xs : List Force) (prev : Option ℕ) →
     AllForcedAs g.entries g.margin s (end_of g.entries) prev xs → AllForcedAs g.entries g.margin t (end_of g.entries) prev xs
 forced_later g s t ts best after_none [] prev forced = tt
 forced_later g s t ts best after_none (x ∷ xs) prev forced =
@@ -52,7 +52,7 @@ forced_later g s t ts best after_none (x ∷ xs) prev forced =
     )
 
 -- an end after a round that was answered by the rule is at most the bound that the round leaves, and so is each bound
-answered_end : (g h : Grove) (t : ℕ) (next : Option ℕ) → IsAnsweredByRule g h t next → (i u : ℕ) → t ≤ u → end_of h.entries i ≤ bound g.entries (end_of g.entries) (Some u) i
+answered_end : (g h : Forest) (t : ℕ) (next : Option ℕ) → IsAnsweredByRule g h t next → (i u : ℕ) → t ≤ u → end_of h.entries i ≤ bound g.entries (end_of g.entries) (Some u) i
 unfolding bound latest_end
 answered_end g h t next answered i u later =
     let es = g.entries in
@@ -79,7 +79,7 @@ unfolding bound latest_end
 bound_first es ends i = refl
 
 bound_behind :
-    (g h : Grove) → IsForest g → (t : ℕ) (next : Option ℕ) → IsAnsweredByRule g h t next → (i u : ℕ) → t ≤ u →
+    (g h : Forest) → IsForest g → (t : ℕ) (next : Option ℕ) → IsAnsweredByRule g h t next → (i u : ℕ) → t ≤ u →
     bound h.entries (end_of h.entries) (Some u) i ≤ bound g.entries (end_of g.entries) (Some u) i
 unfolding bound latest_end
 bound_behind g h forest t next answered i u later =
@@ -101,7 +101,7 @@ bound_behind g h forest t next answered i u later =
 
 -- the same pairs force behind such a round, as long as the bounds are no greater
 forced_behind :
-    (g h : Grove) → IsForest g → (s t : ℕ) (ts : List ℕ) → IsPlanOf g s (t ∷ ts) → IsAnsweredByRule g h t (first_of ts) → (xs : List Force) (before : Option ℕ) (prev : ℕ) → t ≤ prev →
+    (g h : Forest) → IsForest g → (s t : ℕ) (ts : List ℕ) → IsPlanOf g s (t ∷ ts) → IsAnsweredByRule g h t (first_of ts) → (xs : List Force) (before : Option ℕ) (prev : ℕ) → t ≤ prev →
     All (λ u. t ≤ u) (moments_of xs) → ((i : ℕ) → bound h.entries (end_of h.entries) before i ≤ bound g.entries (end_of g.entries) (Some prev) i) →
     AllForcedAs g.entries g.margin s (end_of g.entries) (Some prev) xs → AllForcedAs h.entries h.margin t (end_of h.entries) before xs
 forced_behind g h forest s t ts best answered [] before prev from later low forced = tt

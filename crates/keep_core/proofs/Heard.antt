@@ -4,7 +4,7 @@ use Rattle.std.proofs.lemmas.Bool.{cases_lt}
 use Rattle.std.proofs.lemmas.Bool.Decides.{nat_tests}
 use Rattle.std.proofs.lemmas.List.{append-nil, length-set}
 use Rattle.keep_tree.specs.declared.entry.Entry.{Entry}
-use Rattle.keep_tree.specs.Forest.{Grove, entry_at}
+use Rattle.keep_tree.specs.Forest.{Forest, entry_at}
 use Rattle.keep_tree.specs.Push.{IsForest}
 use Rattle.keep_tree.specs.Renewal.{renewal}
 use Rattle.keep_tree.proofs.Carrying.{and_left, and_right}
@@ -37,7 +37,7 @@ use Rattle.keep_core.proofs.Made.{count_moments}
 use Rattle.keep_core.proofs.Waiting.{waits_flag}
 
 -- an answer that an round_is round takes
-pub record Takes (h : Grove) (r : OpenRound) (event : Event) : Type 0 where
+pub record Takes (h : Forest) (r : OpenRound) (event : Event) : Type 0 where
   pub seconds : TellsSpan event
   pub within : of_entry event < length h.entries
   pub there : of_entry event < length r.waiting.items
@@ -66,7 +66,7 @@ rules_told at (Lost i) e rules = absurd cc
 rules_told at (Need i until) e rules = absurd cc
 
 pub by_rule_more :
-    (h : Grove) (last : ℕ) (p : Planned) (r : OpenRound) (event : Event) → IsOpen h last p r → Takes h r event → r.by_rule ≡ true → is_rules r.at event (entry_at h.entries (of_entry event)) ≡ true →
+    (h : Forest) (last : ℕ) (p : Planned) (r : OpenRound) (event : Event) → IsOpen h last p r → Takes h r event → r.by_rule ≡ true → is_rules r.at event (entry_at h.entries (of_entry event)) ≡ true →
     IsByRule (change h (of_entry event) (answered r.at event)) last p (set r.waiting.items (of_entry event) false)
 by_rule_more h last p r event round_is taken by_rule rules =
     let i = of_entry event in
@@ -79,11 +79,11 @@ some_is : (r n : OpenRound) → Some r ≡ Some n → r ≡ n
 some_is r n is = ap (λ (o : Option OpenRound). elim o [ None ↦ r | Some x ↦ x ]) is
 
 -- its entry is waited for
-waits_in_round : (r : OpenRound) (event : Event) {h : Grove} → Takes h r event → waits_for (Some (shown r)) (of_entry event) ≡ true
+waits_in_round : (r : OpenRound) (event : Event) {h : Forest} → Takes h r event → waits_for (Some (shown r)) (of_entry event) ≡ true
 waits_in_round r event taken = waits_flag r.waiting.items (of_entry event) ∙ taken.waits
 
 -- and it leaves a forest
-pub answered_keeper : (h : Grove) (last : ℕ) (p : Planned) (r : OpenRound) (event : Event) → IsKeeper h last p (Some r) → Takes h r event → IsForest (change h (of_entry event) (answered r.at event))
+pub answered_keeper : (h : Forest) (last : ℕ) (p : Planned) (r : OpenRound) (event : Event) → IsKeeper h last p (Some r) → Takes h r event → IsForest (change h (of_entry event) (answered r.at event))
 answered_keeper h last p r event keeper taken =
     let late = keeper.late in
     let at = (keeper.open_round r refl).at in
@@ -91,12 +91,12 @@ answered_keeper h last p r event keeper taken =
 
 -- planning anew after it is not too long
 pub answer_fits :
-    (h : Grove) (last : ℕ) (p : Planned) (r : OpenRound) (event : Event) → IsKeeper h last p (Some r) → Takes h r event → ReplanTooLong (change h (of_entry event) (answered r.at event)) r.at → ⊥
+    (h : Forest) (last : ℕ) (p : Planned) (r : OpenRound) (event : Event) → IsKeeper h last p (Some r) → Takes h r event → ReplanTooLong (change h (of_entry event) (answered r.at event)) r.at → ⊥
 answer_fits h last p r event keeper taken long =
     last_fits h (moments_of (to_come p)) (shown r) event (keeper.open_round r refl).opened taken.within (waits_in_round r event taken) (answered_keeper h last p r event keeper taken) long
 
 -- a fault of planning anew that is not too long is want of memory
-pub only_memory : (g : Grove) (t : ℕ) (fault : StepFault) → PlanFails g t fault → (ReplanTooLong g t → ⊥) → fault ≡ OutOfMemory
+pub only_memory : (g : Forest) (t : ℕ) (fault : StepFault) → PlanFails g t fault → (ReplanTooLong g t → ⊥) → fault ≡ OutOfMemory
 only_memory g t OutOfMemory fails fits = refl
 only_memory g t TooLong fails fits = absurd (fits fails)
 only_memory g t ClockBack fails fits = absurd fails
@@ -107,7 +107,7 @@ only_memory g t OutOfRange fails fits = absurd fails
 
 -- one answer more, and others are waited for
 pub heard_keeper :
-    (h k : Grove) (last : ℕ) (p : Planned) (r n : OpenRound) (event : Event) → IsKeeper h last p (Some r) → Takes h r event → k ≡ change h (of_entry event) (answered r.at event) →
+    (h k : Forest) (last : ℕ) (p : Planned) (r n : OpenRound) (event : Event) → IsKeeper h last p (Some r) → Takes h r event → k ≡ change h (of_entry event) (answered r.at event) →
     n.at ≡ r.at → n.waiting.items ≡ set r.waiting.items (of_entry event) false → n.left + 1 ≡ r.left → n.by_rule ≡ r.by_rule && is_rules r.at event (entry_at h.entries (of_entry event)) →
     0 < length (without (of_entry event) (waited_for r.waiting.items)) → IsKeeper k last p (Some n)
 heard_keeper h k last p r n event keeper taken is at flags less by_rule others =
@@ -118,7 +118,7 @@ heard_keeper h k last p r n event keeper taken is at flags less by_rule others =
     let left_is : shown n ≡ left (shown r) i = ap (λ t. record { at = t; unanswered = waited_for n.waiting.items }) at ∙ ap (λ us. record { at = r.at; unanswered = us }) (ap waited_for flags ∙ set') in
     let opened : IsOpen k last p n = record {
       at = at ∙ round_is.at;
-      count = ap length flags ∙ length-set r.waiting.items i false ∙ round_is.count ∙ sym (ap (λ (g : Grove). length g.entries) is ∙ length-set h.entries i (answered r.at event (entry_at h.entries i)));
+      count = ap length flags ∙ length-set r.waiting.items i false ∙ round_is.count ∙ sym (ap (λ (g : Forest). length g.entries) is ∙ length-set h.entries i (answered r.at event (entry_at h.entries i)));
       left = (let e = ap (λ xs. length (waited_for xs)) flags in let l = round_is.left in omega arith);
       some = (let e = ap length set' in let l = round_is.left in omega arith);
       opened = subst (λ g. IsOpened g (moments_of (to_come p)) (shown n)) (sym is)
@@ -140,7 +140,7 @@ heard_keeper h k last p r n event keeper taken is at flags less by_rule others =
     }
 
 -- the last answer, where all are the rule's: the rest of the plan stands
-pub record Stays (k : Grove) (t : ℕ) (p : Planned) : Type 0 where
+pub record Stays (k : Forest) (t : ℕ) (p : Planned) : Type 0 where
   pub shorten : shorten k t ≡ k
   pub pairs : pairs k t ≡ []
   pub keeper : IsKeeper k t p None
@@ -150,7 +150,7 @@ nobody [] none = refl
 nobody (x ∷ xs) none = absurd (omega arith)
 
 pub stays :
-    (h k : Grove) (last : ℕ) (p : Planned) (r : OpenRound) (event : Event) → IsKeeper h last p (Some r) → Takes h r event → k ≡ change h (of_entry event) (answered r.at event) →
+    (h k : Forest) (last : ℕ) (p : Planned) (r : OpenRound) (event : Event) → IsKeeper h last p (Some r) → Takes h r event → k ≡ change h (of_entry event) (answered r.at event) →
     r.by_rule ≡ true → is_rules r.at event (entry_at h.entries (of_entry event)) ≡ true → length (without (of_entry event) (waited_for r.waiting.items)) ≡ 0 → Stays k last p
 stays h k last p r event keeper taken is by_rule rules none =
     let i = of_entry event in
@@ -175,7 +175,7 @@ stays h k last p r event keeper taken is by_rule rules none =
 
 -- a plan that stands is what planning anew gives
 pub stays_planned :
-    (s : State) (t : ℕ) (k : Grove) (p : Planned) → k ≡ s.forest → s.round ≡ None → Stays k t p → Replan s t (record { forest = k; last = t; to_come = moments_of (to_come p); round = None; shortened = s.shortened })
+    (s : State) (t : ℕ) (k : Forest) (p : Planned) → k ≡ s.forest → s.round ≡ None → Stays k t p → Replan s t (record { forest = k; last = t; to_come = moments_of (to_come p); round = None; shortened = s.shortened })
 stays_planned s t k p is closed stay =
     let ts = moments_of (to_come p) in
     let same : k ≡ shorten s.forest t = sym stay.shorten ∙ ap (λ g. shorten g t) is in
@@ -215,18 +215,18 @@ somebody xs some = λ none. let e = ap length none in omega arith
 
 -- For the code: what a keeper has that is handed an answer.
 
-pub record Hears (h : Grove) (last : ℕ) (p : Planned) (r : OpenRound) (event : Event) : Type 0 where
+pub record Hears (h : Forest) (last : ℕ) (p : Planned) (r : OpenRound) (event : Event) : Type 0 where
   pub keeper : IsKeeper h last p (Some r)
   pub taken : Takes h r event
   pub at : r.at ≡ last
   pub some : 0 < r.left
 
 -- the state that callers see of these parts
-abbrev pub state_of : Grove → ℕ → Planned → Option OpenRound → List ShortNeed → State
+abbrev pub state_of : Forest → ℕ → Planned → Option OpenRound → List ShortNeed → State
 state_of h last p round list = record { forest = h; last = last; to_come = moments_of (to_come p); round = seen round; shortened = list }
 
 pub hears :
-    (h : Grove) (last : ℕ) (p : Planned) (round : Option OpenRound) (list : List ShortNeed) (now : State) (r : OpenRound) (event : Event) → state_of h last p round list ≡ now → IsKeeper h last p round →
+    (h : Forest) (last : ℕ) (p : Planned) (round : Option OpenRound) (list : List ShortNeed) (now : State) (r : OpenRound) (event : Event) → state_of h last p round list ≡ now → IsKeeper h last p round →
     round ≡ Some r → IsAnswer event → refusal now event ≡ None → Hears h last p r event
 hears h last p round list now r event view keeper is answer none =
     let opened = keeper.open_round r is in
@@ -239,7 +239,7 @@ hears h last p round list now r event view keeper is answer none =
     }
 
 -- the answer to an open round is of an entry i, and tells a duration
-module _ {h : Grove} {last : ℕ} {p : Planned} {round : Option OpenRound} {list : List ShortNeed} {now : State} {r : OpenRound} (event : Event)
+module _ {h : Forest} {last : ℕ} {p : Planned} {round : Option OpenRound} {list : List ShortNeed} {now : State} {r : OpenRound} (event : Event)
     (view : state_of h last p round list ≡ now) (keeper : IsKeeper h last p round) (is : round ≡ Some r) (answer : IsAnswer event) (none : refusal now event ≡ None) where
   pub handed_within : (i : ℕ) → of_entry event ≡ i → i < length h.entries
   handed_within i entry = subst (λ n. n < length h.entries) entry (hears h last p round list now r event view keeper is answer none).taken.within

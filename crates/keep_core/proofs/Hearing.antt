@@ -6,7 +6,7 @@ use Rattle.std.proofs.lemmas.List.{get_or-set_other, get_or-set_same, length-set
 use Rattle.std.specs.List.{list_any, range_with_len}
 use Rattle.keep_tree.specs.declared.entry.Entry.{Entry}
 use Rattle.keep_tree.specs.Carried.{carried, carried_of}
-use Rattle.keep_tree.specs.Forest.{Grove, entry_at}
+use Rattle.keep_tree.specs.Forest.{Forest, entry_at}
 use Rattle.keep_tree.specs.Over.{chain, chain_of, is_over}
 use Rattle.keep_tree.proofs.Entries.{entry_at_set_other, entry_at_set_same}
 use Rattle.keep_needs.specs.Carried.{CarriedNeed, IsCarried, NamesFrom}
@@ -82,7 +82,7 @@ module _ (es fs : List Entry) (over : (a f : ℕ) → is_over fs a f ≡ is_over
       )
 
 pub carried_heard :
-    (g : Grove) (i at : ℕ) (event : Event) → i < length g.entries → (s : ℕ) (loads : List CarriedNeed) → IsCarried g s loads →
+    (g : Forest) (i at : ℕ) (event : Event) → i < length g.entries → (s : ℕ) (loads : List CarriedNeed) → IsCarried g s loads →
     IsCarried (change g i (answered at event)) s loads
 carried_heard g i at event within s loads carries =
     let es = g.entries in
@@ -192,13 +192,13 @@ waited_less flags i within waits = ap (λ xs. length xs + 1) (waited_set flags i
 -- Entries that are set twice, and put back.
 
 -- an entry that was set is changed
-pub set_then : (g : Grove) (i : ℕ) (e : Entry) (f : Entry → Entry) → i < length g.entries →
+pub set_then : (g : Forest) (i : ℕ) (e : Entry) (f : Entry → Entry) → i < length g.entries →
     change (record { entries = set g.entries i e; margin = g.margin }) i f ≡ record { entries = set g.entries i (f e); margin = g.margin }
 set_then g i e f within =
     ap (λ (x : Entry). record { entries = set (set g.entries i e) i (f x); margin = g.margin }) (entry_at_set_same g.entries i e within)
     ∙ ap (λ es. record { entries = es; margin = g.margin }) (set-set g.entries i e (f e))
 
-pub set_own : (g : Grove) (i : ℕ) → i < length g.entries → record { entries = set g.entries i (entry_at g.entries i); margin = g.margin } ≡ g
+pub set_own : (g : Forest) (i : ℕ) → i < length g.entries → record { entries = set g.entries i (entry_at g.entries i); margin = g.margin } ≡ g
 set_own g i within =
     let e = entry_at g.entries i in
     sym (ap (λ es. record { entries = es; margin = g.margin }) (set-set g.entries i e e)) ∙ set_back g i e within
@@ -213,7 +213,7 @@ own_again at (Need i until) e = refl
 
 -- an end and a word on renewals, set back after an answer
 pub answer_back :
-    (g h k : Grove) (i at : ℕ) (event : Event) (end : ℕ) (renewable : Bool) → i < length g.entries → end ≡ (entry_at g.entries i).end → renewable ≡ (entry_at g.entries i).renewable →
+    (g h k : Forest) (i at : ℕ) (event : Event) (end : ℕ) (renewable : Bool) → i < length g.entries → end ≡ (entry_at g.entries i).end → renewable ≡ (entry_at g.entries i).renewable →
     h ≡ change g i (answered at event) → k ≡ change h i (λ e. record e { end = end }) → change k i (λ e. record e { renewable = renewable }) ≡ g
 answer_back g h k i at event end renewable within ends able is next =
     let e = entry_at g.entries i in

@@ -6,7 +6,7 @@ use Rattle.std.proofs.lemmas.List.{ext_get_or}
 use Rattle.std.proofs.lemmas.List.Elements.{All-cons, All-nil}
 use Rattle.std.specs.List.{All, Contains, range_with_len}
 use Rattle.keep_tree.specs.declared.entry.Entry.{Entry}
-use Rattle.keep_tree.specs.Forest.{Grove, end_of, entry_at, no_entry}
+use Rattle.keep_tree.specs.Forest.{Forest, end_of, entry_at, no_entry}
 use Rattle.keep_tree.specs.Over.{Over}
 use Rattle.keep_tree.specs.Push.{IsForest}
 use Rattle.keep_tree.proofs.Entries.{entry_at_past}
@@ -37,7 +37,7 @@ end_within es margin s ends i most is = by_test ((entry_at es i).renewable && na
 
 -- no plan from t keeps i to a moment that comes after t and after the reach of an entry over it
 not_kept_past :
-    (g : Grove) → IsForest g → (t i above most m : ℕ) → i < length g.entries → Over g.entries above i → reach g.entries g.margin t (end_of g.entries) above ≡ Some most →
+    (g : Forest) → IsForest g → (t i above most m : ℕ) → i < length g.entries → Over g.entries above i → reach g.entries g.margin t (end_of g.entries) above ≡ Some most →
     t < m → most < m → (plan : List Wake) → IsPlan t plan → IsKeptTo g t plan i m → ⊥
 not_kept_past g forest t i above most m within over reaches later past plan in_order kept =
     let es = g.entries in
@@ -90,7 +90,7 @@ plannable g t forest =
     let schedule = there_is_one h t (end_of h.entries) is_forest keepable in
     (is_forest, (keepable, (schedule.0, (schedule_is_best h t (end_of h.entries) is_forest keepable schedule.0 schedule.1).1.1.1)))
 
-one_shortened : (g : Grove) (t : ℕ) → IsForest g → (i : ℕ) → i < length g.entries → is_short g t i ≡ true → IsShortened g (shorten g t) t (pair_of g t i)
+one_shortened : (g : Forest) (t : ℕ) → IsForest g → (i : ℕ) → i < length g.entries → is_short g t i ≡ true → IsShortened g (shorten g t) t (pair_of g t i)
 one_shortened g t forest i within short =
     let es = g.entries in
     let h = shorten g t in
@@ -124,7 +124,7 @@ shortened g t forest =
     each_picked (IsShortened g (shorten g t) t) (pair_of g t) (is_short g t) (length g.entries) 0 (λ i h picked. one_shortened g t forest i (omega arith) picked)
 
 -- where no pair is Unkeepable, nothing is shortened
-nothing_short : (g : Grove) (t : ℕ) → AllKeepable g t (end_of g.entries) → (i : ℕ) → is_short g t i ≡ false
+nothing_short : (g : Forest) (t : ℕ) → AllKeepable g t (end_of g.entries) → (i : ℕ) → is_short g t i ≡ false
 nothing_short g t keepable i =
     elim (cases_Bool (is_short g t i)) [
       | inr whole ↦ whole
@@ -139,7 +139,7 @@ none_picked p zero a none = refl
 none_picked p (suc n) a none = ap (λ b. cond b (a ∷ filter p (range_with_len (a + 1) n)) (filter p (range_with_len (a + 1) n))) (none a) ∙ none_picked p n (a + 1) none
 
 -- an entry whose need is not shortened is as it was
-whole_at : (g : Grove) (t i : ℕ) → is_short g t i ≡ false → entry_at (shorten g t).entries i ≡ entry_at g.entries i
+whole_at : (g : Forest) (t i : ℕ) → is_short g t i ≡ false → entry_at (shorten g t).entries i ≡ entry_at g.entries i
 whole_at g t i whole =
     elim (cases_lt i (length g.entries)) [
       | inl within ↦ shorten_at g t i within ∙ ap (λ n. record (entry_at g.entries i) { need = n }) (left_as_it_was g t i whole)

@@ -3,7 +3,7 @@ use Rattle.std.proofs.Common.{◌≡◌, ◌∙◌, ℕ, suc, ◌<◌, ◌≤◌
 use Rattle.keep_moment.specs.declared.moment.TheConstants.{LAST}
 use Rattle.keep_tree.specs.declared.entry.Entry.{Entry}
 use Rattle.keep_tree.specs.Carried.{carried}
-use Rattle.keep_tree.specs.Forest.{Grove, end_of}
+use Rattle.keep_tree.specs.Forest.{Forest, end_of}
 use Rattle.keep_tree.specs.Push.{IsForest}
 use Rattle.keep_tree.proofs.Carrying.{carried_at_least, carried_is_of}
 use Rattle.keep_rule.specs.Forced.{bound}
@@ -46,7 +46,7 @@ forces_force es margin s ends prev (x ∷ xs) forces =
 
 -- the state that planning anew made
 pub made :
-    (s : State) (t : ℕ) (h : Grove) (p : Planned) (list : List ShortNeed) → h ≡ shorten s.forest t → list ≡ s.shortened ++ pairs s.forest t → IsKept h t p →
+    (s : State) (t : ℕ) (h : Forest) (p : Planned) (list : List ShortNeed) → h ≡ shorten s.forest t → list ≡ s.shortened ++ pairs s.forest t → IsKept h t p →
     Replan s t (record { forest = h; last = t; to_come = moments_of (to_come p); round = s.round; shortened = list })
 made s t h p list is noted kept = record {
   moments = moments_of (to_come p);
@@ -56,7 +56,7 @@ made s t h p list is noted kept = record {
       ∙ ap (λ xs. record { forest = shorten s.forest t; last = t; to_come = moments_of (to_come p); round = s.round; shortened = xs }) noted;
 }
 
-pub made_keeper : (h : Grove) (t : ℕ) (p : Planned) → IsForest h → t ≤ LAST → IsKept h t p → IsKeeper h t p None
+pub made_keeper : (h : Forest) (t : ℕ) (p : Planned) → IsForest h → t ≤ LAST → IsKept h t p → IsKeeper h t p None
 made_keeper h t p forest late kept = record {
   forest = forest;
   late = late;
@@ -73,7 +73,7 @@ none_seen None e = refl
 none_seen (Some r) e = absurd cc
 
 -- what callers see of the parts of a keeper is a state
-pub keeper_state : (h : Grove) (last : ℕ) (p : Planned) (round : Option OpenRound) (list : List ShortNeed) → IsKeeper h last p round →
+pub keeper_state : (h : Forest) (last : ℕ) (p : Planned) (round : Option OpenRound) (list : List ShortNeed) → IsKeeper h last p round →
     IsState (record { forest = h; last = last; to_come = moments_of (to_come p); round = seen round; shortened = list })
 keeper_state h last p None list k = record {
   forest = k.forest;

@@ -5,7 +5,7 @@ use Rattle.std.proofs.lemmas.List.FromFn.{get_or-map-range_with_len, length-map-
 use Rattle.keep_moment.specs.declared.moment.TheConstants.{LAST}
 use Rattle.keep_tree.specs.declared.entry.Entry.{Entry}
 use Rattle.keep_tree.specs.declared.forest.TheConstants.{MAX_DEPTH}
-use Rattle.keep_tree.specs.Forest.{Grove, entry_at, index_named, no_entry}
+use Rattle.keep_tree.specs.Forest.{Forest, entry_at, index_named, no_entry}
 use Rattle.keep_tree.specs.Push.{IsForest, is_lease, is_name, is_under_lease}
 use Rattle.keep_tree.proofs.Chains.{ParentsFirst, chain_same}
 use Rattle.keep_tree.proofs.Entries.{entry_at_past}
@@ -59,7 +59,7 @@ unfolding is_under_lease
 under_alike es fs same None = refl
 under_alike es fs same (Some p) = ap is_lease (same p)
 
-pub needing_forest : (g : Grove) → IsForest g → (f : ℕ → ℕ) → ((i : ℕ) → f i ≤ LAST) → IsForest (record { entries = needing g.entries f; margin = g.margin })
+pub needing_forest : (g : Forest) → IsForest g → (f : ℕ → ℕ) → ((i : ℕ) → f i ≤ LAST) → IsForest (record { entries = needing g.entries f; margin = g.margin })
 needing_forest g forest f last =
     let es = g.entries in
     let fs = needing es f in

@@ -7,7 +7,7 @@ use Rattle.std.specs.List.{All}
 use Rattle.keep_moment.specs.declared.moment.TheConstants.{LAST}
 use Rattle.keep_tree.specs.declared.entry.Entry.{Entry}
 use Rattle.keep_tree.specs.Carried.{carried}
-use Rattle.keep_tree.specs.Forest.{Grove, end_of, entry_at}
+use Rattle.keep_tree.specs.Forest.{Forest, end_of, entry_at}
 use Rattle.keep_tree.specs.Over.{is_over}
 use Rattle.keep_tree.specs.Push.{IsForest}
 use Rattle.keep_tree.specs.Renewal.{capped, renewal}
@@ -35,7 +35,7 @@ use Rattle.keep_core.proofs.Shortening.{left_at_most, need_past, shorten_at, sho
 use Rattle.keep_core.proofs.Standing.{best_first, best_keepable, tick}
 
 -- the moments of a least and latest plan come in time
-best_timely : (g : Grove) → IsForest g → (s : ℕ) (ts : List ℕ) → IsPlanOf g s ts → AllTimely g.entries g.margin s (end_of g.entries) None ts
+best_timely : (g : Forest) → IsForest g → (s : ℕ) (ts : List ℕ) → IsPlanOf g s ts → AllTimely g.entries g.margin s (end_of g.entries) None ts
 best_timely g forest s ts best =
     let ends = end_of g.entries in
     let keepable = best_keepable g s ts best in
@@ -44,7 +44,7 @@ best_timely g forest s ts best =
     subst (AllTimely g.entries g.margin s ends None) (one_least g.entries g.margin s ends schedule.0 ts is.1.1.1 best)
     (schedule_timely g forest s ends keepable schedule.0 None schedule.1)
 
-best_order : (g : Grove) (s : ℕ) (ts : List ℕ) → IsPlanOf g s ts → InOrder s ts
+best_order : (g : Forest) (s : ℕ) (ts : List ℕ) → IsPlanOf g s ts → InOrder s ts
 best_order g s ts best = subst (InOrder s) best.at_these (plan_order s best.plan best.in_order)
 
 order_rises : (s : ℕ) (ts : List ℕ) → InOrder s ts → IsRising s ts
@@ -82,7 +82,7 @@ still_timely es fs s t serves margin (u ∷ us) p from rising timely =
     (served es fs s t serves margin p (Some u) from timely.0, still_timely es fs s t serves margin us u (omega arith) rising.1 timely.1)
 
 -- where no pair is Unkeepable, a wake-up at once comes in time
-safe_now : (h : Grove) (t : ℕ) → AllKeepable h t (end_of h.entries) → IsSafe h.entries h.margin t (bound h.entries (end_of h.entries) None) (Some t)
+safe_now : (h : Forest) (t : ℕ) → AllKeepable h t (end_of h.entries) → IsSafe h.entries h.margin t (bound h.entries (end_of h.entries) None) (Some t)
 unfolding bound latest_end
 safe_now h t keepable i =
     elim (cases_lt (end_of h.entries i) (carried h.entries t i)) [
@@ -92,7 +92,7 @@ safe_now h t keepable i =
 
 -- so where moments behind t come in time, a least plan has no more than one more
 at_most_one_more :
-    (h : Grove) → IsForest h → (t : ℕ) (ts us : List ℕ) → AllKeepable h t (end_of h.entries) → t ≤ LAST → InOrder t ts → AllTimely h.entries h.margin t (end_of h.entries) (Some t) ts →
+    (h : Forest) → IsForest h → (t : ℕ) (ts us : List ℕ) → AllKeepable h t (end_of h.entries) → t ≤ LAST → InOrder t ts → AllTimely h.entries h.margin t (end_of h.entries) (Some t) ts →
     IsPlanOf h t us → length us ≤ length (t ∷ ts)
 at_most_one_more h forest t ts us keepable late order timely best =
     let es = h.entries in
@@ -143,7 +143,7 @@ unfolding renewal
 renewal_same x y p ceiling step = ap (λ c. capped c (p + y.step)) ceiling ∙ ap (λ n. capped x.ceiling (p + n)) step
 
 -- no need is greater after shortening
-need_less : (h : Grove) (t i : ℕ) → (entry_at (shorten h t).entries i).need ≤ (entry_at h.entries i).need
+need_less : (h : Forest) (t i : ℕ) → (entry_at (shorten h t).entries i).need ≤ (entry_at h.entries i).need
 need_less h t i =
     elim (cases_lt i (length h.entries)) [
       | inl within ↦ let is = ap (λ (e : Entry). e.need) (shorten_at h t i within) in let l = left_at_most h t i in omega arith
@@ -152,7 +152,7 @@ need_less h t i =
 
 -- the end of an asked entry comes before its renewal there, or later
 ends_before :
-    (g h : Grove) (t : ℕ) (next : Option ℕ) → IsAnswered g h t next → (i p : ℕ) → t ≤ p → (end_of g.entries i ≤ end_of h.entries i) ⊎ (end_of g.entries i ≤ renewal (entry_at g.entries i) p)
+    (g h : Forest) (t : ℕ) (next : Option ℕ) → IsAnswered g h t next → (i p : ℕ) → t ≤ p → (end_of g.entries i ≤ end_of h.entries i) ⊎ (end_of g.entries i ≤ renewal (entry_at g.entries i) p)
 unfolding end_of
 ends_before g h t next answered i p from =
     let es = g.entries in
@@ -168,7 +168,7 @@ ends_before g h t next answered i p from =
 
 -- after answers and shortening, what the moments of g covered they cover still
 answered_serves :
-    (g h : Grove) (s t : ℕ) (next : Option ℕ) → IsAnswered g h t next → s ≤ t → AllKeepable (shorten h t) t (end_of (shorten h t).entries) → Serves g.entries (shorten h t).entries s t
+    (g h : Forest) (s t : ℕ) (next : Option ℕ) → IsAnswered g h t next → s ≤ t → AllKeepable (shorten h t) t (end_of (shorten h t).entries) → Serves g.entries (shorten h t).entries s t
 answered_serves g h s t next answered later keepable i p from =
     let es = g.entries in
     let k = shorten h t in
@@ -190,7 +190,7 @@ answered_serves g h s t next answered later keepable i p from =
 
 -- so planning anew at t has at most the moments of g that come behind t, and one more
 no_longer_behind :
-    (g h : Grove) (s t : ℕ) (next : Option ℕ) (ts us : List ℕ) → IsForest h → IsAnswered g h t next → s ≤ t → t ≤ LAST → InOrder t ts →
+    (g h : Forest) (s t : ℕ) (next : Option ℕ) (ts us : List ℕ) → IsForest h → IsAnswered g h t next → s ≤ t → t ≤ LAST → InOrder t ts →
     AllTimely g.entries g.margin s (end_of g.entries) (Some t) ts → IsPlanOf (shorten h t) t us → length us ≤ length (t ∷ ts)
 no_longer_behind g h s t next ts us forest answered later late order timely best =
     let k = shorten h t in
@@ -200,7 +200,7 @@ no_longer_behind g h s t next ts us forest answered later late order timely best
     at_most_one_more k (shorten_forest h forest t) t ts us keepable late order (subst (λ m. AllTimely k.entries m t (end_of k.entries) (Some t) ts) margin still) best
 
 answered_no_longer :
-    (g h : Grove) (t : ℕ) (ts us : List ℕ) → IsForest g → IsForest h → IsPlanOf g t (t ∷ ts) → IsAnswered g h t (first_of ts) → IsPlanOf (shorten h t) t us → length us ≤ length (t ∷ ts)
+    (g h : Forest) (t : ℕ) (ts us : List ℕ) → IsForest g → IsForest h → IsPlanOf g t (t ∷ ts) → IsAnswered g h t (first_of ts) → IsPlanOf (shorten h t) t us → length us ≤ length (t ∷ ts)
 answered_no_longer g h t ts us forest is_forest best answered anew =
     let order = best_order g t (t ∷ ts) best in
     no_longer_behind g h t t (first_of ts) ts us is_forest answered (omega arith) order.1.0 order.1.1 (best_timely g forest t (t ∷ ts) best).1 anew
@@ -234,11 +234,11 @@ behind es margin s ends t (w ∷ ws) u h order timely =
           record { rest = b.rest; timely = b.timely; order = b.order; fewer = omega arith }
     ]
 
-unanswered_is : (g : Grove) (t : ℕ) → IsAnswered g g t None
+unanswered_is : (g : Forest) (t : ℕ) → IsAnswered g g t None
 unanswered_is g t = record { margin = refl; count = refl; each = λ i. refl; others = λ i _. refl }
 
 -- a tick that is not late keeps the plan
-soon_no_longer : (g : Grove) (s t : ℕ) (ts us : List ℕ) → s ≤ t → All (λ u. t ≤ u) ts → IsPlanOf g s ts → IsPlanOf (shorten g t) t us → length us ≤ length ts
+soon_no_longer : (g : Forest) (s t : ℕ) (ts us : List ℕ) → s ≤ t → All (λ u. t ≤ u) ts → IsPlanOf g s ts → IsPlanOf (shorten g t) t us → length us ≤ length ts
 soon_no_longer g s t ts us later after_none best anew =
     let stays = tick g s t ts later after_none best in
     let same = ap length (one_least g.entries g.margin t (end_of g.entries) ts us stays.1.1 (subst (λ x. IsPlanOf x t us) stays.0 anew)) in
@@ -249,7 +249,7 @@ plan_past : (t : ℕ) (ws : List Wake) → LAST < t → IsPlan t ws → length (
 plan_past t [] past plan = refl
 plan_past t (w ∷ ws) past plan = absurd (let l : t ≤ w.at = plan.0 in let k : w.at ≤ LAST = plan.1.0 in omega arith)
 
-tick_no_longer : (g : Grove) (s t : ℕ) (ts us : List ℕ) → IsForest g → s ≤ t → IsPlanOf g s ts → IsPlanOf (shorten g t) t us → length us ≤ length ts
+tick_no_longer : (g : Forest) (s t : ℕ) (ts us : List ℕ) → IsForest g → s ≤ t → IsPlanOf g s ts → IsPlanOf (shorten g t) t us → length us ≤ length ts
 tick_no_longer g s t [] us forest later best anew = soon_no_longer g s t [] us later (λ k d h. absurd (omega arith)) best anew
 tick_no_longer g s t (w ∷ ws) us forest later best anew =
     elim (cases_lt w t) [

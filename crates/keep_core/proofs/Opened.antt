@@ -5,7 +5,7 @@ use Rattle.std.proofs.lemmas.List.{length-set}
 use Rattle.std.specs.List.{list_any}
 use Rattle.keep_rule.specs.declared.limit.TheConstants.{LIMIT}
 use Rattle.keep_tree.specs.declared.entry.Entry.{Entry}
-use Rattle.keep_tree.specs.Forest.{Grove, end_of, entry_at}
+use Rattle.keep_tree.specs.Forest.{Forest, end_of, entry_at}
 use Rattle.keep_tree.specs.Push.{IsForest}
 use Rattle.keep_tree.proofs.Entries.{entry_at_set_other, entry_at_set_same}
 use Rattle.keep_rule.specs.Asks.{asking, asks, first_of}
@@ -20,12 +20,12 @@ use Rattle.keep_core.specs.Step.{answered, change, left, of_entry, without}
 use Rattle.keep_core.proofs.NoLonger.{no_longer}
 use Rattle.keep_core.proofs.Orders.{none_within}
 
-unanswered_is : (g : Grove) (t : ℕ) (rest : List ℕ) → IsAnswered g g t (first_of rest)
+unanswered_is : (g : Forest) (t : ℕ) (rest : List ℕ) → IsAnswered g g t (first_of rest)
 unanswered_is g t rest = record { margin = refl; count = refl; each = λ i. refl; others = λ i _. refl }
 
 -- a round that opens
 pub opens :
-    (h : Grove) (t : ℕ) (rest : List ℕ) → IsForest h → IsPlanOf h t (t ∷ rest) → length (t ∷ rest) ≤ LIMIT →
+    (h : Forest) (t : ℕ) (rest : List ℕ) → IsForest h → IsPlanOf h t (t ∷ rest) → length (t ∷ rest) ≤ LIMIT →
     IsOpened h rest (record { at = t; unanswered = asks h.entries h.margin t (end_of h.entries) t (first_of rest) })
 unfolding is_asked
 opens h t rest forest best few = record {
@@ -57,7 +57,7 @@ still_waits round i j waits =
 
 -- one answer more, of an entry that is waited for
 answered_more :
-    (g h : Grove) (t : ℕ) (rest : List ℕ) → IsAnswered g h t (first_of rest) → (event : Event) (at : ℕ) → of_entry event < length h.entries →
+    (g h : Forest) (t : ℕ) (rest : List ℕ) → IsAnswered g h t (first_of rest) → (event : Event) (at : ℕ) → of_entry event < length h.entries →
     is_asked (asking g.entries g.margin t (end_of g.entries) t (first_of rest)) (of_entry event) ≡ true → IsAnswered g (change h (of_entry event) (answered at event)) t (first_of rest)
 answered_more g h t rest a event at within asked =
     let i = of_entry event in
@@ -83,7 +83,7 @@ answered_more g h t rest a event at within asked =
     }
 
 pub hears_more :
-    (h : Grove) (ts : List ℕ) (round : Round) (event : Event) → IsOpened h ts round → of_entry event < length h.entries → waits_for (Some round) (of_entry event) ≡ true →
+    (h : Forest) (ts : List ℕ) (round : Round) (event : Event) → IsOpened h ts round → of_entry event < length h.entries → waits_for (Some round) (of_entry event) ≡ true →
     IsOpened (change h (of_entry event) (answered round.at event)) ts (left round (of_entry event))
 hears_more h ts round event o within waits = record {
   before = o.before;
@@ -96,7 +96,7 @@ hears_more h ts round event o within waits = record {
 
 -- and the last, which closes the round: planning anew is not too long
 pub last_fits :
-    (h : Grove) (ts : List ℕ) (round : Round) (event : Event) → IsOpened h ts round → of_entry event < length h.entries → waits_for (Some round) (of_entry event) ≡ true →
+    (h : Forest) (ts : List ℕ) (round : Round) (event : Event) → IsOpened h ts round → of_entry event < length h.entries → waits_for (Some round) (of_entry event) ≡ true →
     let k = change h (of_entry event) (answered round.at event) in IsForest k → ReplanTooLong k round.at → ⊥
 last_fits h ts round event o within waits forest long =
     let few = o.few in
@@ -106,7 +106,7 @@ last_fits h ts round event o within waits forest long =
     absurd (omega arith)
 
 -- nor is it at a tick
-pub tick_fits : (g : Grove) (s t : ℕ) (ts : List ℕ) → IsForest g → s ≤ t → IsPlanOf g s ts → length ts ≤ LIMIT → ReplanTooLong g t → ⊥
+pub tick_fits : (g : Forest) (s t : ℕ) (ts : List ℕ) → IsForest g → s ≤ t → IsPlanOf g s ts → length ts ≤ LIMIT → ReplanTooLong g t → ⊥
 tick_fits g s t ts forest later best few long =
     let many = long.many in
     let most = no_longer.0 g s t ts long.moments forest later best long.best in

@@ -7,7 +7,7 @@ use Rattle.std.proofs.lemmas.List.FromFn.{get_or-map-range_with_len, length-map-
 use Rattle.std.proofs.Math.Path.{fun_ext}
 use Rattle.std.specs.List.{list_any, range_with_len}
 use Rattle.keep_tree.specs.declared.entry.Entry.{Entry}
-use Rattle.keep_tree.specs.Forest.{Grove, end_of, entry_at, no_entry}
+use Rattle.keep_tree.specs.Forest.{Forest, end_of, entry_at, no_entry}
 use Rattle.keep_tree.proofs.Entries.{entry_at_past, entry_at_set_other, entry_at_set_same}
 use Rattle.keep_rule.proofs.Keeping.{one_least}
 use Rattle.keep_core.specs.declared.event.Event.{Event}
@@ -36,7 +36,7 @@ applied at None e = e
 applied at (Some event) e = answered at event e
 
 -- the forest after these answers, entry by entry
-unfoldable pub told : ℕ → (ℕ → Option Event) → Grove → Grove
+unfoldable pub told : ℕ → (ℕ → Option Event) → Forest → Forest
 told at ans g = record { entries = map (λ i. applied at (ans i) (entry_at g.entries i)) (range_with_len 0 (length g.entries)); margin = g.margin }
 
 -- those who have no answer
@@ -129,15 +129,15 @@ unfolding left_over answer_for
 left_none [] = refl
 left_none (u ∷ us) = ap (λ xs. u ∷ xs) (left_none us)
 
-length_told : (at : ℕ) (ans : ℕ → Option Event) (g : Grove) → length (told at ans g).entries ≡ length g.entries
+length_told : (at : ℕ) (ans : ℕ → Option Event) (g : Forest) → length (told at ans g).entries ≡ length g.entries
 unfolding told
 length_told at ans g = length-map-range_with_len (λ i. applied at (ans i) (entry_at g.entries i)) 0 (length g.entries)
 
-told_at : (at : ℕ) (ans : ℕ → Option Event) (g : Grove) (i : ℕ) → i < length g.entries → entry_at (told at ans g).entries i ≡ applied at (ans i) (entry_at g.entries i)
+told_at : (at : ℕ) (ans : ℕ → Option Event) (g : Forest) (i : ℕ) → i < length g.entries → entry_at (told at ans g).entries i ≡ applied at (ans i) (entry_at g.entries i)
 unfolding told entry_at
 told_at at ans g i within = get_or-map-range_with_len (λ k. applied at (ans k) (entry_at g.entries k)) 0 (length g.entries) i i no_entry within (omega arith)
 
-told_margin : (at : ℕ) (ans : ℕ → Option Event) (g : Grove) → (told at ans g).margin ≡ g.margin
+told_margin : (at : ℕ) (ans : ℕ → Option Event) (g : Forest) → (told at ans g).margin ≡ g.margin
 unfolding told
 told_margin at ans g = refl
 
@@ -149,21 +149,21 @@ applied_some : (at : ℕ) (event : Event) (e : Entry) → applied at (Some event
 unfolding applied
 applied_some at event e = refl
 
-pub same_grove : (g h : Grove) → length g.entries ≡ length h.entries → g.margin ≡ h.margin → ((i : ℕ) → i < length g.entries → entry_at g.entries i ≡ entry_at h.entries i) → g ≡ h
-same_grove g h count margin each =
+pub same_forest : (g h : Forest) → length g.entries ≡ length h.entries → g.margin ≡ h.margin → ((i : ℕ) → i < length g.entries → entry_at g.entries i ≡ entry_at h.entries i) → g ≡ h
+same_forest g h count margin each =
     let entries = same_entries g.entries h.entries count (λ i. elim (cases_lt i (length g.entries)) [
       | inl within ↦ each i within
       | inr past ↦ entry_at_past g.entries i past ∙ sym (entry_at_past h.entries i (omega arith))
     ]) in
     ap (λ es. record { entries = es; margin = g.margin }) entries ∙ ap (λ m. record { entries = h.entries; margin = m }) margin
 
-told_none : (at : ℕ) (g : Grove) → told at (answer_for []) g ≡ g
-told_none at g = same_grove (told at (answer_for []) g) g (length_told at (answer_for []) g) (told_margin at (answer_for []) g)
+told_none : (at : ℕ) (g : Forest) → told at (answer_for []) g ≡ g
+told_none at g = same_forest (told at (answer_for []) g) g (length_told at (answer_for []) g) (told_margin at (answer_for []) g)
     (λ i h. told_at at (answer_for []) g i (let l = length_told at (answer_for []) g in omega arith) ∙ ap (λ o. applied at o (entry_at g.entries i)) (answer_none i) ∙ applied_none at (entry_at g.entries i))
 
 -- a first answer, and others to the round that it leaves
 pub told_more :
-    (at : ℕ) (event : Event) (rest : List Event) (g : Grove) → of_entry event < length g.entries → answer_for rest (of_entry event) ≡ None →
+    (at : ℕ) (event : Event) (rest : List Event) (g : Forest) → of_entry event < length g.entries → answer_for rest (of_entry event) ≡ None →
     told at (answer_for rest) (change g (of_entry event) (answered at event)) ≡ told at (answer_for (event ∷ rest)) g
 told_more at event rest g within once =
     let i = of_entry event in
@@ -172,7 +172,7 @@ told_more at event rest g within once =
     let size : length h.entries ≡ length g.entries = length-set g.entries i e in
     let one = length_told at (answer_for rest) h in
     let other = length_told at (answer_for (event ∷ rest)) g in
-    same_grove (told at (answer_for rest) h) (told at (answer_for (event ∷ rest)) g) (omega arith) (told_margin at (answer_for rest) h ∙ sym (told_margin at (answer_for (event ∷ rest)) g))
+    same_forest (told at (answer_for rest) h) (told at (answer_for (event ∷ rest)) g) (omega arith) (told_margin at (answer_for rest) h ∙ sym (told_margin at (answer_for (event ∷ rest)) g))
     (λ k inside.
     let there : k < length g.entries = omega arith in
     told_at at (answer_for rest) h k (omega arith)

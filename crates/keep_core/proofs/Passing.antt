@@ -7,7 +7,7 @@ use Rattle.std.proofs.Math.Seq.{take-append_seam}
 use Rattle.std.specs.List.{range_with_len}
 use Rattle.keep_moment.specs.declared.moment.TheConstants.{LAST}
 use Rattle.keep_tree.specs.declared.entry.Entry.{Entry}
-use Rattle.keep_tree.specs.Forest.{Grove, end_of, entry_at}
+use Rattle.keep_tree.specs.Forest.{Forest, end_of, entry_at}
 use Rattle.keep_tree.specs.Push.{IsForest}
 use Rattle.keep_tree.proofs.Chains.{ParentsFirst, chain_child, chain_root}
 use Rattle.keep_tree.proofs.Entries.{entry_at_past, entry_at_set_other, entry_at_set_same}
@@ -29,13 +29,13 @@ lesser_none None = refl
 lesser_none (Some a) = refl
 
 -- the least reach of an orphan is its own, that of a child the lesser of its own and its parent's
-pub least_root : (g : Grove) (t i : ℕ) → (entry_at g.entries i).parent ≡ None → least_reach g t i ≡ reach g.entries g.margin t (end_of g.entries) i
+pub least_root : (g : Forest) (t i : ℕ) → (entry_at g.entries i).parent ≡ None → least_reach g t i ≡ reach g.entries g.margin t (end_of g.entries) i
 unfolding least_reach
 least_root g t i root =
     ap (λ is. least_of (map (reach g.entries g.margin t (end_of g.entries)) is)) (chain_root g.entries i root) ∙ lesser_none (reach g.entries g.margin t (end_of g.entries) i)
 
 pub least_child :
-    (g : Grove) (t i p : ℕ) → ParentsFirst g.entries → (entry_at g.entries i).parent ≡ Some p → least_reach g t i ≡ lesser (reach g.entries g.margin t (end_of g.entries) i) (least_reach g t p)
+    (g : Forest) (t i p : ℕ) → ParentsFirst g.entries → (entry_at g.entries i).parent ≡ Some p → least_reach g t i ≡ lesser (reach g.entries g.margin t (end_of g.entries) i) (least_reach g t p)
 unfolding least_reach
 least_child g t i p first child = ap (λ is. least_of (map (reach g.entries g.margin t (end_of g.entries)) is)) (chain_child g.entries i p first child)
 
@@ -47,7 +47,7 @@ pushed xs v d f n count each here i h =
       | inr other ↦ get_or_append_left xs (v ∷ []) d i (omega arith) ∙ each i (omega arith)
     ]
 
-pub least_more : (g : Grove) (t n : ℕ) (xs : List (Option ℕ)) (v : Option ℕ) → AreLeast g t n xs → v ≡ least_reach g t n → AreLeast g t (n + 1) (xs ++ v ∷ [])
+pub least_more : (g : Forest) (t n : ℕ) (xs : List (Option ℕ)) (v : Option ℕ) → AreLeast g t n xs → v ≡ least_reach g t n → AreLeast g t (n + 1) (xs ++ v ∷ [])
 least_more g t n xs v so_far here = record {
   count = (let l = length_push xs v in let c = so_far.count in omega arith);
   each = pushed xs v None (least_reach g t) n so_far.count so_far.each here;
@@ -60,7 +60,7 @@ needs_more f n xs v so_far here = record {
 }
 
 -- the need that is left, by what it is shortened to
-module _ (g : Grove) (t i : ℕ) (reach : Option ℕ) (need : ℕ) (least : reach ≡ least_reach g t i) (is : need ≡ (entry_at g.entries i).need) where
+module _ (g : Forest) (t i : ℕ) (reach : Option ℕ) (need : ℕ) (least : reach ≡ least_reach g t i) (is : need ≡ (entry_at g.entries i).need) where
   same_test : exceeds t reach need ≡ is_short g t i
   unfolding is_short
   same_test = ap (λ o. exceeds t o need) least ∙ ap (exceeds t (least_reach g t i)) is
@@ -96,15 +96,15 @@ module _ (g : Grove) (t i : ℕ) (reach : Option ℕ) (need : ℕ) (least : reac
     by_test true e = absurd cc
     by_test false e = refl
 
-pub left_within : (g : Grove) → IsForest g → (t i : ℕ) → need_left g t i ≤ LAST
+pub left_within : (g : Forest) → IsForest g → (t i : ℕ) → need_left g t i ≤ LAST
 left_within g forest t i = let l = left_at_most g t i in let k = need_within g forest i in omega arith
 
 -- one pair more, or none
-pairs_next : (g : Grove) (t n : ℕ) → map (pair_of g t) (filter (is_short g t) (range_with_len 0 (n + 1))) ≡ map (pair_of g t) (filter (is_short g t) (range_with_len 0 n)) ++ map (pair_of g t) (cond (is_short g t n) (n ∷ []) [])
+pairs_next : (g : Forest) (t n : ℕ) → map (pair_of g t) (filter (is_short g t) (range_with_len 0 (n + 1))) ≡ map (pair_of g t) (filter (is_short g t) (range_with_len 0 n)) ++ map (pair_of g t) (cond (is_short g t n) (n ∷ []) [])
 pairs_next g t n = ap (map (pair_of g t)) (asked_more (is_short g t) n) ∙ map-append (pair_of g t) (filter (is_short g t) (range_with_len 0 n)) (cond (is_short g t n) (n ∷ []) [])
 
 pub pairs_more :
-    (g : Grove) (t n need : ℕ) (list : List ShortNeed) → list ≡ map (pair_of g t) (filter (is_short g t) (range_with_len 0 n)) → is_short g t n ≡ true → need ≡ need_left g t n →
+    (g : Forest) (t n need : ℕ) (list : List ShortNeed) → list ≡ map (pair_of g t) (filter (is_short g t) (range_with_len 0 n)) → is_short g t n ≡ true → need ≡ need_left g t n →
     list ++ record { entry = n; need = need } ∷ [] ≡ map (pair_of g t) (filter (is_short g t) (range_with_len 0 (n + 1)))
 pairs_more g t n need list so_far short is =
     ap (λ xs. xs ++ record { entry = n; need = need } ∷ []) so_far
@@ -112,13 +112,13 @@ pairs_more g t n need list so_far short is =
     ∙ sym (pairs_next g t n ∙ ap (λ b. map (pair_of g t) (filter (is_short g t) (range_with_len 0 n)) ++ map (pair_of g t) (cond b (n ∷ []) [])) short)
 
 pub pairs_same :
-    (g : Grove) (t n : ℕ) (list : List ShortNeed) → list ≡ map (pair_of g t) (filter (is_short g t) (range_with_len 0 n)) → is_short g t n ≡ false →
+    (g : Forest) (t n : ℕ) (list : List ShortNeed) → list ≡ map (pair_of g t) (filter (is_short g t) (range_with_len 0 n)) → is_short g t n ≡ false →
     list ≡ map (pair_of g t) (filter (is_short g t) (range_with_len 0 (n + 1)))
 pairs_same g t n list so_far whole =
     so_far ∙ sym (append-nil (map (pair_of g t) (filter (is_short g t) (range_with_len 0 n))))
     ∙ sym (pairs_next g t n ∙ ap (λ b. map (pair_of g t) (filter (is_short g t) (range_with_len 0 n)) ++ map (pair_of g t) (cond b (n ∷ []) [])) whole)
 
-pub pairs_all : (g : Grove) (t n : ℕ) → n ≡ length g.entries → map (pair_of g t) (filter (is_short g t) (range_with_len 0 n)) ≡ pairs g t
+pub pairs_all : (g : Forest) (t n : ℕ) → n ≡ length g.entries → map (pair_of g t) (filter (is_short g t) (range_with_len 0 n)) ≡ pairs g t
 unfolding pairs
 pairs_all g t n count = ap (λ k. map (pair_of g t) (filter (is_short g t) (range_with_len 0 k))) count
 
@@ -164,7 +164,7 @@ all_set es needs n whole =
     needing_at es f i within ∙ ap (λ k. record (entry_at es i) { need = k }) (sym (cond-true (nat_lt i n) (get_or needs i 0) (entry_at es i).need here)))
 
 -- the forest with the needs that are left, and with those that it had
-pub shortened_set : (g : Grove) (t : ℕ) (needs : List ℕ) → AreNeeds (length g.entries) (need_left g t) needs → record { entries = needing g.entries (λ i. get_or needs i 0); margin = g.margin } ≡ shorten g t
+pub shortened_set : (g : Forest) (t : ℕ) (needs : List ℕ) → AreNeeds (length g.entries) (need_left g t) needs → record { entries = needing g.entries (λ i. get_or needs i 0); margin = g.margin } ≡ shorten g t
 shortened_set g t needs are =
     let f = need_left g t in
     ap (λ es. record { entries = es; margin = g.margin })
@@ -173,7 +173,7 @@ shortened_set g t needs are =
     ∙ sym (shorten_is g t)
 
 pub restored :
-    (g h : Grove) (t : ℕ) (needs : List ℕ) → h ≡ shorten g t → AreNeeds (length g.entries) (λ i. (entry_at g.entries i).need) needs → record { entries = needing h.entries (λ i. get_or needs i 0); margin = h.margin } ≡ g
+    (g h : Forest) (t : ℕ) (needs : List ℕ) → h ≡ shorten g t → AreNeeds (length g.entries) (λ i. (entry_at g.entries i).need) needs → record { entries = needing h.entries (λ i. get_or needs i 0); margin = h.margin } ≡ g
 restored g h t needs is are =
     ap (λ x. record { entries = needing x.entries (λ i. get_or needs i 0); margin = x.margin }) is
     ∙ ap (λ es. record { entries = es; margin = (shorten g t).margin })
@@ -185,13 +185,13 @@ restored g h t needs is are =
 
 -- shortening taken back
 pub taken_back :
-    (g h : Grove) (t : ℕ) (list more : List ShortNeed) (needs : List ℕ) (noted : ℕ) → h ≡ shorten g t → more ≡ list ++ pairs g t → noted ≡ length list → HasNeeds g needs →
+    (g h : Forest) (t : ℕ) (list more : List ShortNeed) (needs : List ℕ) (noted : ℕ) → h ≡ shorten g t → more ≡ list ++ pairs g t → noted ≡ length list → HasNeeds g needs →
     (with_needs h needs ≡ g) × (take noted more ≡ list)
 taken_back g h t list more needs noted is notes count has =
     (restored g h t needs is has, ap (take noted) notes ∙ ap (λ n. take n (list ++ pairs g t)) count ∙ take-append_seam list (pairs g t))
 
 -- a plan that is too long, or for which there is no memory
-pub fails : (g : Grove) → IsForest g → (t : ℕ) (fault : StepFault) → PlanRefused (shorten g t) t fault → PlanFails g t fault
+pub fails : (g : Forest) → IsForest g → (t : ℕ) (fault : StepFault) → PlanRefused (shorten g t) t fault → PlanFails g t fault
 fails g forest t TooLong long =
     let best = (plannable g t forest).1.1 in
     let many = long.long best.1.plan best.1.in_order best.1.kept in

@@ -3,7 +3,7 @@ use Rattle.std.proofs.Common.{◌≡◌, ℕ, None, Ok, Err, length, set, refl, 
 use Rattle.std.proofs.lemmas.Bool.{cases_eq, cases_lt}
 use Rattle.std.proofs.lemmas.List.{length-set}
 use Rattle.keep_tree.specs.declared.entry.Entry.{Entry}
-use Rattle.keep_tree.specs.Forest.{Grove, entry_at, no_entry}
+use Rattle.keep_tree.specs.Forest.{Forest, entry_at, no_entry}
 use Rattle.keep_tree.proofs.Entries.{entry_at_past, entry_at_set_other, entry_at_set_same}
 use Rattle.keep_core.specs.declared.event.Event.{Event}
 use Rattle.keep_core.specs.declared.event.Event.TheVariants.{Tick, Told, Refused, Lost, Need}
@@ -20,20 +20,20 @@ use Rattle.keep_core.specs.LawsOfSteps.{IsShaped, ShapeLaw}
 abbrev Like : Entry → Entry → Type 0
 Like e f = f ≡ record e { end = f.end; renewable = f.renewable; need = f.need }
 
-pub same : (g : Grove) → IsShaped g g
+pub same : (g : Forest) → IsShaped g g
 same g = record { margin = refl; count = refl; each = λ i. refl }
 
 like_too : (d e f : Entry) → Like d e → Like e f → Like d f
 like_too d e f a b = b ∙ ap (λ (x : Entry). record x { end = f.end; renewable = f.renewable; need = f.need }) a
 
-pub both_shaped : (g h k : Grove) → IsShaped g h → IsShaped h k → IsShaped g k
+pub both_shaped : (g h k : Forest) → IsShaped g h → IsShaped h k → IsShaped g k
 both_shaped g h k a b = record {
   margin = b.margin ∙ a.margin;
   count = b.count ∙ a.count;
   each = λ i. like_too (entry_at g.entries i) (entry_at h.entries i) (entry_at k.entries i) (a.each i) (b.each i);
 }
 
-shortened : (g : Grove) (t : ℕ) → IsShaped g (shorten g t)
+shortened : (g : Forest) (t : ℕ) → IsShaped g (shorten g t)
 shortened g t = record {
   margin = shorten_margin g t;
   count = shorten_count g t;
@@ -46,7 +46,7 @@ shortened g t = record {
   ];
 }
 
-changed : (g : Grove) (i : ℕ) (f : Entry → Entry) → ((e : Entry) → Like e (f e)) → IsShaped g (change g i f)
+changed : (g : Forest) (i : ℕ) (f : Entry → Entry) → ((e : Entry) → Like e (f e)) → IsShaped g (change g i f)
 changed g i f like =
     let es = g.entries in
     let e = f (entry_at es i) in
@@ -73,7 +73,7 @@ answer_like at (Lost i) e = refl
 answer_like at (Tick t) e = refl
 answer_like at (Need i until) e = refl
 
-pub replanned : (g : Grove) (old : State) (t : ℕ) (new : State) → IsShaped g old.forest → Replan old t new → IsShaped g new.forest
+pub replanned : (g : Forest) (old : State) (t : ℕ) (new : State) → IsShaped g old.forest → Replan old t new → IsShaped g new.forest
 replanned g old t new a r = subst (λ (s : State). IsShaped g s.forest) (sym r.is) (both_shaped g old.forest (shorten old.forest t) a (shortened old.forest t))
 
 tick_shaped : (old : State) (t : ℕ) (output : Output) (new : State) → StepTick old t output new → IsShaped old.forest new.forest

@@ -5,7 +5,7 @@ use Rattle.std.proofs.lemmas.Bool.Decides.{nat_tests}
 use Rattle.std.proofs.Math.Path.{fun_ext}
 use Rattle.std.specs.List.{list_any}
 use Rattle.keep_tree.specs.declared.entry.Entry.{Entry}
-use Rattle.keep_tree.specs.Forest.{Grove, end_of, entry_at}
+use Rattle.keep_tree.specs.Forest.{Forest, end_of, entry_at}
 use Rattle.keep_tree.specs.Over.{Over, chain, is_over}
 use Rattle.keep_tree.specs.Push.{IsForest}
 use Rattle.keep_tree.proofs.Carrying.{and_left, and_right, or_left, or_parts, or_right}
@@ -62,16 +62,16 @@ least_reached p (x ∷ xs) m is =
       | inr more ↦ in_tail (rest ∙ ap (λ n. Some n) (let k : b ≡ m = omega arith in k))
     ]))
 
-pub least_reach_most : (g : Grove) (t i a m : ℕ) → Over g.entries a i → reach g.entries g.margin t (end_of g.entries) a ≡ Some m → (most : ℕ) × (least_reach g t i ≡ Some most) × (most ≤ m)
+pub least_reach_most : (g : Forest) (t i a m : ℕ) → Over g.entries a i → reach g.entries g.margin t (end_of g.entries) a ≡ Some m → (most : ℕ) × (least_reach g t i ≡ Some most) × (most ≤ m)
 unfolding least_reach is_over
 least_reach_most g t i a m over is = least_at_most (reach g.entries g.margin t (end_of g.entries)) (chain g.entries i) a m over is
 
-pub least_reach_is : (g : Grove) (t i m : ℕ) → least_reach g t i ≡ Some m → (a : ℕ) × Over g.entries a i × (reach g.entries g.margin t (end_of g.entries) a ≡ Some m)
+pub least_reach_is : (g : Forest) (t i m : ℕ) → least_reach g t i ≡ Some m → (a : ℕ) × Over g.entries a i × (reach g.entries g.margin t (end_of g.entries) a ≡ Some m)
 unfolding least_reach is_over
 least_reach_is g t i m is = least_reached (reach g.entries g.margin t (end_of g.entries)) (chain g.entries i) m is
 
 -- a need that is shortened
-pub record IsCut (g : Grove) (t i : ℕ) : Type 0 where
+pub record IsCut (g : Forest) (t i : ℕ) : Type 0 where
   pub most : ℕ
   pub least : least_reach g t i ≡ Some most
   pub later : t < (entry_at g.entries i).need
@@ -85,7 +85,7 @@ short_parts t need (Some most) e =
     let other = and_right (nat_lt t need) (nat_lt most need) e in
     (most, refl, grind (arith, nat_tests), grind (arith, nat_tests))
 
-pub cut_parts : (g : Grove) (t i : ℕ) → is_short g t i ≡ true → IsCut g t i
+pub cut_parts : (g : Forest) (t i : ℕ) → is_short g t i ≡ true → IsCut g t i
 unfolding is_short need_left
 cut_parts g t i short =
     let need = (entry_at g.entries i).need in
@@ -99,11 +99,11 @@ cut_parts g t i short =
       left = cond-true (exceeds t least need) (cut_to least need) need short ∙ ap (λ o. cut_to o need) parts.1;
     }
 
-pub left_as_it_was : (g : Grove) (t i : ℕ) → is_short g t i ≡ false → need_left g t i ≡ (entry_at g.entries i).need
+pub left_as_it_was : (g : Forest) (t i : ℕ) → is_short g t i ≡ false → need_left g t i ≡ (entry_at g.entries i).need
 unfolding need_left
 left_as_it_was g t i whole = cond-false (is_short g t i) (cut_to (least_reach g t i) (entry_at g.entries i).need) (entry_at g.entries i).need whole
 
-pub left_at_most : (g : Grove) (t i : ℕ) → need_left g t i ≤ (entry_at g.entries i).need
+pub left_at_most : (g : Forest) (t i : ℕ) → need_left g t i ≤ (entry_at g.entries i).need
 left_at_most g t i =
     elim (cases_Bool (is_short g t i)) [
       | inl short ↦ let c = cut_parts g t i short in let l = c.left in let k = c.less in omega arith
@@ -117,37 +117,37 @@ exceeding t need most later less =
     let other : nat_lt most need ≡ true = grind (arith, nat_tests) in
     ap (λ b. b && nat_lt most need) one ∙ other
 
-pub short_where : (g : Grove) (t i most : ℕ) → least_reach g t i ≡ Some most → t < (entry_at g.entries i).need → most < (entry_at g.entries i).need → is_short g t i ≡ true
+pub short_where : (g : Forest) (t i most : ℕ) → least_reach g t i ≡ Some most → t < (entry_at g.entries i).need → most < (entry_at g.entries i).need → is_short g t i ≡ true
 unfolding is_short
 short_where g t i most least later less = ap (λ o. exceeds t o (entry_at g.entries i).need) least ∙ exceeding t (entry_at g.entries i).need most later less
 
 -- the forest after shortening, as one with other needs
-pub shorten_is : (g : Grove) (t : ℕ) → shorten g t ≡ record { entries = needing g.entries (need_left g t); margin = g.margin }
+pub shorten_is : (g : Forest) (t : ℕ) → shorten g t ≡ record { entries = needing g.entries (need_left g t); margin = g.margin }
 unfolding shorten cut needing
 shorten_is g t = refl
 
-pub shorten_entries : (g : Grove) (t : ℕ) → (shorten g t).entries ≡ needing g.entries (need_left g t)
+pub shorten_entries : (g : Forest) (t : ℕ) → (shorten g t).entries ≡ needing g.entries (need_left g t)
 unfolding shorten cut needing
 shorten_entries g t = refl
 
-pub shorten_count : (g : Grove) (t : ℕ) → length (shorten g t).entries ≡ length g.entries
+pub shorten_count : (g : Forest) (t : ℕ) → length (shorten g t).entries ≡ length g.entries
 shorten_count g t = ap length (shorten_entries g t) ∙ length_needing g.entries (need_left g t)
 
-pub shorten_margin : (g : Grove) (t : ℕ) → (shorten g t).margin ≡ g.margin
+pub shorten_margin : (g : Forest) (t : ℕ) → (shorten g t).margin ≡ g.margin
 unfolding shorten
 shorten_margin g t = refl
 
-pub shorten_alike : (g : Grove) → IsForest g → (t : ℕ) → Alike g.entries (shorten g t).entries
+pub shorten_alike : (g : Forest) → IsForest g → (t : ℕ) → Alike g.entries (shorten g t).entries
 shorten_alike g forest t = subst (Alike g.entries) (sym (shorten_entries g t)) (needing_alike g.entries (parents_first g forest) (need_left g t))
 
-pub shorten_at : (g : Grove) (t i : ℕ) → i < length g.entries → entry_at (shorten g t).entries i ≡ record (entry_at g.entries i) { need = need_left g t i }
+pub shorten_at : (g : Forest) (t i : ℕ) → i < length g.entries → entry_at (shorten g t).entries i ≡ record (entry_at g.entries i) { need = need_left g t i }
 shorten_at g t i within = ap (λ es. entry_at es i) (shorten_entries g t) ∙ needing_at g.entries (need_left g t) i within
 
-pub shorten_ends : (g : Grove) (t : ℕ) → end_of (shorten g t).entries ≡ end_of g.entries
+pub shorten_ends : (g : Forest) (t : ℕ) → end_of (shorten g t).entries ≡ end_of g.entries
 unfolding end_of
 shorten_ends g t = fun_ext λ i. ap (λ es. (entry_at es i).end) (shorten_entries g t) ∙ needing_end g.entries (need_left g t) i
 
-pub shorten_forest : (g : Grove) → IsForest g → (t : ℕ) → IsForest (shorten g t)
+pub shorten_forest : (g : Forest) → IsForest g → (t : ℕ) → IsForest (shorten g t)
 shorten_forest g forest t =
     subst IsForest (sym (shorten_is g t))
     (needing_forest g forest (need_left g t) (λ i. let l = left_at_most g t i in let k = need_within g forest i in omega arith))
@@ -164,7 +164,7 @@ needed_within es t i later =
     ]
 
 -- after shortening no pair is Unkeepable
-pub shorten_keepable : (g : Grove) → IsForest g → (t : ℕ) → AllKeepable (shorten g t) t (end_of (shorten g t).entries)
+pub shorten_keepable : (g : Forest) → IsForest g → (t : ℕ) → AllKeepable (shorten g t) t (end_of (shorten g t).entries)
 shorten_keepable g forest t entry needed pair =
     let es = g.entries in
     let fs = (shorten g t).entries in

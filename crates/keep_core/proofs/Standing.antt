@@ -6,7 +6,7 @@ use Rattle.std.proofs.lemmas.List.Elements.{All-cons, All-nil}
 use Rattle.std.proofs.Math.Path.{fun_ext}
 use Rattle.std.specs.List.{All, list_any}
 use Rattle.keep_tree.specs.declared.entry.Entry.{Entry}
-use Rattle.keep_tree.specs.Forest.{Grove, end_of, entry_at}
+use Rattle.keep_tree.specs.Forest.{Forest, end_of, entry_at}
 use Rattle.keep_tree.specs.Push.{IsForest}
 use Rattle.keep_tree.specs.Renewal.{renewal, renewed}
 use Rattle.keep_tree.proofs.Placed.{parents_first}
@@ -29,7 +29,7 @@ use Rattle.keep_core.proofs.Alike.{Alike, best_alike}
 use Rattle.keep_core.proofs.Kept.{keepable}
 
 -- where there is a least and latest plan, some plan keeps, and so no pair is Unkeepable
-pub best_keepable : (g : Grove) (t : ℕ) (ts : List ℕ) → IsPlanOf g t ts → AllKeepable g t (end_of g.entries)
+pub best_keepable : (g : Forest) (t : ℕ) (ts : List ℕ) → IsPlanOf g t ts → AllKeepable g t (end_of g.entries)
 best_keepable g t ts best entry needed pair = unkeepable g.entries g.margin t (end_of g.entries) entry needed pair best.plan best.in_order best.kept
 
 pub tick : TickLaw
@@ -64,14 +64,14 @@ from_first s t ts (w ∷ ws) plan is =
     let l : s ≤ w.at = plan.0 in
     (omega arith, subst (All (λ u. t ≤ u)) is (subst (λ n. All (λ u. n ≤ u) (w.at ∷ moments ws)) first (all_from w.at (w ∷ ws) (omega arith, plan.1))))
 
-pub best_first : (g : Grove) (s t : ℕ) (ts : List ℕ) → IsPlanOf g s (t ∷ ts) → (s ≤ t) × All (λ u. t ≤ u) (t ∷ ts)
+pub best_first : (g : Forest) (s t : ℕ) (ts : List ℕ) → IsPlanOf g s (t ∷ ts) → (s ≤ t) × All (λ u. t ≤ u) (t ∷ ts)
 best_first g s t ts best = from_first s t ts best.plan best.in_order best.at_these
 
-pub best_from : (g : Grove) (s : ℕ) (ts : List ℕ) → IsPlanOf g s ts → All (λ u. s ≤ u) ts
+pub best_from : (g : Forest) (s : ℕ) (ts : List ℕ) → IsPlanOf g s ts → All (λ u. s ≤ u) ts
 best_from g s ts best = subst (All (λ u. s ≤ u)) best.at_these (all_from s best.plan best.in_order)
 
 -- a round that was answered by the rule leaves the ends that its Asks give
-pub after_answers : (g h : Grove) (t : ℕ) (next : Option ℕ) → IsAnsweredByRule g h t next → after g.entries g.margin (end_of g.entries) (asking g.entries g.margin t (end_of g.entries) t next) ≡ end_of h.entries
+pub after_answers : (g h : Forest) (t : ℕ) (next : Option ℕ) → IsAnsweredByRule g h t next → after g.entries g.margin (end_of g.entries) (asking g.entries g.margin t (end_of g.entries) t next) ≡ end_of h.entries
 unfolding end_of
 after_answers g h t next answered = fun_ext λ i.
     let es = g.entries in
@@ -84,7 +84,7 @@ after_answers g h t next answered = fun_ext λ i.
       | inr unwanted ↦ after_unwanted es g.margin t ends t next i unwanted ∙ sym (is ∙ cond-false asked (renewal (entry_at es i) t) (ends i) (same ∙ unwanted))
     ]
 
-pub answered_alike : (g h : Grove) → IsForest g → (t : ℕ) (next : Option ℕ) → IsAnsweredByRule g h t next → Alike g.entries h.entries
+pub answered_alike : (g h : Forest) → IsForest g → (t : ℕ) (next : Option ℕ) → IsAnsweredByRule g h t next → Alike g.entries h.entries
 answered_alike g h forest t next answered = record {
   first = parents_first g forest;
   parent = λ i. ap (λ (e : Entry). e.parent) (answered.each i);

@@ -6,7 +6,7 @@ use Rattle.std.proofs.lemmas.List.Elements.{All-from_get_or, All-get_or, All-nil
 use Rattle.std.specs.List.{All}
 use Rattle.keep_moment.specs.declared.moment.TheConstants.{LAST}
 use Rattle.keep_tree.specs.declared.entry.Entry.{Entry}
-use Rattle.keep_tree.specs.Forest.{Grove, end_of, entry_at}
+use Rattle.keep_tree.specs.Forest.{Forest, end_of, entry_at}
 use Rattle.keep_tree.specs.Push.{IsForest}
 use Rattle.keep_tree.proofs.Entries.{entry_at_set_other, entry_at_set_same}
 use Rattle.keep_rule.specs.Asks.{asks, first_of}
@@ -62,7 +62,7 @@ planned_state s t new forest late closed r = record {
 
 -- what is shortened of a forest is shortened of one with the same needs
 moved :
-    (g k h : Grove) (t : ℕ) (pair : ShortNeed) → length g.entries ≡ length k.entries → ((i : ℕ) → (entry_at g.entries i).need ≡ (entry_at k.entries i).need) → IsShortened g h t pair →
+    (g k h : Forest) (t : ℕ) (pair : ShortNeed) → length g.entries ≡ length k.entries → ((i : ℕ) → (entry_at g.entries i).need ≡ (entry_at k.entries i).need) → IsShortened g h t pair →
     IsShortened k h t pair
 moved g k h t pair count needs x =
     let n = needs pair.entry in

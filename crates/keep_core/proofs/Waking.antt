@@ -8,7 +8,7 @@ use Rattle.std.proofs.lemmas.List.Folds.{list_any-append}
 use Rattle.std.specs.List.{All, list_any, range_with_len}
 use Rattle.keep_moment.specs.declared.moment.TheConstants.{LAST}
 use Rattle.keep_tree.specs.declared.entry.Entry.{Entry}
-use Rattle.keep_tree.specs.Forest.{Grove, end_of}
+use Rattle.keep_tree.specs.Forest.{Forest, end_of}
 use Rattle.keep_tree.specs.Push.{IsForest}
 use Rattle.keep_tree.proofs.Carrying.{or_left, or_right}
 use Rattle.keep_rule.specs.Asks.{asks, first_of, is_wanted}
@@ -105,7 +105,7 @@ flags_more n items flags k j within is inside so_far =
 
 -- where the first wake-up does not come after t, it is at t, and what the plan asks are the Asks from t
 pub asked_now :
-    (h : Grove) → IsForest h → (s t : ℕ) (x : Force) (xs : List Force) → s ≤ t → x.at ≤ t → IsPlanOf h t (moments_of (x ∷ xs)) →
+    (h : Forest) → IsForest h → (s t : ℕ) (x : Force) (xs : List Force) → s ≤ t → x.at ≤ t → IsPlanOf h t (moments_of (x ∷ xs)) →
     (x.at ≡ t) × (asks h.entries h.margin s (end_of h.entries) t (next_after t (x ∷ xs)) ≡ asks h.entries h.margin t (end_of h.entries) t (first_of (moments_of xs)))
 asked_now h forest s t x xs start before best =
     let ends = end_of h.entries in
@@ -118,7 +118,7 @@ asked_now h forest s t x xs start before best =
     )
 
 -- a tick that is not late comes after none of the moments
-pub none_before : (h : Grove) (s t : ℕ) (ts : List ℕ) → IsPlanOf h s ts → is_late t (first_of ts) ≡ false → All (λ u. t ≤ u) ts
+pub none_before : (h : Forest) (s t : ℕ) (ts : List ℕ) → IsPlanOf h s ts → is_late t (first_of ts) ≡ false → All (λ u. t ≤ u) ts
 none_before h s t [] best e = All-nil (λ u. t ≤ u)
 none_before h s t (w ∷ ts) best e =
     let first : t ≤ w = (let no' : nat_lt w t ≡ false = e in grind (arith, nat_tests)) in
@@ -131,7 +131,7 @@ late_due t None e = absurd cc
 late_due t (Some w) e = (let yes' : nat_lt w t ≡ true = e in grind (arith, nat_tests))
 
 forced_then :
-    (h : Grove) → IsForest h → (s t : ℕ) (xs : List Force) → IsPlanOf h s (moments_of xs) → is_late t (first_of (moments_of xs)) ≡ false →
+    (h : Forest) → IsForest h → (s t : ℕ) (xs : List Force) → IsPlanOf h s (moments_of xs) → is_late t (first_of (moments_of xs)) ≡ false →
     AllForcedAs h.entries h.margin s (end_of h.entries) None xs → AllForcedAs h.entries h.margin t (end_of h.entries) None xs
 forced_then h forest s t [] best e forced = tt
 forced_then h forest s t (x ∷ xs) best e forced =
@@ -139,7 +139,7 @@ forced_then h forest s t (x ∷ xs) best e forced =
     (still_forced h s x xs forest best forced).0 t (grind (arith, nat_tests))
 
 -- then the parts of a keeper belong together at the tick's moment
-pub kept_keeper : (h : Grove) (s t : ℕ) (p : Planned) → IsKeeper h s p None → s ≤ t → t ≤ LAST → is_late t (first_of (moments_of (to_come p))) ≡ false → IsKeeper h t p None
+pub kept_keeper : (h : Forest) (s t : ℕ) (p : Planned) → IsKeeper h s p None → s ≤ t → t ≤ LAST → is_late t (first_of (moments_of (to_come p))) ≡ false → IsKeeper h t p None
 kept_keeper h s t p k later late e =
     let ts = moments_of (to_come p) in
     record {
@@ -155,7 +155,7 @@ kept_keeper h s t p k later late e =
 
 -- and once a round has opened at its first wake-up
 pub opened_keeper :
-    (h : Grove) (t : ℕ) (p q : Planned) (o : Opening) → IsKeeper h t p None → IsOpening h t (moments_of (to_come p)) o → q.start ≡ p.start → q.carried ≡ p.carried →
+    (h : Forest) (t : ℕ) (p q : Planned) (o : Opening) → IsKeeper h t p None → IsOpening h t (moments_of (to_come p)) o → q.start ≡ p.start → q.carried ≡ p.carried →
     IsTail (to_come p) (to_come q) → IsKeeper h t q (Some o.round)
 opened_keeper h t p q o k opens start carried tail =
     let es = h.entries in

@@ -2,7 +2,7 @@
 -- function without a body.
 use Rattle.std.specs.Prelude.{◌≡◌, ℕ, ◌+◌, ◌≤◌, ◌<◌, List, [], length}
 use Rattle.std.specs.List.{All, Contains}
-use Rattle.keep_tree.specs.Forest.{Grove, end_of, entry_at}
+use Rattle.keep_tree.specs.Forest.{Forest, end_of, entry_at}
 use Rattle.keep_tree.specs.Push.{IsForest}
 use Rattle.keep_rule.specs.declared.wake.Wake.{Wake}
 use Rattle.keep_rule.specs.Keeps.{Alive, Keeps, ends_at}
@@ -13,13 +13,13 @@ use Rattle.keep_core.specs.Replan.{IsPlanOf}
 use Rattle.keep_core.specs.Shorten.{pairs, shorten}
 
 -- under a plan from t, i is kept to n: it is alive at each moment from t on and before n
-abbrev pub IsKeptTo : Grove → ℕ → List Wake → ℕ → ℕ → Type 0
+abbrev pub IsKeptTo : Forest → ℕ → List Wake → ℕ → ℕ → Type 0
 IsKeptTo g t ws i n = (m : ℕ) → t ≤ m → m < n → Alive g.entries (ends_at g.entries g.margin (end_of g.entries) ws m) m i
 
 -- g is the forest before planning at t, and h the one after it. The pair's need was after t and was greater; now it is that
 -- of the pair. Where it comes after t, some plan from t that keeps all needs in force keeps the entry to it, and none keeps
 -- it a second longer. Where it does not, the entry is not alive at t, and no plan keeps it to a moment after t
-pub record IsShortened (g h : Grove) (t : ℕ) (pair : ShortNeed) : Type 0 where
+pub record IsShortened (g h : Forest) (t : ℕ) (pair : ShortNeed) : Type 0 where
   pub within : pair.entry < length g.entries
   pub later : t < (entry_at g.entries pair.entry).need
   pub less : pair.need < (entry_at g.entries pair.entry).need
@@ -31,21 +31,21 @@ pub record IsShortened (g h : Grove) (t : ℕ) (pair : ShortNeed) : Type 0 where
 
 -- each pair that is noted is shortened as far as it has to be, and no farther
 abbrev pub ShortenedLaw : Type 0
-ShortenedLaw = (g : Grove) (t : ℕ) → IsForest g → All (IsShortened g (shorten g t) t) (pairs g t)
+ShortenedLaw = (g : Forest) (t : ℕ) → IsForest g → All (IsShortened g (shorten g t) t) (pairs g t)
 
 -- no other need is changed, and nothing but needs
 abbrev pub UnchangedLaw : Type 0
 UnchangedLaw =
-    (g : Grove) (t : ℕ) → (length (shorten g t).entries ≡ length g.entries)
+    (g : Forest) (t : ℕ) → (length (shorten g t).entries ≡ length g.entries)
     × (((i : ℕ) → entry_at (shorten g t).entries i ≡ record (entry_at g.entries i) { need = (entry_at (shorten g t).entries i).need })
     × ((i : ℕ) → ((need : ℕ) → Contains (pairs g t) (record { entry = i; need = need }) → ⊥) → entry_at (shorten g t).entries i ≡ entry_at g.entries i))
 
 -- where no pair is Unkeepable, and so wherever some plan keeps, no need is shortened
 abbrev pub KeepableLaw : Type 0
-KeepableLaw = (g : Grove) (t : ℕ) → AllKeepable g t (end_of g.entries) → (shorten g t ≡ g) × (pairs g t ≡ [])
+KeepableLaw = (g : Forest) (t : ℕ) → AllKeepable g t (end_of g.entries) → (shorten g t ≡ g) × (pairs g t ≡ [])
 
 -- after shortening a forest is one, no pair is Unkeepable, and there is a least and latest plan
 abbrev pub PlannableLaw : Type 0
 PlannableLaw =
-    (g : Grove) (t : ℕ) → IsForest g → IsForest (shorten g t) × (AllKeepable (shorten g t) t (end_of (shorten g t).entries)
+    (g : Forest) (t : ℕ) → IsForest g → IsForest (shorten g t) × (AllKeepable (shorten g t) t (end_of (shorten g t).entries)
     × ((ts : List ℕ) × IsPlanOf (shorten g t) t ts))

@@ -3,7 +3,7 @@
 use Rattle.std.specs.Prelude.{◌≡◌, ◌≢◌, ℕ, ◌≤◌, ◌<◌, List, ◌∷◌, ◌++◌, Some, Result, Ok, Err, length}
 use Rattle.std.specs.List.{All, Contains}
 use Rattle.keep_moment.specs.declared.moment.TheConstants.{LAST}
-use Rattle.keep_tree.specs.Forest.{Grove, end_of, entry_at}
+use Rattle.keep_tree.specs.Forest.{Forest, end_of, entry_at}
 use Rattle.keep_tree.specs.Push.{IsForest}
 use Rattle.keep_rule.specs.Asks.{asks, first_of}
 use Rattle.keep_core.specs.declared.event.Event.{Event}
@@ -24,7 +24,7 @@ use Rattle.keep_core.specs.Step.{needed}
 -- whatever events come after the opening, and whatever of them is refused, they lead to such a state
 abbrev pub StateLaw : Type 0
 StateLaw =
-    (g : Grove) (start : ℕ) (old new : State) (events : List Event) (results : List (Result Output StepFault)) → IsForest g → start ≤ LAST → Replan (unplanned g) start old →
+    (g : Forest) (start : ℕ) (old new : State) (events : List Event) (results : List (Result Output StepFault)) → IsForest g → start ≤ LAST → Replan (unplanned g) start old →
     History old events results new → IsState old × IsState new
 
 -- planning anew adds these pairs to the needs that were shortened, where it plans with the ends and needs of this state: each
@@ -43,7 +43,7 @@ with_need old event = old
 -- the opening adds such pairs, and so does each event that is not refused. Hence no other need is changed but by Need
 abbrev pub AddsLaw : Type 0
 AddsLaw =
-    ((g : Grove) (start : ℕ) (new : State) → IsForest g → Replan (unplanned g) start new → Adds (unplanned g) new)
+    ((g : Forest) (start : ℕ) (new : State) → IsForest g → Replan (unplanned g) start new → Adds (unplanned g) new)
     × ((old new : State) (event : Event) (output : Output) → IsState old → Turn old event (Ok output) new → Adds (with_need old event) new)
 
 -- these entries are asked at t: the first moment of the plan in force there, which is that of before where the tick is not
@@ -70,7 +70,7 @@ OnceLaw =
     Turn old event other y → (result ≡ other) × (x ≡ y)
 
 -- h has the entries of g, but for their ends, their needs and whether they are renewable
-pub record IsShaped (g h : Grove) : Type 0 where
+pub record IsShaped (g h : Forest) : Type 0 where
   pub margin : h.margin ≡ g.margin
   pub count : length h.entries ≡ length g.entries
   pub each : (i : ℕ) → entry_at h.entries i

@@ -1,7 +1,7 @@
 -- Replan: planning anew at a moment.
 -- Source: this project's own.
 use Rattle.std.specs.Prelude.{◌≡◌, ℕ, ◌≤◌, ◌<◌, List, ◌++◌, length}
-use Rattle.keep_tree.specs.Forest.{Grove, end_of}
+use Rattle.keep_tree.specs.Forest.{Forest, end_of}
 use Rattle.keep_rule.specs.Least.{IsLeastAndLatest}
 use Rattle.keep_rule.specs.declared.limit.TheConstants.{LIMIT}
 use Rattle.keep_core.specs.declared.fault.StepFault.{StepFault}
@@ -10,7 +10,7 @@ use Rattle.keep_core.specs.Shorten.{pairs, shorten}
 use Rattle.keep_core.specs.State.{State}
 
 -- the moments are those of the one least and latest plan from t, for the ends and needs of a forest
-abbrev pub IsPlanOf : Grove → ℕ → List ℕ → Type 0
+abbrev pub IsPlanOf : Forest → ℕ → List ℕ → Type 0
 IsPlanOf g t ts = IsLeastAndLatest g.entries g.margin t (end_of g.entries) ts
 
 -- the state planned anew at t with these moments: needs are shortened and noted, and t is the last moment
@@ -25,13 +25,13 @@ pub record Replan (old : State) (t : ℕ) (new : State) : Type 0 where
   pub is : new ≡ planned old t moments
 
 -- planned anew at t, the forest has more than LIMIT moments to come
-pub record ReplanTooLong (g : Grove) (t : ℕ) : Type 0 where
+pub record ReplanTooLong (g : Forest) (t : ℕ) : Type 0 where
   pub moments : List ℕ
   pub best : IsPlanOf (shorten g t) t moments
   pub many : LIMIT < length moments
 
 -- what stands in the way of planning anew: it is too long, or memory was wanting
-abbrev pub PlanFails : Grove → ℕ → StepFault → Type 0
+abbrev pub PlanFails : Forest → ℕ → StepFault → Type 0
 PlanFails g t TooLong = ReplanTooLong g t
 PlanFails g t OutOfMemory = Unit {0}
 PlanFails g t fault = ⊥

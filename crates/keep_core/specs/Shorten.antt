@@ -4,7 +4,7 @@
 use Rattle.std.specs.Prelude.{ℕ, Bool, false, ◌&&◌, if◌then◌else◌, List, [], ◌∷◌, Option, Some, None, filter, length, map, min, nat_lt}
 use Rattle.std.specs.List.{range_with_len}
 use Rattle.keep_tree.specs.declared.entry.Entry.{Entry}
-use Rattle.keep_tree.specs.Forest.{Grove, end_of, entry_at}
+use Rattle.keep_tree.specs.Forest.{Forest, end_of, entry_at}
 use Rattle.keep_tree.specs.Over.{chain}
 use Rattle.keep_rule.specs.Reach.{reach}
 use Rattle.keep_core.specs.declared.shortened.ShortNeed.{ShortNeed}
@@ -20,7 +20,7 @@ least_of [] = None
 least_of (a ∷ rest) = lesser a (least_of rest)
 
 -- the least reach of i from t: the least reach over the entries over i
-unfoldable pub least_reach : Grove → ℕ → ℕ → Option ℕ
+unfoldable pub least_reach : Forest → ℕ → ℕ → Option ℕ
 least_reach g t i = least_of (map (reach g.entries g.margin t (end_of g.entries)) (chain g.entries i))
 
 -- a need after t that is greater than this reach
@@ -29,7 +29,7 @@ exceeds t None need = false
 exceeds t (Some most) need = nat_lt t need && nat_lt most need
 
 -- whether the need of i is shortened at t
-unfoldable pub is_short : Grove → ℕ → ℕ → Bool
+unfoldable pub is_short : Forest → ℕ → ℕ → Bool
 is_short g t i = exceeds t (least_reach g t i) (entry_at g.entries i).need
 
 -- what a need becomes that is shortened to this reach
@@ -38,21 +38,21 @@ cut_to None need = need
 cut_to (Some most) need = most
 
 -- the need of i after shortening at t
-unfoldable pub need_left : Grove → ℕ → ℕ → ℕ
+unfoldable pub need_left : Forest → ℕ → ℕ → ℕ
 need_left g t i = if is_short g t i then cut_to (least_reach g t i) (entry_at g.entries i).need else (entry_at g.entries i).need
 
 -- the entry i after shortening at t
-unfoldable pub cut : Grove → ℕ → ℕ → Entry
+unfoldable pub cut : Forest → ℕ → ℕ → Entry
 cut g t i = record (entry_at g.entries i) { need = need_left g t i }
 
 -- the forest with each need after t that is greater than its entry's least reach set to that reach
-unfoldable pub shorten : Grove → ℕ → Grove
+unfoldable pub shorten : Forest → ℕ → Forest
 shorten g t = record { entries = map (cut g t) (range_with_len 0 (length g.entries)); margin = g.margin }
 
 -- the entry i with its need after shortening
-abbrev pub pair_of : Grove → ℕ → ℕ → ShortNeed
+abbrev pub pair_of : Forest → ℕ → ℕ → ShortNeed
 pair_of g t i = record { entry = i; need = need_left g t i }
 
 -- the needs that are shortened at t, by index
-unfoldable pub pairs : Grove → ℕ → List ShortNeed
+unfoldable pub pairs : Forest → ℕ → List ShortNeed
 pairs g t = map (pair_of g t) (filter (is_short g t) (range_with_len 0 (length g.entries)))

@@ -1,7 +1,7 @@
 -- State: what an executor holds between two events.
 -- Source: this project's own.
 use Rattle.std.specs.Prelude.{ℕ, List, [], Option, Some, None}
-use Rattle.keep_tree.specs.Forest.{Grove}
+use Rattle.keep_tree.specs.Forest.{Forest}
 use Rattle.keep_core.specs.declared.shortened.ShortNeed.{ShortNeed}
 
 -- a round: its moment, and the entries that were asked and have not answered
@@ -17,12 +17,12 @@ moment_of (Some round) = Some round.at
 -- the forest, with ends as told and needs in force; the last moment; the moments to come; the round that is open, if any;
 -- and the needs that were shortened
 pub record State : Type 0 where
-  pub forest : Grove
+  pub forest : Forest
   pub last : ℕ
   pub to_come : List ℕ
   pub round : Option Round
   pub shortened : List ShortNeed
 
 -- the state that is planned at the opening: a forest, and nothing that happened
-abbrev pub unplanned : Grove → State
+abbrev pub unplanned : Forest → State
 unplanned g = record { forest = g; last = 0; to_come = []; round = None; shortened = [] }

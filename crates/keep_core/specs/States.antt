@@ -2,7 +2,7 @@
 -- Source: this project's own.
 use Rattle.std.specs.Prelude.{◌≡◌, ◌≢◌, ℕ, ◌≤◌, true, false, List, [], ◌∷◌, Option, Some, length}
 use Rattle.keep_moment.specs.declared.moment.TheConstants.{LAST}
-use Rattle.keep_tree.specs.Forest.{Grove, end_of, entry_at}
+use Rattle.keep_tree.specs.Forest.{Forest, end_of, entry_at}
 use Rattle.keep_tree.specs.Push.{IsForest}
 use Rattle.keep_rule.specs.Asks.{asking, first_of}
 use Rattle.keep_rule.specs.Ends.{is_asked}
@@ -14,7 +14,7 @@ use Rattle.keep_core.specs.State.{Round, State}
 
 -- h is g after answers to a round at t, whatever they were: an entry has changed in its end and in whether it is renewable
 -- alone, and only where it is among the Asks
-pub record IsAnswered (g h : Grove) (t : ℕ) (next : Option ℕ) : Type 0 where
+pub record IsAnswered (g h : Forest) (t : ℕ) (next : Option ℕ) : Type 0 where
   pub margin : h.margin ≡ g.margin
   pub count : length h.entries ≡ length g.entries
   pub each : (i : ℕ) → entry_at h.entries i ≡ record (entry_at g.entries i) { end = (entry_at h.entries i).end; renewable = (entry_at h.entries i).renewable }
@@ -23,8 +23,8 @@ pub record IsAnswered (g h : Grove) (t : ℕ) (next : Option ℕ) : Type 0 where
 -- what an open round has left of its opening, where h is the forest now and ts are the moments to come: a forest for which the
 -- round's moment and these moments were the plan in force. Since then answers have changed what was asked alone, and each who
 -- is waited for was asked
-pub record IsOpened (h : Grove) (ts : List ℕ) (round : Round) : Type 0 where
-  pub before : Grove
+pub record IsOpened (h : Forest) (ts : List ℕ) (round : Round) : Type 0 where
+  pub before : Forest
   pub forest : IsForest before
   pub best : IsPlanOf before round.at (round.at ∷ ts)
   pub few : length (round.at ∷ ts) ≤ LIMIT

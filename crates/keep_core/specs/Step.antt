@@ -2,7 +2,7 @@
 -- Source: this project's own, over Vault, "Lease, renew, and revoke" (a renewal's TTL counts from the renewal).
 use Rattle.std.specs.Prelude.{◌≡◌, ◌≢◌, ◌==◌, ℕ, ◌+◌, ◌<◌, ◌≤◌, false, not, List, [], ◌∷◌, Option, Some, None, filter, slice_set}
 use Rattle.keep_tree.specs.declared.entry.Entry.{Entry}
-use Rattle.keep_tree.specs.Forest.{Grove, end_of, entry_at}
+use Rattle.keep_tree.specs.Forest.{Forest, end_of, entry_at}
 use Rattle.keep_rule.specs.Asks.{asks, first_of}
 use Rattle.keep_core.specs.declared.event.Event.{Event}
 use Rattle.keep_core.specs.declared.event.Event.TheVariants.{Tick, Told, Refused, Lost, Need}
@@ -12,7 +12,7 @@ use Rattle.keep_core.specs.Replan.{ReplanTooLong, Replan}
 use Rattle.keep_core.specs.State.{Round, State}
 
 -- the forest with the entry i changed
-abbrev pub change : Grove → ℕ → (Entry → Entry) → Grove
+abbrev pub change : Forest → ℕ → (Entry → Entry) → Forest
 change g i f = record { entries = slice_set g.entries i (f (entry_at g.entries i)); margin = g.margin }
 
 -- the entry that an answer is of

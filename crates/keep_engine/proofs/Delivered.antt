@@ -1,6 +1,6 @@
 -- Delivered: from what is made before the first write to the run, for every command.
 use Rattle.std.proofs.Common.{◌≡◌, ℕ, List, Result, Ok, Err, inl, inr, refl, subst, sym}
-use Rattle.keep_tree.specs.Forest.{Grove}
+use Rattle.keep_tree.specs.Forest.{Forest}
 use Rattle.keep_plan.specs.declared.decision.Decision.{Decision}
 use Rattle.keep_plan.specs.declared.decision.Decision.TheVariants as decision
 use Rattle.keep_plan.specs.Decides.{Decides}
@@ -31,19 +31,19 @@ halted Text Halt bytes stops.Memory makes = makes
 pub run_delivered : (Text : Texts) (Halt : Halts) (bytes : List ℕ) (made : Result Outcome Stop) (exit : Exit) (out errors : Sent) →
     Makes Text Halt bytes made → Delivers made exit out errors → RunOf Text Halt bytes exit out errors
 run_delivered Text Halt bytes (Ok outcome) exit out errors makes (inl sent) =
-    inl (makes.0, makes.1, outcome.text, subst (λ e. Text makes.0.grove e outcome.text) (sym sent.0) makes.2, sent.1, sent.2)
+    inl (makes.0, makes.1, outcome.text, subst (λ e. Text makes.0.forest e outcome.text) (sym sent.0) makes.2, sent.1, sent.2)
 run_delivered Text Halt bytes (Ok outcome) exit out errors makes (inr cut) =
     inr (inr (makes.0, makes.1, outcome.exit, outcome.text, makes.2, cut.0, cut.1, cut.2, cut.3))
 run_delivered Text Halt bytes (Err stop) exit out errors makes told = inr (inl (stop, halted Text Halt bytes stop makes, told.0, told.1, told.2))
 
 -- ---- a forest's decision
 
-pub decided_text : (g : Grove) (s : ℕ) (d : Decision) (text : List ℕ) → Decides g s d → Prints g.entries s (claim d) (Ok text) → IsCertified g s (decided_exit d) text
+pub decided_text : (g : Forest) (s : ℕ) (d : Decision) (text : List ℕ) → Decides g s d → Prints g.entries s (claim d) (Ok text) → IsCertified g s (decided_exit d) text
 decided_text g s (decision.Keep p) text decides printed = record { runs = p.runs; best = decides.best; spelled = printed }
 decided_text g s (decision.Unkeepable entry needed) text decides printed = record { entry = entry; needed = needed; short = decides.0; none = decides.1; spelled = printed }
 decided_text g s decision.TooLong text decides printed = absurd cc
 
-pub decided_long : (g : Grove) (s : ℕ) (d : Decision) → Decides g s d → Prints g.entries s (claim d) (Err NoCertificate) → PlanHalts s g stops.TooLong
+pub decided_long : (g : Forest) (s : ℕ) (d : Decision) → Decides g s d → Prints g.entries s (claim d) (Err NoCertificate) → PlanHalts s g stops.TooLong
 decided_long g s (decision.Keep p) decides printed = absurd cc
 decided_long g s (decision.Unkeepable entry needed) decides printed = absurd cc
 decided_long g s decision.TooLong decides printed = (refl, decides)

@@ -3,7 +3,7 @@ use Rattle.std.proofs.Common.{◌≡◌, ◌∙◌, ◌↔◌, Bool, true, false
 use Rattle.std.proofs.lemmas.Bool.{cases_lt}
 use Rattle.std.proofs.lemmas.List.{append_cancel_left}
 use Rattle.keep_tree.specs.Carried.{IsFrom}
-use Rattle.keep_tree.specs.Forest.{Grove, end_of}
+use Rattle.keep_tree.specs.Forest.{Forest, end_of}
 use Rattle.keep_tree.specs.Push.{IsForest}
 use Rattle.keep_rule.specs.Ends.{ends_after}
 use Rattle.keep_rule.specs.declared.force.Force.{Force}
@@ -86,15 +86,15 @@ one_runs (r ∷ rs) (q ∷ qs) are are' long long' same =
     let tail : rs ≡ qs = one_runs rs qs are.1 are'.1 long.1 long'.1 rest in
     cc
 
-one_best : (g : Grove) (s : ℕ) (rs qs : List Run) → AreBest g s rs → AreBest g s qs → rs ≡ qs
+one_best : (g : Forest) (s : ℕ) (rs qs : List Run) → AreBest g s rs → AreBest g s qs → rs ≡ qs
 one_best g s rs qs a b = one_runs rs qs a.runs b.runs a.longest b.longest (one_list g.entries g.margin s (end_of g.entries) None (all_wakes rs) (all_wakes qs) a.forces b.forces)
 
 -- ---- plan
 
-one_plan : (g : Grove) (s : ℕ) (text other : List ℕ) → IsPlanText g s text → IsPlanText g s other → text ≡ other
+one_plan : (g : Forest) (s : ℕ) (text other : List ℕ) → IsPlanText g s text → IsPlanText g s other → text ≡ other
 one_plan g s text other a b = a.spelled ∙ ap (λ rs. certificate_text g.entries (certified s (body.Runs rs))) (one_best g s a.runs b.runs a.best b.best) ∙ sym b.spelled
 
-one_pair : (g : Grove) (s : ℕ) (text other : List ℕ) → IsPairText g s text → IsPairText g s other → text ≡ other
+one_pair : (g : Forest) (s : ℕ) (text other : List ℕ) → IsPairText g s text → IsPairText g s other → text ≡ other
 one_pair g s text other a b =
     let p = a.short.lowest b.entry b.needed b.short.pair in
     let q = b.short.lowest a.entry a.needed a.short.pair in
@@ -104,7 +104,7 @@ one_pair g s text other a b =
     ∙ ap (λ i. certificate_text g.entries (certified s (body.Unkeepable b.entry i))) needed ∙ sym b.spelled
 
 -- a plan keeps, so no pair is named beside it
-plan_or_pair : {X : Type 0} (g : Grove) (s : ℕ) (text other : List ℕ) → IsPlanText g s text → IsPairText g s other → X
+plan_or_pair : {X : Type 0} (g : Forest) (s : ℕ) (text other : List ℕ) → IsPlanText g s text → IsPairText g s other → X
 plan_or_pair g s text other a b = absurd (b.none a.best.least.plan a.best.least.in_order a.best.least.kept)
 
 pub one_plan_text : OnePlanText
@@ -133,7 +133,7 @@ one_plan_text g s exits.Memory exit text other a b = absurd a
 
 -- ---- check
 
-module _ (g : Grove) (forest : IsForest g) (text : List ℕ) where
+module _ (g : Forest) (forest : IsForest g) (text : List ℕ) where
   one_cert : (c d : Cert) → Writes g.entries text c → Writes g.entries text d → c ≡ d
   one_cert c d a b =
       let read = written_is_read g forest text c a in
@@ -212,7 +212,7 @@ same_truth false false P f g = refl
 same_truth true false P f g = absurd (let both : IsTrue false = g.1 (f.0 refl) in cc)
 same_truth false true P f g = absurd (let both : IsTrue false = f.1 (g.0 refl) in cc)
 
-pub one_ends_text : (g : Grove) (s : ℕ) (at text other : List ℕ) → IsEndsText g s at text → IsEndsText g s at other → text ≡ other
+pub one_ends_text : (g : Forest) (s : ℕ) (at text other : List ℕ) → IsEndsText g s at text → IsEndsText g s at other → text ≡ other
 one_ends_text g s at text other a b =
     a.spelled ∙ ap (λ k. end_lines g.entries (ends_after g.entries g.margin (end_of g.entries) (all_asked (length g.entries) at)) (length g.entries) ++ keeps_line k) (same_truth a.kept b.kept _ a.judged b.judged)
     ∙ sym b.spelled

@@ -3,7 +3,7 @@ use Rattle.std.proofs.Common.{◌≡◌, ◌∙◌, ℕ, ◌+◌, ◌<◌, ◌�
 use Rattle.std.proofs.lemmas.Bool.{cond-true}
 use Rattle.std.proofs.lemmas.Bool.Decides.{nat_tests}
 use Rattle.keep_tree.specs.declared.entry.Entry.{Entry}
-use Rattle.keep_tree.specs.Forest.{Grove, end_of}
+use Rattle.keep_tree.specs.Forest.{Forest, end_of}
 use Rattle.keep_tree.specs.Push.{IsForest}
 use Rattle.keep_rule.specs.Schedule.{RisesStrictly}
 use Rattle.keep_rule.specs.Unkeepable.{AllKeepable}
@@ -51,11 +51,11 @@ walk_faultless es margin s ends prev k (w ∷ ws) low rise forced =
     ∙ cond-true (is_forced es margin s ends prev w.at w.entry w.needed) _ _ (forced_tests es margin s ends prev w.at w.entry w.needed forced.0)
     ∙ walk_faultless es margin s ends (Some w.at) (k + 1) ws (omega arith) rise.1 forced.1
 
-best_is_keepable : (g : Grove) (s : ℕ) (rs : List Run) → AreBest g s rs → AllKeepable g s (end_of g.entries)
+best_is_keepable : (g : Forest) (s : ℕ) (rs : List Run) → AreBest g s rs → AllKeepable g s (end_of g.entries)
 best_is_keepable g s rs best = λ entry needed pair. unkeepable g.entries g.margin s (end_of g.entries) entry needed pair best.least.plan best.least.in_order best.least.kept
 
 -- the forces of a plan get Yes
-pub best_gets_yes : (g : Grove) (s : ℕ) (rs : List Run) → IsForest g → AreBest g s rs → IsWalkAnswer g s (all_wakes rs) Yes
+pub best_gets_yes : (g : Forest) (s : ℕ) (rs : List Run) → IsForest g → AreBest g s rs → IsWalkAnswer g s (all_wakes rs) Yes
 best_gets_yes g s rs forest best =
     let es = g.entries in
     let law = forces_are_best g s forest (best_is_keepable g s rs best) in
@@ -65,7 +65,7 @@ best_gets_yes g s rs forest best =
     (walk_faultless es g.margin s (end_of es) None 1 (all_wakes rs) (omega arith) rise forced, λ i. best.kept i)
 
 -- what a decision claims gets Yes
-claim_gets_yes : (g : Grove) (s : ℕ) (d : Decision) (b : Body) → IsForest g → Decides g s d → claim d ≡ Some b → IsAnswer g (certified s b) Yes
+claim_gets_yes : (g : Forest) (s : ℕ) (d : Decision) (b : Body) → IsForest g → Decides g s d → claim d ≡ Some b → IsAnswer g (certified s b) Yes
 claim_gets_yes g s (decision.Keep p) b forest decides is =
     let is' : body.Runs p.runs ≡ b = cc in
     subst (λ x. IsAnswer g (certified s x) Yes) is' (best_gets_yes g s p.runs forest decides.best)

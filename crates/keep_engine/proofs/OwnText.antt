@@ -1,7 +1,7 @@
 -- Own texts: what `plan` writes is a certificate that gets Yes, and short enough to be read, so that `check` says `yes`.
 use Rattle.std.proofs.Common.{◌≡◌, ℕ, ◌≤◌, List, None, codes, length, refl, sym, subst, arith}
 use Rattle.keep_moment.specs.declared.moment.TheConstants.{LAST}
-use Rattle.keep_tree.specs.Forest.{Grove}
+use Rattle.keep_tree.specs.Forest.{Forest}
 use Rattle.keep_tree.specs.Push.{IsForest}
 use Rattle.keep_rule.specs.declared.run.Run.{Run}
 use Rattle.keep_plan.specs.declared.decision.Decision.TheVariants as decision
@@ -28,7 +28,7 @@ use Rattle.keep_engine.proofs.Own.{best_gets_yes}
 use Rattle.keep_engine.proofs.Sizes.{HasFewRuns, certificate_size}
 
 -- the runs of a plan are those of a certificate
-best_is_body : (g : Grove) (s : ℕ) (rs : List Run) → IsForest g → AreBest g s rs → IsBody Two g.entries (body.Runs rs)
+best_is_body : (g : Forest) (s : ℕ) (rs : List Run) → IsForest g → AreBest g s rs → IsBody Two g.entries (body.Runs rs)
 best_is_body g s rs forest best =
     let few_runs = best.few_runs in
     let entries = forest.few in
@@ -36,7 +36,7 @@ best_is_body g s rs forest best =
     let same = counted_wakes rs in
     (runs_within g forest s None rs best.runs best.forces, (omega arith, omega arith))
 
-body_accepted : (g : Grove) (s : ℕ) (b : Body) (text : List ℕ) → IsForest g → s ≤ LAST → IsBody Two g.entries b → HasFewRuns g b → IsAnswer g (certified s b) Yes
+body_accepted : (g : Forest) (s : ℕ) (b : Body) (text : List ℕ) → IsForest g → s ≤ LAST → IsBody Two g.entries b → HasFewRuns g b → IsAnswer g (certified s b) Yes
     → text ≡ certificate_text g.entries (certified s b) → IsOwnText g text
 body_accepted g s b text forest start is few right spelled =
     let c = certified s b in
@@ -53,7 +53,7 @@ body_accepted g s b text forest start is few right spelled =
       short = subst (λ t. length t ≤ MOST_CERTIFICATE) (sym spelled) (certificate_size g forest s start b is few);
     }
 
-certified_is_own : (g : Grove) (s : ℕ) (exit : Exit) (text : List ℕ) → IsForest g → s ≤ LAST → IsCertified g s exit text → IsOwnText g text
+certified_is_own : (g : Forest) (s : ℕ) (exit : Exit) (text : List ℕ) → IsForest g → s ≤ LAST → IsCertified g s exit text → IsOwnText g text
 certified_is_own g s exits.Done text forest start is =
     body_accepted g s (body.Runs is.runs) text forest start (best_is_body g s is.runs forest is.best) is.best.few_runs (best_gets_yes g s is.runs forest is.best) is.spelled
 certified_is_own g s exits.Unkeepable text forest start is =
@@ -67,6 +67,6 @@ certified_is_own g s exits.Device text forest start is = absurd is
 certified_is_own g s exits.Memory text forest start is = absurd is
 
 pub own_text : OwnTextLaw
-own_text bytes stock s exit text read start is =
-    let forest = (inventory_law bytes stock read).forest in
-    (forest, certified_is_own stock.grove s exit text forest start is)
+own_text bytes inventory s exit text read start is =
+    let forest = (inventory_law bytes inventory read).forest in
+    (forest, certified_is_own inventory.forest s exit text forest start is)

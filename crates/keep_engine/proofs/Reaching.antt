@@ -2,7 +2,7 @@
 use Rattle.std.proofs.Common.{◌≡◌, ◌∙◌, ℕ, zero, suc, ◌+◌, ◌<◌, ◌≤◌, ◌++◌, ◌∷◌, [], Bool, true, false, List, Option, Some, None, refl, sym, ap, subst, arith, inl, inr}
 use Rattle.keep_moment.proofs.Moments.{one_date_text}
 use Rattle.keep_tree.specs.declared.entry.Entry.{Entry}
-use Rattle.keep_tree.specs.Forest.{Grove, end_of, entry_at}
+use Rattle.keep_tree.specs.Forest.{Forest, end_of, entry_at}
 use Rattle.keep_tree.proofs.Chains.{ParentsFirst, chain_child, chain_root}
 use Rattle.keep_rule.specs.Reach.{reach}
 use Rattle.keep_engine.specs.declared.bound.Bound.{Bound}
@@ -11,11 +11,11 @@ use Rattle.keep_engine.specs.ReachText.{AreReachLines, IsKept, IsMomentWord, IsN
 
 -- ---- what binds an entry
 
-pub bound_root : (g : Grove) (s i : ℕ) → (entry_at g.entries i).parent ≡ None → bound g s i ≡ record { most = reach g.entries g.margin s (end_of g.entries) i; by = i }
+pub bound_root : (g : Forest) (s i : ℕ) → (entry_at g.entries i).parent ≡ None → bound g s i ≡ record { most = reach g.entries g.margin s (end_of g.entries) i; by = i }
 unfolding bound
 bound_root g s i root = ap (binding (reach g.entries g.margin s (end_of g.entries))) (chain_root g.entries i root)
 
-pub bound_child : (g : Grove) (s i p : ℕ) → ParentsFirst g.entries → (entry_at g.entries i).parent ≡ Some p →
+pub bound_child : (g : Forest) (s i p : ℕ) → ParentsFirst g.entries → (entry_at g.entries i).parent ≡ Some p →
     bound g s i ≡ nearer (reach g.entries g.margin s (end_of g.entries) i) i (bound g s p).most (bound g s p).by
 unfolding bound
 bound_child g s i p first child = ap (binding (reach g.entries g.margin s (end_of g.entries))) (chain_child g.entries i p first child)
@@ -23,10 +23,10 @@ bound_child g s i p first child = ap (binding (reach g.entries g.margin s (end_o
 abbrev made : Option ℕ → ℕ → Bound
 made m by = record { most = m; by = by }
 
-pub root_binds : (g : Grove) (s i : ℕ) (most : Option ℕ) → most ≡ reach g.entries g.margin s (end_of g.entries) i → (entry_at g.entries i).parent ≡ None → made most i ≡ bound g s i
+pub root_binds : (g : Forest) (s i : ℕ) (most : Option ℕ) → most ≡ reach g.entries g.margin s (end_of g.entries) i → (entry_at g.entries i).parent ≡ None → made most i ≡ bound g s i
 root_binds g s i most is root = ap (λ (m : Option ℕ). made m i) is ∙ sym (bound_root g s i root)
 
-pub child_binds : (g : Grove) (s i p : ℕ) (most : Option ℕ) (over result : Bound) → ParentsFirst g.entries → (entry_at g.entries i).parent ≡ Some p →
+pub child_binds : (g : Forest) (s i p : ℕ) (most : Option ℕ) (over result : Bound) → ParentsFirst g.entries → (entry_at g.entries i).parent ≡ Some p →
     most ≡ reach g.entries g.margin s (end_of g.entries) i → over ≡ bound g s p → result ≡ nearer most i over.most over.by → result ≡ bound g s i
 child_binds g s i p most over result first child is over_is made_is =
     made_is ∙ ap (λ (m : Option ℕ). nearer m i over.most over.by) is
@@ -34,7 +34,7 @@ child_binds g s i p most over result first child is over_is made_is =
 
 -- ---- the line of an entry
 
-pub line_of : (g : Grove) (s : ℕ) (dates : Bool) (i : ℕ) (b : Bound) (name until by need line : List ℕ) (needed : ℕ) → b ≡ bound g s i → name ≡ (entry_at g.entries i).name →
+pub line_of : (g : Forest) (s : ℕ) (dates : Bool) (i : ℕ) (b : Bound) (name until by need line : List ℕ) (needed : ℕ) → b ≡ bound g s i → name ≡ (entry_at g.entries i).name →
     by ≡ (entry_at g.entries b.by).name → needed ≡ (entry_at g.entries i).need → IsUntilWord dates b.most until → IsNeedWord dates needed need → line ≡ four_words name until by need → IsReachLine g s dates i line
 line_of g s dates i b name until by need line needed binds named by_named is_needed is_until is_need spelled = record {
   until = until;
@@ -46,7 +46,7 @@ line_of g s dates i b name until by need line needed binds named by_named is_nee
 
 -- ---- one line more
 
-pub lines_more : (g : Grove) (s : ℕ) (dates : Bool) (n : ℕ) (front line text : List ℕ) → AreReachLines g s dates n front → IsReachLine g s dates n line → text ≡ front ++ line → AreReachLines g s dates (n + 1) text
+pub lines_more : (g : Forest) (s : ℕ) (dates : Bool) (n : ℕ) (front line text : List ℕ) → AreReachLines g s dates n front → IsReachLine g s dates n line → text ≡ front ++ line → AreReachLines g s dates (n + 1) text
 lines_more g s dates n front line text before here is =
     let next : suc n ≡ n + 1 = omega arith in
     subst (λ k. AreReachLines g s dates k text) next (front, line, before, here, is)
@@ -68,7 +68,7 @@ one_need : (dates : Bool) (need : ℕ) (a b : List ℕ) → IsNeedWord dates nee
 one_need dates zero a b x y = x ∙ sym y
 one_need dates (suc n) a b x y = one_moment dates (suc n) a b x y
 
-module _ (g : Grove) (s : ℕ) (dates : Bool) where
+module _ (g : Forest) (s : ℕ) (dates : Bool) where
   one_line : (i : ℕ) (line other : List ℕ) → IsReachLine g s dates i line → IsReachLine g s dates i other → line ≡ other
   one_line i line other a b =
       let until = one_until dates (bound g s i).most a.until b.until a.is_until b.is_until in

@@ -5,15 +5,15 @@ use Rattle.std.specs.Io.KnownBytes.{Appends, Keeps}
 use Rattle.std.proofs.lemmas.List.{append-nil, length-map}
 use Rattle.std.proofs.KnownBytes.{Keeps-refl}
 use Rattle.keep_device.specs.Front.{AppendsFront}
-use Rattle.keep_tree.specs.Forest.{Grove}
+use Rattle.keep_tree.specs.Forest.{Forest}
 use Rattle.keep_tree.specs.Push.{IsForest}
 use Rattle.keep_rule.specs.declared.wake.Wake.{Wake}
 use Rattle.keep_rule.specs.Plans.{moments}
 use Rattle.keep_rule.specs.declared.force.Force.{Force}
 use Rattle.keep_rule.specs.Runs.{all_wakes, moments_of}
 use Rattle.keep_plan.specs.Decides.{IsTooLong}
-use Rattle.keep_inventory.specs.Stock.{Stock}
-use Rattle.keep_inventory.specs.Inventory.{inventory}
+use Rattle.keep_inventory.specs.Inventories.{Inventory}
+use Rattle.keep_inventory.specs.Inventory.{read_inventory}
 use Rattle.keep_inventory.proofs.Barely.{secrecy_law}
 use Rattle.keep_inventory.proofs.Inventoried.{inventory_law}
 use Rattle.keep_report.specs.declared.exit.Exit.{Exit}
@@ -35,11 +35,11 @@ use Rattle.keep_engine.proofs.OneText.{one_check_text, one_ends_text, one_plan_t
 
 -- ---- the forest is one
 
-one_grove : (bytes other : List ℕ) (d : DifferInSecrets bytes other) → d.stock.grove ≡ d.other_stock.grove
-one_grove bytes other d = (secrecy_law bytes other d.stock d.other_stock d.alike d.reads d.other_reads).0
+one_forest : (bytes other : List ℕ) (d : DifferInSecrets bytes other) → d.inventory.forest ≡ d.other_inventory.forest
+one_forest bytes other d = (secrecy_law bytes other d.inventory d.other_inventory d.alike d.reads d.other_reads).0
 
-one_stock : (bytes : List ℕ) (x y : Stock) → inventory bytes ≡ Ok x → inventory bytes ≡ Ok y → x.grove ≡ y.grove
-one_stock bytes x y a b = let same : x ≡ y = cc in ap (λ (s : Stock). s.grove) same
+one_inventory : (bytes : List ℕ) (x y : Inventory) → read_inventory bytes ≡ Ok x → read_inventory bytes ≡ Ok y → x.forest ≡ y.forest
+one_inventory bytes x y a b = let same : x ≡ y = cc in ap (λ (s : Inventory). s.forest) same
 
 keeps_appends : (old new : Option (List ℕ)) → Keeps old new → Appends old new []
 keeps_appends None new h = tt
@@ -74,36 +74,36 @@ not_cut (stops.Line number) text out sends whole = absurd sends
 
 -- a forest has one text with one exit, or one reason for none
 pub record IsOne (Text : Texts) (Halt : Halts) : Type 0 where
-  pub text : (g : Grove) (e f : Exit) (t u : List ℕ) → IsForest g → Text g e t → Text g f u → (e ≡ f) × (t ≡ u)
-  pub reason : (g : Grove) (x y : Stop) → Halt g x → Halt g y → x ≡ y
-  pub apart : (g : Grove) (e : Exit) (t : List ℕ) (x : Stop) → Text g e t → Halt g x → ⊥
+  pub text : (g : Forest) (e f : Exit) (t u : List ℕ) → IsForest g → Text g e t → Text g f u → (e ≡ f) × (t ≡ u)
+  pub reason : (g : Forest) (x y : Stop) → Halt g x → Halt g y → x ≡ y
+  pub apart : (g : Forest) (e : Exit) (t : List ℕ) (x : Stop) → Text g e t → Halt g x → ⊥
 
 module _ (Text : Texts) (Halt : Halts) where
   -- how a run over a forest comes to its end
-  abbrev EndsIn : Grove → Exit → Sent → Sent → Type 0
+  abbrev EndsIn : Forest → Exit → Sent → Sent → Type 0
   EndsIn g exit out errors =
       ((text : List ℕ) × Text g exit text × Appends out.old out.new text × IsUntouched errors)
       ⊎ ((stop : Stop) × Halt g stop × (exit ≡ exit_of stop) × Keeps out.old out.new × Reports (line_of stop) errors)
 
-  halted_in : (bytes : List ℕ) (stock : Stock) (stop : Stop) → inventory bytes ≡ Ok stock → IsWhole (exit_of stop) → Halted Halt bytes stop → Halt stock.grove stop
-  halted_in bytes stock stops.Memory reads whole halted = absurd whole
-  halted_in bytes stock (stops.Inventory fault) reads whole halted = absurd cc
-  halted_in bytes stock (stops.Moments fault) reads whole halted = subst (λ g. Halt g (stops.Moments fault)) (one_stock bytes halted.0 stock halted.1 reads) halted.2
-  halted_in bytes stock (stops.FaultWord position) reads whole halted = subst (λ g. Halt g (stops.FaultWord position)) (one_stock bytes halted.0 stock halted.1 reads) halted.2
-  halted_in bytes stock stops.TooLong reads whole halted = subst (λ g. Halt g stops.TooLong) (one_stock bytes halted.0 stock halted.1 reads) halted.2
-  halted_in bytes stock stops.Read reads whole halted = absurd whole
-  halted_in bytes stock stops.Write reads whole halted = absurd whole
-  halted_in bytes stock (stops.Broker name) reads whole halted = absurd whole
-  halted_in bytes stock (stops.Line number) reads whole halted = absurd whole
+  halted_in : (bytes : List ℕ) (inventory : Inventory) (stop : Stop) → read_inventory bytes ≡ Ok inventory → IsWhole (exit_of stop) → Halted Halt bytes stop → Halt inventory.forest stop
+  halted_in bytes inventory stops.Memory reads whole halted = absurd whole
+  halted_in bytes inventory (stops.Inventory fault) reads whole halted = absurd cc
+  halted_in bytes inventory (stops.Moments fault) reads whole halted = subst (λ g. Halt g (stops.Moments fault)) (one_inventory bytes halted.0 inventory halted.1 reads) halted.2
+  halted_in bytes inventory (stops.FaultWord position) reads whole halted = subst (λ g. Halt g (stops.FaultWord position)) (one_inventory bytes halted.0 inventory halted.1 reads) halted.2
+  halted_in bytes inventory stops.TooLong reads whole halted = subst (λ g. Halt g stops.TooLong) (one_inventory bytes halted.0 inventory halted.1 reads) halted.2
+  halted_in bytes inventory stops.Read reads whole halted = absurd whole
+  halted_in bytes inventory stops.Write reads whole halted = absurd whole
+  halted_in bytes inventory (stops.Broker name) reads whole halted = absurd whole
+  halted_in bytes inventory (stops.Line number) reads whole halted = absurd whole
 
-  ends_in : (bytes : List ℕ) (stock : Stock) (exit : Exit) (out errors : Sent) → inventory bytes ≡ Ok stock → IsWhole exit → RunOf Text Halt bytes exit out errors → EndsIn stock.grove exit out errors
-  ends_in bytes stock exit out errors reads whole (inl run) =
-      inl (run.2, subst (λ g. Text g exit run.2) (one_stock bytes run.0 stock run.1 reads) run.3, run.4.0, run.5)
-  ends_in bytes stock exit out errors reads whole (inr (inl run)) =
-      inr (run.0, halted_in bytes stock run.0 reads (subst IsWhole run.2 whole) run.1, run.2, run.3.0, run.4)
-  ends_in bytes stock exit out errors reads whole (inr (inr run)) = not_cut run.5 run.3 out run.6 (subst IsWhole run.7 whole)
+  ends_in : (bytes : List ℕ) (inventory : Inventory) (exit : Exit) (out errors : Sent) → read_inventory bytes ≡ Ok inventory → IsWhole exit → RunOf Text Halt bytes exit out errors → EndsIn inventory.forest exit out errors
+  ends_in bytes inventory exit out errors reads whole (inl run) =
+      inl (run.2, subst (λ g. Text g exit run.2) (one_inventory bytes run.0 inventory run.1 reads) run.3, run.4.0, run.5)
+  ends_in bytes inventory exit out errors reads whole (inr (inl run)) =
+      inr (run.0, halted_in bytes inventory run.0 reads (subst IsWhole run.2 whole) run.1, run.2, run.3.0, run.4)
+  ends_in bytes inventory exit out errors reads whole (inr (inr run)) = not_cut run.5 run.3 out run.6 (subst IsWhole run.7 whole)
 
-  both_end : (g : Grove) (exit exit' : Exit) (out out' errors errors' : Sent) → IsOne Text Halt → IsForest g → EndsIn g exit out errors → EndsIn g exit' out' errors' →
+  both_end : (g : Forest) (exit exit' : Exit) (out out' errors errors' : Sent) → IsOne Text Halt → IsForest g → EndsIn g exit out errors → EndsIn g exit' out' errors' →
       (exit ≡ exit') × WriteSame out out' × TellSame errors errors'
   both_end g exit exit' out out' errors errors' one forest (inl a) (inl b) =
       let same = one.text g exit exit' a.0 b.0 forest a.1 b.1 in
@@ -115,17 +115,17 @@ module _ (Text : Texts) (Halt : Halts) where
   both_end g exit exit' out out' errors errors' one forest (inr a) (inl b) = absurd (one.apart g exit' b.0 a.0 b.1 a.1)
 
   -- a front of a text was written, or nothing
-  abbrev Fronts : Grove → Sent → Type 0
+  abbrev Fronts : Forest → Sent → Type 0
   Fronts g out = ((text : List ℕ) × ((exit : Exit) × Text g exit text) × AppendsFront out.old out.new text) ⊎ Keeps out.old out.new
 
-  fronts_in : (bytes : List ℕ) (stock : Stock) (exit : Exit) (out errors : Sent) → inventory bytes ≡ Ok stock → RunOf Text Halt bytes exit out errors → Fronts stock.grove out
-  fronts_in bytes stock exit out errors reads (inl run) =
-      subst (λ g. Fronts g out) (one_stock bytes run.0 stock run.1 reads) (inl (run.2, (exit, run.3), whole_front out.old out.new out.new run.2 run.4.0 (Keeps-refl out.new)))
-  fronts_in bytes stock exit out errors reads (inr (inl run)) = inr run.3.0
-  fronts_in bytes stock exit out errors reads (inr (inr run)) =
-      subst (λ g. Fronts g out) (one_stock bytes run.0 stock run.1 reads) (inl (run.3, (run.2, run.4), cut_front run.5 run.3 out run.6))
+  fronts_in : (bytes : List ℕ) (inventory : Inventory) (exit : Exit) (out errors : Sent) → read_inventory bytes ≡ Ok inventory → RunOf Text Halt bytes exit out errors → Fronts inventory.forest out
+  fronts_in bytes inventory exit out errors reads (inl run) =
+      subst (λ g. Fronts g out) (one_inventory bytes run.0 inventory run.1 reads) (inl (run.2, (exit, run.3), whole_front out.old out.new out.new run.2 run.4.0 (Keeps-refl out.new)))
+  fronts_in bytes inventory exit out errors reads (inr (inl run)) = inr run.3.0
+  fronts_in bytes inventory exit out errors reads (inr (inr run)) =
+      subst (λ g. Fronts g out) (one_inventory bytes run.0 inventory run.1 reads) (inl (run.3, (run.2, run.4), cut_front run.5 run.3 out run.6))
 
-  two_fronts : (g : Grove) (out out' : Sent) → IsOne Text Halt → IsForest g → Fronts g out → Fronts g out' → WriteFronts out out'
+  two_fronts : (g : Forest) (out out' : Sent) → IsOne Text Halt → IsForest g → Fronts g out → Fronts g out' → WriteFronts out out'
   two_fronts g out out' one forest (inl a) (inl b) =
       (a.0, a.2, subst (AppendsFront out'.old out'.new) (sym (one.text g a.1.0 b.1.0 a.0 b.0 forest a.1.1 b.1.1).1) b.2)
   two_fronts g out out' one forest (inl a) (inr kept) = (a.0, a.2, (0, keeps_appends _ _ kept))
@@ -135,12 +135,12 @@ module _ (Text : Texts) (Halt : Halts) where
   pub runs_alike : (bytes other : List ℕ) (exit exit' : Exit) (out out' errors errors' : Sent) → IsOne Text Halt → DifferInSecrets bytes other →
       RunOf Text Halt bytes exit out errors → RunOf Text Halt other exit' out' errors' → RunAlike exit exit' out out' errors errors'
   runs_alike bytes other exit exit' out out' errors errors' one d a b =
-      let grove = sym (one_grove bytes other d) in
-      let g = d.stock.grove in
-      let forest = (inventory_law bytes d.stock d.reads).forest in (
-        two_fronts g out out' one forest (fronts_in bytes d.stock exit out errors d.reads a) (subst (λ g. Fronts g out') grove (fronts_in other d.other_stock exit' out' errors' d.other_reads b)),
-        λ whole whole'. both_end g exit exit' out out' errors errors' one forest (ends_in bytes d.stock exit out errors d.reads whole a)
-            (subst (λ g. EndsIn g exit' out' errors') grove (ends_in other d.other_stock exit' out' errors' d.other_reads whole' b)),
+      let forest = sym (one_forest bytes other d) in
+      let g = d.inventory.forest in
+      let forest = (inventory_law bytes d.inventory d.reads).forest in (
+        two_fronts g out out' one forest (fronts_in bytes d.inventory exit out errors d.reads a) (subst (λ g. Fronts g out') forest (fronts_in other d.other_inventory exit' out' errors' d.other_reads b)),
+        λ whole whole'. both_end g exit exit' out out' errors errors' one forest (ends_in bytes d.inventory exit out errors d.reads whole a)
+            (subst (λ g. EndsIn g exit' out' errors') forest (ends_in other d.other_inventory exit' out' errors' d.other_reads whole' b)),
       )
 
 -- ---- each command
@@ -159,7 +159,7 @@ count_moments : (xs : List Force) → length (moments_of xs) ≡ length xs
 count_moments [] = refl
 count_moments (x ∷ xs) = ap (λ k. suc k) (count_moments xs)
 
-long_or_planned : {X : Type 0} (g : Grove) (s : ℕ) (text : List ℕ) → IsTooLong g s → IsPlanText g s text → X
+long_or_planned : {X : Type 0} (g : Forest) (s : ℕ) (text : List ℕ) → IsTooLong g s → IsPlanText g s text → X
 long_or_planned g s text a b =
     let plan = b.best.least.plan in
     let long = a.long plan b.best.least.in_order b.best.least.kept in
@@ -169,10 +169,10 @@ long_or_planned g s text a b =
     let three = count_moments (all_wakes b.runs) in
     absurd (omega (arith, long, few, one, two, three))
 
-long_or_pair : {X : Type 0} (g : Grove) (s : ℕ) (text : List ℕ) → IsTooLong g s → IsPairText g s text → X
+long_or_pair : {X : Type 0} (g : Forest) (s : ℕ) (text : List ℕ) → IsTooLong g s → IsPairText g s text → X
 long_or_pair g s text a b = absurd (b.none a.some.0 a.some.1.0 a.some.1.1)
 
-long_or_certified : (g : Grove) (s : ℕ) (exit : Exit) (text : List ℕ) → IsTooLong g s → IsCertified g s exit text → ⊥
+long_or_certified : (g : Forest) (s : ℕ) (exit : Exit) (text : List ℕ) → IsTooLong g s → IsCertified g s exit text → ⊥
 long_or_certified g s exits.Done text long is = long_or_planned g s text long is
 long_or_certified g s exits.Unkeepable text long is = long_or_pair g s text long is
 long_or_certified g s exits.Inventory text long is = is

@@ -7,7 +7,7 @@ use Rattle.std.proofs.lemmas.Fmt.{length-decimal-le}
 use Rattle.std.proofs.lemmas.List.{length-append}
 use Rattle.std.proofs.Math.Nat.{mul-le-mul_right}
 use Rattle.keep_moment.specs.declared.moment.TheConstants.{LAST}
-use Rattle.keep_tree.specs.Forest.{Grove, entry_at}
+use Rattle.keep_tree.specs.Forest.{Forest, entry_at}
 use Rattle.keep_tree.specs.Push.{IsForest, is_name, is_name_byte}
 use Rattle.keep_tree.specs.declared.forest.TheConstants.{NAME_MAX}
 use Rattle.keep_rule.specs.declared.limit.TheConstants.{LIMIT}
@@ -44,7 +44,7 @@ number_size n within = length-decimal-le 12 n (omega arith) (omega arith) (omega
 within_test : (m n : ℕ) → nat_le m n ≡ true → m ≤ n
 within_test m n h = grind (arith, nat_tests)
 
-name_size : (g : Grove) → IsForest g → (i : ℕ) → i < length g.entries → length (name_of g.entries i) ≤ 64
+name_size : (g : Forest) → IsForest g → (i : ℕ) → i < length g.entries → length (name_of g.entries i) ≤ 64
 unfolding name_of is_name
 name_size g forest i within =
     let name = (entry_at g.entries i).name in
@@ -59,7 +59,7 @@ step_within r lone some within =
       | inr one ↦ let none = lone.1 (omega arith) in omega arith
     ]
 
-run_size : (g : Grove) → IsForest g → (r : Run) → IsRunOf Two g.entries r → r.count ≤ LIMIT → length (run_text Two g.entries r) ≤ 174
+run_size : (g : Forest) → IsForest g → (r : Run) → IsRunOf Two g.entries r → r.count ≤ LIMIT → length (run_text Two g.entries r) ≤ 174
 unfolding run_text
 run_size g forest r is few =
     let line = line_size (codes "run" ∷ decimal r.first ∷ decimal r.step ∷ decimal r.count ∷ name_of g.entries r.entry ∷ name_of g.entries r.needed ∷ []) in
@@ -71,7 +71,7 @@ run_size g forest r is few =
     let e = name_size g forest r.needed is.among.needed in
     omega arith
 
-runs_size : (g : Grove) → IsForest g → (rs : List Run) → AreRunsOf Two g.entries rs → counted rs ≤ LIMIT → length (flat_map (run_text Two g.entries) rs) ≤ length rs * 174
+runs_size : (g : Forest) → IsForest g → (rs : List Run) → AreRunsOf Two g.entries rs → counted rs ≤ LIMIT → length (flat_map (run_text Two g.entries) rs) ≤ length rs * 174
 runs_size g forest [] each few = omega arith
 runs_size g forest (r ∷ rs) each few =
     let parts = length-append (run_text Two g.entries r) (flat_map (run_text Two g.entries) rs) in
@@ -87,7 +87,7 @@ end_size : (count : ℕ) → count ≤ LIMIT → length (end_text count) ≤ 18
 unfolding end_text
 end_size count few = let line = line_size (codes "end" ∷ decimal count ∷ []) in let number = number_size count (omega arith) in omega arith
 
-pair_size : (g : Grove) → IsForest g → (entry needed : ℕ) → entry < length g.entries → needed < length g.entries → length (unkeepable_text g.entries entry needed) ≤ 142
+pair_size : (g : Forest) → IsForest g → (entry needed : ℕ) → entry < length g.entries → needed < length g.entries → length (unkeepable_text g.entries entry needed) ≤ 142
 unfolding unkeepable_text
 pair_size g forest entry needed a b =
     let line = line_size (codes "unkeepable" ∷ name_of g.entries entry ∷ name_of g.entries needed ∷ []) in
@@ -96,11 +96,11 @@ pair_size g forest entry needed a b =
     omega arith
 
 -- a body of few runs
-abbrev pub HasFewRuns : Grove → Body → Type 0
+abbrev pub HasFewRuns : Forest → Body → Type 0
 HasFewRuns g (Runs rs) = length rs ≤ 2 * length g.entries - 1
 HasFewRuns g (Unkeepable entry needed) = Unit {0}
 
-body_size : (g : Grove) → IsForest g → (b : Body) → IsBody Two g.entries b → HasFewRuns g b → length (body_text Two g.entries b) ≤ 8191 * 174 + 18
+body_size : (g : Forest) → IsForest g → (b : Body) → IsBody Two g.entries b → HasFewRuns g b → length (body_text Two g.entries b) ≤ 8191 * 174 + 18
 unfolding body_text
 body_size g forest (Runs rs) is few =
     let parts = length-append (flat_map (run_text Two g.entries) rs) (end_text (counted rs)) in
@@ -110,7 +110,7 @@ body_size g forest (Runs rs) is few =
     omega arith
 body_size g forest (Unkeepable entry needed) is few = let line = pair_size g forest entry needed is.0 is.1 in omega arith
 
-pub certificate_size : (g : Grove) → IsForest g → (s : ℕ) → s ≤ LAST → (b : Body) → IsBody Two g.entries b → HasFewRuns g b → length (certificate_text g.entries (certified s b)) ≤ MOST_CERTIFICATE
+pub certificate_size : (g : Forest) → IsForest g → (s : ℕ) → s ≤ LAST → (b : Body) → IsBody Two g.entries b → HasFewRuns g b → length (certificate_text g.entries (certified s b)) ≤ MOST_CERTIFICATE
 unfolding certificate_text header_text
 certificate_size g forest s start b is few =
     let head = length-append (header_text Two) (start_text s ++ body_text Two g.entries b) in

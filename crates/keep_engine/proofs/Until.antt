@@ -5,7 +5,7 @@ use Rattle.std.proofs.lemmas.Bool.{cases_lt, or_cases}
 use Rattle.std.proofs.lemmas.Bool.Decides.{nat_tests}
 use Rattle.std.specs.List.{list_any}
 use Rattle.keep_tree.specs.declared.entry.Entry.{Entry}
-use Rattle.keep_tree.specs.Forest.{Grove, end_of, entry_at}
+use Rattle.keep_tree.specs.Forest.{Forest, end_of, entry_at}
 use Rattle.keep_tree.specs.Over.{Over, chain, is_over}
 use Rattle.keep_tree.specs.Push.{IsForest}
 use Rattle.keep_tree.proofs.Chains.{cases_Option, chain_same}
@@ -108,7 +108,7 @@ binding_same p q same [] = refl
 binding_same p q same (x ∷ xs) =
     ap (λ (own : Option ℕ). nearer own x (binding q xs).most (binding q xs).by) (same x) ∙ ap (λ (b : Bound). nearer (p x) x b.most b.by) (binding_same p q same xs)
 
-reach_same : (g other : Grove) (s k : ℕ) → DifferInNeeds g other → reach other.entries other.margin s (end_of other.entries) k ≡ reach g.entries g.margin s (end_of g.entries) k
+reach_same : (g other : Forest) (s k : ℕ) → DifferInNeeds g other → reach other.entries other.margin s (end_of other.entries) k ≡ reach g.entries g.margin s (end_of g.entries) k
 unfolding reach reach_of end_of
 reach_same g other s k differ =
     ap (λ m. reach_of (entry_at other.entries k) m s (entry_at other.entries k).end) differ.margin ∙ ap (λ (e : Entry). reach_of e g.margin s e.end) (differ.each k).1

@@ -1,6 +1,6 @@
 -- Words for the parts of the run `check`. No public clause cites them.
 use Rattle.std.specs.Prelude.{◌≡◌, ℕ, ◌<◌, List, codes}
-use Rattle.keep_tree.specs.Forest.{Grove}
+use Rattle.keep_tree.specs.Forest.{Forest}
 use Rattle.keep_cert.specs.declared.cert.Cert.{Cert}
 use Rattle.keep_check.specs.declared.answer.Answer.TheVariants.{No, Yes}
 use Rattle.keep_check.specs.declared.answer.Cause.{Cause}
@@ -20,7 +20,7 @@ IsNamed n (NotKept i) = i < n
 IsNamed n NotUnkeepable = Unit {0}
 
 -- the line about a certificate that goes with an exit
-abbrev pub IsVerdict : Grove → Cert → Exit → List ℕ → Type 0
+abbrev pub IsVerdict : Forest → Cert → Exit → List ℕ → Type 0
 IsVerdict g c exits.Done line = IsAnswer g c Yes × (Holds g c.start c.body × (line ≡ codes "yes\n"))
 IsVerdict g c exits.No line = (cause : Cause) × IsAnswer g c (No cause) × (line ≡ no_line g.entries cause)
 IsVerdict g c exit line = ⊥

@@ -1,7 +1,7 @@
 -- The run `check`: which line goes with which exit.
 -- Source: this project's own.
 use Rattle.std.specs.Prelude.{◌≡◌, ℕ, ◌⊎◌, List, Some, Err, codes}
-use Rattle.keep_tree.specs.Forest.{Grove}
+use Rattle.keep_tree.specs.Forest.{Forest}
 use Rattle.keep_cert.specs.declared.cert.Cert.{Cert}
 use Rattle.keep_cert.specs.declared.fault.CertFault.{CertFault}
 use Rattle.keep_cert.specs.CertificateText.{Writes}
@@ -17,7 +17,7 @@ use Rattle.keep_report.specs.Sent.{Sent}
 use Rattle.keep_engine.specs.Running.{NoHalts, RunOf, Texts}
 
 -- the text writes a certificate that gets Yes: its moments are least and latest, or no plan keeps
-pub record IsAccepted (g : Grove) (text line : List ℕ) : Type 0 where
+pub record IsAccepted (g : Forest) (text line : List ℕ) : Type 0 where
   pub cert : Cert
   pub writes : Writes g.entries text cert
   pub answer : IsAnswer g cert Yes
@@ -25,7 +25,7 @@ pub record IsAccepted (g : Grove) (text line : List ℕ) : Type 0 where
   pub spelled : line ≡ codes "yes\n"
 
 -- the text writes a certificate that gets No for this cause
-pub record IsRefused (g : Grove) (text line : List ℕ) : Type 0 where
+pub record IsRefused (g : Forest) (text line : List ℕ) : Type 0 where
   pub cert : Cert
   pub writes : Writes g.entries text cert
   pub cause : Cause
@@ -33,13 +33,13 @@ pub record IsRefused (g : Grove) (text line : List ℕ) : Type 0 where
   pub spelled : line ≡ no_line g.entries cause
 
 -- the text writes no certificate: this is its first fault
-pub record IsUnreadable (g : Grove) (text line : List ℕ) : Type 0 where
+pub record IsUnreadable (g : Forest) (text line : List ℕ) : Type 0 where
   pub fault : CertFault
   pub fails : certificate_of g.entries text ≡ Err fault
   pub spelled : unreadable_line fault ≡ Some line
 
 -- the line about a text over a forest that goes with an exit
-abbrev pub IsJudged : Grove → List ℕ → Exit → List ℕ → Type 0
+abbrev pub IsJudged : Forest → List ℕ → Exit → List ℕ → Type 0
 IsJudged g text exits.Done line = IsAccepted g text line
 IsJudged g text exits.No line = IsRefused g text line ⊎ IsUnreadable g text line
 IsJudged g text exit line = ⊥

@@ -3,7 +3,7 @@
 use Rattle.std.specs.Prelude.{◌≡◌, ◌↔◌, ℕ, Bool, true, false, IsTrue, List, [], ◌∷◌, ◌++◌, None, codes, decimal, length, map, flat_map}
 use Rattle.std.specs.List.{range_with_len}
 use Rattle.keep_tree.specs.declared.entry.Entry.{Entry}
-use Rattle.keep_tree.specs.Forest.{Grove, end_of, entry_at}
+use Rattle.keep_tree.specs.Forest.{Forest, end_of, entry_at}
 use Rattle.keep_rule.specs.declared.wake.Wake.{Wake}
 use Rattle.keep_rule.specs.Ends.{ends_after}
 use Rattle.keep_rule.specs.Keeps.{Keeps}
@@ -27,7 +27,7 @@ keeps_line false = codes "keeps no\n"
 
 -- a line for each entry with its end once every entry was asked at each of these moments, and a line that says if this
 -- keeps each entry from s until its need
-pub record IsEndsText (g : Grove) (s : ℕ) (moments text : List ℕ) : Type 0 where
+pub record IsEndsText (g : Forest) (s : ℕ) (moments text : List ℕ) : Type 0 where
   pub in_order : wake_fault g.entries s (all_asked (length g.entries) moments) ≡ None
   pub kept : Bool
   pub judged : IsTrue kept ↔ Keeps g.entries g.margin s (end_of g.entries) (all_asked (length g.entries) moments)
@@ -35,4 +35,4 @@ pub record IsEndsText (g : Grove) (s : ℕ) (moments text : List ℕ) : Type 0 w
 
 -- a forest, a start and moments have one such text: nothing else shows in it
 abbrev pub OneEndsText : Type 0
-OneEndsText = (g : Grove) (s : ℕ) (moments text other : List ℕ) → IsEndsText g s moments text → IsEndsText g s moments other → text ≡ other
+OneEndsText = (g : Forest) (s : ℕ) (moments text other : List ℕ) → IsEndsText g s moments text → IsEndsText g s moments other → text ≡ other

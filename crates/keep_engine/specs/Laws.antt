@@ -1,7 +1,7 @@
 -- Laws of the runs. Each is the contract of a public function without a body.
 use Rattle.std.specs.Prelude.{◌≡◌, ℕ, ◌≤◌, List, Ok, codes, length}
 use Rattle.keep_moment.specs.declared.moment.TheConstants.{LAST}
-use Rattle.keep_tree.specs.Forest.{Grove}
+use Rattle.keep_tree.specs.Forest.{Forest}
 use Rattle.keep_tree.specs.Push.{IsForest}
 use Rattle.keep_plan.specs.declared.decision.Decision.{Decision}
 use Rattle.keep_plan.specs.Decides.{Decides}
@@ -12,8 +12,8 @@ use Rattle.keep_check.specs.declared.answer.Answer.{Answer}
 use Rattle.keep_check.specs.declared.answer.Answer.TheVariants.{Yes}
 use Rattle.keep_check.specs.Answer.{IsAnswer}
 use Rattle.keep_check.specs.Fit.{CanBeJudged}
-use Rattle.keep_inventory.specs.Stock.{Stock}
-use Rattle.keep_inventory.specs.Inventory.{inventory}
+use Rattle.keep_inventory.specs.Inventories.{Inventory}
+use Rattle.keep_inventory.specs.Inventory.{read_inventory}
 use Rattle.keep_report.specs.declared.exit.Exit.{Exit}
 use Rattle.keep_report.specs.declared.exit.Exit.TheVariants as exits
 use Rattle.keep_cert.specs.declared.cert.TheConstants.{MOST_CERTIFICATE}
@@ -24,11 +24,11 @@ use Rattle.keep_engine.specs.PlanRun.{IsCertified}
 -- answer to that is Yes
 abbrev pub OwnCertificateLaw : Type 0
 OwnCertificateLaw =
-    (g : Grove) (s : ℕ) (d : Decision) (text : List ℕ) → IsForest g → s ≤ LAST → Decides g s d → Prints g.entries s (claim d) (Ok text) →
+    (g : Forest) (s : ℕ) (d : Decision) (text : List ℕ) → IsForest g → s ≤ LAST → Decides g s d → Prints g.entries s (claim d) (Ok text) →
     (c : Cert) × (certificate_of g.entries text ≡ Ok c) × CanBeJudged g c.body × ((answer : Answer) → IsAnswer g c answer → answer ≡ Yes)
 
 -- a text that `check` accepts with `yes`, with no other line and no other exit, and that is short enough to be read
-pub record IsOwnText (g : Grove) (text : List ℕ) : Type 0 where
+pub record IsOwnText (g : Forest) (text : List ℕ) : Type 0 where
   pub accepted : IsAccepted g text (codes "yes\n")
   pub alone : (exit : Exit) (line : List ℕ) → IsJudged g text exit line → (exit ≡ exits.Done) × (line ≡ codes "yes\n")
   pub short : length text ≤ MOST_CERTIFICATE
@@ -36,14 +36,14 @@ pub record IsOwnText (g : Grove) (text : List ℕ) : Type 0 where
 -- what `plan` writes of the bytes of an inventory, of whichever exit, is such a text over the inventory's forest
 abbrev pub OwnTextLaw : Type 0
 OwnTextLaw =
-    (bytes : List ℕ) (stock : Stock) (s : ℕ) (exit : Exit) (text : List ℕ) → inventory bytes ≡ Ok stock → s ≤ LAST → IsCertified stock.grove s exit text →
-    IsForest stock.grove × IsOwnText stock.grove text
+    (bytes : List ℕ) (inventory : Inventory) (s : ℕ) (exit : Exit) (text : List ℕ) → read_inventory bytes ≡ Ok inventory → s ≤ LAST → IsCertified inventory.forest s exit text →
+    IsForest inventory.forest × IsOwnText inventory.forest text
 
 -- a forest and a start have one text of `plan`, and one exit: nothing else shows in them
 abbrev pub OnePlanText : Type 0
-OnePlanText = (g : Grove) (s : ℕ) (exit exit' : Exit) (text other : List ℕ) → IsCertified g s exit text → IsCertified g s exit' other → (exit ≡ exit') × (text ≡ other)
+OnePlanText = (g : Forest) (s : ℕ) (exit exit' : Exit) (text other : List ℕ) → IsCertified g s exit text → IsCertified g s exit' other → (exit ≡ exit') × (text ≡ other)
 
 -- a forest and a certificate's text have one line of `check`, and one exit: nothing else shows in them
 abbrev pub OneCheckText : Type 0
 OneCheckText =
-    (g : Grove) (text : List ℕ) (exit exit' : Exit) (line other : List ℕ) → IsForest g → IsJudged g text exit line → IsJudged g text exit' other → (exit ≡ exit') × (line ≡ other)
+    (g : Forest) (text : List ℕ) (exit exit' : Exit) (line other : List ℕ) → IsForest g → IsJudged g text exit line → IsJudged g text exit' other → (exit ≡ exit') × (line ≡ other)

@@ -1,8 +1,8 @@
 -- Words for the parts of a run: what is made before the first write, and its delivery. No public clause cites them.
 use Rattle.std.specs.Prelude.{◌≡◌, ◌⊎◌, ℕ, List, Result, Ok, Err, slice_index}
-use Rattle.keep_tree.specs.Forest.{Grove}
-use Rattle.keep_inventory.specs.Stock.{Stock}
-use Rattle.keep_inventory.specs.Inventory.{inventory}
+use Rattle.keep_tree.specs.Forest.{Forest}
+use Rattle.keep_inventory.specs.Inventories.{Inventory}
+use Rattle.keep_inventory.specs.Inventory.{read_inventory}
 use Rattle.keep_report.specs.declared.exit.Exit.{Exit}
 use Rattle.keep_report.specs.declared.stop.Stop.{Stop}
 use Rattle.keep_report.specs.declared.stop.Stop.TheVariants as stops
@@ -13,16 +13,16 @@ use Rattle.keep_engine.specs.declared.outcome.Outcome.{Outcome}
 use Rattle.keep_engine.specs.Running.{Halts, Texts, line_of}
 
 -- what a command makes of a forest
-abbrev pub MakesOf : Texts → Halts → Grove → Result Outcome Stop → Type 0
+abbrev pub MakesOf : Texts → Halts → Forest → Result Outcome Stop → Type 0
 MakesOf Text Halt g (Ok outcome) = Text g outcome.exit outcome.text
 MakesOf Text Halt g (Err stops.Memory) = Unit {0}
 MakesOf Text Halt g (Err stop) = Halt g stop
 
 -- what it makes of the bytes of an inventory
 abbrev pub Makes : Texts → Halts → List ℕ → Result Outcome Stop → Type 0
-Makes Text Halt bytes (Err (stops.Inventory fault)) = inventory bytes ≡ Err fault
+Makes Text Halt bytes (Err (stops.Inventory fault)) = read_inventory bytes ≡ Err fault
 Makes Text Halt bytes (Err stops.Memory) = Unit {0}
-Makes Text Halt bytes made = (stock : Stock) × (inventory bytes ≡ Ok stock) × MakesOf Text Halt stock.grove made
+Makes Text Halt bytes made = (inventory : Inventory) × (read_inventory bytes ≡ Ok inventory) × MakesOf Text Halt inventory.forest made
 
 -- a text was sent, or why only a front of it was; or why there is none was told
 abbrev pub Delivers : Result Outcome Stop → Exit → Sent → Sent → Type 0

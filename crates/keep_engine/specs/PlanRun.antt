@@ -1,7 +1,7 @@
 -- The run `plan`: which text goes with which exit, and when there is none.
 -- Source: this project's own, over Vault, "Lease, renew, and revoke", and Vault, "Tokens".
 use Rattle.std.specs.Prelude.{◌≡◌, ℕ, List}
-use Rattle.keep_tree.specs.Forest.{Grove}
+use Rattle.keep_tree.specs.Forest.{Forest}
 use Rattle.keep_rule.specs.declared.run.Run.{Run}
 use Rattle.keep_plan.specs.declared.decision.Decision.{Decision}
 use Rattle.keep_plan.specs.declared.decision.Decision.TheVariants as decision
@@ -18,13 +18,13 @@ use Rattle.keep_engine.specs.Running.{Halts, RunOf, Texts}
 
 -- the certificate of runs whose wake-ups are the forces from s on: their moments are least and latest, and with their Asks
 -- they keep
-pub record IsPlanText (g : Grove) (s : ℕ) (text : List ℕ) : Type 0 where
+pub record IsPlanText (g : Forest) (s : ℕ) (text : List ℕ) : Type 0 where
   pub runs : List Run
   pub best : AreBest g s runs
   pub spelled : text ≡ certificate_text g.entries (certified s (body.Runs runs))
 
 -- the certificate of the lowest entry that cannot be led to a need it carries, and of whose need that is; no plan keeps
-pub record IsPairText (g : Grove) (s : ℕ) (text : List ℕ) : Type 0 where
+pub record IsPairText (g : Forest) (s : ℕ) (text : List ℕ) : Type 0 where
   pub entry : ℕ
   pub needed : ℕ
   pub short : IsShortfall g s entry needed
@@ -32,7 +32,7 @@ pub record IsPairText (g : Grove) (s : ℕ) (text : List ℕ) : Type 0 where
   pub spelled : text ≡ certificate_text g.entries (certified s (body.Unkeepable entry needed))
 
 -- the text of a forest that goes with an exit
-abbrev pub IsCertified : Grove → ℕ → Exit → List ℕ → Type 0
+abbrev pub IsCertified : Forest → ℕ → Exit → List ℕ → Type 0
 IsCertified g s exits.Done text = IsPlanText g s text
 IsCertified g s exits.Unkeepable text = IsPairText g s text
 IsCertified g s exit text = ⊥

@@ -1,12 +1,12 @@
 -- Laws of what binds an entry: until when some plan keeps it, and that no need plays a part in it.
 use Rattle.std.specs.Prelude.{◌≡◌, ℕ, ◌<◌, ◌≤◌, Option, Some, None, length}
-use Rattle.keep_tree.specs.Forest.{Grove, entry_at}
+use Rattle.keep_tree.specs.Forest.{Forest, entry_at}
 use Rattle.keep_tree.specs.Push.{IsForest}
 use Rattle.keep_plan.specs.Decides.{NoneKeeps, SomeKeeps}
 use Rattle.keep_engine.specs.ReachText.{bound}
 
 -- the entry i is needed after s, and no other is
-pub record IsNeededAlone (g : Grove) (s i : ℕ) : Type 0 where
+pub record IsNeededAlone (g : Forest) (s i : ℕ) : Type 0 where
   pub later : s < (entry_at g.entries i).need
   pub alone : (k : ℕ) → s < (entry_at g.entries k).need → k ≡ i
 
@@ -17,14 +17,14 @@ IsWithin need (Some most) = need ≤ most
 -- some plan keeps an entry that is needed alone until what binds it, and none a second longer
 abbrev pub UntilLaw : Type 0
 UntilLaw =
-    (g : Grove) (s i : ℕ) → IsForest g → IsNeededAlone g s i →
+    (g : Forest) (s i : ℕ) → IsForest g → IsNeededAlone g s i →
     (IsWithin (entry_at g.entries i).need (bound g s i).most → SomeKeeps g s) × ((IsWithin (entry_at g.entries i).need (bound g s i).most → ⊥) → NoneKeeps g s)
 
 -- two forests that differ in needs alone
-pub record DifferInNeeds (g other : Grove) : Type 0 where
+pub record DifferInNeeds (g other : Forest) : Type 0 where
   pub margin : other.margin ≡ g.margin
   pub each : (k : ℕ) → (need : ℕ) × (entry_at other.entries k ≡ record (entry_at g.entries k) { need = need })
 
 -- an entry is bound alike, whatever is needed
 abbrev pub WhateverIsNeeded : Type 0
-WhateverIsNeeded = (g other : Grove) (s i : ℕ) → IsForest g → DifferInNeeds g other → bound other s i ≡ bound g s i
+WhateverIsNeeded = (g other : Forest) (s i : ℕ) → IsForest g → DifferInNeeds g other → bound other s i ≡ bound g s i

@@ -4,7 +4,7 @@
 use Rattle.std.specs.Prelude.{◌≡◌, ◌⊎◌, ℕ, zero, suc, ◌≤◌, ◌<◌, Bool, true, false, if◌then◌else◌, nat_le, List, [], ◌∷◌, ◌++◌, Option, Some, None, codes, decimal, length}
 use Rattle.keep_moment.specs.declared.moment.TheConstants.{LAST}
 use Rattle.keep_moment.specs.Rfc3339.{IsDateText}
-use Rattle.keep_tree.specs.Forest.{Grove, end_of, entry_at}
+use Rattle.keep_tree.specs.Forest.{Forest, end_of, entry_at}
 use Rattle.keep_tree.specs.Over.{chain}
 use Rattle.keep_rule.specs.Reach.{reach}
 use Rattle.keep_plan.specs.Decides.{NoneKeeps, SomeKeeps}
@@ -25,7 +25,7 @@ binding reach [] = record { most = None; by = 0 }
 binding reach (i ∷ over) = nearer (reach i) i (binding reach over).most (binding reach over).by
 
 -- the least reach from s over the entry i, and the lowest entry over it that has it
-unfoldable pub bound : Grove → ℕ → ℕ → Bound
+unfoldable pub bound : Forest → ℕ → ℕ → Bound
 bound g s i = binding (reach g.entries g.margin s (end_of g.entries)) (chain g.entries i)
 
 -- a moment as a number, or as a date where it has one
@@ -47,7 +47,7 @@ unfoldable pub four_words : List ℕ → List ℕ → List ℕ → List ℕ → 
 four_words a b c d = a ++ (32 ∷ (b ++ (32 ∷ (c ++ (32 ∷ (d ++ (10 ∷ [])))))))
 
 -- `NAME UNTIL BY NEED` and a line feed
-pub record IsReachLine (g : Grove) (s : ℕ) (dates : Bool) (i : ℕ) (line : List ℕ) : Type 0 where
+pub record IsReachLine (g : Forest) (s : ℕ) (dates : Bool) (i : ℕ) (line : List ℕ) : Type 0 where
   pub until : List ℕ
   pub is_until : IsUntilWord dates (bound g s i).most until
   pub need : List ℕ
@@ -55,17 +55,17 @@ pub record IsReachLine (g : Grove) (s : ℕ) (dates : Bool) (i : ℕ) (line : Li
   pub spelled : line ≡ four_words (entry_at g.entries i).name until (entry_at g.entries (bound g s i).by).name need
 
 -- the lines of the first n entries, in order
-abbrev pub AreReachLines : Grove → ℕ → Bool → ℕ → List ℕ → Type 0
+abbrev pub AreReachLines : Forest → ℕ → Bool → ℕ → List ℕ → Type 0
 AreReachLines g s dates zero text = text ≡ []
 AreReachLines g s dates (suc n) text = (front : List ℕ) × (line : List ℕ) × AreReachLines g s dates n front × IsReachLine g s dates n line × (text ≡ front ++ line)
 
 -- whether some plan keeps
-abbrev pub IsKept : Grove → ℕ → Bool → Type 0
+abbrev pub IsKept : Forest → ℕ → Bool → Type 0
 IsKept g s true = SomeKeeps g s
 IsKept g s false = NoneKeeps g s
 
 -- a line for each entry, and a line that says whether some plan from s keeps each entry until its need
-pub record IsReachText (g : Grove) (s : ℕ) (dates : Bool) (text : List ℕ) : Type 0 where
+pub record IsReachText (g : Forest) (s : ℕ) (dates : Bool) (text : List ℕ) : Type 0 where
   pub lines : List ℕ
   pub are_lines : AreReachLines g s dates (length g.entries) lines
   pub kept : Bool
@@ -74,4 +74,4 @@ pub record IsReachText (g : Grove) (s : ℕ) (dates : Bool) (text : List ℕ) : 
 
 -- a forest and a start have one such text: nothing else shows in it
 abbrev pub OneReachText : Type 0
-OneReachText = (g : Grove) (s : ℕ) (dates : Bool) (text other : List ℕ) → IsReachText g s dates text → IsReachText g s dates other → text ≡ other
+OneReachText = (g : Forest) (s : ℕ) (dates : Bool) (text other : List ℕ) → IsReachText g s dates text → IsReachText g s dates other → text ≡ other

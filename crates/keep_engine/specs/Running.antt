@@ -1,9 +1,9 @@
 -- Running: how a run of a command over the bytes of an inventory ends, for any command that writes one text about a forest.
 -- Source: this project's own.
 use Rattle.std.specs.Prelude.{◌≡◌, ◌⊎◌, ℕ, List, Result, Ok, Err, codes}
-use Rattle.keep_tree.specs.Forest.{Grove}
-use Rattle.keep_inventory.specs.Stock.{Stock}
-use Rattle.keep_inventory.specs.Inventory.{inventory}
+use Rattle.keep_tree.specs.Forest.{Forest}
+use Rattle.keep_inventory.specs.Inventories.{Inventory}
+use Rattle.keep_inventory.specs.Inventory.{read_inventory}
 use Rattle.keep_report.specs.declared.exit.Exit.{Exit}
 use Rattle.keep_report.specs.declared.stop.Stop.{Stop}
 use Rattle.keep_report.specs.declared.stop.Stop.TheVariants as stops
@@ -15,11 +15,11 @@ use Rattle.keep_engine.specs.declared.outcome.Outcome.{Outcome}
 
 -- the texts that a command may write about a forest, each with its exit
 abbrev pub Texts : Type 1
-Texts = Grove → Exit → List ℕ → Type 0
+Texts = Forest → Exit → List ℕ → Type 0
 
 -- the reasons for which it writes none, but for a text that is no inventory, and want of memory
 abbrev pub Halts : Type 1
-Halts = Grove → Stop → Type 0
+Halts = Forest → Stop → Type 0
 
 -- there is always a text
 abbrev pub NoHalts : Halts
@@ -31,14 +31,14 @@ line_of stop = fault_line (codes "leasekeep") stop
 
 -- why a command makes no text of the bytes of an inventory
 abbrev pub Halted : Halts → List ℕ → Stop → Type 0
-Halted Halt bytes (stops.Inventory fault) = inventory bytes ≡ Err fault
+Halted Halt bytes (stops.Inventory fault) = read_inventory bytes ≡ Err fault
 Halted Halt bytes stops.Memory = Unit {0}
-Halted Halt bytes stop = (stock : Stock) × (inventory bytes ≡ Ok stock) × Halt stock.grove stop
+Halted Halt bytes stop = (inventory : Inventory) × (read_inventory bytes ≡ Ok inventory) × Halt inventory.forest stop
 
 -- the whole text was written and flushed, and nothing was told
 abbrev pub RunsWhole : Texts → List ℕ → Exit → Sent → Sent → Type 0
 RunsWhole Text bytes exit out errors =
-    (stock : Stock) × (inventory bytes ≡ Ok stock) × (text : List ℕ) × Text stock.grove exit text × IsAll text out × IsUntouched errors
+    (inventory : Inventory) × (read_inventory bytes ≡ Ok inventory) × (text : List ℕ) × Text inventory.forest exit text × IsAll text out × IsUntouched errors
 
 -- there is no text: nothing was written, and why was told
 abbrev pub RunsHalted : Halts → List ℕ → Exit → Sent → Sent → Type 0
@@ -47,7 +47,7 @@ RunsHalted Halt bytes exit out errors = (stop : Stop) × Halted Halt bytes stop 
 -- the writing was cut short: no more than a front of the text was written, and that was told
 abbrev pub RunsCut : Texts → List ℕ → Exit → Sent → Sent → Type 0
 RunsCut Text bytes exit out errors =
-    (stock : Stock) × (inventory bytes ≡ Ok stock) × (given : Exit) × (text : List ℕ) × Text stock.grove given text
+    (inventory : Inventory) × (read_inventory bytes ≡ Ok inventory) × (given : Exit) × (text : List ℕ) × Text inventory.forest given text
     × (stop : Stop) × Sends (Err stop) text out × (exit ≡ exit_of stop) × Reports (line_of stop) errors
 
 -- a run, by how it ended

@@ -3,8 +3,8 @@ use Rattle.std.specs.Prelude.{◌≡◌, ℕ, Bool, List, Ok}
 use Rattle.std.specs.Io.KnownBytes.{Appends}
 use Rattle.keep_device.specs.Front.{AppendsFront}
 use Rattle.keep_inventory.specs.Bare.{AreAlike}
-use Rattle.keep_inventory.specs.Stock.{Stock}
-use Rattle.keep_inventory.specs.Inventory.{inventory}
+use Rattle.keep_inventory.specs.Inventories.{Inventory}
+use Rattle.keep_inventory.specs.Inventory.{read_inventory}
 use Rattle.keep_report.specs.declared.exit.Exit.{Exit}
 use Rattle.keep_report.specs.declared.exit.Exit.TheVariants as exits
 use Rattle.keep_engine.specs.CheckRun.{CheckRun}
@@ -17,10 +17,10 @@ use Rattle.keep_engine.specs.ReachRun.{ReachRun}
 -- two good inventories whose documents differ in the keys `secret` and `lease_id` and their values alone
 pub record DifferInSecrets (bytes other : List ℕ) : Type 0 where
   pub alike : AreAlike bytes other
-  pub stock : Stock
-  pub reads : inventory bytes ≡ Ok stock
-  pub other_stock : Stock
-  pub other_reads : inventory other ≡ Ok other_stock
+  pub inventory : Inventory
+  pub reads : read_inventory bytes ≡ Ok inventory
+  pub other_inventory : Inventory
+  pub other_reads : read_inventory other ≡ Ok other_inventory
 
 -- the run came to its end: no device failed, and no memory was wanting
 abbrev pub IsWhole : Exit → Type 0

@@ -15,7 +15,7 @@ use Rattle.mini_broker.specs.declared.refusal.Refusal.TheVariants.{NotRenewable,
 use Rattle.mini_broker.specs.declared.row.Row.{Row}
 use Rattle.mini_broker.specs.declared.served.Served.{Served}
 use Rattle.mini_broker.specs.declared.served.Served.TheVariants as served
-use Rattle.mini_broker.specs.Ledger.{Ledger}
+use Rattle.mini_broker.specs.Table.{Table}
 use Rattle.mini_broker.specs.Faults.{fault_at, next_number}
 use Rattle.mini_broker.specs.Renewing.{granted, is_deny, new_end, renewal}
 use Rattle.mini_broker.specs.Request.{a_text, allows, answered, asked, call_of, increment_in, is_renewal, lease_id_in, of_lease}
@@ -117,7 +117,7 @@ split : (b : Bool) (x y : Outcome) (c : Call) (row : Row) → (if b then x else 
 split true x y c row e = inl e
 split false x y c row e = inr e
 
-by_call_names : (l : Ledger) (t : ℕ) (r : Request) (found : Option Call) (c : Call) (row : Row) → (by_call l t r found).answer ≡ tells c row → Names r found c row
+by_call_names : (l : Table) (t : ℕ) (r : Request) (found : Option Call) (c : Call) (row : Row) → (by_call l t r found).answer ≡ tells c row → Names r found c row
 unfolding renews
 by_call_names l t r None c row e = absurd cc
 by_call_names l t r (Some call) c row e =
@@ -132,7 +132,7 @@ by_call_names l t r (Some call) c row e =
       | inr e' ↦ absurd cc
     ]
 
-answer_names : (l : Ledger) (t : ℕ) (r : Request) (c : Call) (row : Row) → (step l t r).answer ≡ tells c row → Names r (call_of r.path) c row
+answer_names : (l : Table) (t : ℕ) (r : Request) (c : Call) (row : Row) → (step l t r).answer ≡ tells c row → Names r (call_of r.path) c row
 unfolding step
 answer_names l t r c row e = by_call_names (after_sweep l t) t r (call_of r.path) c row e
 
@@ -159,7 +159,7 @@ token_body t LookupSelf row body e is = absurd cc
 token_body t LookupLease row body e is = absurd cc
 
 -- the reply to the renewal of a token
-pub token_fits : (port : ℕ) (credential : List ℕ) (step' : ℕ) (l : Ledger) (t : ℕ) (sent : Served) → Says t (step l t (token_renewal port credential step')).answer sent → Fits sent
+pub token_fits : (port : ℕ) (credential : List ℕ) (step' : ℕ) (l : Table) (t : ℕ) (sent : Served) → Says t (step l t (token_renewal port credential step')).answer sent → Fits sent
 unfolding call_of
 token_fits port credential step' l t sent says =
     let r = token_renewal port credential step' in
@@ -186,7 +186,7 @@ lease_body t id small LookupLease row body e names is = absurd cc
 -- and to that of a lease
 pub lease_fits :
     (port : ℕ) (owner : Option (List ℕ)) (id : List ℕ) (step' : ℕ) → length id ≤ 256 → IsUtf8 id → step' < 2 ^ 32 →
-    (l : Ledger) (t : ℕ) (sent : Served) → Says t (step l t (lease_renewal port owner id step')).answer sent → Fits sent
+    (l : Table) (t : ℕ) (sent : Served) → Says t (step l t (lease_renewal port owner id step')).answer sent → Fits sent
 unfolding call_of
 lease_fits port owner id step' short utf8 small l t sent says =
     let r = lease_renewal port owner id step' in

@@ -6,7 +6,7 @@ use Rattle.keep_exchange.specs.declared.fault.ExchangeFault.TheVariants.{Connect
 use Rattle.keep_exchange.specs.Exchanges.{Behind, Exchanges, IsExchanged, IsGivenUp, received}
 use Rattle.mini_broker.specs.declared.served.Served.{Served}
 use Rattle.mini_broker.specs.declared.served.Served.TheVariants as served
-use Rattle.mini_broker.specs.Ledger.{Ledger}
+use Rattle.mini_broker.specs.Table.{Table}
 use Rattle.mini_broker.specs.Renewing.{renewal}
 use Rattle.mini_broker.specs.Step.{Says, after_sweep, renews, step}
 use Rattle.mini_broker.specs.Stream.{Handles, MaySend, sent_of}
@@ -18,17 +18,17 @@ use Rattle.vault_http.specs.declared.request.Request.{Request}
 use Rattle.vault_http.specs.RoundTripRequest.{without_port}
 use Rattle.vault_http.specs.Written.{reply_text, request_text}
 
-port_unread : (l : Ledger) (t : ℕ) (r : Request) → step l t (without_port r) ≡ step l t r
+port_unread : (l : Table) (t : ℕ) (r : Request) → step l t (without_port r) ≡ step l t r
 unfolding step renews renewal subject
 port_unread l t r = refl
 
 -- the port is no part of what is served
-pub portless : (l : Ledger) (t : ℕ) (r heard : Request) → heard ≡ without_port r → step l t heard ≡ step l t r
+pub portless : (l : Table) (t : ℕ) (r heard : Request) → heard ≡ without_port r → step l t heard ≡ step l t r
 portless l t r heard is = ap (step l t) is ∙ port_unread l t r
 
 -- what is served may be sent
-pub may_send : (l : Ledger) (t : ℕ) (r : Request) (done : Served) → Says t (step l t r).answer done → MaySend done
-may_send l t r done says = handled_sent l t (Ok r) (step l t r).ledger done (says, refl)
+pub may_send : (l : Table) (t : ℕ) (r : Request) (done : Served) → Says t (step l t r).answer done → MaySend done
+may_send l t r done says = handled_sent l t (Ok r) (step l t r).table done (says, refl)
 
 -- what is received is no want of memory
 received_some : (sent : Served) → ◌≡◌ {A = Result Reply ExchangeFault} (Err OutOfMemory) (received sent) → ⊥
@@ -39,7 +39,7 @@ received_some (served.Reply reply) e = by_length (nat_le (length (reply_text rep
     by_length true reply e = cc
     by_length false reply e = cc
 
-settled : (old : Ledger) (t : ℕ) (r : Request) (result : Result Reply ExchangeFault) (new : Option Behind) → IsExchanged old t r result new → Exchanges old t r result new
+settled : (old : Table) (t : ℕ) (r : Request) (result : Result Reply ExchangeFault) (new : Option Behind) → IsExchanged old t r result new → Exchanges old t r result new
 settled old t r (Ok reply) new done = done
 settled old t r (Err ConnectFailed) new done = done
 settled old t r (Err WriteFailed) new done = done
@@ -48,8 +48,8 @@ settled old t r (Err OutOfMemory) new done = absurd (received_some done.sent don
 
 -- the whole way
 pub exchanged :
-    (old table : Ledger) (t : ℕ) (r heard : Request) (sent : Served) (wire text : List ℕ) (result : Result Reply ExchangeFault) →
-    heard ≡ without_port r → Says t (step old t heard).answer sent → table ≡ (step old t heard).ledger → result ≡ received sent → wire ≡ request_text r ++ text → text ≡ sent_of sent →
+    (old table : Table) (t : ℕ) (r heard : Request) (sent : Served) (wire text : List ℕ) (result : Result Reply ExchangeFault) →
+    heard ≡ without_port r → Says t (step old t heard).answer sent → table ≡ (step old t heard).table → result ≡ received sent → wire ≡ request_text r ++ text → text ≡ sent_of sent →
     Exchanges old t r result (Some (record { table = table; wire = wire }))
 exchanged old table t r heard sent wire text result is says after gives carried delivered =
     let same = portless old t r heard is in
@@ -57,22 +57,22 @@ exchanged old table t r heard sent wire text result is says after gives carried 
       sent = sent;
       says = subst (λ o. Says t o.answer sent) same says;
       received_as = gives;
-      is = behind (after ∙ ap (λ o. o.ledger) same) (carried ∙ ap (λ bs. request_text r ++ bs) delivered);
+      is = behind (after ∙ ap (λ o. o.table) same) (carried ∙ ap (λ bs. request_text r ++ bs) delivered);
     })
   where
-    behind : {a b : Ledger} {v w : List ℕ} → a ≡ b → v ≡ w → ◌≡◌ {A = Option Behind} (Some (record { table = a; wire = v })) (Some (record { table = b; wire = w }))
+    behind : {a b : Table} {v w : List ℕ} → a ≡ b → v ≡ w → ◌≡◌ {A = Option Behind} (Some (record { table = a; wire = v })) (Some (record { table = b; wire = w }))
     behind {a} {b} {v} {w} e f = ap (λ l. Some (record { table = l; wire = v })) e ∙ ap (λ bs. Some (record { table = b; wire = bs })) f
 
 -- memory was wanting behind the step
 pub given_up :
-    (old table : Ledger) (t : ℕ) (r heard : Request) (wire : List ℕ) (result : Result Reply ExchangeFault) →
-    heard ≡ without_port r → table ≡ (step old t heard).ledger → wire ≡ [] → result ≡ Err OutOfMemory →
+    (old table : Table) (t : ℕ) (r heard : Request) (wire : List ℕ) (result : Result Reply ExchangeFault) →
+    heard ≡ without_port r → table ≡ (step old t heard).table → wire ≡ [] → result ≡ Err OutOfMemory →
     Exchanges old t r result (Some (record { table = table; wire = wire }))
 given_up old table t r heard wire result is after none gives =
     let new : Option Behind = Some (record { table = table; wire = wire }) in
     let left : IsGivenUp old t r new = record {
       table = table;
-      left = inr (inr (after ∙ ap (λ o. o.ledger) (portless old t r heard is)));
+      left = inr (inr (after ∙ ap (λ o. o.table) (portless old t r heard is)));
       is = ap (λ bs. Some (record { table = table; wire = bs })) none;
     } in
     subst (λ (x : Result Reply ExchangeFault). Exchanges old t r x new) (sym gives) left

@@ -7,14 +7,14 @@ use Rattle.keep_exchange.specs.Lookups.{LooksUp, behind_if, looked}
 use Rattle.keep_exchange.specs.Requests.{lookup_of}
 use Rattle.keep_inventory.specs.declared.lookup.LookupFault.{LookupFault}
 use Rattle.keep_inventory.specs.Lookup.{lookup_fault, told}
-use Rattle.keep_inventory.specs.Stock.{Stock}
+use Rattle.keep_inventory.specs.Inventories.{Inventory}
 use Rattle.vault_http.specs.declared.reply.Reply.{Reply}
 use Rattle.vault_http.specs.declared.request.Request.{Request}
 use Rattle.vault_json.specs.declared.lookup.Lookup.{Lookup}
 
 of_lookup :
-    {E : Type 0} (before new : Option Behind) (port t i : ℕ) (s after : Stock) (reply : Reply) (result : Result Bool E) →
-    IfSome before (λ old. IsExchanged old.table t (lookup_of port s.credentials s.grove i) (Ok reply) new) → IfOk result (λ is. looked s i t (Ok reply) ≡ behind_if is after) →
+    {E : Type 0} (before new : Option Behind) (port t i : ℕ) (s after : Inventory) (reply : Reply) (result : Result Bool E) →
+    IfSome before (λ old. IsExchanged old.table t (lookup_of port s.credentials s.forest i) (Ok reply) new) → IfOk result (λ is. looked s i t (Ok reply) ≡ behind_if is after) →
     IfSome before (λ old. LooksUp port old t s i result after new)
 of_lookup None new port t i s after reply result done applied = tt
 of_lookup (Some old) new port t i s after reply (Ok is) done applied =
@@ -22,7 +22,7 @@ of_lookup (Some old) new port t i s after reply (Ok is) done applied =
 of_lookup (Some old) new port t i s after reply (Err fault) done applied = inr (inr (done.sent, (done.says, done.is)))
 
 pub looked_up :
-    {E : Type 0} (before new : Option Behind) (port t i : ℕ) (s after : Stock) (request : Request) (reply : Reply) (result : Result Bool E) → request ≡ lookup_of port s.credentials s.grove i →
+    {E : Type 0} (before new : Option Behind) (port t i : ℕ) (s after : Inventory) (request : Request) (reply : Reply) (result : Result Bool E) → request ≡ lookup_of port s.credentials s.forest i →
     IfSome before (λ old. IsExchanged old.table t request (Ok reply) new) → IfOk result (λ is. looked s i t (Ok reply) ≡ behind_if is after) →
     IfSome before (λ old. LooksUp port old t s i result after new)
 looked_up before new port t i s after request reply result same done applied =
@@ -30,14 +30,14 @@ looked_up before new port t i s after request reply result same done applied =
 
 -- ---- a lookup changes no number of entries
 
-told_count : (s : Stock) (i t : ℕ) (lookup : Lookup) → length (told s i lookup t).grove.entries ≡ length s.grove.entries
+told_count : (s : Inventory) (i t : ℕ) (lookup : Lookup) → length (told s i lookup t).forest.entries ≡ length s.forest.entries
 unfolding told
-told_count s i t lookup = length-set s.grove.entries i _
+told_count s i t lookup = length-set s.forest.entries i _
 
 pub same_count :
-    (s new : Stock) (i t : ℕ) (lookup : Lookup) (result : Result (Unit {0}) LookupFault) → IfSome (lookup_fault s i lookup) (λ fault. (result ≡ Err fault) × (new ≡ s)) →
-    (lookup_fault s i lookup ≡ None → (result ≡ Ok tt) × (new ≡ told s i lookup t)) → length new.grove.entries ≡ length s.grove.entries
+    (s new : Inventory) (i t : ℕ) (lookup : Lookup) (result : Result (Unit {0}) LookupFault) → IfSome (lookup_fault s i lookup) (λ fault. (result ≡ Err fault) × (new ≡ s)) →
+    (lookup_fault s i lookup ≡ None → (result ≡ Ok tt) × (new ≡ told s i lookup t)) → length new.forest.entries ≡ length s.forest.entries
 same_count s new i t lookup result refused applied = by_fault (lookup_fault s i lookup) refl where
-  by_fault : (fault : Option LookupFault) → lookup_fault s i lookup ≡ fault → length new.grove.entries ≡ length s.grove.entries
-  by_fault None is = ap (λ (u : Stock). length u.grove.entries) (applied is).1 ∙ told_count s i t lookup
-  by_fault (Some fault) is = ap (λ (u : Stock). length u.grove.entries) (subst (λ (o : Option LookupFault). IfSome o (λ fault. (result ≡ Err fault) × (new ≡ s))) is refused).1
+  by_fault : (fault : Option LookupFault) → lookup_fault s i lookup ≡ fault → length new.forest.entries ≡ length s.forest.entries
+  by_fault None is = ap (λ (u : Inventory). length u.forest.entries) (applied is).1 ∙ told_count s i t lookup
+  by_fault (Some fault) is = ap (λ (u : Inventory). length u.forest.entries) (subst (λ (o : Option LookupFault). IfSome o (λ fault. (result ≡ Err fault) × (new ≡ s))) is refused).1

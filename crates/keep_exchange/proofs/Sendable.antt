@@ -3,8 +3,8 @@ use Rattle.std.proofs.Common.{◌≡◌, ℕ, ◌<◌, ◌≤◌, ◌^◌, ◌&&
 use Rattle.std.specs.List.{All, list_all}
 use Rattle.std.proofs.lemmas.List.Elements.{All-from_get_or, All-get_or}
 use Rattle.std.proofs.lemmas.List.Sums.{AllPass-from_list_all}
-use Rattle.keep_inventory.specs.Stock.{IsSendable}
-use Rattle.keep_inventory.proofs.Stocks.{text_law}
+use Rattle.keep_inventory.specs.Inventories.{IsSendable}
+use Rattle.keep_inventory.proofs.Inventories.{text_law}
 use Rattle.keep_exchange.specs.Requests.{IsFit, lease_looked, lease_renewal, token_looked, token_renewal}
 use Rattle.keep_exchange.proofs.Answered.{lease_fits, token_fits}
 use Rattle.keep_exchange.proofs.Lengths.{lease_short, lookup_short, renew_short, request_short}

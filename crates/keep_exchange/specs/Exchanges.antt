@@ -6,7 +6,7 @@ use Rattle.keep_exchange.specs.declared.fault.ExchangeFault.{ExchangeFault}
 use Rattle.keep_exchange.specs.declared.fault.ExchangeFault.TheVariants.{ConnectFailed, WriteFailed, Http, OutOfMemory}
 use Rattle.mini_broker.specs.declared.served.Served.{Served}
 use Rattle.mini_broker.specs.declared.served.Served.TheVariants as served
-use Rattle.mini_broker.specs.Ledger.{Ledger}
+use Rattle.mini_broker.specs.Table.{Table}
 use Rattle.mini_broker.specs.Step.{Says, after_sweep, step}
 use Rattle.mini_broker.specs.Stream.{sent_of}
 use Rattle.vault_http.specs.declared.http_fault.HttpFault.{HttpFault}
@@ -20,7 +20,7 @@ use Rattle.vault_http.specs.Written.{reply_text, request_text}
 
 -- what stands behind an exchange in memory: the broker's table, and the bytes of the last request and its reply
 pub record Behind : Type 0 where
-  pub table : Ledger
+  pub table : Table
   pub wire : List ℕ
 
 -- what is received of what a broker sends: a reply that is not sent ends before it begins, and one of more bytes than are
@@ -30,20 +30,20 @@ received (served.Reply reply) = if nat_le (length (reply_text reply)) MOST_REPLY
 received served.Dropped = Err (Http https.Truncated)
 
 -- the request is served at t by the Broker step, and the messages of both are carried
-pub record IsExchanged (old : Ledger) (t : ℕ) (r : Request) (result : Result Reply ExchangeFault) (new : Option Behind) : Type 0 where
+pub record IsExchanged (old : Table) (t : ℕ) (r : Request) (result : Result Reply ExchangeFault) (new : Option Behind) : Type 0 where
   pub sent : Served
   pub says : Says t (step old t r).answer sent
   pub received_as : result ≡ received sent
-  pub is : new ≡ Some (record { table = (step old t r).ledger; wire = request_text r ++ sent_of sent })
+  pub is : new ≡ Some (record { table = (step old t r).table; wire = request_text r ++ sent_of sent })
 
 -- memory was wanting, before, while or after the request was served: nothing is told of the messages
-pub record IsGivenUp (old : Ledger) (t : ℕ) (r : Request) (new : Option Behind) : Type 0 where
-  pub table : Ledger
-  pub left : (table ≡ old) ⊎ ((table ≡ after_sweep old t) ⊎ (table ≡ (step old t r).ledger))
+pub record IsGivenUp (old : Table) (t : ℕ) (r : Request) (new : Option Behind) : Type 0 where
+  pub table : Table
+  pub left : (table ≡ old) ⊎ ((table ≡ after_sweep old t) ⊎ (table ≡ (step old t r).table))
   pub is : new ≡ Some (record { table = table; wire = [] })
 
 -- what one exchange comes to
-abbrev pub Exchanges : Ledger → ℕ → Request → Result Reply ExchangeFault → Option Behind → Type 0
+abbrev pub Exchanges : Table → ℕ → Request → Result Reply ExchangeFault → Option Behind → Type 0
 Exchanges old t r (Err OutOfMemory) new = IsGivenUp old t r new
 Exchanges old t r result new = IsExchanged old t r result new
 

@@ -6,12 +6,12 @@ use Rattle.keep_exchange.specs.declared.fault.ExchangeFault.{ExchangeFault}
 use Rattle.keep_exchange.specs.Exchanges.{Behind, IsGivenUp, received}
 use Rattle.keep_exchange.specs.Requests.{lookup_of}
 use Rattle.keep_inventory.specs.Lookup.{lookup_fault, told}
-use Rattle.keep_inventory.specs.Stock.{Stock}
+use Rattle.keep_inventory.specs.Inventories.{Inventory}
 use Rattle.keep_tree.specs.declared.entry.Kind.{Kind}
 use Rattle.keep_tree.specs.declared.entry.Kind.TheVariants.{Token, Lease}
 use Rattle.keep_tree.specs.Forest.{entry_at}
 use Rattle.mini_broker.specs.declared.served.Served.{Served}
-use Rattle.mini_broker.specs.Ledger.{Ledger}
+use Rattle.mini_broker.specs.Table.{Table}
 use Rattle.mini_broker.specs.Step.{Says, step}
 use Rattle.mini_broker.specs.Stream.{sent_of}
 use Rattle.vault_http.specs.declared.reply.Reply.{Reply}
@@ -27,33 +27,33 @@ lookup_in Token body = lookup_self_answer body
 lookup_in Lease body = lookup_lease_answer body
 
 -- the inventory once it is applied, if it can be
-abbrev pub applied : Stock → ℕ → ℕ → Result Lookup ReplyFault → Option Stock
+abbrev pub applied : Inventory → ℕ → ℕ → Result Lookup ReplyFault → Option Inventory
 applied s i t (Ok lookup) = if is_none (lookup_fault s i lookup) then Some (told s i lookup t) else None
 applied s i t (Err fault) = None
 
 -- of the reply to a lookup at t, which is nothing but a 200
-abbrev pub looked : Stock → ℕ → ℕ → Result Reply ExchangeFault → Option Stock
-looked s i t (Ok r) = if r.status == 200 then applied s i t (lookup_in (entry_at s.grove.entries i).kind r.body) else None
+abbrev pub looked : Inventory → ℕ → ℕ → Result Reply ExchangeFault → Option Inventory
+looked s i t (Ok r) = if r.status == 200 then applied s i t (lookup_in (entry_at s.forest.entries i).kind r.body) else None
 looked s i t (Err fault) = None
 
 -- the inventory behind it, where there is one
-abbrev pub behind_if : Bool → Stock → Option Stock
+abbrev pub behind_if : Bool → Inventory → Option Inventory
 behind_if is s = if is then Some s else None
 
 -- the entry i is looked up at t in the rows of the table, and the lookup applied, if it can be
-pub record IsLookedUp (port : ℕ) (old : Ledger) (t : ℕ) (s : Stock) (i : ℕ) (is_applied : Bool) (after : Stock) (new : Option Behind) : Type 0 where
+pub record IsLookedUp (port : ℕ) (old : Table) (t : ℕ) (s : Inventory) (i : ℕ) (is_applied : Bool) (after : Inventory) (new : Option Behind) : Type 0 where
   pub sent : Served
-  pub says : Says t (step old t (lookup_of port s.credentials s.grove i)).answer sent
+  pub says : Says t (step old t (lookup_of port s.credentials s.forest i)).answer sent
   pub applied_is : looked s i t (received sent) ≡ behind_if is_applied after
-  pub is : new ≡ Some (record { table = (step old t (lookup_of port s.credentials s.grove i)).ledger; wire = request_text (lookup_of port s.credentials s.grove i) ++ sent_of sent })
+  pub is : new ≡ Some (record { table = (step old t (lookup_of port s.credentials s.forest i)).table; wire = request_text (lookup_of port s.credentials s.forest i) ++ sent_of sent })
 
 -- the request was served, and what was sent for it carried
-abbrev pub IsServed : Ledger → ℕ → Request → Option Behind → Type 0
+abbrev pub IsServed : Table → ℕ → Request → Option Behind → Type 0
 IsServed old t r new =
-    (sent : Served) × (Says t (step old t r).answer sent × (new ≡ Some (record { table = (step old t r).ledger; wire = request_text r ++ sent_of sent })))
+    (sent : Served) × (Says t (step old t r).answer sent × (new ≡ Some (record { table = (step old t r).table; wire = request_text r ++ sent_of sent })))
 
 -- what a lookup comes to; where memory was wanting there may have been no exchange, or one whose reply was not read
-abbrev pub LooksUp : {E : Type 0} → ℕ → Behind → ℕ → Stock → ℕ → Result Bool E → Stock → Option Behind → Type 0
+abbrev pub LooksUp : {E : Type 0} → ℕ → Behind → ℕ → Inventory → ℕ → Result Bool E → Inventory → Option Behind → Type 0
 LooksUp port old t s i (Ok is_applied) after new = IsLookedUp port old.table t s i is_applied after new
 LooksUp port old t s i (Err fault) after new =
-    (new ≡ Some old) ⊎ (IsGivenUp old.table t (lookup_of port s.credentials s.grove i) new ⊎ IsServed old.table t (lookup_of port s.credentials s.grove i) new)
+    (new ≡ Some old) ⊎ (IsGivenUp old.table t (lookup_of port s.credentials s.forest i) new ⊎ IsServed old.table t (lookup_of port s.credentials s.forest i) new)

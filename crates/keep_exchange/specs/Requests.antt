@@ -4,15 +4,15 @@
 use Rattle.std.specs.Prelude.{◌≡◌, ℕ, ◌≤◌, ◌⊎◌, List, [], ◌++◌, Option, Some, None, Result, Ok, Err, codes, length, option_map}
 use Rattle.keep_exchange.specs.declared.exchange.TheConstants.{MOST_REPLY}
 use Rattle.keep_exchange.specs.Exchanges.{Behind, IsGivenUp}
-use Rattle.keep_inventory.specs.Stock.{credential_at}
+use Rattle.keep_inventory.specs.Inventories.{credential_at}
 use Rattle.keep_tree.specs.declared.entry.Entry.{Entry}
 use Rattle.keep_tree.specs.declared.entry.Kind.{Kind}
 use Rattle.keep_tree.specs.declared.entry.Kind.TheVariants.{Token, Lease}
-use Rattle.keep_tree.specs.Forest.{Grove, entry_at}
+use Rattle.keep_tree.specs.Forest.{Forest, entry_at}
 use Rattle.mini_broker.specs.declared.served.Served.{Served}
 use Rattle.mini_broker.specs.declared.served.Served.TheVariants as served
 use Rattle.mini_broker.specs.declared.stream.TheConstants.{MOST_REQUEST}
-use Rattle.mini_broker.specs.Ledger.{Ledger}
+use Rattle.mini_broker.specs.Table.{Table}
 use Rattle.mini_broker.specs.Step.{Says, step}
 use Rattle.mini_broker.specs.Stream.{sent_of}
 use Rattle.vault_http.specs.declared.reply.Reply.{Reply}
@@ -37,7 +37,7 @@ asked_as Token port cs i e = token_renewal port (credential_at cs i) e.step
 asked_as Lease port cs i e = lease_renewal port (option_map (credential_at cs) e.parent) (credential_at cs i) e.step
 
 -- the request that renews the entry i
-unfoldable pub request_of : ℕ → List (List ℕ) → Grove → ℕ → Request
+unfoldable pub request_of : ℕ → List (List ℕ) → Forest → ℕ → Request
 request_of port cs g i = asked_as (entry_at g.entries i).kind port cs i (entry_at g.entries i)
 
 -- a token is looked up with its own credential, a lease with that of the token it belongs to
@@ -52,7 +52,7 @@ looked_as Token port cs i e = token_looked port (credential_at cs i)
 looked_as Lease port cs i e = lease_looked port (option_map (credential_at cs) e.parent) (credential_at cs i)
 
 -- the request that looks the entry i up
-unfoldable pub lookup_of : ℕ → List (List ℕ) → Grove → ℕ → Request
+unfoldable pub lookup_of : ℕ → List (List ℕ) → Forest → ℕ → Request
 lookup_of port cs g i = looked_as (entry_at g.entries i).kind port cs i (entry_at g.entries i)
 
 -- ---- what comes back
@@ -71,14 +71,14 @@ Fits served.Dropped = Unit {0}
 pub record IsFit (r : Request) : Type 0 where
   pub writable : IsWritable r
   pub short : length (request_text r) ≤ MOST_REQUEST
-  pub answered : (l : Ledger) (t : ℕ) (sent : Served) → Says t (step l t r).answer sent → Fits sent
+  pub answered : (l : Table) (t : ℕ) (sent : Served) → Says t (step l t r).answer sent → Fits sent
 
 -- the request was served at t, and its reply read, if there was one
-pub record IsAsked (old : Ledger) (t : ℕ) (r : Request) (reply : Option Reply) (new : Option Behind) : Type 0 where
+pub record IsAsked (old : Table) (t : ℕ) (r : Request) (reply : Option Reply) (new : Option Behind) : Type 0 where
   pub sent : Served
   pub says : Says t (step old t r).answer sent
   pub reply_is : reply ≡ reply_in sent
-  pub is : new ≡ Some (record { table = (step old t r).ledger; wire = request_text r ++ sent_of sent })
+  pub is : new ≡ Some (record { table = (step old t r).table; wire = request_text r ++ sent_of sent })
 
 -- what asking comes to; where memory was wanting there may have been no exchange
 abbrev pub Asks : {E : Type 0} → Behind → ℕ → Request → Result (Option Reply) E → Option Behind → Type 0

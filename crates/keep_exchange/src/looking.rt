@@ -1,7 +1,7 @@
 ghost use Rattle.std.specs.Prelude.{◌≡◌, ◌<◌, ◌≤◌, ◌≢◌, IfOk, IfSome, IsUtf8, Ok, true, length};
 ghost use Rattle.keep_exchange.specs.Lookups.{LooksUp, lookup_in, looked, behind_if};
 ghost use Rattle.keep_exchange.specs.Requests.{lease_looked, lookup_of, token_looked};
-ghost use Rattle.keep_inventory.specs.Stock.{IsSendable};
+ghost use Rattle.keep_inventory.specs.Inventories.{IsSendable};
 ghost use Rattle.keep_tree.specs.Forest.{entry_at};
 ghost use Rattle.mini_broker.specs.declared.stream.TheConstants.{MOST_REQUEST};
 ghost use Rattle.vault_http.specs.RoundTripRequest.{IsWritable};
@@ -32,10 +32,10 @@ pub fn look_up<E: Exchange>(
     inventory: &mut Inventory,
     i: u32,
 ) -> Result<bool, AllocError>
-    requires { i < length inventory.old.grove.entries }
+    requires { i < length inventory.old.forest.entries }
     ensures looked { IfSome (E.behind exchange.old) (λ old. LooksUp port old t inventory.old i result inventory.new (E.behind exchange.new)) }
     ensures unapplied { result ≢ Ok true → inventory.new ≡ inventory.old }
-    ensures count { length inventory.new.grove.entries ≡ length inventory.old.grove.entries }
+    ensures count { length inventory.new.forest.entries ≡ length inventory.old.forest.entries }
 {
     let request = lookup_for(alloc, port, inventory, i)?;
     match exchange.exchange(alloc, t, &request) {
@@ -55,8 +55,8 @@ fn lookup_for(
     inventory: &Inventory,
     i: u32,
 ) -> Result<Request, AllocError>
-    requires { i < length inventory.now.grove.entries }
-    ensures is { IfOk result (λ r. r ≡ lookup_of port inventory.now.credentials inventory.now.grove i) }
+    requires { i < length inventory.now.forest.entries }
+    ensures is { IfOk result (λ r. r ≡ lookup_of port inventory.now.credentials inventory.now.forest i) }
     ensures writable { IfOk result IsWritable }
     ensures short { IfOk result (λ r. length (request_text r) ≤ MOST_REQUEST) }
 {
@@ -81,10 +81,10 @@ fn apply(
     t: Moment,
     reply: &Reply,
 ) -> Result<bool, AllocError>
-    requires { i < length inventory.old.grove.entries }
+    requires { i < length inventory.old.forest.entries }
     ensures applied { IfOk result (λ is. looked inventory.old i t (Ok reply.now) ≡ behind_if is inventory.new) }
     ensures unapplied { result ≢ Ok true → inventory.new ≡ inventory.old }
-    ensures count { length inventory.new.grove.entries ≡ length inventory.old.grove.entries }
+    ensures count { length inventory.new.forest.entries ≡ length inventory.old.forest.entries }
 {
     if reply.status != 200 {
         return Ok(false);

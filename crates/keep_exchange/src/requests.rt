@@ -1,6 +1,6 @@
 ghost use Rattle.std.specs.Prelude.{◌≡◌, ◌<◌, ◌≤◌, ◌^◌, IfOk, IfSome, IsUtf8, length};
 ghost use Rattle.keep_exchange.specs.Requests.{IsFit, lease_renewal, request_of, token_renewal};
-ghost use Rattle.keep_inventory.specs.Stock.{IsSendable};
+ghost use Rattle.keep_inventory.specs.Inventories.{IsSendable};
 
 use http::Method;
 use keep_inventory::{Credentials, credentials_are_sendable};

@@ -5,9 +5,9 @@ use Rattle.std.specs.Cmp.Lexicographic.{nat_list_eq_equiv}
 use Rattle.std.proofs.lemmas.Bool.{cases_lt, or_right}
 use Rattle.std.proofs.lemmas.List.{length_push, get_or_push}
 use Rattle.keep_inventory.specs.Values.{text}
-use Rattle.keep_inventory.specs.Stock.{credential_at}
+use Rattle.keep_inventory.specs.Inventories.{credential_at}
 use Rattle.keep_inventory.specs.Intake.{holds}
-use Rattle.keep_inventory.proofs.Stocks.{first_half}
+use Rattle.keep_inventory.proofs.Inventories.{first_half}
 
 -- ---- texts of which none stands twice
 

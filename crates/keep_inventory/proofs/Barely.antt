@@ -6,7 +6,7 @@ use Rattle.std.specs.Ordering.{nat_cmp, is_eq, match_ordering}
 use Rattle.toml.specs.Data.{string, integer, float, boolean, datetime, array, table, Data, Items, no_items, item, Members, no_members, member, get_member}
 use Rattle.toml.specs.Text.{are_tables}
 use Rattle.keep_tree.specs.declared.forest.TheConstants.{MARGIN_MAX}
-use Rattle.keep_tree.specs.Forest.{Grove}
+use Rattle.keep_tree.specs.Forest.{Forest}
 use Rattle.keep_inventory.specs.declared.limits.TheConstants.{SPAN_MAX, SYSTEM_MAX}
 use Rattle.keep_inventory.specs.declared.fault.InvFault.{InvFault}
 use Rattle.keep_inventory.specs.declared.fault.InvFault.TheVariants.{BadValue}
@@ -19,10 +19,10 @@ use Rattle.keep_inventory.specs.Keys.{top_keys, key_text}
 use Rattle.keep_inventory.specs.Answers.{◌>>=◌}
 use Rattle.keep_inventory.specs.Values.{only, read_if, whole, moment, ending, flag, text, tables, value_at, needed}
 use Rattle.keep_inventory.specs.Terms.{max_ttl_of}
-use Rattle.keep_inventory.specs.Stock.{Stock}
-use Rattle.keep_inventory.specs.Intake.{Intake, nothing, stock_of}
+use Rattle.keep_inventory.specs.Inventories.{Inventory}
+use Rattle.keep_inventory.specs.Intake.{Intake, nothing, inventory_with}
 use Rattle.keep_inventory.specs.Rows.{has_step, life_of, lease_terms, token_terms}
-use Rattle.keep_inventory.specs.Inventory.{token_entered, lease_entered, entered_by, intake_of, inventory, inventory_of, tree_of}
+use Rattle.keep_inventory.specs.Inventory.{token_entered, lease_entered, entered_by, intake_of, read_inventory, inventory_of, tree_of}
 use Rattle.keep_inventory.specs.Bare.{bare, bare_items, bare_members, is_secret_key}
 use Rattle.keep_inventory.specs.Laws.{SecrecyLaw}
 use Rattle.keep_inventory.proofs.Chains.{bind_ok}
@@ -228,7 +228,7 @@ lease_terms_bare system_max index issued ms =
 -- ---- a row, but for its credential
 
 -- the row of the next token, with no credential of its own
-abbrev plain_token : ℕ → Grove → Members → Result Row InvFault
+abbrev plain_token : ℕ → Forest → Members → Result Row InvFault
 plain_token system_max g ms = do
   name_if ← value_at text (Some (length g.entries)) Name ms
   name ← needed (length g.entries) Name name_if
@@ -238,7 +238,7 @@ plain_token system_max g ms = do
   need ← value_at moment (Some (length g.entries)) Need ms
   Ok (made_token g name parent life terms need None)
 
-abbrev plain_lease : ℕ → Grove → Members → Result Row InvFault
+abbrev plain_lease : ℕ → Forest → Members → Result Row InvFault
 plain_lease system_max g ms = do
   name_if ← value_at text (Some (length g.entries)) Name ms
   name ← needed (length g.entries) Name name_if
@@ -253,7 +253,7 @@ plain_lease system_max g ms = do
 follow : {A B : Type 0} (r : Result A InvFault) (x : A) (f : A → Result B InvFault) (y : Result B InvFault) → r ≡ Ok x → f x ≡ y → (r >>= f) ≡ y
 follow r x f y e k = ap (λ q. q >>= f) e ∙ k
 
-token_read : (system_max : ℕ) (g : Grove) (ms : Members) (row : Row) → (p : TokenParts system_max g ms row) →
+token_read : (system_max : ℕ) (g : Forest) (ms : Members) (row : Row) → (p : TokenParts system_max g ms row) →
     plain_token system_max g (bare_members ms) ≡ Ok (made_token g p.name p.parent p.life p.terms p.need None)
 unfolding is_secret_key
 token_read system_max g ms row p =
@@ -265,7 +265,7 @@ token_read system_max g ms row p =
     (follow _ p.terms _ _ (token_terms_bare system_max n p.life.issued ms ∙ p.terms_read)
     (follow _ p.need _ _ (kept moment blind_moment (Some n) Need refl ms ∙ p.need_read) refl)))))
 
-lease_read : (system_max : ℕ) (g : Grove) (ms : Members) (row : Row) → (p : LeaseParts system_max g ms row) →
+lease_read : (system_max : ℕ) (g : Forest) (ms : Members) (row : Row) → (p : LeaseParts system_max g ms row) →
     plain_lease system_max g (bare_members ms) ≡ Ok (made_lease g p.name p.token p.life p.terms p.need None)
 unfolding is_secret_key
 lease_read system_max g ms row p =
@@ -281,16 +281,16 @@ lease_read system_max g ms row p =
 -- ---- an inventory, but for its credentials
 
 abbrev shorn : Intake → Intake
-shorn s = record { grove = s.grove; secrets = []; lease_ids = []; terms = s.terms }
+shorn s = record { forest = s.forest; secrets = []; lease_ids = []; terms = s.terms }
 
 abbrev with_row : Intake → Row → Intake
-with_row s row = record { grove = grown s.grove row.entry; secrets = []; lease_ids = []; terms = s.terms ++ row.terms ∷ [] }
+with_row s row = record { forest = grown s.forest row.entry; secrets = []; lease_ids = []; terms = s.terms ++ row.terms ∷ [] }
 
 abbrev plain_token_entered : ℕ → Intake → Members → Result Intake InvFault
-plain_token_entered system_max s ms = plain_token system_max s.grove ms >>= λ row. Ok (with_row s row)
+plain_token_entered system_max s ms = plain_token system_max s.forest ms >>= λ row. Ok (with_row s row)
 
 abbrev plain_lease_entered : ℕ → Intake → Members → Result Intake InvFault
-plain_lease_entered system_max s ms = plain_lease system_max s.grove ms >>= λ row. Ok (with_row s row)
+plain_lease_entered system_max s ms = plain_lease system_max s.forest ms >>= λ row. Ok (with_row s row)
 
 abbrev Shears : (Intake → Members → Result Intake InvFault) → (Intake → Members → Result Intake InvFault) → Type 0
 Shears step plain = (s t : Intake) (ms : Members) → step s ms ≡ Ok t → plain (shorn s) (bare_members ms) ≡ Ok (shorn t)
@@ -298,15 +298,15 @@ Shears step plain = (s t : Intake) (ms : Members) → step s ms ≡ Ok t → pla
 token_shorn : (system_max : ℕ) → Shears (token_entered system_max) (plain_token_entered system_max)
 token_shorn system_max s t ms e =
     let taken = token_entered_ok system_max s t ms e in
-    let p = token_parts system_max s.grove ms taken.0 taken.1 in
-    follow _ (made_token s.grove p.name p.parent p.life p.terms p.need None) _ _ (token_read system_max s.grove ms taken.0 p)
+    let p = token_parts system_max s.forest ms taken.0 taken.1 in
+    follow _ (made_token s.forest p.name p.parent p.life p.terms p.need None) _ _ (token_read system_max s.forest ms taken.0 p)
     (ap (λ (row : Row). Ok (with_row s row)) p.made ∙ ap (λ (i : Intake). Ok (shorn i)) taken.3)
 
 lease_shorn : (system_max : ℕ) → Shears (lease_entered system_max) (plain_lease_entered system_max)
 lease_shorn system_max s t ms e =
     let taken = lease_entered_ok system_max s t ms e in
-    let p = lease_parts system_max s.grove ms taken.0 taken.1 in
-    follow _ (made_lease s.grove p.name p.token p.life p.terms p.need None) _ _ (lease_read system_max s.grove ms taken.0 p)
+    let p = lease_parts system_max s.forest ms taken.0 taken.1 in
+    follow _ (made_lease s.forest p.name p.token p.life p.terms p.need None) _ _ (lease_read system_max s.forest ms taken.0 p)
     (ap (λ (row : Row). Ok (with_row s row)) p.made ∙ ap (λ (i : Intake). Ok (shorn i)) taken.3)
 
 all_shorn : (step plain : Intake → Members → Result Intake InvFault) → Shears step plain → (key : Key) (s t : Intake) (ds : Items) → entered_by step key s ds ≡ Ok t → entered_by plain key (shorn s) (bare_items ds) ≡ Ok (shorn t)
@@ -350,20 +350,20 @@ bare_intake ms t e =
 
 -- ---- two documents
 
-stock_read : (bytes : List ℕ) (ms : Members) (stock : Stock) → tree_of bytes ≡ Ok ms → inventory bytes ≡ Ok stock →
-    plain_intake (bare_members ms) ≡ Ok (record { grove = stock.grove; secrets = []; lease_ids = []; terms = stock.terms })
-unfolding inventory inventory_of
-stock_read bytes ms stock reads e =
-    bind_ok (tree_of bytes) _ stock e (λ ns read e1.
-    bind_ok (intake_of ns) _ stock e1 (λ t is e2.
+inventory_is_read : (bytes : List ℕ) (ms : Members) (inventory : Inventory) → tree_of bytes ≡ Ok ms → read_inventory bytes ≡ Ok inventory →
+    plain_intake (bare_members ms) ≡ Ok (record { forest = inventory.forest; secrets = []; lease_ids = []; terms = inventory.terms })
+unfolding read_inventory inventory_of
+inventory_is_read bytes ms inventory reads e =
+    bind_ok (tree_of bytes) _ inventory e (λ ns read e1.
+    bind_ok (intake_of ns) _ inventory e1 (λ t is e2.
     let tree : ns ≡ ms = cc in
-    let same : stock_of t ≡ stock = cc in
-    ap (λ (i : Members). plain_intake (bare_members i)) (sym tree) ∙ bare_intake ns t is ∙ ap (λ (x : Stock). Ok (record { grove = x.grove; secrets = []; lease_ids = []; terms = x.terms })) same))
+    let same : inventory_with t ≡ inventory = cc in
+    ap (λ (i : Members). plain_intake (bare_members i)) (sym tree) ∙ bare_intake ns t is ∙ ap (λ (x : Inventory). Ok (record { forest = x.forest; secrets = []; lease_ids = []; terms = x.terms })) same))
 
 pub secrecy_law : SecrecyLaw
-secrecy_law bytes other stock other_stock alike e f =
-    let one = stock_read bytes alike.tree stock alike.reads e in
-    let two = stock_read other alike.other_tree other_stock alike.other_reads f in
+secrecy_law bytes other inventory other_inventory alike e f =
+    let one = inventory_is_read bytes alike.tree inventory alike.reads e in
+    let two = inventory_is_read other alike.other_tree other_inventory alike.other_reads f in
     let both = sym one ∙ ap plain_intake alike.same ∙ two in
-    let same : ◌≡◌ {A = Intake} (record { grove = stock.grove; secrets = []; lease_ids = []; terms = stock.terms }) (record { grove = other_stock.grove; secrets = []; lease_ids = []; terms = other_stock.terms }) = cc in
-    (ap (λ (i : Intake). i.grove) same, ap (λ (i : Intake). i.terms) same)
+    let same : ◌≡◌ {A = Intake} (record { forest = inventory.forest; secrets = []; lease_ids = []; terms = inventory.terms }) (record { forest = other_inventory.forest; secrets = []; lease_ids = []; terms = other_inventory.terms }) = cc in
+    (ap (λ (i : Intake). i.forest) same, ap (λ (i : Intake). i.terms) same)

@@ -1,4 +1,4 @@
--- Inventoried: what is read of a text is a stock, whatever tables it was read from: the tokens come first, then the leases, and
+-- Inventoried: what is read of a text is an inventory, whatever tables it was read from: the tokens come first, then the leases, and
 -- each row that is taken keeps what every inventory keeps.
 use Rattle.std.proofs.Common.{◌≡◌, ℕ, ◌+◌, ◌-◌, ◌<◌, ◌≤◌, List, ◌∷◌, [], ◌++◌, length, Ok, refl, sym, ap, ◌∙◌, subst, arith, ⊎_elim}
 use Rattle.std.specs.List.{All}
@@ -11,15 +11,15 @@ use Rattle.keep_tree.specs.declared.entry.Entry.{Entry}
 use Rattle.keep_tree.specs.declared.entry.Kind.{Kind}
 use Rattle.keep_tree.specs.declared.entry.Kind.TheVariants as kind
 use Rattle.keep_tree.specs.declared.forest.TheConstants.{MARGIN_MAX}
-use Rattle.keep_tree.specs.Forest.{Grove, entry_at}
+use Rattle.keep_tree.specs.Forest.{Forest, entry_at}
 use Rattle.keep_tree.specs.Push.{IsForest}
 use Rattle.keep_tree.proofs.Entries.{entry_at_push_old, entry_at_push_new}
 use Rattle.keep_tree.proofs.Placed.{empty_is_forest, pushed_is_forest}
 use Rattle.keep_inventory.specs.declared.row.Row.{Row}
 use Rattle.keep_inventory.specs.declared.terms.Terms.{Terms}
-use Rattle.keep_inventory.specs.Stock.{AreApart, IsSendable, IsStock, Stock, no_terms, terms_at}
-use Rattle.keep_inventory.specs.Intake.{Intake, nothing, stock_of}
-use Rattle.keep_inventory.specs.Inventory.{token_entered, lease_entered, intake_of, inventory, inventory_of, tree_of}
+use Rattle.keep_inventory.specs.Inventories.{AreApart, IsSendable, IsInventory, Inventory, no_terms, terms_at}
+use Rattle.keep_inventory.specs.Intake.{Intake, nothing, inventory_with}
+use Rattle.keep_inventory.specs.Inventory.{token_entered, lease_entered, intake_of, read_inventory, inventory_of, tree_of}
 use Rattle.keep_inventory.specs.Laws.{InventoryLaw, SendableLaw}
 use Rattle.keep_inventory.proofs.Chains.{bind_ok}
 use Rattle.keep_inventory.proofs.Apart.{Unlike, last_or_before, unlike_more}
@@ -27,22 +27,22 @@ use Rattle.keep_inventory.proofs.Entered.{Within, intake_keeps}
 use Rattle.keep_inventory.proofs.Parts.{TokenParts, LeaseParts, token_parts, lease_parts}
 use Rattle.keep_inventory.proofs.Sendable.{lease_sendable, token_sendable}
 use Rattle.keep_inventory.proofs.Spans.{IsGood, lease_good, token_good}
-use Rattle.keep_inventory.proofs.Stocks.{first_half, second_half}
+use Rattle.keep_inventory.proofs.Inventories.{first_half, second_half}
 use Rattle.keep_inventory.proofs.Taken.{Fits, KeepsIt, lease_entered_ok, token_entered_ok, took_lease, took_token}
 
 -- ---- the tokens first, then the leases
 
 record Sorted (s : Intake) : Type 0 where
-  forest : IsForest s.grove
-  matched : length s.secrets + length s.lease_ids ≡ length s.grove.entries
-  termed : length s.terms ≡ length s.grove.entries
-  tokens : (i : ℕ) → i < length s.secrets → (entry_at s.grove.entries i).kind ≡ kind.Token
-  leases : (i : ℕ) → length s.secrets ≤ i → i < length s.grove.entries → (entry_at s.grove.entries i).kind ≡ kind.Lease
+  forest : IsForest s.forest
+  matched : length s.secrets + length s.lease_ids ≡ length s.forest.entries
+  termed : length s.terms ≡ length s.forest.entries
+  tokens : (i : ℕ) → i < length s.secrets → (entry_at s.forest.entries i).kind ≡ kind.Token
+  leases : (i : ℕ) → length s.secrets ≤ i → i < length s.forest.entries → (entry_at s.forest.entries i).kind ≡ kind.Lease
   secrets_unlike : Unlike s.secrets
   lease_ids_unlike : Unlike s.lease_ids
   secrets_sendable : All IsSendable s.secrets
   lease_ids_sendable : All IsSendable s.lease_ids
-  good : (i : ℕ) → i < length s.grove.entries → IsGood (entry_at s.grove.entries i) (terms_at s.terms i)
+  good : (i : ℕ) → i < length s.forest.entries → IsGood (entry_at s.forest.entries i) (terms_at s.terms i)
 
 -- no lease yet
 abbrev TokensAlone : Intake → Type 0
@@ -80,62 +80,62 @@ good_more es ts e t count good new i h =
     subst (λ x. IsGood x (terms_at (ts ++ t ∷ []) i)) (sym (entry_at_push_old es e i old))
     (subst (λ x. IsGood (entry_at es i) x) (sym (terms_old ts t i (omega arith))) (good i old)))
 
-token_sorted : (s : Intake) (row : Row) → IsRowOf kind.Token row → Fits s.grove s.secrets row → TokensAlone s → TokensAlone (took_token s row)
+token_sorted : (s : Intake) (row : Row) → IsRowOf kind.Token row → Fits s.forest s.secrets row → TokensAlone s → TokensAlone (took_token s row)
 token_sorted s row is fits alone =
     let old = alone.0 in
-    let l = length_push s.grove.entries row.entry in
+    let l = length_push s.forest.entries row.entry in
     let k = length_push s.secrets row.credential in
     let n = length_push s.terms row.terms in
     let m = old.matched in
     let c = old.termed in
     let none = alone.1 in (
       record {
-        forest = pushed_is_forest s.grove old.forest row.entry fits.entry;
+        forest = pushed_is_forest s.forest old.forest row.entry fits.entry;
         matched = omega (arith, l, k, m, none);
         termed = omega (arith, l, n, c);
         tokens = λ i h. last_or_before (length s.secrets) i _ (omega (arith, h, k))
-            (λ last. kind_new s.grove.entries row.entry kind.Token i (omega (arith, last, m, none)) is.kind)
-            (λ before. kind_old s.grove.entries row.entry kind.Token i (omega (arith, before, m, none)) (old.tokens i before));
+            (λ last. kind_new s.forest.entries row.entry kind.Token i (omega (arith, last, m, none)) is.kind)
+            (λ before. kind_old s.forest.entries row.entry kind.Token i (omega (arith, before, m, none)) (old.tokens i before));
         leases = λ i past h. absurd (omega (arith, past, h, l, k, m, none));
         secrets_unlike = unlike_more s.secrets row.credential fits.fresh old.secrets_unlike;
         lease_ids_unlike = old.lease_ids_unlike;
         secrets_sendable = All-push IsSendable s.secrets row.credential old.secrets_sendable is.sendable;
         lease_ids_sendable = old.lease_ids_sendable;
-        good = good_more s.grove.entries s.terms row.entry row.terms c old.good is.good;
+        good = good_more s.forest.entries s.terms row.entry row.terms c old.good is.good;
       },
       none,
     )
 
-lease_sorted : (s : Intake) (row : Row) → IsRowOf kind.Lease row → Fits s.grove s.lease_ids row → Sorted s → Sorted (took_lease s row)
+lease_sorted : (s : Intake) (row : Row) → IsRowOf kind.Lease row → Fits s.forest s.lease_ids row → Sorted s → Sorted (took_lease s row)
 lease_sorted s row is fits old =
-    let l = length_push s.grove.entries row.entry in
+    let l = length_push s.forest.entries row.entry in
     let k = length_push s.lease_ids row.credential in
     let n = length_push s.terms row.terms in
     let m = old.matched in
     let c = old.termed in
     record {
-      forest = pushed_is_forest s.grove old.forest row.entry fits.entry;
+      forest = pushed_is_forest s.forest old.forest row.entry fits.entry;
       matched = omega (arith, l, k, m);
       termed = omega (arith, l, n, c);
-      tokens = λ i h. kind_old s.grove.entries row.entry kind.Token i (omega (arith, h, m)) (old.tokens i h);
-      leases = λ i past h. last_or_before (length s.grove.entries) i _ (omega (arith, h, l))
-          (λ last. kind_new s.grove.entries row.entry kind.Lease i last is.kind)
-          (λ before. kind_old s.grove.entries row.entry kind.Lease i before (old.leases i past before));
+      tokens = λ i h. kind_old s.forest.entries row.entry kind.Token i (omega (arith, h, m)) (old.tokens i h);
+      leases = λ i past h. last_or_before (length s.forest.entries) i _ (omega (arith, h, l))
+          (λ last. kind_new s.forest.entries row.entry kind.Lease i last is.kind)
+          (λ before. kind_old s.forest.entries row.entry kind.Lease i before (old.leases i past before));
       secrets_unlike = old.secrets_unlike;
       lease_ids_unlike = unlike_more s.lease_ids row.credential fits.fresh old.lease_ids_unlike;
       secrets_sendable = old.secrets_sendable;
       lease_ids_sendable = All-push IsSendable s.lease_ids row.credential old.lease_ids_sendable is.sendable;
-      good = good_more s.grove.entries s.terms row.entry row.terms c old.good is.good;
+      good = good_more s.forest.entries s.terms row.entry row.terms c old.good is.good;
     }
 
-token_is : (system_max : ℕ) (g : Grove) (texts : List (List ℕ)) (ms : Members) (row : Row) → TokenParts system_max g ms row → Fits g texts row → IsRowOf kind.Token row
+token_is : (system_max : ℕ) (g : Forest) (texts : List (List ℕ)) (ms : Members) (row : Row) → TokenParts system_max g ms row → Fits g texts row → IsRowOf kind.Token row
 token_is system_max g texts ms row parts fits = record {
   kind = ap (λ (r : Row). r.entry.kind) (sym parts.made);
   sendable = token_sendable system_max g ms row parts fits.entry;
   good = token_good system_max g ms row parts;
 }
 
-lease_is : (system_max : ℕ) (g : Grove) (texts : List (List ℕ)) (ms : Members) (row : Row) → LeaseParts system_max g ms row → Fits g texts row → IsRowOf kind.Lease row
+lease_is : (system_max : ℕ) (g : Forest) (texts : List (List ℕ)) (ms : Members) (row : Row) → LeaseParts system_max g ms row → Fits g texts row → IsRowOf kind.Lease row
 lease_is system_max g texts ms row parts fits = record {
   kind = ap (λ (r : Row). r.entry.kind) (sym parts.made);
   sendable = lease_sendable system_max g ms row parts fits.entry;
@@ -146,13 +146,13 @@ token_step : (system_max : ℕ) → KeepsIt TokensAlone (token_entered system_ma
 token_step system_max s t ms m e =
     let taken = token_entered_ok system_max s t ms e in
     let row = taken.0 in
-    subst TokensAlone taken.3 (token_sorted s row (token_is system_max s.grove s.secrets ms row (token_parts system_max s.grove ms row taken.1) taken.2) taken.2 m)
+    subst TokensAlone taken.3 (token_sorted s row (token_is system_max s.forest s.secrets ms row (token_parts system_max s.forest ms row taken.1) taken.2) taken.2 m)
 
 lease_step : (system_max : ℕ) → KeepsIt Sorted (lease_entered system_max)
 lease_step system_max s t ms m e =
     let taken = lease_entered_ok system_max s t ms e in
     let row = taken.0 in
-    subst Sorted taken.3 (lease_sorted s row (lease_is system_max s.grove s.lease_ids ms row (lease_parts system_max s.grove ms row taken.1) taken.2) taken.2 m)
+    subst Sorted taken.3 (lease_sorted s row (lease_is system_max s.forest s.lease_ids ms row (lease_parts system_max s.forest ms row taken.1) taken.2) taken.2 m)
 
 none_sorted : (margin : ℕ) → Within 1 MARGIN_MAX margin → TokensAlone (nothing margin)
 none_sorted margin within = (
@@ -171,13 +171,13 @@ none_sorted margin within = (
   refl,
 )
 
--- ---- a stock
+-- ---- an inventory
 
-differ : (s : Intake) → Sorted s → (i j : ℕ) → i < length s.secrets → length s.secrets ≤ j → j < length s.grove.entries → (entry_at s.grove.entries i).kind ≡ (entry_at s.grove.entries j).kind → ⊥
+differ : (s : Intake) → Sorted s → (i j : ℕ) → i < length s.secrets → length s.secrets ≤ j → j < length s.forest.entries → (entry_at s.forest.entries i).kind ≡ (entry_at s.forest.entries j).kind → ⊥
 differ s sorted i j a b c same =
     let both : kind.Token ≡ kind.Lease = sym (sorted.tokens i a) ∙ same ∙ sorted.leases j b c in cc
 
-sorted_apart : (s : Intake) → Sorted s → AreApart (stock_of s)
+sorted_apart : (s : Intake) → Sorted s → AreApart (inventory_with s)
 sorted_apart s sorted i j a b kinds same =
     let n = length s.secrets in
     let m = sorted.matched in
@@ -195,8 +195,8 @@ sorted_apart s sorted i j a b kinds same =
     (cases_lt j n))
     (cases_lt i n)
 
-sorted_is_stock : (s : Intake) → Sorted s → IsStock (stock_of s)
-sorted_is_stock s sorted = record {
+sorted_is_inventory : (s : Intake) → Sorted s → IsInventory (inventory_with s)
+sorted_is_inventory s sorted = record {
   forest = sorted.forest;
   credentials = length-append s.secrets s.lease_ids ∙ sorted.matched;
   terms = sorted.termed;
@@ -207,19 +207,19 @@ sorted_is_stock s sorted = record {
   ceiling_is = λ i h. (sorted.good i h).2;
 }
 
-pub intake_is_stock : (ms : Members) (t : Intake) → intake_of ms ≡ Ok t → IsStock (stock_of t)
-intake_is_stock ms t e = sorted_is_stock t (intake_keeps TokensAlone Sorted none_sorted (λ s alone. alone.0) token_step lease_step ms t e)
+pub intake_is_inventory : (ms : Members) (t : Intake) → intake_of ms ≡ Ok t → IsInventory (inventory_with t)
+intake_is_inventory ms t e = sorted_is_inventory t (intake_keeps TokensAlone Sorted none_sorted (λ s alone. alone.0) token_step lease_step ms t e)
 
-inventory_of_is : (ms : Members) (stock : Stock) → inventory_of ms ≡ Ok stock → IsStock stock
+inventory_of_is : (ms : Members) (inventory : Inventory) → inventory_of ms ≡ Ok inventory → IsInventory inventory
 unfolding inventory_of
-inventory_of_is ms stock e =
-    bind_ok (intake_of ms) _ stock e (λ t is e1.
-    let same : stock_of t ≡ stock = cc in
-    subst IsStock same (intake_is_stock ms t is))
+inventory_of_is ms inventory e =
+    bind_ok (intake_of ms) _ inventory e (λ t is e1.
+    let same : inventory_with t ≡ inventory = cc in
+    subst IsInventory same (intake_is_inventory ms t is))
 
 pub inventory_law : InventoryLaw
-unfolding inventory
-inventory_law bytes stock e = bind_ok (tree_of bytes) _ stock e (λ ms read e1. inventory_of_is ms stock e1)
+unfolding read_inventory
+inventory_law bytes inventory e = bind_ok (tree_of bytes) _ inventory e (λ ms read e1. inventory_of_is ms inventory e1)
 
 pub sendable_law : SendableLaw
-sendable_law bytes stock e = (inventory_law bytes stock e).sendable
+sendable_law bytes inventory e = (inventory_law bytes inventory e).sendable

@@ -1,7 +1,7 @@
 pub mod Keys
 pub mod Tables
 pub mod Trees
-pub mod Stocks
+pub mod Inventories
 pub mod Registers
 pub mod Chains
 pub mod Parts

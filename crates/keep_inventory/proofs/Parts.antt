@@ -2,7 +2,7 @@
 use Rattle.std.proofs.Common.{◌≡◌, ℕ, List, length, Some, Option, Ok, option_map, unwrap_or}
 use Rattle.toml.specs.Data.{Members}
 use Rattle.keep_tree.specs.declared.entry.Kind.TheVariants as kind
-use Rattle.keep_tree.specs.Forest.{Grove}
+use Rattle.keep_tree.specs.Forest.{Forest}
 use Rattle.keep_inventory.specs.declared.key.Key.TheVariants.{Token, Name, Parent, Need, Secret, LeaseId}
 use Rattle.keep_inventory.specs.declared.row.Life.{Life}
 use Rattle.keep_inventory.specs.declared.row.Row.{Row}
@@ -13,21 +13,21 @@ use Rattle.keep_inventory.specs.Terms.{step_of, ceiling_of}
 use Rattle.keep_inventory.specs.Rows.{index_or_none, life_of, lease_row, lease_terms, token_row, token_terms}
 use Rattle.keep_inventory.proofs.Chains.{bind_ok}
 
-abbrev pub made_token : Grove → List ℕ → Option (List ℕ) → Life → Terms → Option ℕ → Option (List ℕ) → Row
+abbrev pub made_token : Forest → List ℕ → Option (List ℕ) → Life → Terms → Option ℕ → Option (List ℕ) → Row
 made_token g name parent life terms need secret = record {
   entry = record { name = name; kind = kind.Token; parent = option_map (index_or_none g) parent; end = life.end; renewable = life.renewable; step = step_of terms; ceiling = ceiling_of terms; need = unwrap_or need 0 };
   credential = unwrap_or secret name;
   terms = terms;
 }
 
-abbrev pub made_lease : Grove → List ℕ → List ℕ → Life → Terms → Option ℕ → Option (List ℕ) → Row
+abbrev pub made_lease : Forest → List ℕ → List ℕ → Life → Terms → Option ℕ → Option (List ℕ) → Row
 made_lease g name token life terms need lease_id = record {
   entry = record { name = name; kind = kind.Lease; parent = Some (index_or_none g token); end = life.end; renewable = life.renewable; step = step_of terms; ceiling = ceiling_of terms; need = unwrap_or need 0 };
   credential = unwrap_or lease_id name;
   terms = terms;
 }
 
-pub record TokenParts (system_max : ℕ) (g : Grove) (ms : Members) (row : Row) : Type 0 where
+pub record TokenParts (system_max : ℕ) (g : Forest) (ms : Members) (row : Row) : Type 0 where
   pub name_if : Option (List ℕ)
   pub name_read : value_at text (Some (length g.entries)) Name ms ≡ Ok name_if
   pub name : List ℕ
@@ -44,7 +44,7 @@ pub record TokenParts (system_max : ℕ) (g : Grove) (ms : Members) (row : Row) 
   pub secret_read : value_at credential (Some (length g.entries)) Secret ms ≡ Ok secret
   pub made : made_token g name parent life terms need secret ≡ row
 
-pub record LeaseParts (system_max : ℕ) (g : Grove) (ms : Members) (row : Row) : Type 0 where
+pub record LeaseParts (system_max : ℕ) (g : Forest) (ms : Members) (row : Row) : Type 0 where
   pub name_if : Option (List ℕ)
   pub name_read : value_at text (Some (length g.entries)) Name ms ≡ Ok name_if
   pub name : List ℕ
@@ -63,7 +63,7 @@ pub record LeaseParts (system_max : ℕ) (g : Grove) (ms : Members) (row : Row) 
   pub lease_id_read : value_at credential (Some (length g.entries)) LeaseId ms ≡ Ok lease_id
   pub made : made_lease g name token life terms need lease_id ≡ row
 
-pub token_parts : (system_max : ℕ) (g : Grove) (ms : Members) (row : Row) → token_row system_max g ms ≡ Ok row → TokenParts system_max g ms row
+pub token_parts : (system_max : ℕ) (g : Forest) (ms : Members) (row : Row) → token_row system_max g ms ≡ Ok row → TokenParts system_max g ms row
 unfolding token_row
 token_parts system_max g ms row e =
     bind_ok (only token_keys (Some (length g.entries)) ms) _ row e (λ known a0 e0.
@@ -92,7 +92,7 @@ token_parts system_max g ms row e =
       made = cc;
     }))))))))
 
-pub lease_parts : (system_max : ℕ) (g : Grove) (ms : Members) (row : Row) → lease_row system_max g ms ≡ Ok row → LeaseParts system_max g ms row
+pub lease_parts : (system_max : ℕ) (g : Forest) (ms : Members) (row : Row) → lease_row system_max g ms ≡ Ok row → LeaseParts system_max g ms row
 unfolding lease_row
 lease_parts system_max g ms row e =
     bind_ok (only lease_keys (Some (length g.entries)) ms) _ row e (λ known a0 e0.

@@ -9,7 +9,7 @@ use Rattle.std.proofs.lemmas.Bool.Decides.{nat_tests}
 use Rattle.std.proofs.lemmas.List.Elements.{All-append, All-nil, All-push}
 use Rattle.toml.specs.Data.{string, integer, float, boolean, datetime, array, table, Data, Members, get_member}
 use Rattle.keep_tree.specs.declared.forest.TheConstants.{NAME_MAX}
-use Rattle.keep_tree.specs.Forest.{Grove}
+use Rattle.keep_tree.specs.Forest.{Forest}
 use Rattle.keep_tree.specs.Push.{is_name, is_name_byte, refusal}
 use Rattle.keep_tree.proofs.Placed.{taken_from_refusal}
 use Rattle.keep_inventory.specs.declared.fault.InvFault.{InvFault}
@@ -19,7 +19,7 @@ use Rattle.keep_inventory.specs.declared.key.Key.TheVariants.{Secret, LeaseId}
 use Rattle.keep_inventory.specs.declared.row.Row.{Row}
 use Rattle.keep_inventory.specs.Keys.{key_text}
 use Rattle.keep_inventory.specs.Values.{read_if, credential, is_credential}
-use Rattle.keep_inventory.specs.Stock.{IsSendable}
+use Rattle.keep_inventory.specs.Inventories.{IsSendable}
 use Rattle.keep_inventory.proofs.Parts.{TokenParts, LeaseParts}
 
 -- ---- bytes
@@ -110,14 +110,14 @@ either_sendable : (written : Option (List ℕ)) (name : List ℕ) → IfSome wri
 either_sendable None name h k = k
 either_sendable (Some x) name h k = h
 
-pub token_sendable : (system_max : ℕ) (g : Grove) (ms : Members) (row : Row) → TokenParts system_max g ms row → refusal g row.entry ≡ None → IsSendable row.credential
+pub token_sendable : (system_max : ℕ) (g : Forest) (ms : Members) (row : Row) → TokenParts system_max g ms row → refusal g row.entry ≡ None → IsSendable row.credential
 token_sendable system_max g ms row parts fits =
     let name : is_name row.entry.name ≡ true = (taken_from_refusal g row.entry fits).named in
     subst (λ (r : Row). IsSendable r.credential) parts.made
     (either_sendable parts.secret parts.name (read_sendable (get_member (key_text Secret) ms) (Some (length g.entries)) Secret parts.secret parts.secret_read)
     (name_sendable parts.name (subst (λ (r : Row). is_name r.entry.name ≡ true) (sym parts.made) name)))
 
-pub lease_sendable : (system_max : ℕ) (g : Grove) (ms : Members) (row : Row) → LeaseParts system_max g ms row → refusal g row.entry ≡ None → IsSendable row.credential
+pub lease_sendable : (system_max : ℕ) (g : Forest) (ms : Members) (row : Row) → LeaseParts system_max g ms row → refusal g row.entry ≡ None → IsSendable row.credential
 lease_sendable system_max g ms row parts fits =
     let name : is_name row.entry.name ≡ true = (taken_from_refusal g row.entry fits).named in
     subst (λ (r : Row). IsSendable r.credential) parts.made

@@ -3,7 +3,7 @@ use Rattle.std.proofs.Common.{◌≡◌, ◌==◌, ℕ, ◌≤◌, Some, None, O
 use Rattle.std.proofs.lemmas.Bool.{cases_Bool, cond-true, cond-false}
 use Rattle.toml.specs.Data.{Members}
 use Rattle.keep_tree.specs.declared.entry.Entry.{Entry}
-use Rattle.keep_tree.specs.Forest.{Grove}
+use Rattle.keep_tree.specs.Forest.{Forest}
 use Rattle.keep_inventory.specs.declared.limits.TheConstants.{SPAN_MAX}
 use Rattle.keep_inventory.specs.declared.key.Key.TheVariants.{Increment, Period, MaxTtl, ExplicitMaxTtl}
 use Rattle.keep_inventory.specs.declared.row.Row.{Row}
@@ -62,12 +62,12 @@ step_within t increment period =
       | inr some ↦ subst (λ n. n ≤ SPAN_MAX) (sym (cond-false (t.period == 0) (unwrap_or t.increment 0) t.period some)) period
     ]
 
-pub token_good : (system_max : ℕ) (g : Grove) (ms : Members) (row : Row) → TokenParts system_max g ms row → IsGood row.entry row.terms
+pub token_good : (system_max : ℕ) (g : Forest) (ms : Members) (row : Row) → TokenParts system_max g ms row → IsGood row.entry row.terms
 token_good system_max g ms row parts =
     let spans = token_terms_are system_max _ parts.life.issued ms parts.terms parts.terms_read in
     subst (λ (r : Row). IsGood r.entry r.terms) parts.made (step_within parts.terms spans.increment spans.period, refl, refl)
 
-pub lease_good : (system_max : ℕ) (g : Grove) (ms : Members) (row : Row) → LeaseParts system_max g ms row → IsGood row.entry row.terms
+pub lease_good : (system_max : ℕ) (g : Forest) (ms : Members) (row : Row) → LeaseParts system_max g ms row → IsGood row.entry row.terms
 lease_good system_max g ms row parts =
     let spans = lease_terms_are system_max _ parts.life.issued ms parts.terms parts.terms_read in
     subst (λ (r : Row). IsGood r.entry r.terms) parts.made (step_within parts.terms spans.increment spans.period, refl, refl)

@@ -2,7 +2,7 @@
 use Rattle.std.proofs.Common.{◌≡◌, ℕ, Bool, true, false, cond, List, ◌∷◌, [], ◌++◌, length, Some, None, Option, Result, Ok, Err, refl, ap, ◌∙◌, subst}
 use Rattle.keep_tree.specs.declared.entry.Entry.{Entry}
 use Rattle.keep_tree.specs.declared.fault.TreeFault.{TreeFault}
-use Rattle.keep_tree.specs.Forest.{Grove}
+use Rattle.keep_tree.specs.Forest.{Forest}
 use Rattle.keep_tree.specs.Push.{refusal}
 use Rattle.toml.specs.Data.{string, integer, float, boolean, datetime, array, table, Items, no_items, item, Members}
 use Rattle.keep_inventory.specs.declared.fault.InvFault.{InvFault}
@@ -16,27 +16,27 @@ use Rattle.keep_inventory.specs.Inventory.{token_entered, lease_entered, entered
 use Rattle.keep_inventory.proofs.Chains.{bind_ok}
 
 -- a forest with one entry more
-abbrev pub grown : Grove → Entry → Grove
+abbrev pub grown : Forest → Entry → Forest
 grown g e = record { entries = g.entries ++ e ∷ []; margin = g.margin }
 
 -- with the row of one token more
 abbrev pub took_token : Intake → Row → Intake
-took_token s row = record { grove = grown s.grove row.entry; secrets = s.secrets ++ row.credential ∷ []; lease_ids = s.lease_ids; terms = s.terms ++ row.terms ∷ [] }
+took_token s row = record { forest = grown s.forest row.entry; secrets = s.secrets ++ row.credential ∷ []; lease_ids = s.lease_ids; terms = s.terms ++ row.terms ∷ [] }
 
 -- with the row of one lease more
 abbrev pub took_lease : Intake → Row → Intake
-took_lease s row = record { grove = grown s.grove row.entry; secrets = s.secrets; lease_ids = s.lease_ids ++ row.credential ∷ []; terms = s.terms ++ row.terms ∷ [] }
+took_lease s row = record { forest = grown s.forest row.entry; secrets = s.secrets; lease_ids = s.lease_ids ++ row.credential ∷ []; terms = s.terms ++ row.terms ∷ [] }
 
 -- the forest takes the entry of a row, and none of these texts is its credential
-pub record Fits (g : Grove) (texts : List (List ℕ)) (row : Row) : Type 0 where
+pub record Fits (g : Forest) (texts : List (List ℕ)) (row : Row) : Type 0 where
   pub entry : refusal g row.entry ≡ None
   pub fresh : holds texts row.credential ≡ false
 
-appended_ok : (g h : Grove) (e : Entry) (o : Option TreeFault) → appended g e o ≡ Ok h → (o ≡ None) × (grown g e ≡ h)
+appended_ok : (g h : Forest) (e : Entry) (o : Option TreeFault) → appended g e o ≡ Ok h → (o ≡ None) × (grown g e ≡ h)
 appended_ok g h e (Some fault) k = absurd (cc)
 appended_ok g h e None k = (refl, cc)
 
-pushed_ok : (g h : Grove) (e : Entry) → pushed g e ≡ Ok h → (refusal g e ≡ None) × (grown g e ≡ h)
+pushed_ok : (g h : Forest) (e : Entry) → pushed g e ≡ Ok h → (refusal g e ≡ None) × (grown g e ≡ h)
 unfolding pushed
 pushed_ok g h e k = appended_ok g h e (refusal g e) k
 
@@ -48,32 +48,32 @@ distinct_ok : (key : Key) (index : ℕ) (texts news : List (List ℕ)) (text : L
 unfolding distinct
 distinct_ok key index texts news text e = cond_ok (holds texts text) (BadValue (Some index) key) (texts ++ text ∷ []) news e
 
-pub token_taken : (s t : Intake) (row : Row) → with_token s row ≡ Ok t → Fits s.grove s.secrets row × (took_token s row ≡ t)
+pub token_taken : (s t : Intake) (row : Row) → with_token s row ≡ Ok t → Fits s.forest s.secrets row × (took_token s row ≡ t)
 unfolding with_token
 token_taken s t row e =
-    bind_ok (pushed s.grove row.entry) _ t e (λ g p e1.
-    bind_ok (distinct Secret (length s.grove.entries) s.secrets row.credential) _ t e1 (λ secrets d e2.
-    let grows = pushed_ok s.grove g row.entry p in
-    let adds = distinct_ok Secret (length s.grove.entries) s.secrets secrets row.credential d in
-    let made : record { grove = g; secrets = secrets; lease_ids = s.lease_ids; terms = s.terms ++ row.terms ∷ [] } ≡ t = cc in
-    let one : took_token s row ≡ record { grove = g; secrets = s.secrets ++ row.credential ∷ []; lease_ids = s.lease_ids; terms = s.terms ++ row.terms ∷ [] } =
-    ap (λ (h : Grove). record { grove = h; secrets = s.secrets ++ row.credential ∷ []; lease_ids = s.lease_ids; terms = s.terms ++ row.terms ∷ [] }) grows.1 in
-    let two : record { grove = g; secrets = s.secrets ++ row.credential ∷ []; lease_ids = s.lease_ids; terms = s.terms ++ row.terms ∷ [] } ≡ record { grove = g; secrets = secrets; lease_ids = s.lease_ids; terms = s.terms ++ row.terms ∷ [] } =
-    ap (λ (xs : List (List ℕ)). record { grove = g; secrets = xs; lease_ids = s.lease_ids; terms = s.terms ++ row.terms ∷ [] }) adds.1 in
+    bind_ok (pushed s.forest row.entry) _ t e (λ g p e1.
+    bind_ok (distinct Secret (length s.forest.entries) s.secrets row.credential) _ t e1 (λ secrets d e2.
+    let grows = pushed_ok s.forest g row.entry p in
+    let adds = distinct_ok Secret (length s.forest.entries) s.secrets secrets row.credential d in
+    let made : record { forest = g; secrets = secrets; lease_ids = s.lease_ids; terms = s.terms ++ row.terms ∷ [] } ≡ t = cc in
+    let one : took_token s row ≡ record { forest = g; secrets = s.secrets ++ row.credential ∷ []; lease_ids = s.lease_ids; terms = s.terms ++ row.terms ∷ [] } =
+    ap (λ (h : Forest). record { forest = h; secrets = s.secrets ++ row.credential ∷ []; lease_ids = s.lease_ids; terms = s.terms ++ row.terms ∷ [] }) grows.1 in
+    let two : record { forest = g; secrets = s.secrets ++ row.credential ∷ []; lease_ids = s.lease_ids; terms = s.terms ++ row.terms ∷ [] } ≡ record { forest = g; secrets = secrets; lease_ids = s.lease_ids; terms = s.terms ++ row.terms ∷ [] } =
+    ap (λ (xs : List (List ℕ)). record { forest = g; secrets = xs; lease_ids = s.lease_ids; terms = s.terms ++ row.terms ∷ [] }) adds.1 in
     (record { entry = grows.0; fresh = adds.0 }, one ∙ two ∙ made)))
 
-pub lease_taken : (s t : Intake) (row : Row) → with_lease s row ≡ Ok t → Fits s.grove s.lease_ids row × (took_lease s row ≡ t)
+pub lease_taken : (s t : Intake) (row : Row) → with_lease s row ≡ Ok t → Fits s.forest s.lease_ids row × (took_lease s row ≡ t)
 unfolding with_lease
 lease_taken s t row e =
-    bind_ok (pushed s.grove row.entry) _ t e (λ g p e1.
-    bind_ok (distinct LeaseId (length s.grove.entries) s.lease_ids row.credential) _ t e1 (λ lease_ids d e2.
-    let grows = pushed_ok s.grove g row.entry p in
-    let adds = distinct_ok LeaseId (length s.grove.entries) s.lease_ids lease_ids row.credential d in
-    let made : record { grove = g; secrets = s.secrets; lease_ids = lease_ids; terms = s.terms ++ row.terms ∷ [] } ≡ t = cc in
-    let one : took_lease s row ≡ record { grove = g; secrets = s.secrets; lease_ids = s.lease_ids ++ row.credential ∷ []; terms = s.terms ++ row.terms ∷ [] } =
-    ap (λ (h : Grove). record { grove = h; secrets = s.secrets; lease_ids = s.lease_ids ++ row.credential ∷ []; terms = s.terms ++ row.terms ∷ [] }) grows.1 in
-    let two : record { grove = g; secrets = s.secrets; lease_ids = s.lease_ids ++ row.credential ∷ []; terms = s.terms ++ row.terms ∷ [] } ≡ record { grove = g; secrets = s.secrets; lease_ids = lease_ids; terms = s.terms ++ row.terms ∷ [] } =
-    ap (λ (xs : List (List ℕ)). record { grove = g; secrets = s.secrets; lease_ids = xs; terms = s.terms ++ row.terms ∷ [] }) adds.1 in
+    bind_ok (pushed s.forest row.entry) _ t e (λ g p e1.
+    bind_ok (distinct LeaseId (length s.forest.entries) s.lease_ids row.credential) _ t e1 (λ lease_ids d e2.
+    let grows = pushed_ok s.forest g row.entry p in
+    let adds = distinct_ok LeaseId (length s.forest.entries) s.lease_ids lease_ids row.credential d in
+    let made : record { forest = g; secrets = s.secrets; lease_ids = lease_ids; terms = s.terms ++ row.terms ∷ [] } ≡ t = cc in
+    let one : took_lease s row ≡ record { forest = g; secrets = s.secrets; lease_ids = s.lease_ids ++ row.credential ∷ []; terms = s.terms ++ row.terms ∷ [] } =
+    ap (λ (h : Forest). record { forest = h; secrets = s.secrets; lease_ids = s.lease_ids ++ row.credential ∷ []; terms = s.terms ++ row.terms ∷ [] }) grows.1 in
+    let two : record { forest = g; secrets = s.secrets; lease_ids = s.lease_ids ++ row.credential ∷ []; terms = s.terms ++ row.terms ∷ [] } ≡ record { forest = g; secrets = s.secrets; lease_ids = lease_ids; terms = s.terms ++ row.terms ∷ [] } =
+    ap (λ (xs : List (List ℕ)). record { forest = g; secrets = s.secrets; lease_ids = xs; terms = s.terms ++ row.terms ∷ [] }) adds.1 in
     (record { entry = grows.0; fresh = adds.0 }, one ∙ two ∙ made)))
 
 -- ---- the tables of one kind, one after another
@@ -94,11 +94,11 @@ all_keep P step keeps key s t (item (datetime x) ds) m e = absurd (cc)
 all_keep P step keeps key s t (item (array x) ds) m e = absurd (cc)
 
 -- an entered token is that of its row
-pub token_entered_ok : (system_max : ℕ) (s t : Intake) (ms : Members) → token_entered system_max s ms ≡ Ok t → (row : Row) × (token_row system_max s.grove ms ≡ Ok row) × Fits s.grove s.secrets row × (took_token s row ≡ t)
+pub token_entered_ok : (system_max : ℕ) (s t : Intake) (ms : Members) → token_entered system_max s ms ≡ Ok t → (row : Row) × (token_row system_max s.forest ms ≡ Ok row) × Fits s.forest s.secrets row × (took_token s row ≡ t)
 unfolding token_entered
-token_entered_ok system_max s t ms e = bind_ok (token_row system_max s.grove ms) _ t e (λ row r e1. let taken = token_taken s t row e1 in (row, r, taken.0, taken.1))
+token_entered_ok system_max s t ms e = bind_ok (token_row system_max s.forest ms) _ t e (λ row r e1. let taken = token_taken s t row e1 in (row, r, taken.0, taken.1))
 
 -- and an entered lease
-pub lease_entered_ok : (system_max : ℕ) (s t : Intake) (ms : Members) → lease_entered system_max s ms ≡ Ok t → (row : Row) × (lease_row system_max s.grove ms ≡ Ok row) × Fits s.grove s.lease_ids row × (took_lease s row ≡ t)
+pub lease_entered_ok : (system_max : ℕ) (s t : Intake) (ms : Members) → lease_entered system_max s ms ≡ Ok t → (row : Row) × (lease_row system_max s.forest ms ≡ Ok row) × Fits s.forest s.lease_ids row × (took_lease s row ≡ t)
 unfolding lease_entered
-lease_entered_ok system_max s t ms e = bind_ok (lease_row system_max s.grove ms) _ t e (λ row r e1. let taken = lease_taken s t row e1 in (row, r, taken.0, taken.1))
+lease_entered_ok system_max s t ms e = bind_ok (lease_row system_max s.forest ms) _ t e (λ row r e1. let taken = lease_taken s t row e1 in (row, r, taken.0, taken.1))

@@ -1,10 +1,10 @@
--- Told: an inventory to which a lookup was applied is a stock still.
+-- Told: an inventory to which a lookup was applied is an inventory still.
 use Rattle.std.proofs.Common.{◌≡◌, ◌≢◌, ℕ, ◌+◌, ◌<◌, ◌≤◌, Bool, true, false, cond, ◌&&◌, List, Option, Some, None, is_some, nat_lt, set, length, refl, sym, ap, ◌∙◌, subst, arith, inl, inr}
 use Rattle.std.proofs.lemmas.Bool.{cases_eq}
 use Rattle.std.proofs.lemmas.Bool.Decides.{nat_tests}
 use Rattle.std.proofs.lemmas.List.{get_or-set_same, get_or-set_other, length-set, set-set}
 use Rattle.keep_tree.specs.declared.entry.Entry.{Entry}
-use Rattle.keep_tree.specs.Forest.{Grove, entry_at}
+use Rattle.keep_tree.specs.Forest.{Forest, entry_at}
 use Rattle.keep_tree.specs.Push.{IsForest, is_lease}
 use Rattle.keep_tree.proofs.Entries.{entry_at_set_other, entry_at_set_same}
 use Rattle.vault_json.specs.declared.lookup.Lookup.{Lookup}
@@ -14,12 +14,12 @@ use Rattle.keep_inventory.specs.declared.lookup.LookupFault.{LookupFault}
 use Rattle.keep_inventory.specs.declared.lookup.LookupFault.TheVariants.{OtherKind, OtherTree, NoStep}
 use Rattle.keep_inventory.specs.declared.terms.Terms.{Terms}
 use Rattle.keep_inventory.specs.Terms.{ceiling_of, step_of}
-use Rattle.keep_inventory.specs.Stock.{IsStock, Stock, no_terms, terms_at}
+use Rattle.keep_inventory.specs.Inventories.{IsInventory, Inventory, no_terms, terms_at}
 use Rattle.keep_inventory.specs.Lookup.{lookup_fault, told, told_entry, told_terms}
 
 -- the entry that a lookup makes of the one at an index
-abbrev pub entry_then : Stock → ℕ → Lookup → ℕ → Entry
-entry_then s i lookup now = told_entry now lookup (told_terms lookup (terms_at s.terms i)) (entry_at s.grove.entries i)
+abbrev pub entry_then : Inventory → ℕ → Lookup → ℕ → Entry
+entry_then s i lookup now = told_entry now lookup (told_terms lookup (terms_at s.terms i)) (entry_at s.forest.entries i)
 
 -- ---- its step is past the margin
 
@@ -34,34 +34,34 @@ not_met false f e = refl
 at_least : (m n : ℕ) → nat_lt m n ≡ false → n ≤ m
 at_least m n h = grind (arith, nat_tests)
 
-pub past_margin : (s : Stock) → IsStock s → (i : ℕ) → i < length s.grove.entries → (lookup : Lookup) (now : ℕ) → lookup_fault s i lookup ≡ None → s.grove.margin + 1 ≤ (entry_then s i lookup now).step
+pub past_margin : (s : Inventory) → IsInventory s → (i : ℕ) → i < length s.forest.entries → (lookup : Lookup) (now : ℕ) → lookup_fault s i lookup ≡ None → s.forest.margin + 1 ≤ (entry_then s i lookup now).step
 unfolding lookup_fault
-past_margin s stock i within (Token ttl created explicit_max orphan renewable period) now none =
+past_margin s inventory i within (Token ttl created explicit_max orphan renewable period) now none =
     let step = step_of (told_terms (Token ttl created explicit_max orphan renewable period) (terms_at s.terms i)) in
-    let one = passed (is_lease (entry_at s.grove.entries i).kind) OtherKind _ none in
-    let two = passed (orphan && is_some (entry_at s.grove.entries i).parent) OtherTree _ one in
-    at_least step (s.grove.margin + 1) (not_met (nat_lt step (s.grove.margin + 1)) NoStep two)
-past_margin s stock i within (Lease id issued renewable ttl) now none =
-    let above = (stock.forest.placed i within).step_past_margin in omega (arith, above)
+    let one = passed (is_lease (entry_at s.forest.entries i).kind) OtherKind _ none in
+    let two = passed (orphan && is_some (entry_at s.forest.entries i).parent) OtherTree _ one in
+    at_least step (s.forest.margin + 1) (not_met (nat_lt step (s.forest.margin + 1)) NoStep two)
+past_margin s inventory i within (Lease id issued renewable ttl) now none =
+    let above = (inventory.forest.placed i within).step_past_margin in omega (arith, above)
 
 -- ---- an entry that is set again and again
 
-abbrev change : Grove → ℕ → (Entry → Entry) → Grove
+abbrev change : Forest → ℕ → (Entry → Entry) → Forest
 change g i f = record g { entries = set g.entries i (f (entry_at g.entries i)) }
 
-set_again : (g : Grove) (i : ℕ) (e : Entry) (f : Entry → Entry) → i < length g.entries → change (record g { entries = set g.entries i e }) i f ≡ record g { entries = set g.entries i (f e) }
+set_again : (g : Forest) (i : ℕ) (e : Entry) (f : Entry → Entry) → i < length g.entries → change (record g { entries = set g.entries i e }) i f ≡ record g { entries = set g.entries i (f e) }
 set_again g i e f within =
     ap (λ (x : Entry). record g { entries = set (set g.entries i e) i (f x) }) (entry_at_set_same g.entries i e within)
     ∙ ap (λ es. record g { entries = es }) (set-set g.entries i e (f e))
 
-pub set_thrice : (g h k l : Grove) (i : ℕ) (a b c : Entry → Entry) → i < length g.entries → h ≡ change g i a → k ≡ change h i b → l ≡ change k i c →
+pub set_thrice : (g h k l : Forest) (i : ℕ) (a b c : Entry → Entry) → i < length g.entries → h ≡ change g i a → k ≡ change h i b → l ≡ change k i c →
     l ≡ record g { entries = set g.entries i (c (b (a (entry_at g.entries i)))) }
 set_thrice g h k l i a b c within one two three =
     let e = entry_at g.entries i in
-    let second = two ∙ ap (λ (x : Grove). change x i b) one ∙ set_again g i (a e) b within in
-    three ∙ ap (λ (x : Grove). change x i c) second ∙ set_again g i (b (a e)) c within
+    let second = two ∙ ap (λ (x : Forest). change x i b) one ∙ set_again g i (a e) b within in
+    three ∙ ap (λ (x : Forest). change x i c) second ∙ set_again g i (b (a e)) c within
 
--- ---- each part of a stock
+-- ---- each part of an inventory
 
 terms_set_same : (ts : List Terms) (i : ℕ) (t : Terms) → i < length ts → terms_at (set ts i t) i ≡ t
 unfolding terms_at
@@ -106,34 +106,34 @@ each_told P es ts i e t count within new old j inside =
     ]
 
 -- the forest that was told and the terms that were written are those of the inventory as it then is
-pub is_told : (s : Stock) (i : ℕ) (lookup : Lookup) (now : ℕ) (g : Grove) (ts : List Terms) (t : Terms) → t ≡ told_terms lookup (terms_at s.terms i) →
-    g ≡ record s.grove { entries = set s.grove.entries i (told_entry now lookup t (entry_at s.grove.entries i)) } → ts ≡ set s.terms i t →
-    record { grove = g; credentials = s.credentials; terms = ts } ≡ told s i lookup now
+pub is_told : (s : Inventory) (i : ℕ) (lookup : Lookup) (now : ℕ) (g : Forest) (ts : List Terms) (t : Terms) → t ≡ told_terms lookup (terms_at s.terms i) →
+    g ≡ record s.forest { entries = set s.forest.entries i (told_entry now lookup t (entry_at s.forest.entries i)) } → ts ≡ set s.terms i t →
+    record { forest = g; credentials = s.credentials; terms = ts } ≡ told s i lookup now
 unfolding told
-is_told s i lookup now g ts t same grove terms =
-    ap (λ (x : Grove). record { grove = x; credentials = s.credentials; terms = ts }) grove
-    ∙ ap (λ (xs : List Terms). record { grove = record s.grove { entries = set s.grove.entries i (told_entry now lookup t (entry_at s.grove.entries i)) }; credentials = s.credentials; terms = xs }) terms
-    ∙ ap (λ (x : Terms). record { grove = record s.grove { entries = set s.grove.entries i (told_entry now lookup x (entry_at s.grove.entries i)) }; credentials = s.credentials; terms = set s.terms i x }) same
+is_told s i lookup now g ts t same forest terms =
+    ap (λ (x : Forest). record { forest = x; credentials = s.credentials; terms = ts }) forest
+    ∙ ap (λ (xs : List Terms). record { forest = record s.forest { entries = set s.forest.entries i (told_entry now lookup t (entry_at s.forest.entries i)) }; credentials = s.credentials; terms = xs }) terms
+    ∙ ap (λ (x : Terms). record { forest = record s.forest { entries = set s.forest.entries i (told_entry now lookup x (entry_at s.forest.entries i)) }; credentials = s.credentials; terms = set s.terms i x }) same
 
-pub told_is_stock : (s : Stock) → IsStock s → (i : ℕ) → i < length s.grove.entries → (lookup : Lookup) (now : ℕ) → (entry_then s i lookup now).step ≤ SPAN_MAX → IsForest (told s i lookup now).grove → IsStock (told s i lookup now)
+pub told_is_inventory : (s : Inventory) → IsInventory s → (i : ℕ) → i < length s.forest.entries → (lookup : Lookup) (now : ℕ) → (entry_then s i lookup now).step ≤ SPAN_MAX → IsForest (told s i lookup now).forest → IsInventory (told s i lookup now)
 unfolding told
-told_is_stock s stock i within lookup now span forest =
-    let es = s.grove.entries in
+told_is_inventory s inventory i within lookup now span forest =
+    let es = s.forest.entries in
     let ts = s.terms in
     let e = entry_then s i lookup now in
     let t = told_terms lookup (terms_at ts i) in
     let n = length-set es i e in
     let m = length-set ts i t in
-    let a = stock.credentials in
-    let b = stock.terms in
+    let a = inventory.credentials in
+    let b = inventory.terms in
     let kinds = kinds_stay es i e within (kind_stays now lookup t (entry_at es i)) in
     record {
       forest = forest;
       credentials = omega (arith, a, n);
       terms = omega (arith, b, n, m);
-      apart = λ j k hj hk kind same. stock.apart j k (omega (arith, hj, n)) (omega (arith, hk, n)) (sym (kinds j) ∙ kind ∙ kinds k) same;
-      sendable = stock.sendable;
-      steps = λ j h. each_told (λ x y. x.step ≤ SPAN_MAX) es ts i e t b within span stock.steps j (omega (arith, h, n));
-      step_is = λ j h. each_told (λ x y. x.step ≡ step_of y) es ts i e t b within (step_told now lookup (terms_at ts i) (entry_at es i) (stock.step_is i within)) stock.step_is j (omega (arith, h, n));
-      ceiling_is = λ j h. each_told (λ x y. x.ceiling ≡ ceiling_of y) es ts i e t b within (ceiling_told now lookup (terms_at ts i) (entry_at es i)) stock.ceiling_is j (omega (arith, h, n));
+      apart = λ j k hj hk kind same. inventory.apart j k (omega (arith, hj, n)) (omega (arith, hk, n)) (sym (kinds j) ∙ kind ∙ kinds k) same;
+      sendable = inventory.sendable;
+      steps = λ j h. each_told (λ x y. x.step ≤ SPAN_MAX) es ts i e t b within span inventory.steps j (omega (arith, h, n));
+      step_is = λ j h. each_told (λ x y. x.step ≡ step_of y) es ts i e t b within (step_told now lookup (terms_at ts i) (entry_at es i) (inventory.step_is i within)) inventory.step_is j (omega (arith, h, n));
+      ceiling_is = λ j h. each_told (λ x y. x.ceiling ≡ ceiling_of y) es ts i e t b within (ceiling_told now lookup (terms_at ts i) (entry_at es i)) inventory.ceiling_is j (omega (arith, h, n));
     }

@@ -3,7 +3,7 @@ use Rattle.std.specs.Prelude.{◌≡◌, ℕ, Bool, List, [], ◌∷◌, ◌++�
 use Rattle.std.specs.List.{list_any}
 use Rattle.keep_tree.specs.declared.entry.Entry.{Entry}
 use Rattle.keep_tree.specs.declared.fault.TreeFault.{TreeFault}
-use Rattle.keep_tree.specs.Forest.{Grove}
+use Rattle.keep_tree.specs.Forest.{Forest}
 use Rattle.keep_tree.specs.Push.{refusal}
 use Rattle.keep_inventory.specs.declared.fault.InvFault.{InvFault}
 use Rattle.keep_inventory.specs.declared.fault.InvFault.TheVariants.{Tree, BadValue}
@@ -12,28 +12,28 @@ use Rattle.keep_inventory.specs.declared.key.Key.TheVariants.{Secret, LeaseId}
 use Rattle.keep_inventory.specs.declared.row.Row.{Row}
 use Rattle.keep_inventory.specs.declared.terms.Terms.{Terms}
 use Rattle.keep_inventory.specs.Answers.{◌>>=◌, Fails}
-use Rattle.keep_inventory.specs.Stock.{Stock}
+use Rattle.keep_inventory.specs.Inventories.{Inventory}
 
 -- the forest so far, the secrets of its tokens, the ids of its leases, and the terms of both
 pub record Intake : Type 0 where
-  pub grove : Grove
+  pub forest : Forest
   pub secrets : List (List ℕ)
   pub lease_ids : List (List ℕ)
   pub terms : List Terms
 
 abbrev pub nothing : ℕ → Intake
-nothing margin = record { grove = record { entries = []; margin = margin }; secrets = []; lease_ids = []; terms = [] }
+nothing margin = record { forest = record { entries = []; margin = margin }; secrets = []; lease_ids = []; terms = [] }
 
 -- all tokens stand before all leases, and so do their credentials
-abbrev pub stock_of : Intake → Stock
-stock_of s = record { grove = s.grove; credentials = s.secrets ++ s.lease_ids; terms = s.terms }
+abbrev pub inventory_with : Intake → Inventory
+inventory_with s = record { forest = s.forest; credentials = s.secrets ++ s.lease_ids; terms = s.terms }
 
-abbrev pub appended : Grove → Entry → Option TreeFault → Result Grove InvFault
+abbrev pub appended : Forest → Entry → Option TreeFault → Result Forest InvFault
 appended g e (Some fault) = Err (Tree (length g.entries) fault)
 appended g e None = Ok (record g { entries = g.entries ++ e ∷ [] })
 
 -- a forest with one entry more, or why it refuses that
-unfoldable pub pushed : Grove → Entry → Result Grove InvFault
+unfoldable pub pushed : Forest → Entry → Result Forest InvFault
 pushed g e = appended g e (refusal g e)
 
 -- one of these texts has these bytes
@@ -47,16 +47,16 @@ distinct key index texts text = if holds texts text then Err (BadValue (Some ind
 -- one token more
 unfoldable pub with_token : Intake → Row → Result Intake InvFault
 with_token s row = do
-  grove ← pushed s.grove row.entry
-  secrets ← distinct Secret (length s.grove.entries) s.secrets row.credential
-  Ok (record { grove = grove; secrets = secrets; lease_ids = s.lease_ids; terms = s.terms ++ row.terms ∷ [] })
+  forest ← pushed s.forest row.entry
+  secrets ← distinct Secret (length s.forest.entries) s.secrets row.credential
+  Ok (record { forest = forest; secrets = secrets; lease_ids = s.lease_ids; terms = s.terms ++ row.terms ∷ [] })
 
 -- one lease more
 unfoldable pub with_lease : Intake → Row → Result Intake InvFault
 with_lease s row = do
-  grove ← pushed s.grove row.entry
-  lease_ids ← distinct LeaseId (length s.grove.entries) s.lease_ids row.credential
-  Ok (record { grove = grove; secrets = s.secrets; lease_ids = lease_ids; terms = s.terms ++ row.terms ∷ [] })
+  forest ← pushed s.forest row.entry
+  lease_ids ← distinct LeaseId (length s.forest.entries) s.lease_ids row.credential
+  Ok (record { forest = forest; secrets = s.secrets; lease_ids = lease_ids; terms = s.terms ++ row.terms ∷ [] })
 
 -- a step that changes a value, against the definition of the step
 abbrev pub Changes : {X : Type 0} → Result X InvFault → X → Result (Unit {0}) InvFault → Type 0

@@ -13,16 +13,16 @@ use Rattle.keep_inventory.specs.declared.key.Key.TheVariants.{SystemMax, Margin,
 use Rattle.keep_inventory.specs.Keys.{top_keys}
 use Rattle.keep_inventory.specs.Answers.{◌>>=◌}
 use Rattle.keep_inventory.specs.Values.{only, whole, tables, value_at}
-use Rattle.keep_inventory.specs.Stock.{Stock}
-use Rattle.keep_inventory.specs.Intake.{Intake, nothing, stock_of, with_token, with_lease}
+use Rattle.keep_inventory.specs.Inventories.{Inventory}
+use Rattle.keep_inventory.specs.Intake.{Intake, nothing, inventory_with, with_token, with_lease}
 use Rattle.keep_inventory.specs.Rows.{token_row, lease_row}
 
 -- the table of one token more, and of one lease more
 unfoldable pub token_entered : ℕ → Intake → Members → Result Intake InvFault
-token_entered system_max s ms = token_row system_max s.grove ms >>= λ row. with_token s row
+token_entered system_max s ms = token_row system_max s.forest ms >>= λ row. with_token s row
 
 unfoldable pub lease_entered : ℕ → Intake → Members → Result Intake InvFault
-lease_entered system_max s ms = lease_row system_max s.grove ms >>= λ row. with_lease s row
+lease_entered system_max s ms = lease_row system_max s.forest ms >>= λ row. with_lease s row
 
 -- the tables of one kind, each entered by this step
 abbrev pub entered_by : (Intake → Members → Result Intake InvFault) → Key → Intake → Items → Result Intake InvFault
@@ -42,8 +42,8 @@ intake_of ms = do
   entered_by (lease_entered (unwrap_or system_max SYSTEM_MAX)) Lease with_tokens (unwrap_or leases no_items)
 
 -- the inventory of a document's tree
-unfoldable pub inventory_of : Members → Result Stock InvFault
-inventory_of ms = intake_of ms >>= λ s. Ok (stock_of s)
+unfoldable pub inventory_of : Members → Result Inventory InvFault
+inventory_of ms = intake_of ms >>= λ s. Ok (inventory_with s)
 
 abbrev pub or_not_toml : Option Members → Result Members InvFault
 or_not_toml None = Err NotToml
@@ -54,5 +54,5 @@ unfoldable pub tree_of : List ℕ → Result Members InvFault
 tree_of bytes = if is_utf8 bytes then or_not_toml (parse_document bytes) else Err NotToml
 
 -- the inventory of a text
-unfoldable pub inventory : List ℕ → Result Stock InvFault
-inventory bytes = tree_of bytes >>= inventory_of
+unfoldable pub read_inventory : List ℕ → Result Inventory InvFault
+read_inventory bytes = tree_of bytes >>= inventory_of

@@ -2,16 +2,16 @@
 use Rattle.std.specs.Prelude.{◌≡◌, ℕ, List, Ok, IsUtf8}
 use Rattle.std.specs.List.{All}
 use Rattle.keep_inventory.specs.Bare.{AreAlike}
-use Rattle.keep_inventory.specs.Stock.{IsSendable, IsStock, Stock}
-use Rattle.keep_inventory.specs.Inventory.{inventory}
+use Rattle.keep_inventory.specs.Inventories.{IsSendable, IsInventory, Inventory}
+use Rattle.keep_inventory.specs.Inventory.{read_inventory}
 
--- the inventory of every text is a stock: a forest with what else an inventory always keeps
+-- the inventory of every text is an inventory: a forest with what else an inventory always keeps
 abbrev pub InventoryLaw : Type 0
-InventoryLaw = (bytes : List ℕ) (stock : Stock) → inventory bytes ≡ Ok stock → IsStock stock
+InventoryLaw = (bytes : List ℕ) (inventory : Inventory) → read_inventory bytes ≡ Ok inventory → IsInventory inventory
 
 -- each credential of the inventory of a text can be sent in the head of a message
 abbrev pub SendableLaw : Type 0
-SendableLaw = (bytes : List ℕ) (stock : Stock) → inventory bytes ≡ Ok stock → All IsSendable stock.credentials
+SendableLaw = (bytes : List ℕ) (inventory : Inventory) → read_inventory bytes ≡ Ok inventory → All IsSendable inventory.credentials
 
 -- what can be sent is a text in UTF-8
 abbrev pub TextLaw : Type 0
@@ -21,5 +21,5 @@ TextLaw = (text : List ℕ) → IsSendable text → IsUtf8 text
 -- for their credentials: the forest, with its margin, and the terms
 abbrev pub SecrecyLaw : Type 0
 SecrecyLaw =
-    (bytes other : List ℕ) (stock other_stock : Stock) → AreAlike bytes other → inventory bytes ≡ Ok stock → inventory other ≡ Ok other_stock →
-    (stock.grove ≡ other_stock.grove) × (stock.terms ≡ other_stock.terms)
+    (bytes other : List ℕ) (inventory other_inventory : Inventory) → AreAlike bytes other → read_inventory bytes ≡ Ok inventory → read_inventory other ≡ Ok other_inventory →
+    (inventory.forest ≡ other_inventory.forest) × (inventory.terms ≡ other_inventory.terms)

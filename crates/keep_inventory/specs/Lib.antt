@@ -2,7 +2,7 @@ pub mod Keys
 pub mod Answers
 pub mod Values
 pub mod Terms
-pub mod Stock
+pub mod Inventories
 pub mod Found
 pub mod Intake
 pub mod Rows

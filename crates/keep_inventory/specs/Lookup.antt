@@ -11,7 +11,7 @@ use Rattle.keep_inventory.specs.declared.lookup.LookupFault.{LookupFault}
 use Rattle.keep_inventory.specs.declared.lookup.LookupFault.TheVariants.{OtherKind, OtherEntry, OtherTree, NoStep}
 use Rattle.keep_inventory.specs.declared.terms.Terms.{Terms}
 use Rattle.keep_inventory.specs.Terms.{ceiling_of, step_of}
-use Rattle.keep_inventory.specs.Stock.{Stock, credential_at, terms_at}
+use Rattle.keep_inventory.specs.Inventories.{Inventory, credential_at, terms_at}
 
 -- the terms as they then are: of a token its issue, its period and its explicit max TTL are told, of a lease its issue. The
 -- increment and the maximum TTL stay those that are written
@@ -26,20 +26,20 @@ told_entry now (Token ttl created explicit_max orphan renewable period) t e =
 told_entry now (Lease id issued renewable ttl) t e = record e { end = now + ttl; renewable = renewable; ceiling = ceiling_of t }
 
 -- the inventory as it then is
-unfoldable pub told : Stock → ℕ → Lookup → ℕ → Stock
+unfoldable pub told : Inventory → ℕ → Lookup → ℕ → Inventory
 told s i lookup now = record s {
-  grove = record s.grove { entries = slice_set s.grove.entries i (told_entry now lookup (told_terms lookup (terms_at s.terms i)) (entry_at s.grove.entries i)) };
+  forest = record s.forest { entries = slice_set s.forest.entries i (told_entry now lookup (told_terms lookup (terms_at s.terms i)) (entry_at s.forest.entries i)) };
   terms = slice_set s.terms i (told_terms lookup (terms_at s.terms i));
 }
 
 -- why a lookup is not applied to an entry: the first that holds of the other kind, of a lease with another id, of an orphan
 -- where a parent is named, and of a step that is not past the margin (0 where there is no period and no increment)
-unfoldable pub lookup_fault : Stock → ℕ → Lookup → Option LookupFault
+unfoldable pub lookup_fault : Inventory → ℕ → Lookup → Option LookupFault
 lookup_fault s i (Token ttl created explicit_max orphan renewable period) =
-    if is_lease (entry_at s.grove.entries i).kind then Some OtherKind
-    else (if orphan && is_some (entry_at s.grove.entries i).parent then Some OtherTree
-    else (if nat_lt (step_of (told_terms (Token ttl created explicit_max orphan renewable period) (terms_at s.terms i))) (s.grove.margin + 1) then Some NoStep
+    if is_lease (entry_at s.forest.entries i).kind then Some OtherKind
+    else (if orphan && is_some (entry_at s.forest.entries i).parent then Some OtherTree
+    else (if nat_lt (step_of (told_terms (Token ttl created explicit_max orphan renewable period) (terms_at s.terms i))) (s.forest.margin + 1) then Some NoStep
     else None))
 lookup_fault s i (Lease id issued renewable ttl) =
-    if is_lease (entry_at s.grove.entries i).kind then (if bytes_eq (credential_at s.credentials i) id then None else Some OtherEntry)
+    if is_lease (entry_at s.forest.entries i).kind then (if bytes_eq (credential_at s.credentials i) id then None else Some OtherEntry)
     else Some OtherKind

@@ -3,7 +3,7 @@
 use Rattle.std.specs.Prelude.{ℕ, true, ◌==◌, List, Option, Some, Result, Ok, unwrap_or, length, if◌then◌else◌, option_map}
 use Rattle.toml.specs.Data.{Members}
 use Rattle.keep_tree.specs.declared.entry.Kind.TheVariants as kind
-use Rattle.keep_tree.specs.Forest.{Grove, index_named}
+use Rattle.keep_tree.specs.Forest.{Forest, index_named}
 use Rattle.keep_inventory.specs.declared.fault.InvFault.{InvFault}
 use Rattle.keep_inventory.specs.declared.key.Key.TheVariants.{Token, Name, Parent, Issued, End, Renewable, Increment, Period, MaxTtl, ExplicitMaxTtl, Need, Secret, LeaseId}
 use Rattle.keep_inventory.specs.declared.limits.TheConstants.{SPAN_MAX}
@@ -16,7 +16,7 @@ use Rattle.keep_inventory.specs.Values.{only, whole, moment, ending, flag, text,
 use Rattle.keep_inventory.specs.Terms.{step_of, ceiling_of, max_ttl_of}
 
 -- the index of the entry of that name, or that of no entry
-unfoldable pub index_or_none : Grove → List ℕ → ℕ
+unfoldable pub index_or_none : Forest → List ℕ → ℕ
 index_or_none g name = unwrap_or (index_named g.entries name) (length g.entries)
 
 -- issue, end, and whether it can be renewed
@@ -50,7 +50,7 @@ lease_terms system_max index issued ms = do
   Ok (record { issued = issued; increment = Some increment; period = 0; max_ttl = max_ttl_of system_max max_ttl; explicit_max = 0 })
 
 -- the entry, the credential and the terms that the table of the next token writes, or its first fault
-unfoldable pub token_row : ℕ → Grove → Members → Result Row InvFault
+unfoldable pub token_row : ℕ → Forest → Members → Result Row InvFault
 token_row system_max g ms = do
   known ← only token_keys (Some (length g.entries)) ms
   name_if ← value_at text (Some (length g.entries)) Name ms
@@ -63,7 +63,7 @@ token_row system_max g ms = do
   Ok (record { entry = record { name = name; kind = kind.Token; parent = option_map (index_or_none g) parent; end = life.end; renewable = life.renewable; step = step_of terms; ceiling = ceiling_of terms; need = unwrap_or need 0 }; credential = unwrap_or secret name; terms = terms })
 
 -- the same of the next lease
-unfoldable pub lease_row : ℕ → Grove → Members → Result Row InvFault
+unfoldable pub lease_row : ℕ → Forest → Members → Result Row InvFault
 lease_row system_max g ms = do
   known ← only lease_keys (Some (length g.entries)) ms
   name_if ← value_at text (Some (length g.entries)) Name ms

@@ -1,8 +1,8 @@
 ghost use Rattle.std.specs.Prelude.{◌≡◌};
 ghost use Rattle.toml.specs.View.{table_view};
 ghost use Rattle.keep_inventory.specs.Answers.{Gives};
-ghost use Rattle.keep_inventory.specs.Intake.{stock_of};
-ghost use Rattle.keep_inventory.specs.Inventory.{intake_of, inventory_of, tree_of, inventory};
+ghost use Rattle.keep_inventory.specs.Intake.{inventory_with};
+ghost use Rattle.keep_inventory.specs.Inventory.{intake_of, inventory_of, tree_of, read_inventory};
 
 use crate::draft::Draft;
 use crate::fault::InvFault;
@@ -20,12 +20,12 @@ use toml::Table;
 /// # Errors
 ///
 /// The first fault in the order of [`InvFault`], or want of memory.
-#[tactic(auto, unfolding(crate::specs::Inventory::inventory))]
+#[tactic(auto, unfolding(crate::specs::Inventory::read_inventory))]
 pub fn read(alloc: Global, bytes: &[u8]) -> Result<Inventory, InvFault>
-    ensures { Gives (λ stock. stock) result (inventory bytes.now) }
+    ensures { Gives (λ inventory. inventory) result (read_inventory bytes.now) }
 {
     let table = read_tree(alloc, bytes)?;
-    read_stock(alloc, &table)
+    inventory_in(alloc, &table)
 }
 
 // The tree of a document.
@@ -45,8 +45,8 @@ fn read_tree(alloc: Global, bytes: &[u8]) -> Result<Table, InvFault>
 
 // The inventory of a document's tree.
 #[tactic(auto, unfolding(crate::specs::Inventory::inventory_of))]
-fn read_stock(alloc: Global, table: &Table) -> Result<Inventory, InvFault>
-    ensures { Gives (λ stock. stock) result (inventory_of (table_view table.now)) }
+fn inventory_in(alloc: Global, table: &Table) -> Result<Inventory, InvFault>
+    ensures { Gives (λ inventory. inventory) result (inventory_of (table_view table.now)) }
 {
     let draft = read_draft(alloc, table)?;
     Ok(Inventory::of(draft))

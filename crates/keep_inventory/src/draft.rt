@@ -29,7 +29,7 @@ impl Model for Draft {
 
     ghost Value = { Intake };
 
-    ghost view = { λ d. record { grove = d.forest; secrets = d.secrets; lease_ids = d.lease_ids; terms = d.terms.items } };
+    ghost view = { λ d. record { forest = d.forest; secrets = d.secrets; lease_ids = d.lease_ids; terms = d.terms.items } };
 }
 
 impl Draft {

@@ -1,6 +1,6 @@
 ghost use Rattle.std.specs.Prelude.{◌≡◌, ◌<◌, None, Ok, Err, IfSome, length};
-ghost use Rattle.keep_inventory.specs.Stock.{IsSendable, IsStock, terms_at, credential_at};
-ghost use Rattle.keep_inventory.specs.Intake.{stock_of};
+ghost use Rattle.keep_inventory.specs.Inventories.{IsSendable, IsInventory, terms_at, credential_at};
+ghost use Rattle.keep_inventory.specs.Intake.{inventory_with};
 ghost use Rattle.keep_inventory.specs.Lookup.{lookup_fault, told};
 
 use crate::draft::Draft;
@@ -22,7 +22,7 @@ pub struct Credentials {
 impl Model for Credentials {
     ghost use Rattle.std.specs.Prelude.{List, ℕ, ◌++◌};
     ghost use Rattle.std.specs.List.{All};
-    ghost use Rattle.keep_inventory.specs.Stock.{IsSendable};
+    ghost use Rattle.keep_inventory.specs.Inventories.{IsSendable};
 
     ghost Value = { List (List ℕ) };
 
@@ -33,7 +33,7 @@ impl Model for Credentials {
 
 impl Credentials {
     /// The credential of the entry at an index: 1 to 256 bytes, each from 0x21 to 0x7E.
-    #[tactic(auto, using(crate::proofs::Stocks::halves))]
+    #[tactic(auto, using(crate::proofs::Inventories::halves))]
     pub fn get(&self, index: u32) -> &[u8]
         requires { index < length self.now }
         ensures value { result.now ≡ credential_at self.now index }
@@ -57,39 +57,39 @@ pub struct Inventory {
 }
 
 impl Model for Inventory {
-    ghost use Rattle.keep_inventory.specs.Stock.{Stock, IsStock};
+    ghost use Rattle.keep_inventory.specs.Inventories.{Inventory, IsInventory};
 
-    ghost Value = { Stock };
+    ghost Value = { Inventory };
 
-    ghost view = { λ v. record { grove = v.forest; credentials = v.credentials; terms = v.terms.items } };
+    ghost view = { λ v. record { forest = v.forest; credentials = v.credentials; terms = v.terms.items } };
 
-    ghost invariant = { λ v. IsStock (record { grove = v.forest; credentials = v.credentials; terms = v.terms.items }) };
+    ghost invariant = { λ v. IsInventory (record { forest = v.forest; credentials = v.credentials; terms = v.terms.items }) };
 }
 
 impl Inventory {
     /// The forest.
     pub fn forest(&self) -> &Forest
-        ensures value { result.now ≡ self.now.grove }
-        ensures sound { IsStock self.now }
+        ensures value { result.now ≡ self.now.forest }
+        ensures sound { IsInventory self.now }
     {
         &self.forest
     }
 
     /// The credential of the entry at an index: a token's own value, or a lease's id.
     pub fn credential(&self, index: u32) -> &[u8]
-        requires { index < length self.now.grove.entries }
+        requires { index < length self.now.forest.entries }
         ensures value { result.now ≡ credential_at self.now.credentials index }
         ensures sendable { IsSendable result.now }
-        ensures sound { IsStock self.now }
+        ensures sound { IsInventory self.now }
     {
         self.credentials.get(index)
     }
 
     /// The terms of the entry at an index.
     pub fn terms(&self, index: u32) -> Terms
-        requires { index < length self.now.grove.entries }
+        requires { index < length self.now.forest.entries }
         ensures value { result ≡ terms_at self.now.terms index }
-        ensures sound { IsStock self.now }
+        ensures sound { IsInventory self.now }
     {
         self.terms[index as usize]
     }
@@ -106,7 +106,7 @@ impl Inventory {
         lookup: &Lookup,
         now: Moment,
     ) -> Result<(), LookupFault>
-        requires { index < length self.old.grove.entries }
+        requires { index < length self.old.forest.entries }
         ensures refused { IfSome (lookup_fault self.old index lookup.now) (λ fault. (result ≡ Err fault) × (self.new ≡ self.old)) }
         ensures applied { lookup_fault self.old index lookup.now ≡ None → (result ≡ Ok tt) × (self.new ≡ told self.old index lookup.now now) }
     {
@@ -122,7 +122,7 @@ impl Inventory {
     /// Why what a broker has said is not applied to an entry, `None` where it is.
     #[tactic(auto, unfolding(crate::specs::Lookup::lookup_fault))]
     fn lookup_fault(&self, index: u32, lookup: &Lookup) -> Option<LookupFault>
-        requires { index < length self.now.grove.entries }
+        requires { index < length self.now.forest.entries }
         ensures { result ≡ lookup_fault self.now index lookup.now }
     {
         let entry = self.forest.get(index);
@@ -154,17 +154,17 @@ impl Inventory {
 
     /// The forest and the credentials, one for each of its entries. It takes no memory.
     pub fn into_parts(self) -> (Forest, Credentials)
-        ensures forest { result.0 ≡ self.grove }
+        ensures forest { result.0 ≡ self.forest }
         ensures credentials { result.1 ≡ self.credentials }
-        ensures sound { IsStock self }
+        ensures sound { IsInventory self }
     {
         (self.forest, self.credentials)
     }
 
     /// The inventory of a draft whose tables are all read.
     pub(crate) fn of(draft: Draft) -> Inventory
-        requires { IsStock (stock_of draft) }
-        ensures { result ≡ stock_of draft }
+        requires { IsInventory (inventory_with draft) }
+        ensures { result ≡ inventory_with draft }
     {
         Inventory {
             forest: draft.forest,

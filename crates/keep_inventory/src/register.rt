@@ -1,6 +1,6 @@
 ghost use Rattle.std.specs.Prelude.{◌≡◌, ◌<◌, ◌++◌, ◌∷◌, [], not, length, IfOk, OnErr};
 ghost use Rattle.keep_inventory.specs.Intake.{holds};
-ghost use Rattle.keep_inventory.specs.Stock.{credential_at};
+ghost use Rattle.keep_inventory.specs.Inventories.{credential_at};
 
 use keep_moment::Text;
 use std::alloc::{AllocError, Global};

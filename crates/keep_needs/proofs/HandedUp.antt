@@ -4,7 +4,7 @@ use Rattle.std.proofs.lemmas.Bool.{cases_Bool, cases_eq, cases_lt}
 use Rattle.std.proofs.lemmas.Bool.Decides.{nat_tests}
 use Rattle.std.proofs.lemmas.List.{length-map}
 use Rattle.keep_tree.specs.declared.entry.Entry.{Entry}
-use Rattle.keep_tree.specs.Forest.{Grove, entry_at}
+use Rattle.keep_tree.specs.Forest.{Forest, entry_at}
 use Rattle.keep_tree.specs.Over.{Over, is_over}
 use Rattle.keep_tree.specs.Carried.{IsFrom, carried}
 use Rattle.keep_tree.proofs.Carrying.{carried_at_least, carried_is_of, or_parts, or_right, over_up}
@@ -169,7 +169,7 @@ names_from es s i (suc n) from same is =
     let above : (suc n == 0) ≡ false = grind (arith, nat_tests) in
     subst (λ none. NamesFrom es s i (cond none None (Some from))) (sym above) (omega arith, is (omega arith))
 
-pub handed_is_carried : (g : Grove) (s : ℕ) (loads : List Load) → ParentsFirst g.entries → IsHandedUp g.entries s 0 loads → IsCarried g s (map seen loads)
+pub handed_is_carried : (g : Forest) (s : ℕ) (loads : List Load) → ParentsFirst g.entries → IsHandedUp g.entries s 0 loads → IsCarried g s (map seen loads)
 handed_is_carried g s loads first up =
     let count = up.count in
     record {

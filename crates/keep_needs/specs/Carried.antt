@@ -2,7 +2,7 @@
 -- Source: Vault, "Tokens" (a token's end ends its children and its leases); needs are this project's own.
 use Rattle.std.specs.Prelude.{◌≡◌, ℕ, ◌<◌, List, Option, Some, None, length, slice_index_or}
 use Rattle.keep_tree.specs.declared.entry.Entry.{Entry}
-use Rattle.keep_tree.specs.Forest.{Grove}
+use Rattle.keep_tree.specs.Forest.{Forest}
 use Rattle.keep_tree.specs.Carried.{IsFrom, carried}
 
 -- a carried need, 0 for none, and the entry that has it, None where there is none
@@ -20,7 +20,7 @@ NamesFrom es s i (Some needed) = (0 < carried es s i) × IsFrom es s i needed
 NamesFrom es s i None = carried es s i ≡ 0
 
 -- the loads are those of the forest's entries from s on
-pub record IsCarried (g : Grove) (s : ℕ) (loads : List CarriedNeed) : Type 0 where
+pub record IsCarried (g : Forest) (s : ℕ) (loads : List CarriedNeed) : Type 0 where
   pub count : length loads ≡ length g.entries
   pub need : (i : ℕ) → i < length g.entries → (load_at loads i).need ≡ carried g.entries s i
   pub from : (i : ℕ) → i < length g.entries → NamesFrom g.entries s i (load_at loads i).from

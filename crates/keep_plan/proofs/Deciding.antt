@@ -2,7 +2,7 @@
 -- Unkeepable; for `shortfall` and `plan`.
 use Rattle.std.proofs.Common.{◌≡◌, ℕ, ◌≤◌, List, [], ◌∷◌, Option, Some, None, length, refl, suc, ap, subst, arith, ◌-◌, ◌*◌}
 use Rattle.std.specs.Option.{MatchOption}
-use Rattle.keep_tree.specs.Forest.{Grove, end_of}
+use Rattle.keep_tree.specs.Forest.{Forest, end_of}
 use Rattle.keep_tree.specs.Push.{IsForest}
 use Rattle.keep_rule.specs.Asks.{with_asks}
 use Rattle.keep_rule.specs.Requests.{requests}
@@ -20,10 +20,10 @@ use Rattle.keep_schedule.proofs.Forces.{forces_are_best}
 use Rattle.keep_plan.specs.code.Collecting.{IsOverlong, IsWhole}
 use Rattle.keep_plan.specs.Decides.{AreBest, IsTooLong, NoneKeeps, SomeKeeps}
 
-pub none_keeps : (g : Grove) (s i f : ℕ) → Unkeepable g.entries g.margin s (end_of g.entries) i f → NoneKeeps g s
+pub none_keeps : (g : Forest) (s i f : ℕ) → Unkeepable g.entries g.margin s (end_of g.entries) i f → NoneKeeps g s
 none_keeps g s i f pair = λ plan in_order keeps. unkeepable g.entries g.margin s (end_of g.entries) i f pair plan in_order keeps
 
-pub some_keeps : (g : Grove) (s : ℕ) → IsForest g → AllKeepable g s (end_of g.entries) → SomeKeeps g s
+pub some_keeps : (g : Forest) (s : ℕ) → IsForest g → AllKeepable g s (end_of g.entries) → SomeKeeps g s
 some_keeps g s forest keepable =
     let ts = there_is_one g s (end_of g.entries) forest keepable in
     let least = (schedule_is_best g s (end_of g.entries) forest keepable ts.0 ts.1).1.1.1 in
@@ -34,7 +34,7 @@ length_moments [] = refl
 length_moments (x ∷ xs) = ap (λ k. suc k) (length_moments xs)
 
 pub best_of :
-    (g : Grove) (s : ℕ) → IsForest g → AllKeepable g s (end_of g.entries) → (comes : List Force → Type 0) → ((xs : List Force) → comes xs → AreForces g.entries g.margin s (end_of g.entries) None xs) →
+    (g : Forest) (s : ℕ) → IsForest g → AllKeepable g s (end_of g.entries) → (comes : List Force → Type 0) → ((xs : List Force) → comes xs → AreForces g.entries g.margin s (end_of g.entries) None xs) →
     (most : ℕ) → most ≤ 2 * length g.entries - 1 → (rs : List Run) → IsWhole comes most rs → AreBest g s rs
 best_of g s forest keepable comes tells most few rs whole =
     let es = g.entries in
@@ -54,7 +54,7 @@ best_of g s forest keepable comes tells most few rs whole =
     }
 
 pub too_long :
-    (g : Grove) (s : ℕ) → IsForest g → AllKeepable g s (end_of g.entries) → (comes : List Force → Type 0) → ((xs : List Force) → AreForces g.entries g.margin s (end_of g.entries) None xs → comes xs) →
+    (g : Forest) (s : ℕ) → IsForest g → AllKeepable g s (end_of g.entries) → (comes : List Force → Type 0) → ((xs : List Force) → AreForces g.entries g.margin s (end_of g.entries) None xs → comes xs) →
     IsOverlong comes → IsTooLong g s
 too_long g s forest keepable comes tells over =
     let es = g.entries in

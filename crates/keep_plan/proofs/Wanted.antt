@@ -6,7 +6,7 @@ use Rattle.std.proofs.lemmas.List.Elements.{filter-append}
 use Rattle.std.specs.List.{list_all, range_with_len}
 use Rattle.keep_tree.specs.declared.entry.Entry.{Entry}
 use Rattle.keep_tree.specs.Carried.{carried}
-use Rattle.keep_tree.specs.Forest.{Grove, end_of, entry_at}
+use Rattle.keep_tree.specs.Forest.{Forest, end_of, entry_at}
 use Rattle.keep_tree.specs.Over.{chain}
 use Rattle.keep_tree.specs.Renewal.{all_last, is_granted, renewal, renewed}
 use Rattle.keep_rule.specs.Asks.{asks, is_due, is_wanted}
@@ -70,7 +70,7 @@ due_until margin end None o is = ap (λ p. is_due 0 p end) is
 due_until margin end (Some next) o is = ap (λ p. is_due 0 p end) is ∙ ap (λ m. nat_lt end m) (let e : next + margin + 0 ≡ next + margin = omega arith in e)
 
 pub test_is :
-    (g : Grove) → 0 < g.margin → (s at : ℕ) (next until : Option ℕ) (loads : List CarriedNeed) (i : ℕ) → i < length g.entries → IsCarried g s loads →
+    (g : Forest) → 0 < g.margin → (s at : ℕ) (next until : Option ℕ) (loads : List CarriedNeed) (i : ℕ) → i < length g.entries → IsCarried g s loads →
     until ≡ waits_until g.margin next → is_test g loads at until i ≡ is_wanted g.entries g.margin s (end_of g.entries) at next i
 unfolding is_wanted
 test_is g above s at next until loads i within is waits =

@@ -1,7 +1,7 @@
 -- Decides: the answer for a forest and a start.
 -- Source: this project's own, over Vault, "Lease, renew, and revoke" (maximum TTL); Vault, "Tokens".
 use Rattle.std.specs.Prelude.{◌≡◌, ℕ, ◌-◌, ◌*◌, ◌≤◌, ◌<◌, ◌++◌, List, [], ◌∷◌, None, length}
-use Rattle.keep_tree.specs.Forest.{Grove, end_of}
+use Rattle.keep_tree.specs.Forest.{Forest, end_of}
 use Rattle.keep_rule.specs.declared.wake.Wake.{Wake}
 use Rattle.keep_rule.specs.Asks.{with_asks}
 use Rattle.keep_rule.specs.Keeps.{Keeps}
@@ -26,7 +26,7 @@ AreLongest (r ∷ rs) = ((other : Run) (rest : List Force) → all_wakes (r ∷ 
 
 -- runs whose wake-ups are the forces from s on, each as long as it can be. Their moments are least and latest; with their
 -- Asks they keep, and no plan that keeps at these moments makes fewer requests
-pub record AreBest (g : Grove) (s : ℕ) (rs : List Run) : Type 0 where
+pub record AreBest (g : Forest) (s : ℕ) (rs : List Run) : Type 0 where
   pub runs : AreRuns rs
   pub forces : AreForces g.entries g.margin s (end_of g.entries) None (all_wakes rs)
   pub least : IsLeastAndLatest g.entries g.margin s (end_of g.entries) (moments_of (all_wakes rs))
@@ -38,25 +38,25 @@ pub record AreBest (g : Grove) (s : ℕ) (rs : List Run) : Type 0 where
   pub few_runs : length rs ≤ 2 * length g.entries - 1
 
 -- a plan by the forest's needs from s on
-pub record IsKept (g : Grove) (s : ℕ) (p : Planned) : Type 0 where
+pub record IsKept (g : Forest) (s : ℕ) (p : Planned) : Type 0 where
   pub start : p.start ≡ s
   pub carried : IsCarried g p.start p.carried
   pub best : AreBest g s p.runs
 
 -- some plan from s keeps
-abbrev pub SomeKeeps : Grove → ℕ → Type 0
+abbrev pub SomeKeeps : Forest → ℕ → Type 0
 SomeKeeps g s = (plan : List Wake) × (IsPlan s plan × Keeps g.entries g.margin s (end_of g.entries) plan)
 
 -- none does
-abbrev pub NoneKeeps : Grove → ℕ → Type 0
+abbrev pub NoneKeeps : Forest → ℕ → Type 0
 NoneKeeps g s = (plan : List Wake) → IsPlan s plan → Keeps g.entries g.margin s (end_of g.entries) plan → ⊥
 
 -- some plan keeps, and each that does has more than LIMIT wake-ups
-pub record IsTooLong (g : Grove) (s : ℕ) : Type 0 where
+pub record IsTooLong (g : Forest) (s : ℕ) : Type 0 where
   pub some : SomeKeeps g s
   pub long : (plan : List Wake) → IsPlan s plan → Keeps g.entries g.margin s (end_of g.entries) plan → LIMIT < length plan
 
-abbrev pub Decides : Grove → ℕ → Decision → Type 0
+abbrev pub Decides : Forest → ℕ → Decision → Type 0
 Decides g s (Keep p) = IsKept g s p
 Decides g s (Unkeepable entry needed) = IsShortfall g s entry needed × NoneKeeps g s
 Decides g s TooLong = IsTooLong g s

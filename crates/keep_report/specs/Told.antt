@@ -3,7 +3,7 @@
 use Rattle.std.specs.Prelude.{◌≡◌, ℕ, IsTrue, ◌⊎◌, List, Err}
 use Rattle.std.specs.Io.KnownBytes.{Appends}
 use Rattle.keep_inventory.specs.declared.fault.InvFault.{InvFault}
-use Rattle.keep_inventory.specs.Inventory.{inventory}
+use Rattle.keep_inventory.specs.Inventory.{read_inventory}
 use Rattle.keep_device.specs.Front.{AppendsFront}
 use Rattle.keep_report.specs.declared.exit.Exit.{Exit}
 use Rattle.keep_report.specs.declared.exit.Exit.TheVariants as exits
@@ -22,7 +22,7 @@ Reports line errors =
 
 -- what a run of this program over the bytes of an inventory has told, by exit, where it writes and reads nothing besides
 abbrev pub Told : List ℕ → List ℕ → Exit → Sent → Type 0
-Told program bytes exits.Inventory errors = (fault : InvFault) × (inventory bytes ≡ Err fault) × Reports (fault_line program (stops.Inventory fault)) errors
+Told program bytes exits.Inventory errors = (fault : InvFault) × (read_inventory bytes ≡ Err fault) × Reports (fault_line program (stops.Inventory fault)) errors
 Told program bytes exits.TooLong errors = Reports (fault_line program stops.TooLong) errors
 Told program bytes exits.Device errors = Reports (fault_line program stops.Write) errors
 Told program bytes exits.Memory errors = Reports (fault_line program stops.Memory) errors

@@ -3,7 +3,7 @@ use Rattle.std.proofs.Common.{ℕ, zero, suc, ◌+◌, ◌-◌, ◌<◌, ◌≤�
 use Rattle.std.proofs.lemmas.Bool.{cases_eq, cases_lt}
 use Rattle.keep_moment.specs.declared.moment.TheConstants.{LAST}
 use Rattle.keep_tree.specs.Carried.{carried}
-use Rattle.keep_tree.specs.Forest.{Grove}
+use Rattle.keep_tree.specs.Forest.{Forest}
 use Rattle.keep_tree.specs.Push.{IsForest}
 use Rattle.keep_rule.specs.Forced.{bound}
 use Rattle.keep_rule.specs.Laws.{ExistenceLaw}
@@ -45,7 +45,7 @@ find_earliest need end (suc n) =
 
 -- behind a wake-up there is a next moment, or no bound falls short
 next_or_done :
-    (g : Grove) (s : ℕ) (ends : ℕ → ℕ) → AllKeepable g s ends → (prev : Option ℕ) →
+    (g : Forest) (s : ℕ) (ends : ℕ → ℕ) → AllKeepable g s ends → (prev : Option ℕ) →
     IsSchedule g.entries g.margin s ends prev [] ⊎ ((t : ℕ) × IsNext g.entries g.margin s ends prev t)
 next_or_done g s ends keepable prev =
     let es = g.entries in
@@ -65,16 +65,16 @@ abbrev Left : ℕ → Option ℕ → Type 0
 Left n None = LAST + 1 < n
 Left n (Some t) = LAST < t + n
 
-one_less : (g : Grove) (s : ℕ) (ends : ℕ → ℕ) (n : ℕ) (prev : Option ℕ) (t : ℕ) → Comes g s ends prev t → Left (suc n) prev → Left n (Some t)
+one_less : (g : Forest) (s : ℕ) (ends : ℕ → ℕ) (n : ℕ) (prev : Option ℕ) (t : ℕ) → Comes g s ends prev t → Left (suc n) prev → Left n (Some t)
 one_less g s ends n None t next left = omega arith
 one_less g s ends n (Some u) t next left = let l : u < t = next.behind u refl in omega arith
 
-none_left : (g : Grove) (s : ℕ) (ends : ℕ → ℕ) (prev : Option ℕ) (t : ℕ) → Comes g s ends prev t → Left zero prev → ⊥
+none_left : (g : Forest) (s : ℕ) (ends : ℕ → ℕ) (prev : Option ℕ) (t : ℕ) → Comes g s ends prev t → Left zero prev → ⊥
 none_left g s ends None t next left = absurd (omega arith)
 none_left g s ends (Some u) t next left = let l : u < t = next.behind u refl in let k : t < LAST = next.within in absurd (omega arith)
 
 schedule_behind :
-    (g : Grove) → IsForest g → (s : ℕ) (ends : ℕ → ℕ) → AllKeepable g s ends → (n : ℕ) (prev : Option ℕ) → Left n prev →
+    (g : Forest) → IsForest g → (s : ℕ) (ends : ℕ → ℕ) → AllKeepable g s ends → (n : ℕ) (prev : Option ℕ) → Left n prev →
     (ts : List ℕ) × IsSchedule g.entries g.margin s ends prev ts
 schedule_behind g forest s ends keepable zero prev left =
     elim (next_or_done g s ends keepable prev) [

@@ -8,7 +8,7 @@ use Rattle.std.proofs.Math.Path.{fun_ext}
 use Rattle.std.specs.List.{list_any, range_with_len}
 use Rattle.keep_moment.specs.declared.moment.TheConstants.{LAST}
 use Rattle.keep_tree.specs.declared.entry.Entry.{Entry}
-use Rattle.keep_tree.specs.Forest.{Grove, end_of, entry_at}
+use Rattle.keep_tree.specs.Forest.{Forest, end_of, entry_at}
 use Rattle.keep_tree.specs.Push.{IsForest}
 use Rattle.keep_tree.proofs.Entries.{entry_at_past}
 use Rattle.keep_tree.proofs.Placed.{range_parts}
@@ -55,7 +55,7 @@ pub rewritten : (n : ℕ) (new old : List ℕ) → length new ≡ n → take n (
 rewritten n new old same = take_at new (drop (length new) old) n same
 
 -- the need of any index is at most LAST
-pub need_within : (g : Grove) → IsForest g → (i : ℕ) → (entry_at g.entries i).need ≤ LAST
+pub need_within : (g : Forest) → IsForest g → (i : ℕ) → (entry_at g.entries i).need ≤ LAST
 need_within g forest i =
     elim (cases_lt i (length g.entries)) [
       | inl within ↦ (range_parts (entry_at g.entries i) (forest.placed i within).in_range).need

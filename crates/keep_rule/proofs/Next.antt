@@ -6,7 +6,7 @@ use Rattle.std.proofs.lemmas.Bool.Decides.{nat_tests}
 use Rattle.keep_moment.specs.declared.moment.TheConstants.{LAST}
 use Rattle.keep_tree.specs.declared.entry.Entry.{Entry}
 use Rattle.keep_tree.specs.Carried.{carried}
-use Rattle.keep_tree.specs.Forest.{Grove, entry_at}
+use Rattle.keep_tree.specs.Forest.{Forest, entry_at}
 use Rattle.keep_tree.specs.Push.{IsForest}
 use Rattle.keep_tree.specs.Renewal.{capped, renewal}
 use Rattle.keep_tree.proofs.Carrying.{and_left, and_right, carried_is_of}
@@ -20,7 +20,7 @@ use Rattle.keep_rule.proofs.Lists.{need_within}
 
 -- an entry that can be led to what it carries: it is renewable, its end leaves room for a renewal, and its ceiling lies
 -- no lower than that
-pub record CanBeLed (g : Grove) (s : ℕ) (ends : ℕ → ℕ) (i : ℕ) : Type 0 where
+pub record CanBeLed (g : Forest) (s : ℕ) (ends : ℕ → ℕ) (i : ℕ) : Type 0 where
   pub renewable : (entry_at g.entries i).renewable ≡ true
   pub room : s + g.margin ≤ ends i
   pub ceiling : (c : ℕ) → (entry_at g.entries i).ceiling ≡ Some c → carried g.entries s i ≤ c
@@ -40,7 +40,7 @@ reach_capped es margin s ends i c some is =
     ∙ ap (option_map (λ m. max (ends i) m)) is
 
 -- where no pair is Unkeepable, an entry that ends before what it carries can be led there
-pub can_be_led : (g : Grove) (s : ℕ) (ends : ℕ → ℕ) → AllKeepable g s ends → (i : ℕ) → ends i < carried g.entries s i → CanBeLed g s ends i
+pub can_be_led : (g : Forest) (s : ℕ) (ends : ℕ → ℕ) → AllKeepable g s ends → (i : ℕ) → ends i < carried g.entries s i → CanBeLed g s ends i
 can_be_led g s ends keepable i short =
     let es = g.entries in
     let test = (entry_at es i).renewable && nat_le (s + g.margin) (ends i) in
@@ -75,7 +75,7 @@ renewable_within es i renewable =
     ]
 
 -- a bound that falls short lies a step behind the moment before it, and a step is greater than the margin
-bound_behind : (g : Grove) → IsForest g → (s : ℕ) (ends : ℕ → ℕ) (t i : ℕ) → CanBeLed g s ends i → bound g.entries ends (Some t) i < carried g.entries s i → t + g.margin < bound g.entries ends (Some t) i
+bound_behind : (g : Forest) → IsForest g → (s : ℕ) (ends : ℕ → ℕ) (t i : ℕ) → CanBeLed g s ends i → bound g.entries ends (Some t) i < carried g.entries s i → t + g.margin < bound g.entries ends (Some t) i
 unfolding bound latest_end renewal
 bound_behind g forest s ends t i led short =
     let e = entry_at g.entries i in
@@ -85,14 +85,14 @@ bound_behind g forest s ends t i led short =
     omega (arith, is)
 
 -- what the next moment behind prev is
-pub record Comes (g : Grove) (s : ℕ) (ends : ℕ → ℕ) (prev : Option ℕ) (t : ℕ) : Type 0 where
+pub record Comes (g : Forest) (s : ℕ) (ends : ℕ → ℕ) (prev : Option ℕ) (t : ℕ) : Type 0 where
   pub late : s ≤ t
   pub behind : (u : ℕ) → prev ≡ Some u → u < t
   pub within : t < LAST
   pub covers : (i : ℕ) → (carried g.entries s i ≤ bound g.entries ends prev i) ⊎ (t + g.margin ≤ bound g.entries ends prev i)
   pub forced : (entry : ℕ) × (needed : ℕ) × Forced g.entries g.margin s ends prev t entry needed
 
-pub next_comes : (g : Grove) → IsForest g → (s : ℕ) (ends : ℕ → ℕ) → AllKeepable g s ends → (prev : Option ℕ) (t : ℕ) → IsNext g.entries g.margin s ends prev t → Comes g s ends prev t
+pub next_comes : (g : Forest) → IsForest g → (s : ℕ) (ends : ℕ → ℕ) → AllKeepable g s ends → (prev : Option ℕ) (t : ℕ) → IsNext g.entries g.margin s ends prev t → Comes g s ends prev t
 next_comes g forest s ends keepable prev t next =
     let es = g.entries in
     let entry = next.entry in

@@ -3,7 +3,7 @@
 use Rattle.std.proofs.Common.{◌≡◌, ℕ, ◌+◌, ◌<◌, ◌≤◌, List, [], ◌∷◌, Option, Some, None, refl, sym, ap, subst, arith}
 use Rattle.keep_moment.specs.declared.moment.TheConstants.{LAST}
 use Rattle.keep_tree.specs.declared.entry.Entry.{Entry}
-use Rattle.keep_tree.specs.Forest.{Grove}
+use Rattle.keep_tree.specs.Forest.{Forest}
 use Rattle.keep_tree.specs.Push.{IsForest}
 use Rattle.keep_rule.specs.Asks.{asking, first_of, with_asks}
 use Rattle.keep_rule.specs.Ends.{after}
@@ -19,21 +19,21 @@ use Rattle.keep_rule.proofs.Timely.{AllTimely, timely_keeps}
 
 -- the moments of a schedule come in time
 pub schedule_timely :
-    (g : Grove) → IsForest g → (s : ℕ) (ends : ℕ → ℕ) → AllKeepable g s ends → (ts : List ℕ) (prev : Option ℕ) → IsSchedule g.entries g.margin s ends prev ts →
+    (g : Forest) → IsForest g → (s : ℕ) (ends : ℕ → ℕ) → AllKeepable g s ends → (ts : List ℕ) (prev : Option ℕ) → IsSchedule g.entries g.margin s ends prev ts →
     AllTimely g.entries g.margin s ends prev ts
 schedule_timely g forest s ends keepable [] prev schedule = schedule
 schedule_timely g forest s ends keepable (t ∷ ts) prev schedule =
     ((next_comes g forest s ends keepable prev t schedule.0).covers, schedule_timely g forest s ends keepable ts (Some t) schedule.1)
 
 schedule_forced :
-    (g : Grove) → IsForest g → (s : ℕ) (ends : ℕ → ℕ) → AllKeepable g s ends → (ts : List ℕ) (prev : Option ℕ) → IsSchedule g.entries g.margin s ends prev ts →
+    (g : Forest) → IsForest g → (s : ℕ) (ends : ℕ → ℕ) → AllKeepable g s ends → (ts : List ℕ) (prev : Option ℕ) → IsSchedule g.entries g.margin s ends prev ts →
     AllForced g.entries g.margin s ends prev ts
 schedule_forced g forest s ends keepable [] prev schedule = tt
 schedule_forced g forest s ends keepable (t ∷ ts) prev schedule =
     ((next_comes g forest s ends keepable prev t schedule.0).forced, schedule_forced g forest s ends keepable ts (Some t) schedule.1)
 
 schedule_rises :
-    (g : Grove) → IsForest g → (s : ℕ) (ends : ℕ → ℕ) → AllKeepable g s ends → (ts : List ℕ) (prev : Option ℕ) (low : ℕ) →
+    (g : Forest) → IsForest g → (s : ℕ) (ends : ℕ → ℕ) → AllKeepable g s ends → (ts : List ℕ) (prev : Option ℕ) (low : ℕ) →
     ((t : ℕ) → Comes g s ends prev t → low ≤ t) → IsSchedule g.entries g.margin s ends prev ts → RisesStrictly low ts
 schedule_rises g forest s ends keepable [] prev low from schedule = tt
 schedule_rises g forest s ends keepable (t ∷ ts) prev low from schedule = (
@@ -42,7 +42,7 @@ schedule_rises g forest s ends keepable (t ∷ ts) prev low from schedule = (
 )
 
 schedule_in_order :
-    (g : Grove) → IsForest g → (s : ℕ) (ends : ℕ → ℕ) → AllKeepable g s ends → (ts : List ℕ) (prev : Option ℕ) (from low : ℕ) (e : ℕ → ℕ) → from ≤ low →
+    (g : Forest) → IsForest g → (s : ℕ) (ends : ℕ → ℕ) → AllKeepable g s ends → (ts : List ℕ) (prev : Option ℕ) (from low : ℕ) (e : ℕ → ℕ) → from ≤ low →
     RisesStrictly low ts → IsSchedule g.entries g.margin s ends prev ts → IsPlan from (with_asks g.entries g.margin s e ts)
 unfolding with_asks
 schedule_in_order g forest s ends keepable [] prev from low e le rises schedule = tt

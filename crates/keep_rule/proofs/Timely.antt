@@ -4,7 +4,7 @@ use Rattle.std.proofs.lemmas.Bool.{cases_lt}
 use Rattle.std.proofs.lemmas.Bool.Decides.{nat_tests}
 use Rattle.keep_tree.specs.declared.entry.Entry.{Entry}
 use Rattle.keep_tree.specs.Carried.{carried}
-use Rattle.keep_tree.specs.Forest.{Grove, entry_at}
+use Rattle.keep_tree.specs.Forest.{Forest, entry_at}
 use Rattle.keep_tree.specs.Push.{IsForest}
 use Rattle.keep_tree.proofs.Carrying.{carried_at_least, carried_up}
 use Rattle.keep_tree.proofs.Chains.{ParentsFirst}
@@ -88,7 +88,7 @@ all_needed es first s = record { up = λ a i here over. tt; more = λ a i here o
 
 -- timely moments are kept with their Asks
 pub timely_keeps :
-    (g : Grove) → IsForest g → (s : ℕ) (ends : ℕ → ℕ) (ts : List ℕ) → IsRising s ts → AllTimely g.entries g.margin s ends None ts →
+    (g : Forest) → IsForest g → (s : ℕ) (ends : ℕ → ℕ) (ts : List ℕ) → IsRising s ts → AllTimely g.entries g.margin s ends None ts →
     Keeps g.entries g.margin s ends (with_asks g.entries g.margin s ends ts)
 timely_keeps g forest s ends ts rising timely i m start before a over =
     let es = g.entries in

@@ -2,7 +2,7 @@
 use Rattle.std.specs.Prelude.{◌≡◌, ℕ, List, None}
 use Rattle.keep_tree.specs.declared.entry.Entry.{Entry}
 use Rattle.keep_rule.specs.declared.wake.Wake.{Wake}
-use Rattle.keep_tree.specs.Forest.{Grove}
+use Rattle.keep_tree.specs.Forest.{Forest}
 use Rattle.keep_tree.specs.Push.{IsForest}
 use Rattle.keep_rule.specs.Asks.{with_asks}
 use Rattle.keep_rule.specs.Forced.{AllForced}
@@ -33,18 +33,18 @@ UniqueLaw =
 -- where any requests keep at given moments, the Asks do
 abbrev pub EnoughLaw : Type 0
 EnoughLaw =
-    (g : Grove) (s : ℕ) (ends : ℕ → ℕ) (plan : List Wake) → IsForest g → IsPlan s plan → Keeps g.entries g.margin s ends plan →
+    (g : Forest) (s : ℕ) (ends : ℕ → ℕ) (plan : List Wake) → IsForest g → IsPlan s plan → Keeps g.entries g.margin s ends plan →
     Keeps g.entries g.margin s ends (with_asks g.entries g.margin s ends (moments plan))
 
 -- where no pair is Unkeepable, there is a schedule
 abbrev pub ExistenceLaw : Type 0
 ExistenceLaw =
-    (g : Grove) (s : ℕ) (ends : ℕ → ℕ) → IsForest g → AllKeepable g s ends → (ts : List ℕ) × IsSchedule g.entries g.margin s ends None ts
+    (g : Forest) (s : ℕ) (ends : ℕ → ℕ) → IsForest g → AllKeepable g s ends → (ts : List ℕ) × IsSchedule g.entries g.margin s ends None ts
 
 -- and the moments of each schedule rise strictly from s on, are each Forced by some pair, are kept with their Asks, and are
 -- least and latest
 abbrev pub ScheduleLaw : Type 0
 ScheduleLaw =
-    (g : Grove) (s : ℕ) (ends : ℕ → ℕ) → IsForest g → AllKeepable g s ends → (ts : List ℕ) → IsSchedule g.entries g.margin s ends None ts →
+    (g : Forest) (s : ℕ) (ends : ℕ → ℕ) → IsForest g → AllKeepable g s ends → (ts : List ℕ) → IsSchedule g.entries g.margin s ends None ts →
     RisesStrictly s ts × (AllForced g.entries g.margin s ends None ts
     × (Keeps g.entries g.margin s ends (with_asks g.entries g.margin s ends ts) × IsLeastAndLatest g.entries g.margin s ends ts))

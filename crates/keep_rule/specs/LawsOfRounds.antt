@@ -3,7 +3,7 @@
 use Rattle.std.specs.Prelude.{◌≡◌, ℕ, ◌≤◌, List, ◌∷◌, Option}
 use Rattle.std.specs.List.{All}
 use Rattle.keep_tree.specs.declared.entry.Entry.{Entry}
-use Rattle.keep_tree.specs.Forest.{Grove}
+use Rattle.keep_tree.specs.Forest.{Forest}
 use Rattle.keep_tree.specs.Push.{IsForest}
 use Rattle.keep_rule.specs.declared.wake.Wake.{Wake}
 use Rattle.keep_rule.specs.Asks.{asking, asks, first_of, with_asks}
@@ -34,7 +34,7 @@ SameRequestsLaw =
 -- after the round of the first moment, with its Asks, the moments that are left are least and latest from that round on
 abbrev pub TailLaw : Type 0
 TailLaw =
-    (g : Grove) (s t : ℕ) (ends : ℕ → ℕ) (ts : List ℕ) → IsForest g → IsLeastAndLatest g.entries g.margin s ends (t ∷ ts) →
+    (g : Forest) (s t : ℕ) (ends : ℕ → ℕ) (ts : List ℕ) → IsForest g → IsLeastAndLatest g.entries g.margin s ends (t ∷ ts) →
     IsLeastAndLatest g.entries g.margin t (after g.entries g.margin ends (asking g.entries g.margin s ends t (first_of ts))) ts
 
 -- no plan that keeps asks an entry at fewer of its wake-ups than the Asks at the same moments do

@@ -2,7 +2,7 @@
 -- Source: this project's own, over Vault, "Lease, renew, and revoke" (maximum TTL).
 use Rattle.std.specs.Prelude.{◌≡◌, ℕ, ◌<◌, List, Some}
 use Rattle.keep_tree.specs.declared.entry.Entry.{Entry}
-use Rattle.keep_tree.specs.Forest.{Grove, entry_at}
+use Rattle.keep_tree.specs.Forest.{Forest, entry_at}
 use Rattle.keep_tree.specs.Over.{Over}
 use Rattle.keep_rule.specs.Reach.{reach}
 
@@ -15,5 +15,5 @@ pub record Unkeepable (es : List Entry) (margin s : ℕ) (ends : ℕ → ℕ) (e
   pub short : most < (entry_at es needed).need
 
 -- no pair is Unkeepable
-abbrev pub AllKeepable : Grove → ℕ → (ℕ → ℕ) → Type 0
+abbrev pub AllKeepable : Forest → ℕ → (ℕ → ℕ) → Type 0
 AllKeepable g s ends = (entry needed : ℕ) → Unkeepable g.entries g.margin s ends entry needed → ⊥

@@ -4,7 +4,7 @@ use Rattle.std.proofs.Math.Path.{fun_ext}
 use Rattle.std.specs.List.{range_with_len}
 use Rattle.keep_tree.specs.declared.entry.Entry.{Entry}
 use Rattle.keep_tree.specs.Carried.{carried, carried_of}
-use Rattle.keep_tree.specs.Forest.{Grove, end_of, entry_at}
+use Rattle.keep_tree.specs.Forest.{Forest, end_of, entry_at}
 use Rattle.keep_tree.specs.Over.{is_over}
 use Rattle.keep_tree.specs.Push.{IsForest}
 use Rattle.keep_tree.specs.Renewal.{all_last, renewed}
@@ -61,7 +61,7 @@ with_asks_twins es fs t margin s ends (u ∷ ts) =
 
 -- behind a round that was answered by the rule, the plan asks what it asked
 pub asks_on :
-    (g h : Grove) → IsForest g → (t : ℕ) (ts : List ℕ) → IsAnsweredByRule g h t (first_of ts) →
+    (g h : Forest) → IsForest g → (t : ℕ) (ts : List ℕ) → IsAnsweredByRule g h t (first_of ts) →
     with_asks g.entries g.margin t (end_of g.entries) (t ∷ ts) ≡ asking g.entries g.margin t (end_of g.entries) t (first_of ts) ∷ with_asks h.entries h.margin t (end_of h.entries) ts
 unfolding with_asks
 asks_on g h forest t ts answered =

@@ -9,7 +9,7 @@ use Rattle.mini_broker.specs.Faults.{fault_refusal}
 use Rattle.keep_words.specs.Pieces.{pieces, two}
 use Rattle.keep_words.proofs.Cutting.{has_piece}
 use Rattle.keep_run.specs.FaultWords.{SetsFaults, fault_word, faults_from, faults_of, is_taken, listed, stop_at}
-use Rattle.mini_broker.specs.Ledger.{Ledger}
+use Rattle.mini_broker.specs.Table.{Table}
 
 pub word_taken :
     (before : List NumberedFault) (n : ℕ) (w : List ℕ) (ws : List (List ℕ)) (f : NumberedFault) → fault_word w ≡ Some f → fault_refusal before 0 f.number ≡ None → faults_from before n (w ∷ ws) ≡ faults_from (before ++ f ∷ []) (n + 1) ws
@@ -52,7 +52,7 @@ twice (Some fault) result is memory = (fault, refl)
 
 -- the table does not take the fault
 pub set_stopped :
-    (why : SetFault) (place : ℕ) (words : List (List ℕ)) (old new : Ledger) (o : Option SetFault) (result : Result (Unit {0}) SetFault) → result ≡ Err why → (o ≡ None → IsOkUnless result OutOfMemory) →
+    (why : SetFault) (place : ℕ) (words : List (List ℕ)) (old new : Table) (o : Option SetFault) (result : Result (Unit {0}) SetFault) → result ≡ Err why → (o ≡ None → IsOkUnless result OutOfMemory) →
     ((fault : SetFault) → o ≡ Some fault → faults_of words ≡ Err place) → SetsFaults words old (Err (stop_at why place)) new
 set_stopped BadNumber place words old new o result is memory told = let some = bad_number o result is memory in told some.0 some.1
 set_stopped Twice place words old new o result is memory told = let some = twice o result is memory in told some.0 some.1

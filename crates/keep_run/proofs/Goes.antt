@@ -4,15 +4,15 @@ use Rattle.std.proofs.lemmas.Grind.{flat_map-append}
 use Rattle.std.proofs.lemmas.List.{append-nil, append_assoc, length-append, length-map}
 use Rattle.std.proofs.lemmas.List.Elements.{filter-append}
 use Rattle.std.proofs.lemmas.List.Sums.{sum_by-append}
-use Rattle.keep_tree.specs.Forest.{Grove}
-use Rattle.keep_inventory.specs.Stock.{Stock}
+use Rattle.keep_tree.specs.Forest.{Forest}
+use Rattle.keep_inventory.specs.Inventories.{Inventory}
 use Rattle.keep_exchange.specs.Exchanges.{Behind}
 use Rattle.keep_core.specs.LawsOfSteps.{IsShaped}
 use Rattle.keep_core.specs.declared.event.Event.TheVariants.{Tick}
 use Rattle.keep_core.specs.declared.event.Output.TheVariants as out
 use Rattle.keep_core.specs.State.{State}
 use Rattle.keep_run.specs.Closed.{AreAnswered, Beat, Exchanged, IsBeat, Played, World, asks_some, closing, next_tick, requests_of, rounds, taken}
-use Rattle.keep_run.specs.Playing.{AnswersAll, Ends, Goes, Opens, stock_of}
+use Rattle.keep_run.specs.Playing.{AnswersAll, Ends, Goes, Opens, inventory_with}
 use Rattle.keep_run.specs.Stops.{IsDue, both}
 use Rattle.keep_run.specs.Text.{answer_text, beat_text, short_lines, wake_line}
 use Rattle.keep_run.proofs.Texts.{same_answer_texts, same_beat_texts, same_shorts, same_wake}
@@ -37,7 +37,7 @@ unfolding requests_of
 requests_join bs more = sum_by-append (λ (b : Beat). length b.answers) bs more
 
 pub goes_on :
-    (s : Stock) (old mid new : World) (due then' next : Option ℕ) (w v a c : ℕ) (x y : List ℕ) → Goes s old due mid then' w a x → Goes s mid then' new next v c y → Goes s old due new next (w + v) (a + c) (x ++ y)
+    (s : Inventory) (old mid new : World) (due then' next : Option ℕ) (w v a c : ℕ) (x y : List ℕ) → Goes s old due mid then' w a x → Goes s mid then' new next v c y → Goes s old due new next (w + v) (a + c) (x ++ y)
 goes_on s old mid new due then' next w v a c x y g h = record {
   beats = g.beats ++ h.beats;
   played = joins 8200 s.credentials old mid new due then' next g.beats h.beats g.played h.played;
@@ -47,13 +47,13 @@ goes_on s old mid new due then' next w v a c x y g h = record {
 }
 
 -- nothing yet
-pub goes_nowhere : (s : Stock) (old : World) (due : Option ℕ) → Goes s old due old due 0 0 []
+pub goes_nowhere : (s : Inventory) (old : World) (due : Option ℕ) → Goes s old due old due 0 0 []
 unfolding rounds requests_of
 goes_nowhere s old due = record { beats = []; played = (refl, refl); wakes_are = refl; asked_are = refl; text_is = refl }
 
 -- of another forest of that shape
 pub goes_as :
-    (s u : Stock) (old new : World) (due next : Option ℕ) (w a : ℕ) (x : List ℕ) → IsShaped s.grove u.grove → u.credentials ≡ s.credentials → Goes u old due new next w a x → Goes s old due new next w a x
+    (s u : Inventory) (old new : World) (due next : Option ℕ) (w a : ℕ) (x : List ℕ) → IsShaped s.forest u.forest → u.credentials ≡ s.credentials → Goes u old due new next w a x → Goes s old due new next w a x
 goes_as s u old new due next w a x like credentials g = record {
   beats = g.beats;
   played = subst (λ cs. Played 8200 cs old due g.beats new next) credentials g.played;
@@ -65,9 +65,9 @@ goes_as s u old new due next w a x like credentials g = record {
 -- ---- to the end without a round
 
 pub ends_go : (cs : List (List ℕ)) (behind : Behind) (old new : State) (due : ℕ) (before after : List ℕ) → Ends cs behind old due new before after →
-    (text : List ℕ) × (Goes (stock_of cs old.forest) (both old behind) (Some due) (both new behind) None 0 0 text × (after ≡ before ++ text))
+    (text : List ℕ) × (Goes (inventory_with cs old.forest) (both old behind) (Some due) (both new behind) None 0 0 text × (after ≡ before ++ text))
 ends_go cs behind old new due before after e = (
-  flat_map (beat_text (stock_of cs old.forest)) e.beats,
+  flat_map (beat_text (inventory_with cs old.forest)) e.beats,
   (
     record { beats = e.beats; played = e.quiet.played; wakes_are = sym (ap length e.quiet.none_asked); asked_are = sym e.quiet.none_sent; text_is = refl },
     e.text_is,
@@ -78,11 +78,11 @@ ends_go cs behind old new due before after e = (
 
 module _ (cs : List (List ℕ)) (behind : Behind) (old k : State) (new : World) (due t : ℕ) (asked before mid after : List ℕ) (next : Option ℕ) (like : IsShaped old.forest k.forest)
     (o : Opens cs behind old due t asked k before mid) (a : AnswersAll cs t (both k behind) asked next new mid after) where
-  s : Stock
-  s = stock_of cs old.forest
+  s : Inventory
+  s = inventory_with cs old.forest
 
-  u : Stock
-  u = stock_of cs k.forest
+  u : Inventory
+  u = inventory_with cs k.forest
 
   round_of : Beat
   round_of = record { at = t; output = out.Ask asked; short = o.ticks.keeper.shortened; answers = a.xs }
@@ -138,7 +138,7 @@ module _ (cs : List (List ℕ)) (behind : Behind) (old k : State) (new : World) 
       ∙ ap (λ l. quiet ++ l) (sym round_text ∙ sym (append-nil (beat_text s round_of)))
       ∙ sym (flat_map-append (beat_text s) o.beats (round_of ∷ [])))
 
-  pub round_goes_on : (text : List ℕ) × (Goes (stock_of cs old.forest) (both old behind) (Some due) new next 1 (length asked) text × (after ≡ before ++ text))
+  pub round_goes_on : (text : List ℕ) × (Goes (inventory_with cs old.forest) (both old behind) (Some due) new next 1 (length asked) text × (after ≡ before ++ text))
   unfolding s u
   round_goes_on = (
     flat_map (beat_text s) all_beats,

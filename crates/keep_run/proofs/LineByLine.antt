@@ -7,7 +7,7 @@ use Rattle.std.proofs.lemmas.List.{append-nil, append_assoc, drop-drop}
 use Rattle.std.specs.Io.KnownBytes.{Appends}
 use Rattle.keep_words.specs.Pieces.{pieces}
 use Rattle.keep_device.specs.Failures.{HasFailed}
-use Rattle.keep_tree.specs.Forest.{Grove}
+use Rattle.keep_tree.specs.Forest.{Forest}
 use Rattle.keep_core.specs.State.{State}
 use Rattle.keep_exchange.specs.Exchanges.{Behind}
 use Rattle.keep_report.specs.declared.stop.Stop.{Stop}
@@ -84,7 +84,7 @@ handed_on (Err q) stop P is h = subst (λ (r : Stop). P (Err r)) (sym is.1) h
 
 -- ---- whether the events have ended
 
-no_event_where : (g : Grove) (behind : List (List ℕ)) (P Q : Type 0) → (P → Q) → IsNoEvent g behind P → IsNoEvent g behind Q
+no_event_where : (g : Forest) (behind : List (List ℕ)) (P Q : Type 0) → (P → Q) → IsNoEvent g behind P → IsNoEvent g behind Q
 no_event_where g [] P Q f h = h
 no_event_where g (rest ∷ []) P Q f h = elim h [ inl long ↦ inl long | inr cut ↦ inr (f cut.0, cut.1) ]
 no_event_where g (line ∷ next ∷ more) P Q f h = h

@@ -10,8 +10,8 @@ use Rattle.keep_exchange.specs.Exchanges.{Behind}
 use Rattle.keep_inventory.specs.Answers.{Fails}
 use Rattle.keep_inventory.specs.declared.fault.InvFault.{InvFault}
 use Rattle.keep_inventory.specs.declared.fault.InvFault.TheVariants as faults
-use Rattle.keep_inventory.specs.Inventory.{inventory}
-use Rattle.keep_inventory.specs.Stock.{Stock}
+use Rattle.keep_inventory.specs.Inventory.{read_inventory}
+use Rattle.keep_inventory.specs.Inventories.{Inventory}
 use Rattle.keep_report.specs.declared.exit.Exit.{Exit}
 use Rattle.keep_report.specs.declared.exit.Exit.TheVariants as exits
 use Rattle.keep_report.specs.declared.stop.Stop.{Stop}
@@ -90,11 +90,11 @@ module _ (port : ℕ) (bytes : List ℕ) (start : ℕ) (before : Option Behind) 
 
   -- the bytes are no inventory, or memory was wanting
   pub read_lives :
-      (result : Result (Unit {0}) Stop) (fault : InvFault) (x : Option (List ℕ)) (r f : ℕ) (a : Option (List ℕ)) (n : ℕ) (p k : Bool) → IsErr result × IsErrAnd result (λ (q : Stop). q ≡ stop_of_inventory fault) → Fails fault (inventory bytes) →
+      (result : Result (Unit {0}) Stop) (fault : InvFault) (x : Option (List ℕ)) (r f : ℕ) (a : Option (List ℕ)) (n : ℕ) (p k : Bool) → IsErr result × IsErrAnd result (λ (q : Stop). q ≡ stop_of_inventory fault) → Fails fault (read_inventory bytes) →
       IfSome before (λ b. LivesTo port bytes start b result (fed_by x x r r f f) (sent_by a a n n p p k) before)
   read_lives (Ok u) fault x r f a n p k is fails = absurd (let no = is.0 in cc)
   read_lives (Err stop) fault x r f a n p k is fails = by_before before where
-    by_fault : (b : Behind) (e : InvFault) → Fails e (inventory bytes) → LivesTo port bytes start b (Err (stop_of_inventory e)) (fed_by x x r r f f) (sent_by a a n n p p k) (Some b)
+    by_fault : (b : Behind) (e : InvFault) → Fails e (read_inventory bytes) → LivesTo port bytes start b (Err (stop_of_inventory e)) (fed_by x x r r f f) (sent_by a a n n p p k) (Some b)
     by_fault b faults.OutOfMemory h = inl (unread x r f, untouched a n p k, refl)
     by_fault b faults.NotToml h = (h, unread x r f, untouched a n p k, refl)
     by_fault b (faults.MissingKey i key) h = (h, unread x r f, untouched a n p k, refl)
@@ -108,16 +108,16 @@ module _ (port : ℕ) (bytes : List ℕ) (start : ℕ) (before : Option Behind) 
 
   -- it ended before it listened
   pub early_lives :
-      (result : Result (Unit {0}) Stop) (stop : Stop) (stock : Stock) (x : Option (List ℕ)) (r f : ℕ) (out : Sent) (new : Option Behind) → inventory bytes ≡ Ok stock → IsErr result × IsErrAnd result (λ (q : Stop). q ≡ stop) →
-      IfSome before (λ b. EndsEarly port start (record { stock = stock; behind = b }) stop out new) → Lives result (fed_by x x r r f f) out new
-  early_lives (Ok u) stop stock x r f out new read is early = absurd (let no = is.0 in cc)
-  early_lives (Err q) stop stock x r f out new read is early =
+      (result : Result (Unit {0}) Stop) (stop : Stop) (inventory : Inventory) (x : Option (List ℕ)) (r f : ℕ) (out : Sent) (new : Option Behind) → read_inventory bytes ≡ Ok inventory → IsErr result × IsErrAnd result (λ (q : Stop). q ≡ stop) →
+      IfSome before (λ b. EndsEarly port start (record { inventory = inventory; behind = b }) stop out new) → Lives result (fed_by x x r r f f) out new
+  early_lives (Ok u) stop inventory x r f out new read is early = absurd (let no = is.0 in cc)
+  early_lives (Err q) stop inventory x r f out new read is early =
       some_lives (λ b h. subst (λ (u : Stop). LivesTo port bytes start b (Err u) (fed_by x x r r f f) out new) (sym is.1) (by_stop b stop h)) early where
-        by_stop : (b : Behind) (u : Stop) → EndsEarly port start (record { stock = stock; behind = b }) u out new → LivesTo port bytes start b (Err u) (fed_by x x r r f f) out new
-        by_stop b stops.Memory h = inr (stock, read, inl (h, unread x r f))
-        by_stop b stops.Write h = (stock, read, inl (h, unread x r f))
-        by_stop b stops.TooLong h = (stock, read, inl (h, unread x r f))
-        by_stop b (stops.Broker name) h = (stock, read, inl (h, unread x r f))
+        by_stop : (b : Behind) (u : Stop) → EndsEarly port start (record { inventory = inventory; behind = b }) u out new → LivesTo port bytes start b (Err u) (fed_by x x r r f f) out new
+        by_stop b stops.Memory h = inr (inventory, read, inl (h, unread x r f))
+        by_stop b stops.Write h = (inventory, read, inl (h, unread x r f))
+        by_stop b stops.TooLong h = (inventory, read, inl (h, unread x r f))
+        by_stop b (stops.Broker name) h = (inventory, read, inl (h, unread x r f))
         by_stop b stops.Read h = absurd h
         by_stop b (stops.Inventory fault) h = absurd h
         by_stop b (stops.Moments fault) h = absurd h
@@ -126,13 +126,13 @@ module _ (port : ℕ) (bytes : List ℕ) (start : ℕ) (before : Option Behind) 
 
   -- it listened
   pub listened_lives :
-      (stock : Stock) (cs : List (List ℕ)) (keeper : State) (middle : Option Behind) (a b c : Option (List ℕ)) (n m l : ℕ) (p q r k : Bool) (result : Result (Unit {0}) Stop) (final : Side) (fed : Fed) → inventory bytes ≡ Ok stock →
-      IfSome before (λ x. IsOpened port start (record { stock = stock; behind = x }) cs keeper middle (sent_by a b n m p q k)) → Listens port cs (side keeper middle) result final fed (sent_by b c m l q r k) →
+      (inventory : Inventory) (cs : List (List ℕ)) (keeper : State) (middle : Option Behind) (a b c : Option (List ℕ)) (n m l : ℕ) (p q r k : Bool) (result : Result (Unit {0}) Stop) (final : Side) (fed : Fed) → read_inventory bytes ≡ Ok inventory →
+      IfSome before (λ x. IsOpened port start (record { inventory = inventory; behind = x }) cs keeper middle (sent_by a b n m p q k)) → Listens port cs (side keeper middle) result final fed (sent_by b c m l q r k) →
       Lives result fed (sent_by a c n l p r k) final.behind
-  listened_lives stock cs keeper middle a b c n m l p q r k result final fed read opened listens = some_lives (λ x o. by_result x result (has x o)) opened where
-    has : (x : Behind) → IsOpened port start (record { stock = stock; behind = x }) cs keeper middle (sent_by a b n m p q k) → HasListened port start (record { stock = stock; behind = x }) result final fed (sent_by a c n l p r k)
+  listened_lives inventory cs keeper middle a b c n m l p q r k result final fed read opened listens = some_lives (λ x o. by_result x result (has x o)) opened where
+    has : (x : Behind) → IsOpened port start (record { inventory = inventory; behind = x }) cs keeper middle (sent_by a b n m p q k) → HasListened port start (record { inventory = inventory; behind = x }) result final fed (sent_by a c n l p r k)
     has x o =
-        let h : Listens port stock.credentials (side keeper (Some o.behind)) result final fed (sent_by b c m l q r k) =
+        let h : Listens port inventory.credentials (side keeper (Some o.behind)) result final fed (sent_by b c m l q r k) =
         subst (λ d. Listens port d (side keeper (Some o.behind)) result final fed (sent_by b c m l q r k)) o.same
         (subst (λ e. Listens port cs (side keeper e) result final fed (sent_by b c m l q r k)) o.is listens) in
         record {
@@ -146,19 +146,19 @@ module _ (port : ℕ) (bytes : List ℕ) (start : ℕ) (before : Option Behind) 
           mid = h.mid;
           text = o.text ++ h.text;
           run = record { opening = both keeper o.behind; before = o.text; opened = o.opened; spoken = h.text; heard = h.heard.heard; text_is = refl };
-          ends = listens_to port stock.credentials h.read (length h.lines + 1) h.mid h.behind o.text h.text final fed a b c n m l p q r k o.sent.0 o.kept result h.ends;
+          ends = listens_to port inventory.credentials h.read (length h.lines + 1) h.mid h.behind o.text h.text final fed a b c n m l p q r k o.sent.0 o.kept result h.ends;
         }
 
-    by_result : (x : Behind) (u : Result (Unit {0}) Stop) → HasListened port start (record { stock = stock; behind = x }) u final fed (sent_by a c n l p r k) → LivesTo port bytes start x u fed (sent_by a c n l p r k) final.behind
-    by_result x (Ok u) h = (stock, read, (final, h, refl))
-    by_result x (Err stops.Memory) h = inr (stock, read, inr (final, h, refl))
-    by_result x (Err stops.Write) h = (stock, read, inr (final, h, refl))
-    by_result x (Err stops.TooLong) h = (stock, read, inr (final, h, refl))
-    by_result x (Err stops.Read) h = (stock, read, inr (final, h, refl))
-    by_result x (Err (stops.Line i)) h = (stock, read, inr (final, h, refl))
-    by_result x (Err (stops.Broker name)) h = (stock, read, inr (final, h, refl))
-    by_result x (Err (stops.Moments fault)) h = (stock, read, inr (final, h, refl))
-    by_result x (Err (stops.FaultWord i)) h = (stock, read, inr (final, h, refl))
+    by_result : (x : Behind) (u : Result (Unit {0}) Stop) → HasListened port start (record { inventory = inventory; behind = x }) u final fed (sent_by a c n l p r k) → LivesTo port bytes start x u fed (sent_by a c n l p r k) final.behind
+    by_result x (Ok u) h = (inventory, read, (final, h, refl))
+    by_result x (Err stops.Memory) h = inr (inventory, read, inr (final, h, refl))
+    by_result x (Err stops.Write) h = (inventory, read, inr (final, h, refl))
+    by_result x (Err stops.TooLong) h = (inventory, read, inr (final, h, refl))
+    by_result x (Err stops.Read) h = (inventory, read, inr (final, h, refl))
+    by_result x (Err (stops.Line i)) h = (inventory, read, inr (final, h, refl))
+    by_result x (Err (stops.Broker name)) h = (inventory, read, inr (final, h, refl))
+    by_result x (Err (stops.Moments fault)) h = (inventory, read, inr (final, h, refl))
+    by_result x (Err (stops.FaultWord i)) h = (inventory, read, inr (final, h, refl))
     by_result x (Err (stops.Inventory fault)) h = absurd h.ends.1
 
   -- by another name of the port

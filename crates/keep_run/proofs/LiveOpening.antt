@@ -9,7 +9,7 @@ use Rattle.keep_core.specs.State.{State, unplanned}
 use Rattle.keep_device.specs.Failures.{HasFailed}
 use Rattle.keep_device.specs.Front.{AppendsFront}
 use Rattle.keep_exchange.specs.Exchanges.{Behind}
-use Rattle.keep_inventory.specs.Stock.{Stock}
+use Rattle.keep_inventory.specs.Inventories.{Inventory}
 use Rattle.keep_report.specs.declared.stop.Stop.{Stop}
 use Rattle.keep_report.specs.declared.stop.Stop.TheVariants as stops
 use Rattle.keep_report.specs.Sent.{IsAll, Sends, Sent}
@@ -21,60 +21,60 @@ use Rattle.keep_run.specs.Text.{short_lines}
 use Rattle.keep_run.proofs.LookedUp.{said_appends, same_credentials, sent_by}
 use Rattle.keep_run.proofs.Texts.{same_shorts}
 use Rattle.keep_run.proofs.Written.{appends_then, front_then, whole_front}
-use Rattle.keep_tree.specs.Forest.{Grove}
+use Rattle.keep_tree.specs.Forest.{Forest}
 
 -- ---- a lookup that stops it
 
-by_stop : (port t : ℕ) (old : Looked) (stop : Stop) (out : Sent) (stock : Stock) (new : Option Behind) → LooksAllUp port t old (Err stop) out stock new → EndsEarly port t old stop out new
-by_stop port t old (stops.Broker name) out stock new h = h
-by_stop port t old stops.Write out stock new h = (h.4, inl (h.0, h.1, h.2, h.3))
-by_stop port t old stops.Memory out stock new h = inl h
-by_stop port t old stops.TooLong out stock new h = absurd h
-by_stop port t old stops.Read out stock new h = absurd h
-by_stop port t old (stops.Inventory fault) out stock new h = absurd h
-by_stop port t old (stops.Moments fault) out stock new h = absurd h
-by_stop port t old (stops.FaultWord n) out stock new h = absurd h
-by_stop port t old (stops.Line n) out stock new h = absurd h
+by_stop : (port t : ℕ) (old : Looked) (stop : Stop) (out : Sent) (inventory : Inventory) (new : Option Behind) → LooksAllUp port t old (Err stop) out inventory new → EndsEarly port t old stop out new
+by_stop port t old (stops.Broker name) out inventory new h = h
+by_stop port t old stops.Write out inventory new h = (h.4, inl (h.0, h.1, h.2, h.3))
+by_stop port t old stops.Memory out inventory new h = inl h
+by_stop port t old stops.TooLong out inventory new h = absurd h
+by_stop port t old stops.Read out inventory new h = absurd h
+by_stop port t old (stops.Inventory fault) out inventory new h = absurd h
+by_stop port t old (stops.Moments fault) out inventory new h = absurd h
+by_stop port t old (stops.FaultWord n) out inventory new h = absurd h
+by_stop port t old (stops.Line n) out inventory new h = absurd h
 
 pub looking_early :
-    (port t : ℕ) (before : Option Behind) (s : Stock) (stop : Stop) (out : Sent) (stock : Stock) (new : Option Behind) → IfSome before (λ b. LooksAllUp port t (record { stock = s; behind = b }) (Err stop) out stock new) →
-    IfSome before (λ b. EndsEarly port t (record { stock = s; behind = b }) stop out new)
-looking_early port t None s stop out stock new h = tt
-looking_early port t (Some b) s stop out stock new h = by_stop port t (record { stock = s; behind = b }) stop out stock new h
+    (port t : ℕ) (before : Option Behind) (s : Inventory) (stop : Stop) (out : Sent) (inventory : Inventory) (new : Option Behind) → IfSome before (λ b. LooksAllUp port t (record { inventory = s; behind = b }) (Err stop) out inventory new) →
+    IfSome before (λ b. EndsEarly port t (record { inventory = s; behind = b }) stop out new)
+looking_early port t None s stop out inventory new h = tt
+looking_early port t (Some b) s stop out inventory new h = by_stop port t (record { inventory = s; behind = b }) stop out inventory new h
 
 -- ---- behind all lookups
 
-module _ (port t : ℕ) (old : Looked) (stock : Stock) (middle : Option Behind) (a b c : Option (List ℕ)) (n m l : ℕ) (p q r k : Bool) (all : LooksAll port t old (sent_by a b n m p q k) stock middle) where
+module _ (port t : ℕ) (old : Looked) (inventory : Inventory) (middle : Option Behind) (a b c : Option (List ℕ)) (n m l : ℕ) (p q r k : Bool) (all : LooksAll port t old (sent_by a b n m p q k) inventory middle) where
   abbrev lines : List ℕ
-  lines = looked_text stock (first (length old.stock.grove.entries))
+  lines = looked_text inventory (first (length old.inventory.forest.entries))
 
   written : Appends a b lines
-  written = said_appends (looked_text stock (first (length old.stock.grove.entries))) (sent_by a b n m p q k) all.said
+  written = said_appends (looked_text inventory (first (length old.inventory.forest.entries))) (sent_by a b n m p q k) all.said
 
   -- memory was wanting before the lines of the opening were sent
   pub memory_early : EndsEarly port t old stops.Memory (sent_by a b n m p q k) middle
   memory_early = inl (
-    length old.stock.grove.entries,
-    record { stock = stock; behind = all.behind },
+    length old.inventory.forest.entries,
+    record { inventory = inventory; behind = all.behind },
     record { within = omega arith; looked = all.looked; front = subst (AppendsFront a b) (append-nil lines) (whole_front a b lines [] written) },
     inl all.is,
   )
 
-  pub long_early : ReplanTooLong stock.grove t → EndsEarly port t old stops.TooLong (sent_by a b n m p q k) middle
-  long_early long = record { looked = record { stock = stock; behind = all.behind }; all = all.looked; long = long; said = all.said; left = all.is }
+  pub long_early : ReplanTooLong inventory.forest t → EndsEarly port t old stops.TooLong (sent_by a b n m p q k) middle
+  long_early long = record { looked = record { inventory = inventory; behind = all.behind }; all = all.looked; long = long; said = all.said; left = all.is }
 
-  opening : (keeper : State) (shorts : List ℕ) → Replan (unplanned stock.grove) t keeper → shorts ≡ short_lines keeper.forest keeper.shortened → IsLiveOpening port t old (both (taken keeper) all.behind) (lines ++ shorts)
+  opening : (keeper : State) (shorts : List ℕ) → Replan (unplanned inventory.forest) t keeper → shorts ≡ short_lines keeper.forest keeper.shortened → IsLiveOpening port t old (both (taken keeper) all.behind) (lines ++ shorts)
   opening keeper shorts planned is = record {
-    looked = record { stock = stock; behind = all.behind };
+    looked = record { inventory = inventory; behind = all.behind };
     all = all.looked;
     keeper = keeper;
     planned = planned;
     is = refl;
-    text_is = ap (λ x. lines ++ x) (is ∙ same_shorts stock.grove keeper.forest (replanned stock.grove (unplanned stock.grove) t keeper (same stock.grove) planned) keeper.shortened);
+    text_is = ap (λ x. lines ++ x) (is ∙ same_shorts inventory.forest keeper.forest (replanned inventory.forest (unplanned inventory.forest) t keeper (same inventory.forest) planned) keeper.shortened);
   }
 
   pub unsent_early :
-      (keeper : State) (shorts : List ℕ) (stop : Stop) → Replan (unplanned stock.grove) t keeper → shorts ≡ short_lines keeper.forest keeper.shortened → Sends (Err stop) shorts (sent_by b c m l q r k) →
+      (keeper : State) (shorts : List ℕ) (stop : Stop) → Replan (unplanned inventory.forest) t keeper → shorts ≡ short_lines keeper.forest keeper.shortened → Sends (Err stop) shorts (sent_by b c m l q r k) →
       EndsEarly port t old stop (sent_by a c n l p r k) middle
   unsent_early keeper shorts stops.Write planned is sends =
       (subst (λ x. HasFailed x l) all.kept sends.0, inr (both (taken keeper) all.behind, lines ++ shorts, opening keeper shorts planned is, front_then a b c lines shorts written sends.1, all.is))
@@ -89,10 +89,10 @@ module _ (port t : ℕ) (old : Looked) (stock : Stock) (middle : Option Behind) 
   unsent_early keeper shorts (stops.Line x) planned is sends = absurd sends
 
   pub opened :
-      (keeper : State) (shorts : List ℕ) → Replan (unplanned stock.grove) t keeper → shorts ≡ short_lines keeper.forest keeper.shortened → IsAll shorts (sent_by b c m l q r k) → l ≡ m →
-      IsOpened port t old stock.credentials (taken keeper) middle (sent_by a c n l p r k)
+      (keeper : State) (shorts : List ℕ) → Replan (unplanned inventory.forest) t keeper → shorts ≡ short_lines keeper.forest keeper.shortened → IsAll shorts (sent_by b c m l q r k) → l ≡ m →
+      IsOpened port t old inventory.credentials (taken keeper) middle (sent_by a c n l p r k)
   opened keeper shorts planned is sends more = record {
-    same = same_credentials port t old (first (length old.stock.grove.entries)) (record { stock = stock; behind = all.behind }) all.looked;
+    same = same_credentials port t old (first (length old.inventory.forest.entries)) (record { inventory = inventory; behind = all.behind }) all.looked;
     behind = all.behind;
     is = all.is;
     text = lines ++ shorts;
@@ -103,39 +103,39 @@ module _ (port t : ℕ) (old : Looked) (stock : Stock) (middle : Option Behind) 
 
 -- ---- where it is known what stands behind the exchange
 
-module _ (port t : ℕ) (before : Option Behind) (s stock : Stock) (middle : Option Behind) (a b c : Option (List ℕ)) (n m l : ℕ) (p q r k : Bool)
-    (all : IfSome before (λ x. LooksAll port t (record { stock = s; behind = x }) (sent_by a b n m p q k) stock middle)) where
-  ends_early : (P : Looked → Type 0) → ((x : Behind) → LooksAll port t (record { stock = s; behind = x }) (sent_by a b n m p q k) stock middle → P (record { stock = s; behind = x })) → IfSome before (λ x. P (record { stock = s; behind = x }))
+module _ (port t : ℕ) (before : Option Behind) (s inventory : Inventory) (middle : Option Behind) (a b c : Option (List ℕ)) (n m l : ℕ) (p q r k : Bool)
+    (all : IfSome before (λ x. LooksAll port t (record { inventory = s; behind = x }) (sent_by a b n m p q k) inventory middle)) where
+  ends_early : (P : Looked → Type 0) → ((x : Behind) → LooksAll port t (record { inventory = s; behind = x }) (sent_by a b n m p q k) inventory middle → P (record { inventory = s; behind = x })) → IfSome before (λ x. P (record { inventory = s; behind = x }))
   ends_early P f = by_case before all where
-    by_case : (o : Option Behind) → IfSome o (λ x. LooksAll port t (record { stock = s; behind = x }) (sent_by a b n m p q k) stock middle) → IfSome o (λ x. P (record { stock = s; behind = x }))
+    by_case : (o : Option Behind) → IfSome o (λ x. LooksAll port t (record { inventory = s; behind = x }) (sent_by a b n m p q k) inventory middle) → IfSome o (λ x. P (record { inventory = s; behind = x }))
     by_case None h = tt
     by_case (Some x) h = f x h
 
-  pub memory_ends : (stop : Stop) → stop ≡ stops.Memory → IfSome before (λ x. EndsEarly port t (record { stock = s; behind = x }) stop (sent_by a b n m p q k) middle)
+  pub memory_ends : (stop : Stop) → stop ≡ stops.Memory → IfSome before (λ x. EndsEarly port t (record { inventory = s; behind = x }) stop (sent_by a b n m p q k) middle)
   memory_ends stop is = ends_early (λ old. EndsEarly port t old stop (sent_by a b n m p q k) middle) (λ x h.
-      subst (λ (u : Stop). EndsEarly port t (record { stock = s; behind = x }) u (sent_by a b n m p q k) middle) (sym is)
-      (memory_early port t (record { stock = s; behind = x }) stock middle a b b n m m p q q k h))
+      subst (λ (u : Stop). EndsEarly port t (record { inventory = s; behind = x }) u (sent_by a b n m p q k) middle) (sym is)
+      (memory_early port t (record { inventory = s; behind = x }) inventory middle a b b n m m p q q k h))
 
   pub planning_ends :
-      (g : Grove) (stop : Stop) → g ≡ stock.grove → (stop ≡ stops.Memory) ⊎ ((stop ≡ stops.TooLong) × ReplanTooLong g t) → IfSome before (λ x. EndsEarly port t (record { stock = s; behind = x }) stop (sent_by a b n m p q k) middle)
+      (g : Forest) (stop : Stop) → g ≡ inventory.forest → (stop ≡ stops.Memory) ⊎ ((stop ≡ stops.TooLong) × ReplanTooLong g t) → IfSome before (λ x. EndsEarly port t (record { inventory = s; behind = x }) stop (sent_by a b n m p q k) middle)
   planning_ends g stop is (inl memory) = memory_ends stop memory
   planning_ends g stop is (inr long) = ends_early (λ old. EndsEarly port t old stop (sent_by a b n m p q k) middle) (λ x h.
-      subst (λ (u : Stop). EndsEarly port t (record { stock = s; behind = x }) u (sent_by a b n m p q k) middle) (sym long.0)
-      (long_early port t (record { stock = s; behind = x }) stock middle a b b n m m p q q k h (subst (λ h'. ReplanTooLong h' t) is long.1)))
+      subst (λ (u : Stop). EndsEarly port t (record { inventory = s; behind = x }) u (sent_by a b n m p q k) middle) (sym long.0)
+      (long_early port t (record { inventory = s; behind = x }) inventory middle a b b n m m p q q k h (subst (λ h'. ReplanTooLong h' t) is long.1)))
 
   pub sending_ends :
-      (g : Grove) (keeper : State) (shorts : List ℕ) (stop : Stop) → g ≡ stock.grove → Replan (unplanned g) t keeper → shorts ≡ short_lines keeper.forest keeper.shortened → Sends (Err stop) shorts (sent_by b c m l q r k) →
-      IfSome before (λ x. EndsEarly port t (record { stock = s; behind = x }) stop (sent_by a c n l p r k) middle)
+      (g : Forest) (keeper : State) (shorts : List ℕ) (stop : Stop) → g ≡ inventory.forest → Replan (unplanned g) t keeper → shorts ≡ short_lines keeper.forest keeper.shortened → Sends (Err stop) shorts (sent_by b c m l q r k) →
+      IfSome before (λ x. EndsEarly port t (record { inventory = s; behind = x }) stop (sent_by a c n l p r k) middle)
   sending_ends g keeper shorts stop is planned are sends = ends_early (λ old. EndsEarly port t old stop (sent_by a c n l p r k) middle) (λ x h.
-      unsent_early port t (record { stock = s; behind = x }) stock middle a b c n m l p q r k h keeper shorts stop (subst (λ h'. Replan (unplanned h') t keeper) is planned) are sends)
+      unsent_early port t (record { inventory = s; behind = x }) inventory middle a b c n m l p q r k h keeper shorts stop (subst (λ h'. Replan (unplanned h') t keeper) is planned) are sends)
 
   pub opens :
-      (g : Grove) (cs : List (List ℕ)) (keeper now : State) (shorts : List ℕ) → g ≡ stock.grove → cs ≡ stock.credentials → Replan (unplanned g) t keeper → now ≡ taken keeper → shorts ≡ short_lines keeper.forest keeper.shortened →
-      IsAll shorts (sent_by b c m l q r k) → l ≡ m → IfSome before (λ x. IsOpened port t (record { stock = s; behind = x }) cs now middle (sent_by a c n l p r k))
+      (g : Forest) (cs : List (List ℕ)) (keeper now : State) (shorts : List ℕ) → g ≡ inventory.forest → cs ≡ inventory.credentials → Replan (unplanned g) t keeper → now ≡ taken keeper → shorts ≡ short_lines keeper.forest keeper.shortened →
+      IsAll shorts (sent_by b c m l q r k) → l ≡ m → IfSome before (λ x. IsOpened port t (record { inventory = s; behind = x }) cs now middle (sent_by a c n l p r k))
   opens g cs keeper now shorts is_g is_cs planned is_now are sends more = ends_early (λ old. IsOpened port t old cs now middle (sent_by a c n l p r k)) (λ x h.
-      subst (λ u. IsOpened port t (record { stock = s; behind = x }) u now middle (sent_by a c n l p r k)) (sym is_cs)
-      (subst (λ (v : State). IsOpened port t (record { stock = s; behind = x }) stock.credentials v middle (sent_by a c n l p r k)) (sym is_now)
-      (opened port t (record { stock = s; behind = x }) stock middle a b c n m l p q r k h keeper shorts (subst (λ h'. Replan (unplanned h') t keeper) is_g planned) are sends more)))
+      subst (λ u. IsOpened port t (record { inventory = s; behind = x }) u now middle (sent_by a c n l p r k)) (sym is_cs)
+      (subst (λ (v : State). IsOpened port t (record { inventory = s; behind = x }) inventory.credentials v middle (sent_by a c n l p r k)) (sym is_now)
+      (opened port t (record { inventory = s; behind = x }) inventory middle a b c n m l p q r k h keeper shorts (subst (λ h'. Replan (unplanned h') t keeper) is_g planned) are sends more)))
 
 -- ---- what a call gives that stops it
 

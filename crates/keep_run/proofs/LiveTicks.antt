@@ -13,13 +13,13 @@ use Rattle.keep_core.specs.LawsOfSteps.{IsShaped}
 use Rattle.keep_core.specs.State.{State}
 use Rattle.keep_core.proofs.Shaped.{shape}
 use Rattle.keep_exchange.specs.Exchanges.{Behind}
-use Rattle.keep_inventory.specs.Stock.{Stock}
+use Rattle.keep_inventory.specs.Inventories.{Inventory}
 use Rattle.keep_report.specs.declared.stop.Stop.{Stop}
 use Rattle.keep_run.specs.Closed.{AreAnswered, Beat, IsBeat, World, asked_in, closing, taken}
 use Rattle.keep_run.specs.Live.{Between, IsHeard, IsLate, IsNeeded, IsReady, StopsHearing, TicksLive, last_line, next_line, side, tick_text}
 use Rattle.keep_run.specs.declared.event_line.Heard.{Heard}
 use Rattle.keep_run.specs.declared.event_line.Heard.TheVariants.{Need}
-use Rattle.keep_run.specs.Playing.{AnswersAll, IsPlanFault, Ticks, stock_of, stop_of}
+use Rattle.keep_run.specs.Playing.{AnswersAll, IsPlanFault, Ticks, inventory_with, stop_of}
 use Rattle.keep_run.specs.Stops.{both}
 use Rattle.keep_run.specs.Text.{answer_text, beat_text, short_lines, wake_line}
 use Rattle.keep_run.proofs.OneAnswer.{between_as, between_none}
@@ -52,8 +52,8 @@ only_idle t old new out.Planned turn no_ask no_sleep = absurd turn.1
 -- ---- a tick
 
 module _ (cs : List (List ℕ)) (t : ℕ) (old : State) where
-  s : Stock
-  s = stock_of cs old.forest
+  s : Inventory
+  s = inventory_with cs old.forest
 
   -- that asks nobody
   pub quiet_heard :
@@ -78,7 +78,7 @@ module _ (cs : List (List ℕ)) (t : ℕ) (old : State) where
       after ≡ told ++ next_line next → (lines : List ℕ) × (TicksLive cs t (both old b) new lines × (after ≡ before ++ lines))
   unfolding s beat_text
   round_heard b k new asked next before mid told after ticks a last =
-      let u = stock_of cs k.forest in
+      let u = inventory_with cs k.forest in
       let beat : Beat = record { at = t; output = out.Ask asked; short = ticks.keeper.shortened; answers = a.xs } in
       let like = ticks_shaped t old k (out.Ask asked) before mid ticks in
       let shorts = short_lines old.forest ticks.keeper.shortened in

@@ -13,7 +13,7 @@ use Rattle.keep_exchange.specs.Exchanges.{Behind, received}
 use Rattle.keep_exchange.specs.Lookups.{IsLookedUp, applied, looked, lookup_in}
 use Rattle.keep_exchange.specs.Requests.{lookup_of}
 use Rattle.keep_inventory.specs.Lookup.{lookup_fault, told}
-use Rattle.keep_inventory.specs.Stock.{Stock}
+use Rattle.keep_inventory.specs.Inventories.{Inventory}
 use Rattle.keep_report.specs.declared.stop.Stop.{Stop}
 use Rattle.keep_report.specs.declared.stop.Stop.TheVariants as stops
 use Rattle.keep_report.specs.Sent.{IsUntouched, Sent}
@@ -25,7 +25,7 @@ use Rattle.keep_run.proofs.Written.{appends_then, front_then, keeps_appends, who
 use Rattle.keep_tree.specs.declared.entry.Entry.{Entry}
 use Rattle.keep_tree.specs.Forest.{entry_at}
 use Rattle.keep_tree.proofs.Entries.{entry_at_set_other}
-use Rattle.mini_broker.specs.Ledger.{Ledger}
+use Rattle.mini_broker.specs.Table.{Table}
 use Rattle.mini_broker.specs.Step.{step}
 use Rattle.mini_broker.specs.Stream.{sent_of}
 use Rattle.vault_http.specs.declared.reply.Reply.{Reply}
@@ -37,8 +37,8 @@ use Rattle.keep_exchange.specs.declared.fault.ExchangeFault.{ExchangeFault}
 -- ---- one lookup more
 
 looked_more :
-    (port t : ℕ) (old mid new : Looked) (is : List ℕ) (i : ℕ) → AreLookedUp port t old is mid → IsLookedUp port mid.behind.table t mid.stock i true new.stock (Some new.behind) → AreLookedUp port t old (is ++ i ∷ []) new
-looked_more port t old mid new [] i all one = (new, (subst (λ (m : Looked). IsLookedUp port m.behind.table t m.stock i true new.stock (Some new.behind)) all one, refl))
+    (port t : ℕ) (old mid new : Looked) (is : List ℕ) (i : ℕ) → AreLookedUp port t old is mid → IsLookedUp port mid.behind.table t mid.inventory i true new.inventory (Some new.behind) → AreLookedUp port t old (is ++ i ∷ []) new
+looked_more port t old mid new [] i all one = (new, (subst (λ (m : Looked). IsLookedUp port m.behind.table t m.inventory i true new.inventory (Some new.behind)) all one, refl))
 looked_more port t old mid new (j ∷ is) i all one = (all.0, (all.1.0, looked_more port t all.0 mid new is i all.1.1 one))
 
 range_more : (a n : ℕ) → range_with_len a (suc n) ≡ range_with_len a n ++ (a + n) ∷ []
@@ -55,40 +55,40 @@ first_more n =
 
 -- ---- what a lookup leaves of the other entries
 
-record IsToldOne (s : Stock) (i : ℕ) (new : Stock) : Type 0 where
+record IsToldOne (s : Inventory) (i : ℕ) (new : Inventory) : Type 0 where
   pub credentials : new.credentials ≡ s.credentials
-  pub count : length new.grove.entries ≡ length s.grove.entries
-  pub others : (j : ℕ) → j ≢ i → entry_at new.grove.entries j ≡ entry_at s.grove.entries j
+  pub count : length new.forest.entries ≡ length s.forest.entries
+  pub others : (j : ℕ) → j ≢ i → entry_at new.forest.entries j ≡ entry_at s.forest.entries j
 
-told_one : (s : Stock) (i t : ℕ) (lookup : Lookup) → IsToldOne s i (told s i lookup t)
+told_one : (s : Inventory) (i t : ℕ) (lookup : Lookup) → IsToldOne s i (told s i lookup t)
 unfolding told
 told_one s i t lookup = record {
   credentials = refl;
-  count = length-set s.grove.entries i _;
-  others = λ j apart. entry_at_set_other s.grove.entries i j _ apart;
+  count = length-set s.forest.entries i _;
+  others = λ j apart. entry_at_set_other s.forest.entries i j _ apart;
 }
 
-of_told : (s : Stock) (i t : ℕ) (answer : Result Lookup ReplyFault) (new : Stock) → applied s i t answer ≡ Some new → IsToldOne s i new
+of_told : (s : Inventory) (i t : ℕ) (answer : Result Lookup ReplyFault) (new : Inventory) → applied s i t answer ≡ Some new → IsToldOne s i new
 of_told s i t (Err fault) new e = absurd (let bad : None ≡ Some new = e in cc)
 of_told s i t (Ok lookup) new e = by_flag (is_none (lookup_fault s i lookup)) e where
   by_flag : (b : Bool) → cond b (Some (told s i lookup t)) None ≡ Some new → IsToldOne s i new
   by_flag true h = let is : told s i lookup t ≡ new = (let g : Some (told s i lookup t) ≡ Some new = h in cc) in subst (IsToldOne s i) is (told_one s i t lookup)
   by_flag false h = absurd (let bad : None ≡ Some new = h in cc)
 
-of_reply : (s : Stock) (i t : ℕ) (answer : Result Reply ExchangeFault) (new : Stock) → looked s i t answer ≡ Some new → IsToldOne s i new
+of_reply : (s : Inventory) (i t : ℕ) (answer : Result Reply ExchangeFault) (new : Inventory) → looked s i t answer ≡ Some new → IsToldOne s i new
 of_reply s i t (Err fault) new e = absurd (let bad : None ≡ Some new = e in cc)
 of_reply s i t (Ok r) new e = by_flag (r.status == 200) e where
-  by_flag : (b : Bool) → cond b (applied s i t (lookup_in (entry_at s.grove.entries i).kind r.body)) None ≡ Some new → IsToldOne s i new
-  by_flag true h = of_told s i t (lookup_in (entry_at s.grove.entries i).kind r.body) new h
+  by_flag : (b : Bool) → cond b (applied s i t (lookup_in (entry_at s.forest.entries i).kind r.body)) None ≡ Some new → IsToldOne s i new
+  by_flag true h = of_told s i t (lookup_in (entry_at s.forest.entries i).kind r.body) new h
   by_flag false h = absurd (let bad : None ≡ Some new = h in cc)
 
-told_by : (port t : ℕ) (old : Looked) (i : ℕ) (stock : Stock) (new : Option Behind) → Applies port t old i stock new → IsToldOne old.stock i stock
-told_by port t old i stock new a = of_reply old.stock i t (received a.1.1.sent) stock a.1.1.applied_is
+told_by : (port t : ℕ) (old : Looked) (i : ℕ) (inventory : Inventory) (new : Option Behind) → Applies port t old i inventory new → IsToldOne old.inventory i inventory
+told_by port t old i inventory new a = of_reply old.inventory i t (received a.1.1.sent) inventory a.1.1.applied_is
 
-pub same_credentials : (port t : ℕ) (old : Looked) (is : List ℕ) (new : Looked) → AreLookedUp port t old is new → new.stock.credentials ≡ old.stock.credentials
-same_credentials port t old [] new all = ap (λ (u : Looked). u.stock.credentials) all
+pub same_credentials : (port t : ℕ) (old : Looked) (is : List ℕ) (new : Looked) → AreLookedUp port t old is new → new.inventory.credentials ≡ old.inventory.credentials
+same_credentials port t old [] new all = ap (λ (u : Looked). u.inventory.credentials) all
 same_credentials port t old (i ∷ is) new all =
-    same_credentials port t all.0 is new all.1.1 ∙ (told_by port t old i all.0.stock (Some all.0.behind) (all.0.behind, (refl, all.1.0))).credentials
+    same_credentials port t all.0 is new all.1.1 ∙ (told_by port t old i all.0.inventory (Some all.0.behind) (all.0.behind, (refl, all.1.0))).credentials
 
 -- ---- the lines
 
@@ -98,17 +98,17 @@ same_lines one two (suc n) a same =
     ap (λ l. l ++ flat_map two (range_with_len (a + 1) n)) (same a (omega arith))
     ∙ ap (λ l. one a ++ l) (same_lines one two n (a + 1) (λ j h. same j (omega arith)))
 
-stays_text : (s : Stock) (n : ℕ) (new : Stock) → IsToldOne s n new → looked_text new (first n) ≡ looked_text s (first n)
+stays_text : (s : Inventory) (n : ℕ) (new : Inventory) → IsToldOne s n new → looked_text new (first n) ≡ looked_text s (first n)
 unfolding looked_text
 stays_text s n new told = same_lines (looked_line s) (looked_line new) n 0 (λ j h.
     let apart : j ≢ n = λ e. omega arith in
     ap (λ (e : Entry). entry_line e.name e.end) (told.others j apart))
 
-text_more : (s : Stock) (n : ℕ) → looked_text s (first (n + 1)) ≡ looked_text s (first n) ++ looked_line s n
+text_more : (s : Inventory) (n : ℕ) → looked_text s (first (n + 1)) ≡ looked_text s (first n) ++ looked_line s n
 unfolding looked_text
 text_more s n = ap (flat_map (looked_line s)) (first_more n) ∙ flat_map-append (looked_line s) (first n) (n ∷ []) ∙ ap (λ l. flat_map (looked_line s) (first n) ++ l) (append-nil (looked_line s n))
 
-no_text : (s : Stock) → looked_text s (first 0) ≡ []
+no_text : (s : Inventory) → looked_text s (first 0) ≡ []
 unfolding looked_text
 no_text s = refl
 
@@ -131,80 +131,80 @@ said_still a b c n m l p q r k x (inr first) none = inr (first.0, (Keeps-trans a
 
 -- ---- one entry
 
-left_by : (port : ℕ) (old : Ledger) (t : ℕ) (s : Stock) (i : ℕ) (is : Bool) (stock : Stock) (new : Option Behind) → IsLookedUp port old t s i is stock new → (b : Behind) × ((new ≡ Some b) × IsLookedUp port old t s i is stock (Some b))
-left_by port old t s i is stock new l = (
-  record { table = (step old t (lookup_of port s.credentials s.grove i)).ledger; wire = request_text (lookup_of port s.credentials s.grove i) ++ sent_of l.sent },
+left_by : (port : ℕ) (old : Table) (t : ℕ) (s : Inventory) (i : ℕ) (is : Bool) (inventory : Inventory) (new : Option Behind) → IsLookedUp port old t s i is inventory new → (b : Behind) × ((new ≡ Some b) × IsLookedUp port old t s i is inventory (Some b))
+left_by port old t s i is inventory new l = (
+  record { table = (step old t (lookup_of port s.credentials s.forest i)).table; wire = request_text (lookup_of port s.credentials s.forest i) ++ sent_of l.sent },
   (l.is, record { sent = l.sent; says = l.says; applied_is = l.applied_is; is = refl }),
 )
 
 -- memory was wanting before the line was made
 pub one_memory :
-    (port t : ℕ) (before : Option Behind) (s : Stock) (i : ℕ) (result : Result (Unit {0}) Stop) (stock : Stock) (after : Option Behind) (a : Option (List ℕ)) (n : ℕ) (p k : Bool) → IsErr result × IsErrAnd result (λ (q : Stop). q ≡ stops.Memory) →
-    IfSome before (λ b. IsLeft port t (record { stock = s; behind = b }) i after) →
-    IfSome before (λ b. LooksOneUp port t (record { stock = s; behind = b }) i result (sent_by a a n n p p k) stock after)
-one_memory port t None s i result stock after a n p k is left = tt
-one_memory port t (Some b) s i (Ok u) stock after a n p k is left = absurd (let no = is.0 in cc)
-one_memory port t (Some b) s i (Err stop) stock after a n p k is left =
-    subst (λ (q : Stop). LooksOneUp port t (record { stock = s; behind = b }) i (Err q) (sent_by a a n n p p k) stock after) (sym is.1) (inl (untouched a n p k, left))
+    (port t : ℕ) (before : Option Behind) (s : Inventory) (i : ℕ) (result : Result (Unit {0}) Stop) (inventory : Inventory) (after : Option Behind) (a : Option (List ℕ)) (n : ℕ) (p k : Bool) → IsErr result × IsErrAnd result (λ (q : Stop). q ≡ stops.Memory) →
+    IfSome before (λ b. IsLeft port t (record { inventory = s; behind = b }) i after) →
+    IfSome before (λ b. LooksOneUp port t (record { inventory = s; behind = b }) i result (sent_by a a n n p p k) inventory after)
+one_memory port t None s i result inventory after a n p k is left = tt
+one_memory port t (Some b) s i (Ok u) inventory after a n p k is left = absurd (let no = is.0 in cc)
+one_memory port t (Some b) s i (Err stop) inventory after a n p k is left =
+    subst (λ (q : Stop). LooksOneUp port t (record { inventory = s; behind = b }) i (Err q) (sent_by a a n n p p k) inventory after) (sym is.1) (inl (untouched a n p k, left))
 
 pub one_refused :
-    (port t : ℕ) (before : Option Behind) (s : Stock) (i : ℕ) (name : List ℕ) (stock : Stock) (after : Option Behind) (a : Option (List ℕ)) (n : ℕ) (p k : Bool) → name ≡ name_of s.grove i → stock ≡ s →
-    IfSome before (λ b. IsLookedUp port b.table t s i false stock after) →
-    IfSome before (λ b. LooksOneUp port t (record { stock = s; behind = b }) i (Err (stops.Broker name)) (sent_by a a n n p p k) stock after)
-one_refused port t None s i name stock after a n p k named same looked_up = tt
-one_refused port t (Some b) s i name stock after a n p k named same looked_up =
-    (named, subst (λ (u : Stock). IsLookedUp port b.table t s i false u after) same looked_up, untouched a n p k)
+    (port t : ℕ) (before : Option Behind) (s : Inventory) (i : ℕ) (name : List ℕ) (inventory : Inventory) (after : Option Behind) (a : Option (List ℕ)) (n : ℕ) (p k : Bool) → name ≡ name_of s.forest i → inventory ≡ s →
+    IfSome before (λ b. IsLookedUp port b.table t s i false inventory after) →
+    IfSome before (λ b. LooksOneUp port t (record { inventory = s; behind = b }) i (Err (stops.Broker name)) (sent_by a a n n p p k) inventory after)
+one_refused port t None s i name inventory after a n p k named same looked_up = tt
+one_refused port t (Some b) s i name inventory after a n p k named same looked_up =
+    (named, subst (λ (u : Inventory). IsLookedUp port b.table t s i false u after) same looked_up, untouched a n p k)
 
 pub one_written :
-    (port t : ℕ) (before : Option Behind) (s : Stock) (i : ℕ) (result : Result (Unit {0}) Stop) (stock : Stock) (after : Option Behind) (out : Sent) → IfSome before (λ b. IsLookedUp port b.table t s i true stock after) →
-    Finishes (looked_line stock i) result out → OnOk result (out.failed_after ≡ out.failed_before) → IfSome before (λ b. LooksOneUp port t (record { stock = s; behind = b }) i result out stock after)
-one_written port t None s i result stock after out looked_up ends kept = tt
-one_written port t (Some b) s i (Ok u) stock after out looked_up ends kept = (left_by port b.table t s i true stock after looked_up, ends, kept)
-one_written port t (Some b) s i (Err stops.Write) stock after out looked_up ends kept = (left_by port b.table t s i true stock after looked_up, ends.0, ends.1)
-one_written port t (Some b) s i (Err stops.Memory) stock after out looked_up ends kept = inr (left_by port b.table t s i true stock after looked_up, ends)
-one_written port t (Some b) s i (Err stops.TooLong) stock after out looked_up ends kept = absurd ends
-one_written port t (Some b) s i (Err stops.Read) stock after out looked_up ends kept = absurd ends
-one_written port t (Some b) s i (Err (stops.Inventory fault)) stock after out looked_up ends kept = absurd ends
-one_written port t (Some b) s i (Err (stops.Moments fault)) stock after out looked_up ends kept = absurd ends
-one_written port t (Some b) s i (Err (stops.FaultWord n)) stock after out looked_up ends kept = absurd ends
-one_written port t (Some b) s i (Err (stops.Broker name)) stock after out looked_up ends kept = absurd ends
-one_written port t (Some b) s i (Err (stops.Line n)) stock after out looked_up ends kept = absurd ends
+    (port t : ℕ) (before : Option Behind) (s : Inventory) (i : ℕ) (result : Result (Unit {0}) Stop) (inventory : Inventory) (after : Option Behind) (out : Sent) → IfSome before (λ b. IsLookedUp port b.table t s i true inventory after) →
+    Finishes (looked_line inventory i) result out → OnOk result (out.failed_after ≡ out.failed_before) → IfSome before (λ b. LooksOneUp port t (record { inventory = s; behind = b }) i result out inventory after)
+one_written port t None s i result inventory after out looked_up ends kept = tt
+one_written port t (Some b) s i (Ok u) inventory after out looked_up ends kept = (left_by port b.table t s i true inventory after looked_up, ends, kept)
+one_written port t (Some b) s i (Err stops.Write) inventory after out looked_up ends kept = (left_by port b.table t s i true inventory after looked_up, ends.0, ends.1)
+one_written port t (Some b) s i (Err stops.Memory) inventory after out looked_up ends kept = inr (left_by port b.table t s i true inventory after looked_up, ends)
+one_written port t (Some b) s i (Err stops.TooLong) inventory after out looked_up ends kept = absurd ends
+one_written port t (Some b) s i (Err stops.Read) inventory after out looked_up ends kept = absurd ends
+one_written port t (Some b) s i (Err (stops.Inventory fault)) inventory after out looked_up ends kept = absurd ends
+one_written port t (Some b) s i (Err (stops.Moments fault)) inventory after out looked_up ends kept = absurd ends
+one_written port t (Some b) s i (Err (stops.FaultWord n)) inventory after out looked_up ends kept = absurd ends
+one_written port t (Some b) s i (Err (stops.Broker name)) inventory after out looked_up ends kept = absurd ends
+one_written port t (Some b) s i (Err (stops.Line n)) inventory after out looked_up ends kept = absurd ends
 
 -- ---- the loop
 
 -- the first n entries were looked up, and their lines written and flushed
-pub record Looking (port t : ℕ) (old : Looked) (n : ℕ) (now : Stock) (behind : Option Behind) (out : Sent) : Type 0 where
-  pub within : n ≤ length old.stock.grove.entries
-  pub count : length now.grove.entries ≡ length old.stock.grove.entries
+pub record Looking (port t : ℕ) (old : Looked) (n : ℕ) (now : Inventory) (behind : Option Behind) (out : Sent) : Type 0 where
+  pub within : n ≤ length old.inventory.forest.entries
+  pub count : length now.forest.entries ≡ length old.inventory.forest.entries
   pub left : Behind
   pub is : behind ≡ Some left
-  pub looked : AreLookedUp port t old (first n) (record { stock = now; behind = left })
+  pub looked : AreLookedUp port t old (first n) (record { inventory = now; behind = left })
   pub said : IsSaid (looked_text now (first n)) out
   pub kept : out.failed_after ≡ out.failed_before
 
-abbrev pub IsLooking : ℕ → ℕ → Option Behind → Stock → ℕ → Stock → Option Behind → Sent → Type 0
-IsLooking port t before s n now behind out = IfSome before (λ b. Looking port t (record { stock = s; behind = b }) n now behind out)
+abbrev pub IsLooking : ℕ → ℕ → Option Behind → Inventory → ℕ → Inventory → Option Behind → Sent → Type 0
+IsLooking port t before s n now behind out = IfSome before (λ b. Looking port t (record { inventory = s; behind = b }) n now behind out)
 
-pub looking_first : (port t : ℕ) (before : Option Behind) (s : Stock) (a : Option (List ℕ)) (n : ℕ) (p k : Bool) → IsLooking port t before s 0 s before (sent_by a a n n p p k)
+pub looking_first : (port t : ℕ) (before : Option Behind) (s : Inventory) (a : Option (List ℕ)) (n : ℕ) (p k : Bool) → IsLooking port t before s 0 s before (sent_by a a n n p p k)
 looking_first port t None s a n p k = tt
 looking_first port t (Some b) s a n p k =
     record { within = omega arith; count = refl; left = b; is = refl; looked = refl; said = inr (no_text s, untouched a n p k); kept = refl }
 
-module _ (port t : ℕ) (old : Looked) (i : ℕ) (mid : Stock) (middle : Option Behind) (a b c : Option (List ℕ)) (n m l : ℕ) (p q r k : Bool) (g : Looking port t old i mid middle (sent_by a b n m p q k))
-    (below : i < length mid.grove.entries) where
+module _ (port t : ℕ) (old : Looked) (i : ℕ) (mid : Inventory) (middle : Option Behind) (a b c : Option (List ℕ)) (n m l : ℕ) (p q r k : Bool) (g : Looking port t old i mid middle (sent_by a b n m p q k))
+    (below : i < length mid.forest.entries) where
   abbrev now : Looked
-  now = record { stock = mid; behind = g.left }
+  now = record { inventory = mid; behind = g.left }
 
-  looked_on : (new : Stock) (after : Option Behind) → (one : Applies port t now i new after) → AreLookedUp port t old (first (i + 1)) (record { stock = new; behind = one.0 })
+  looked_on : (new : Inventory) (after : Option Behind) → (one : Applies port t now i new after) → AreLookedUp port t old (first (i + 1)) (record { inventory = new; behind = one.0 })
   looked_on new after one =
-      let all : Looked = record { stock = new; behind = one.0 } in
+      let all : Looked = record { inventory = new; behind = one.0 } in
       subst (λ is. AreLookedUp port t old is all) (sym (first_more i)) (looked_more port t old now all (first i) i g.looked one.1.1)
 
-  text_on : (new : Stock) (after : Option Behind) → Applies port t now i new after → looked_text new (first (i + 1)) ≡ looked_text mid (first i) ++ looked_line new i
+  text_on : (new : Inventory) (after : Option Behind) → Applies port t now i new after → looked_text new (first (i + 1)) ≡ looked_text mid (first i) ++ looked_line new i
   text_on new after one = text_more new i ∙ ap (λ x. x ++ looked_line new i) (stays_text mid i new (told_by port t now i new after one))
 
   pub more :
-      (new : Stock) (after : Option Behind) → LooksOneUp port t (record { stock = mid; behind = g.left }) i (Ok tt) (sent_by b c m l q r k) new after → Looking port t old (i + 1) new after (sent_by a c n l p r k)
+      (new : Inventory) (after : Option Behind) → LooksOneUp port t (record { inventory = mid; behind = g.left }) i (Ok tt) (sent_by b c m l q r k) new after → Looking port t old (i + 1) new after (sent_by a c n l p r k)
   more new after one = record {
     within = (let e = g.count in omega arith);
     count = (told_by port t now i new after one.0).count ∙ g.count;
@@ -228,7 +228,7 @@ module _ (port t : ℕ) (old : Looked) (i : ℕ) (mid : Stock) (middle : Option 
     front = subst (AppendsFront a c) (append-nil (looked_text mid (first i))) (whole_front a c (looked_text mid (first i)) [] (subst (Appends a c) (append-nil (looked_text mid (first i))) (appends_then a b c (looked_text mid (first i)) [] all_said none)));
   }
 
-  cut_next : (new : Stock) (after : Option Behind) → (one : Applies port t now i new after) → AppendsFront b c (looked_line new i) → IsCut port t old (record { stock = new; behind = one.0 }) (i + 1) (sent_by a c n l p r k)
+  cut_next : (new : Inventory) (after : Option Behind) → (one : Applies port t now i new after) → AppendsFront b c (looked_line new i) → IsCut port t old (record { inventory = new; behind = one.0 }) (i + 1) (sent_by a c n l p r k)
   cut_next new after one front = record {
     within = (let e = g.count in omega arith);
     looked = looked_on new after one;
@@ -236,7 +236,7 @@ module _ (port t : ℕ) (old : Looked) (i : ℕ) (mid : Stock) (middle : Option 
   }
 
   pub ends :
-      (stop : Stop) (new : Stock) (after : Option Behind) → LooksOneUp port t (record { stock = mid; behind = g.left }) i (Err stop) (sent_by b c m l q r k) new after → LooksAllUp port t old (Err stop) (sent_by a c n l p r k) new after
+      (stop : Stop) (new : Inventory) (after : Option Behind) → LooksOneUp port t (record { inventory = mid; behind = g.left }) i (Err stop) (sent_by b c m l q r k) new after → LooksAllUp port t old (Err stop) (sent_by a c n l p r k) new after
   ends (stops.Broker name) new after one = record {
     n = i;
     within = (let e = g.count in omega arith);
@@ -246,9 +246,9 @@ module _ (port t : ℕ) (old : Looked) (i : ℕ) (mid : Stock) (middle : Option 
     name_is = one.0;
     unapplied = one.1;
   }
-  ends stops.Write new after one = (i + 1, record { stock = new; behind = one.0.0 }, cut_next new after one.0 one.2, one.0.1.0, subst (λ x. HasFailed x l) g.kept one.1)
+  ends stops.Write new after one = (i + 1, record { inventory = new; behind = one.0.0 }, cut_next new after one.0 one.2, one.0.1.0, subst (λ x. HasFailed x l) g.kept one.1)
   ends stops.Memory new after (inl one) = (i, now, cut_here (keeps_appends b c one.0.0), one.1)
-  ends stops.Memory new after (inr one) = (i + 1, record { stock = new; behind = one.0.0 }, cut_next new after one.0 one.1, inl one.0.1.0)
+  ends stops.Memory new after (inr one) = (i + 1, record { inventory = new; behind = one.0.0 }, cut_next new after one.0 one.1, inl one.0.1.0)
   ends stops.TooLong new after one = absurd one
   ends stops.Read new after one = absurd one
   ends (stops.Inventory fault) new after one = absurd one
@@ -257,36 +257,36 @@ module _ (port t : ℕ) (old : Looked) (i : ℕ) (mid : Stock) (middle : Option 
   ends (stops.Line x) new after one = absurd one
 
 pub looking_more :
-    (port t : ℕ) (before : Option Behind) (s : Stock) (i : ℕ) (mid : Stock) (middle : Option Behind) (a b c : Option (List ℕ)) (n m l : ℕ) (p q r k : Bool) (new : Stock) (after : Option Behind) →
-    IsLooking port t before s i mid middle (sent_by a b n m p q k) → i < length mid.grove.entries →
-    IfSome middle (λ x. LooksOneUp port t (record { stock = mid; behind = x }) i (Ok tt) (sent_by b c m l q r k) new after) → IsLooking port t before s (i + 1) new after (sent_by a c n l p r k)
+    (port t : ℕ) (before : Option Behind) (s : Inventory) (i : ℕ) (mid : Inventory) (middle : Option Behind) (a b c : Option (List ℕ)) (n m l : ℕ) (p q r k : Bool) (new : Inventory) (after : Option Behind) →
+    IsLooking port t before s i mid middle (sent_by a b n m p q k) → i < length mid.forest.entries →
+    IfSome middle (λ x. LooksOneUp port t (record { inventory = mid; behind = x }) i (Ok tt) (sent_by b c m l q r k) new after) → IsLooking port t before s (i + 1) new after (sent_by a c n l p r k)
 looking_more port t None s i mid middle a b c n m l p q r k new after g below one = tt
 looking_more port t (Some x) s i mid middle a b c n m l p q r k new after g below one =
-    more port t (record { stock = s; behind = x }) i mid middle a b c n m l p q r k g below new after
-    (subst (λ o. IfSome o (λ y. LooksOneUp port t (record { stock = mid; behind = y }) i (Ok tt) (sent_by b c m l q r k) new after)) g.is one)
+    more port t (record { inventory = s; behind = x }) i mid middle a b c n m l p q r k g below new after
+    (subst (λ o. IfSome o (λ y. LooksOneUp port t (record { inventory = mid; behind = y }) i (Ok tt) (sent_by b c m l q r k) new after)) g.is one)
 
 pub looking_stops :
-    (port t : ℕ) (before : Option Behind) (s : Stock) (i : ℕ) (mid : Stock) (middle : Option Behind) (a b c : Option (List ℕ)) (n m l : ℕ) (p q r k : Bool) (new : Stock) (after : Option Behind) (result : Result (Unit {0}) Stop) (stop : Stop) →
-    IsErr result × IsErrAnd result (λ (u : Stop). u ≡ stop) → IsLooking port t before s i mid middle (sent_by a b n m p q k) → i < length mid.grove.entries →
-    IfSome middle (λ x. LooksOneUp port t (record { stock = mid; behind = x }) i (Err stop) (sent_by b c m l q r k) new after) →
-    IfSome before (λ x. LooksAllUp port t (record { stock = s; behind = x }) result (sent_by a c n l p r k) new after)
+    (port t : ℕ) (before : Option Behind) (s : Inventory) (i : ℕ) (mid : Inventory) (middle : Option Behind) (a b c : Option (List ℕ)) (n m l : ℕ) (p q r k : Bool) (new : Inventory) (after : Option Behind) (result : Result (Unit {0}) Stop) (stop : Stop) →
+    IsErr result × IsErrAnd result (λ (u : Stop). u ≡ stop) → IsLooking port t before s i mid middle (sent_by a b n m p q k) → i < length mid.forest.entries →
+    IfSome middle (λ x. LooksOneUp port t (record { inventory = mid; behind = x }) i (Err stop) (sent_by b c m l q r k) new after) →
+    IfSome before (λ x. LooksAllUp port t (record { inventory = s; behind = x }) result (sent_by a c n l p r k) new after)
 looking_stops port t None s i mid middle a b c n m l p q r k new after result stop is g below one = tt
 looking_stops port t (Some x) s i mid middle a b c n m l p q r k new after (Ok u) stop is g below one = absurd (let no = is.0 in cc)
 looking_stops port t (Some x) s i mid middle a b c n m l p q r k new after (Err u) stop is g below one =
-    subst (λ (v : Stop). LooksAllUp port t (record { stock = s; behind = x }) (Err v) (sent_by a c n l p r k) new after) (sym is.1)
-    (ends port t (record { stock = s; behind = x }) i mid middle a b c n m l p q r k g below stop new after
-    (subst (λ o. IfSome o (λ y. LooksOneUp port t (record { stock = mid; behind = y }) i (Err stop) (sent_by b c m l q r k) new after)) g.is one))
+    subst (λ (v : Stop). LooksAllUp port t (record { inventory = s; behind = x }) (Err v) (sent_by a c n l p r k) new after) (sym is.1)
+    (ends port t (record { inventory = s; behind = x }) i mid middle a b c n m l p q r k g below stop new after
+    (subst (λ o. IfSome o (λ y. LooksOneUp port t (record { inventory = mid; behind = y }) i (Err stop) (sent_by b c m l q r k) new after)) g.is one))
 
 pub looking_done :
-    (port t : ℕ) (before : Option Behind) (s : Stock) (i : ℕ) (now : Stock) (behind : Option Behind) (out : Sent) → IsLooking port t before s i now behind out → length now.grove.entries ≤ i →
-    IfSome before (λ b. LooksAllUp port t (record { stock = s; behind = b }) (Ok tt) out now behind)
+    (port t : ℕ) (before : Option Behind) (s : Inventory) (i : ℕ) (now : Inventory) (behind : Option Behind) (out : Sent) → IsLooking port t before s i now behind out → length now.forest.entries ≤ i →
+    IfSome before (λ b. LooksAllUp port t (record { inventory = s; behind = b }) (Ok tt) out now behind)
 looking_done port t None s i now behind out g past = tt
 looking_done port t (Some b) s i now behind out g past =
-    let all : i ≡ length s.grove.entries = (let e = g.count in let w = g.within in omega arith) in
+    let all : i ≡ length s.forest.entries = (let e = g.count in let w = g.within in omega arith) in
     record {
       behind = g.left;
       is = g.is;
-      looked = subst (λ x. AreLookedUp port t (record { stock = s; behind = b }) (first x) (record { stock = now; behind = g.left })) all g.looked;
+      looked = subst (λ x. AreLookedUp port t (record { inventory = s; behind = b }) (first x) (record { inventory = now; behind = g.left })) all g.looked;
       said = subst (λ x. IsSaid (looked_text now (first x)) out) all g.said;
       kept = g.kept;
     }

@@ -23,14 +23,14 @@ answer_more port cs t old mid new (y ∷ xs) x answers one =
 
 pub at_end : EndLaw
 unfolding course_text
-at_end stock faults start final wakes asked text s few = (
+at_end inventory faults start final wakes asked text s few = (
   record { short = s.short; beats = s.beats },
   (
     record { opening = s.opening; opened = s.opened; played = s.played; few = subst (λ n. n ≤ 100000) s.wakes_are few },
     ap (λ xs. xs ++ done_text wakes asked) s.text_is
-        ∙ ap (λ n. (short_lines stock.grove s.short ++ flat_map (beat_text stock) s.beats) ++ done_text n asked) s.wakes_are
-        ∙ ap (λ n. (short_lines stock.grove s.short ++ flat_map (beat_text stock) s.beats) ++ done_text (length (rounds s.beats)) n) s.asked_are
-        ∙ append_assoc (short_lines stock.grove s.short) (flat_map (beat_text stock) s.beats) (done_text (length (rounds s.beats)) (requests_of s.beats)),
+        ∙ ap (λ n. (short_lines inventory.forest s.short ++ flat_map (beat_text inventory) s.beats) ++ done_text n asked) s.wakes_are
+        ∙ ap (λ n. (short_lines inventory.forest s.short ++ flat_map (beat_text inventory) s.beats) ++ done_text (length (rounds s.beats)) n) s.asked_are
+        ∙ append_assoc (short_lines inventory.forest s.short) (flat_map (beat_text inventory) s.beats) (done_text (length (rounds s.beats)) (requests_of s.beats)),
   ),
 )
 

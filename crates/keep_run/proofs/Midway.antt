@@ -4,7 +4,7 @@ use Rattle.std.proofs.lemmas.Bool.{cases_Bool, cases_eq, cases_lt, cond-true, co
 use Rattle.std.proofs.lemmas.Bool.Decides.{nat_tests}
 use Rattle.std.specs.List.{list_any, range_with_len}
 use Rattle.keep_tree.specs.declared.entry.Entry.{Entry}
-use Rattle.keep_tree.specs.Forest.{Grove, end_of, entry_at}
+use Rattle.keep_tree.specs.Forest.{Forest, end_of, entry_at}
 use Rattle.keep_tree.specs.Over.{chain, is_over}
 use Rattle.keep_tree.specs.Push.{IsForest}
 use Rattle.keep_tree.specs.Renewal.{all_last, renewal}
@@ -74,14 +74,14 @@ without_first i xs r =
 
 -- ---- the forest of a round under way
 
-abbrev pub wake_of : Grove → ℕ → List ℕ → Wake
+abbrev pub wake_of : Forest → ℕ → List ℕ → Wake
 wake_of g t rest = asking g.entries g.margin t (end_of g.entries) t (first_of rest)
 
 abbrev pub is_among : List ℕ → ℕ → Bool
 is_among xs i = list_any (λ j. j == i) xs
 
 -- h is g, in which those of the Asks that are no more in `todo` have the rule's end
-pub record Midway (g : Grove) (t : ℕ) (rest todo : List ℕ) (h : Grove) : Type 0 where
+pub record Midway (g : Forest) (t : ℕ) (rest todo : List ℕ) (h : Forest) : Type 0 where
   pub margin : h.margin ≡ g.margin
   pub count : length h.entries ≡ length g.entries
   pub each : (i : ℕ) → entry_at h.entries i
@@ -94,7 +94,7 @@ and_not : (b : Bool) → b && not b ≡ false
 and_not true = refl
 and_not false = refl
 
-pub midway_first : (g : Grove) (t : ℕ) (rest : List ℕ) → Midway g t rest (asks g.entries g.margin t (end_of g.entries) t (first_of rest)) g
+pub midway_first : (g : Forest) (t : ℕ) (rest : List ℕ) → Midway g t rest (asks g.entries g.margin t (end_of g.entries) t (first_of rest)) g
 unfolding is_asked asks
 midway_first g t rest = record {
   margin = refl;
@@ -110,7 +110,7 @@ and_true : (b : Bool) → b && true ≡ b
 and_true true = refl
 and_true false = refl
 
-pub midway_last : (g : Grove) (t : ℕ) (rest : List ℕ) (h : Grove) → Midway g t rest [] h → IsAnsweredByRule g h t (first_of rest)
+pub midway_last : (g : Forest) (t : ℕ) (rest : List ℕ) (h : Forest) → Midway g t rest [] h → IsAnsweredByRule g h t (first_of rest)
 midway_last g t rest h m = record {
   margin = m.margin;
   count = m.count;
@@ -125,18 +125,18 @@ and_false true = refl
 and_false false = refl
 
 -- who is still to answer is as before the round
-pub as_it_was : (g : Grove) (t : ℕ) (rest todo : List ℕ) (h : Grove) → Midway g t rest todo h → (i : ℕ) → is_among todo i ≡ true → entry_at h.entries i ≡ entry_at g.entries i
+pub as_it_was : (g : Forest) (t : ℕ) (rest todo : List ℕ) (h : Forest) → Midway g t rest todo h → (i : ℕ) → is_among todo i ≡ true → entry_at h.entries i ≡ entry_at g.entries i
 as_it_was g t rest todo h m i there =
     m.each i
     ∙ ap (λ b. record (entry_at g.entries i) { end = cond (is_asked (wake_of g t rest) i && not b) (renewal (entry_at g.entries i) t) (entry_at g.entries i).end }) there
     ∙ ap (λ b. record (entry_at g.entries i) { end = cond b (renewal (entry_at g.entries i) t) (entry_at g.entries i).end }) (and_false (is_asked (wake_of g t rest) i))
 
-pub margin_of : (h : Grove) (i end : ℕ) → (ended h i end).margin ≡ h.margin
+pub margin_of : (h : Forest) (i end : ℕ) → (ended h i end).margin ≡ h.margin
 unfolding ended
 margin_of h i end = refl
 
 pub midway_more :
-    (g : Grove) (t : ℕ) (rest : List ℕ) (i : ℕ) (todo : List ℕ) (h : Grove) → Midway g t rest (i ∷ todo) h → i < length h.entries →
+    (g : Forest) (t : ℕ) (rest : List ℕ) (i : ℕ) (todo : List ℕ) (h : Forest) → Midway g t rest (i ∷ todo) h → i < length h.entries →
     Midway g t rest todo (ended h i (renewal (entry_at h.entries i) t))
 midway_more g t rest i todo h m within =
     let end = renewal (entry_at h.entries i) t in
@@ -168,7 +168,7 @@ midway_more g t rest i todo h m within =
       or_too false b e = e
 
 -- ends only grow
-pub ends_grow : (g : Grove) (t : ℕ) (rest todo : List ℕ) (h : Grove) → Midway g t rest todo h → (a : ℕ) → (entry_at g.entries a).end ≤ (entry_at h.entries a).end
+pub ends_grow : (g : Forest) (t : ℕ) (rest todo : List ℕ) (h : Forest) → Midway g t rest todo h → (a : ℕ) → (entry_at g.entries a).end ≤ (entry_at h.entries a).end
 unfolding end_of
 ends_grow g t rest todo h m a =
     let e = entry_at g.entries a in
@@ -183,11 +183,11 @@ ends_grow g t rest todo h m a =
       | inr no' ↦ let now = is ∙ cond-false (asked && not (is_among todo a)) (renewal e t) e.end no' in omega arith
     ]
 
-pub midway_chain : (g : Grove) → IsForest g → (t : ℕ) (rest todo : List ℕ) (h : Grove) → Midway g t rest todo h → (i : ℕ) → chain h.entries i ≡ chain g.entries i
+pub midway_chain : (g : Forest) → IsForest g → (t : ℕ) (rest todo : List ℕ) (h : Forest) → Midway g t rest todo h → (i : ℕ) → chain h.entries i ≡ chain g.entries i
 midway_chain g forest t rest todo h m i = chain_same (suc i) g.entries h.entries (parents_first g forest) (λ k _. ap (λ (e : Entry). e.parent) (m.each k)) i (omega arith)
 
 -- what is known of an entry that is still to answer
-pub record IsDue (g h : Grove) (t i : ℕ) : Type 0 where
+pub record IsDue (g h : Forest) (t i : ℕ) : Type 0 where
   pub was : entry_at h.entries i ≡ entry_at g.entries i
   pub able : (entry_at h.entries i).renewable ≡ true
   pub within : i < length h.entries
@@ -195,7 +195,7 @@ pub record IsDue (g h : Grove) (t i : ℕ) : Type 0 where
   pub later : t < (entry_at h.entries i).end
   pub grows : (entry_at h.entries i).end < renewal (entry_at h.entries i) t
 
-pub is_due : (g : Grove) → IsForest g → (t : ℕ) (rest todo : List ℕ) (h : Grove) → Midway g t rest todo h → (i : ℕ) → is_among todo i ≡ true → IsDue g h t i
+pub is_due : (g : Forest) → IsForest g → (t : ℕ) (rest todo : List ℕ) (h : Forest) → Midway g t rest todo h → (i : ℕ) → is_among todo i ≡ true → IsDue g h t i
 unfolding is_wanted is_alive end_of is_over
 is_due g forest t rest todo h m i there =
     let es = g.entries in
@@ -226,21 +226,21 @@ is_due g forest t rest todo h m i there =
 
 -- ---- the keeper's turn
 
-abbrev pub waiting : Grove → ℕ → List ℕ → List ℕ → State
+abbrev pub waiting : Forest → ℕ → List ℕ → List ℕ → State
 waiting h t rest todo = record { forest = h; last = t; to_come = rest; round = Some (record { at = t; unanswered = todo }); shortened = [] }
 
-abbrev pub settled : Grove → ℕ → List ℕ → State
+abbrev pub settled : Forest → ℕ → List ℕ → State
 settled h t rest = record { forest = h; last = t; to_come = rest; round = None; shortened = [] }
 
 abbrev pub heard_as : List ℕ → List ℕ → Output
 heard_as rest [] = out.Round (first_of rest)
 heard_as rest (j ∷ more) = out.Waiting
 
-abbrev pub heard_state : Grove → ℕ → List ℕ → List ℕ → State
+abbrev pub heard_state : Forest → ℕ → List ℕ → List ℕ → State
 heard_state h t rest [] = settled h t rest
 heard_state h t rest (j ∷ more) = waiting h t rest (j ∷ more)
 
-takes_told : (h : Grove) (t : ℕ) (rest : List ℕ) (i : ℕ) (todo : List ℕ) (n : ℕ) → i < length h.entries → n ≤ 4294967295 → refusal (waiting h t rest (i ∷ todo)) (Told i n true) ≡ None
+takes_told : (h : Forest) (t : ℕ) (rest : List ℕ) (i : ℕ) (todo : List ℕ) (n : ℕ) → i < length h.entries → n ≤ 4294967295 → refusal (waiting h t rest (i ∷ todo)) (Told i n true) ≡ None
 unfolding refusal
 takes_told h t rest i todo n within small =
     let s = waiting h t rest (i ∷ todo) in
@@ -251,18 +251,18 @@ takes_told h t rest i todo n within small =
     ∙ cond-true (is_among (i ∷ todo) i) None _ (here_first i todo)
 
 told_change :
-    (h : Grove) (t i n : ℕ) → (entry_at h.entries i).renewable ≡ true → t + n ≡ renewal (entry_at h.entries i) t →
+    (h : Forest) (t i n : ℕ) → (entry_at h.entries i).renewable ≡ true → t + n ≡ renewal (entry_at h.entries i) t →
     change h i (answered t (Told i n true)) ≡ ended h i (renewal (entry_at h.entries i) t)
 unfolding answered ended
 told_change h t i n able sums =
     let e = entry_at h.entries i in
-    let put : Entry → Grove = λ x. record { entries = set h.entries i x; margin = h.margin } in
+    let put : Entry → Forest = λ x. record { entries = set h.entries i x; margin = h.margin } in
     ap (λ k. put (record e { end = k; renewable = true })) sums
     ∙ ap (λ b. put (record e { end = renewal e t; renewable = b })) (sym able)
 
 -- an answer by the rule is taken, and leads on
 pub told_turn :
-    (g : Grove) → IsForest g → (t : ℕ) (rest : List ℕ) (i : ℕ) (todo : List ℕ) (h : Grove) → IsPlanOf g t (t ∷ rest) → length rest ≤ LIMIT → Midway g t rest (i ∷ todo) h → IsDue g h t i →
+    (g : Forest) → IsForest g → (t : ℕ) (rest : List ℕ) (i : ℕ) (todo : List ℕ) (h : Forest) → IsPlanOf g t (t ∷ rest) → length rest ≤ LIMIT → Midway g t rest (i ∷ todo) h → IsDue g h t i →
     (n : ℕ) → n ≤ 4294967295 → t + n ≡ renewal (entry_at h.entries i) t →
     Turn (waiting h t rest (i ∷ todo)) (Told i n true) (Ok (heard_as rest todo)) (heard_state (ended h i (renewal (entry_at h.entries i) t)) t rest todo)
 told_turn g forest t rest i [] h plan few m due n small sums =

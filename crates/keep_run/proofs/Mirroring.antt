@@ -9,7 +9,7 @@ use Rattle.std.specs.List.{list_all, range_with_len}
 use Rattle.keep_moment.specs.declared.moment.TheConstants.{LAST}
 use Rattle.keep_tree.specs.declared.entry.Entry.{Entry}
 use Rattle.keep_tree.specs.declared.forest.TheConstants.{END_MAX}
-use Rattle.keep_tree.specs.Forest.{Grove, end_of, entry_at}
+use Rattle.keep_tree.specs.Forest.{Forest, end_of, entry_at}
 use Rattle.keep_tree.specs.Over.{chain}
 use Rattle.keep_tree.specs.Push.{IsForest}
 use Rattle.keep_tree.specs.Renewal.{all_last, capped, renewal}
@@ -17,7 +17,7 @@ use Rattle.keep_tree.proofs.Chains.{chain_same}
 use Rattle.keep_tree.proofs.Entries.{entry_at_set_other, entry_at_set_same}
 use Rattle.keep_tree.proofs.Placed.{parents_first, read_range, read_step, replaced_is_forest, replaces_read}
 use Rattle.keep_rule.proofs.Alive.{alive_from_last, last_from_alive}
-use Rattle.keep_inventory.specs.Stock.{IsStock, Stock, credential_at, terms_at}
+use Rattle.keep_inventory.specs.Inventories.{IsInventory, Inventory, credential_at, terms_at}
 use Rattle.keep_inventory.specs.declared.terms.Terms.{Terms}
 use Rattle.mini_broker.specs.declared.row.Row.{Row}
 use Rattle.mini_broker.specs.Rows.{row_of, rows_of}
@@ -31,25 +31,25 @@ use Rattle.keep_run.specs.Listed.{Mirrors, ended, with_forest}
 
 -- ---- an entry's end alone is changed
 
-pub ended_same : (g : Grove) (i end : ℕ) → i < length g.entries → entry_at (ended g i end).entries i ≡ record (entry_at g.entries i) { end = end }
+pub ended_same : (g : Forest) (i end : ℕ) → i < length g.entries → entry_at (ended g i end).entries i ≡ record (entry_at g.entries i) { end = end }
 unfolding ended
 ended_same g i end within = entry_at_set_same g.entries i (record (entry_at g.entries i) { end = end }) within
 
-pub ended_other : (g : Grove) (i end j : ℕ) → j ≢ i → entry_at (ended g i end).entries j ≡ entry_at g.entries j
+pub ended_other : (g : Forest) (i end j : ℕ) → j ≢ i → entry_at (ended g i end).entries j ≡ entry_at g.entries j
 unfolding ended
 ended_other g i end j apart = entry_at_set_other g.entries i j (record (entry_at g.entries i) { end = end }) apart
 
-pub ended_count : (g : Grove) (i end : ℕ) → length (ended g i end).entries ≡ length g.entries
+pub ended_count : (g : Forest) (i end : ℕ) → length (ended g i end).entries ≡ length g.entries
 unfolding ended
 ended_count g i end = length-set g.entries i (record (entry_at g.entries i) { end = end })
 
-pub ended_field : {X : Type 0} (field : Entry → X) (g : Grove) (i end : ℕ) → i < length g.entries → field (record (entry_at g.entries i) { end = end }) ≡ field (entry_at g.entries i) → (j : ℕ) → field (entry_at (ended g i end).entries j) ≡ field (entry_at g.entries j)
+pub ended_field : {X : Type 0} (field : Entry → X) (g : Forest) (i end : ℕ) → i < length g.entries → field (record (entry_at g.entries i) { end = end }) ≡ field (entry_at g.entries i) → (j : ℕ) → field (entry_at (ended g i end).entries j) ≡ field (entry_at g.entries j)
 ended_field field g i end within same j = elim (cases_eq j i) [
   | inl here ↦ subst (λ n. field (entry_at (ended g i end).entries n) ≡ field (entry_at g.entries n)) (sym here) (ap field (ended_same g i end within) ∙ same)
   | inr apart ↦ ap field (ended_other g i end j apart)
 ]
 
-pub ended_forest : (g : Grove) → IsForest g → (i end : ℕ) → i < length g.entries → end ≤ END_MAX → IsForest (ended g i end)
+pub ended_forest : (g : Forest) → IsForest g → (i end : ℕ) → i < length g.entries → end ≤ END_MAX → IsForest (ended g i end)
 unfolding ended
 ended_forest g forest i end within far =
     let x = entry_at g.entries i in
@@ -59,7 +59,7 @@ ended_forest g forest i end within far =
 
 -- ---- who is alive
 
-pub ended_chain : (g : Grove) → IsForest g → (i end : ℕ) → i < length g.entries → (j : ℕ) → chain (ended g i end).entries j ≡ chain g.entries j
+pub ended_chain : (g : Forest) → IsForest g → (i end : ℕ) → i < length g.entries → (j : ℕ) → chain (ended g i end).entries j ≡ chain g.entries j
 ended_chain g forest i end within j =
     chain_same (suc j) g.entries (ended g i end).entries (parents_first g forest) (λ k _. ended_field (λ (e : Entry). e.parent) g i end within refl k) j (omega arith)
 
@@ -67,7 +67,7 @@ lasts_too : (t a b : ℕ) → t < a → t < b → nat_le (t + 1) a ≡ nat_le (t
 lasts_too t a b h k = (let x : nat_le (t + 1) a ≡ true = grind (arith, nat_tests) in let y : nat_le (t + 1) b ≡ true = grind (arith, nat_tests) in x ∙ sym y)
 
 pub ended_alive :
-    (g : Grove) → IsForest g → (t i end : ℕ) → i < length g.entries → t < (entry_at g.entries i).end → t < end → (j : ℕ) → is_alive (ended g i end) t j ≡ is_alive g t j
+    (g : Forest) → IsForest g → (t i end : ℕ) → i < length g.entries → t < (entry_at g.entries i).end → t < end → (j : ℕ) → is_alive (ended g i end) t j ≡ is_alive g t j
 unfolding is_alive all_last end_of
 ended_alive g forest t i end within before after j =
     ap (list_all (λ a. nat_le (t + 1) (entry_at (ended g i end).entries a).end)) (ended_chain g forest i end within j)
@@ -80,12 +80,12 @@ ended_alive g forest t i end within before after j =
       | inr apart ↦ ap (λ (e : Entry). nat_le (t + 1) e.end) (ended_other g i end a apart)
     ])
 
-pub alive_before : (g : Grove) (t m i : ℕ) → t ≤ m → is_alive g m i ≡ true → is_alive g t i ≡ true
+pub alive_before : (g : Forest) (t m i : ℕ) → t ≤ m → is_alive g m i ≡ true → is_alive g t i ≡ true
 unfolding is_alive
 alive_before g t m i le alive =
     last_from_alive g.entries (end_of g.entries) t i (λ a over. let l : m < end_of g.entries a = alive_from_last g.entries (end_of g.entries) m i alive a over in omega arith)
 
-pub dies_later : (g : Grove) (t m i : ℕ) → t ≤ m → is_alive g t i ≡ false → is_alive g m i ≡ false
+pub dies_later : (g : Forest) (t m i : ℕ) → t ≤ m → is_alive g t i ≡ false → is_alive g m i ≡ false
 dies_later g t m i le gone = elim (cases_Bool (is_alive g m i)) [
   | inl alive ↦ absurd (let bad : true ≡ false = sym (alive_before g t m i le alive) ∙ gone in cc)
   | inr no' ↦ no'
@@ -109,7 +109,7 @@ row_by names e terms credential = record {
   credential = credential;
 }
 
-row_is : (s : Stock) (i : ℕ) → row_of s i ≡ row_by (λ p. (entry_at s.grove.entries p).name) (entry_at s.grove.entries i) (terms_at s.terms i) (credential_at s.credentials i)
+row_is : (s : Inventory) (i : ℕ) → row_of s i ≡ row_by (λ p. (entry_at s.forest.entries p).name) (entry_at s.forest.entries i) (terms_at s.terms i) (credential_at s.credentials i)
 unfolding row_of row_by
 row_is s i = refl
 
@@ -117,12 +117,12 @@ by_end : (names : ℕ → List ℕ) (e : Entry) (terms : Terms) (credential : Li
 unfolding row_by
 by_end names e terms credential end = refl
 
-ended_names : (g : Grove) (i end : ℕ) → i < length g.entries → ◌≡◌ {A = ℕ → List ℕ} (λ p. (entry_at (ended g i end).entries p).name) (λ p. (entry_at g.entries p).name)
+ended_names : (g : Forest) (i end : ℕ) → i < length g.entries → ◌≡◌ {A = ℕ → List ℕ} (λ p. (entry_at (ended g i end).entries p).name) (λ p. (entry_at g.entries p).name)
 ended_names g i end within = fun_ext λ p. ended_field (λ (e : Entry). e.name) g i end within refl p
 
-pub row_ended_same : (s : Stock) (i end : ℕ) → i < length s.grove.entries → row_of (with_forest s (ended s.grove i end)) i ≡ record (row_of s i) { end = end }
+pub row_ended_same : (s : Inventory) (i end : ℕ) → i < length s.forest.entries → row_of (with_forest s (ended s.forest i end)) i ≡ record (row_of s i) { end = end }
 row_ended_same s i end within =
-    let g = s.grove in
+    let g = s.forest in
     let names : ℕ → List ℕ = λ p. (entry_at g.entries p).name in
     row_is (with_forest s (ended g i end)) i
     ∙ ap (λ (ns : ℕ → List ℕ). row_by ns (entry_at (ended g i end).entries i) (terms_at s.terms i) (credential_at s.credentials i)) (ended_names g i end within)
@@ -130,9 +130,9 @@ row_ended_same s i end within =
     ∙ by_end names (entry_at g.entries i) (terms_at s.terms i) (credential_at s.credentials i) end
     ∙ ap (λ (r : Row). record r { end = end }) (sym (row_is s i))
 
-pub row_ended_other : (s : Stock) (i end j : ℕ) → i < length s.grove.entries → j ≢ i → row_of (with_forest s (ended s.grove i end)) j ≡ row_of s j
+pub row_ended_other : (s : Inventory) (i end j : ℕ) → i < length s.forest.entries → j ≢ i → row_of (with_forest s (ended s.forest i end)) j ≡ row_of s j
 row_ended_other s i end j within apart =
-    let g = s.grove in
+    let g = s.forest in
     let names : ℕ → List ℕ = λ p. (entry_at g.entries p).name in
     row_is (with_forest s (ended g i end)) j
     ∙ ap (λ (ns : ℕ → List ℕ). row_by ns (entry_at (ended g i end).entries j) (terms_at s.terms j) (credential_at s.credentials j)) (ended_names g i end within)
@@ -141,11 +141,11 @@ row_ended_other s i end j within apart =
 
 -- putting the new row in its place gives the rows of the forest with the new end
 pub with_row_listed :
-    (s : Stock) → IsForest s.grove → (t i end : ℕ) → i < length s.grove.entries → t < (entry_at s.grove.entries i).end → t < end →
-    with_row (listed s t) (record (row_of s i) { end = end }) ≡ listed (with_forest s (ended s.grove i end)) t
+    (s : Inventory) → IsForest s.forest → (t i end : ℕ) → i < length s.forest.entries → t < (entry_at s.forest.entries i).end → t < end →
+    with_row (listed s t) (record (row_of s i) { end = end }) ≡ listed (with_forest s (ended s.forest i end)) t
 unfolding with_row listed
 with_row_listed s forest t i end within before after =
-    let g = s.grove in
+    let g = s.forest in
     let h = ended g i end in
     let n = length g.entries in
     let row : Row = record (row_of s i) { end = end } in
@@ -169,10 +169,10 @@ with_row_listed s forest t i end within before after =
     ∙ ap (λ xs. map (row_of (with_forest s h)) xs) (filter_range (is_alive g t) (is_alive h t) n 0 (λ j low high. sym (ended_alive g forest t i end within before after j)))
     ∙ ap (λ k. map (row_of (with_forest s h)) (filter (is_alive h t) (range_with_len 0 k))) (sym (ended_count g i end))
 
-pub mirrors_first : (s : Stock) → IsForest s.grove → (t : ℕ) → Mirrors s t (rows_of s)
+pub mirrors_first : (s : Inventory) → IsForest s.forest → (t : ℕ) → Mirrors s t (rows_of s)
 mirrors_first s forest t m le = swept_inventory s forest m
 
-pub mirrors_listed : (s : Stock) → IsForest s.grove → (t : ℕ) → Mirrors s t (listed s t)
+pub mirrors_listed : (s : Inventory) → IsForest s.forest → (t : ℕ) → Mirrors s t (listed s t)
 mirrors_listed s forest t m le = ap (swept m) (sym (swept_inventory s forest t)) ∙ swept_later (rows_of s) t m le ∙ swept_inventory s forest m
 
 -- a renewal's end is within the greatest
@@ -184,9 +184,9 @@ renewal_within e t late small = most e.ceiling where
   most (Some c) = omega arith
 
 -- what an inventory keeps stays where an end is changed
-pub ended_supplied : (s : Stock) → IsStock s → (i end : ℕ) → i < length s.grove.entries → end ≤ END_MAX → IsStock (with_forest s (ended s.grove i end))
+pub ended_supplied : (s : Inventory) → IsInventory s → (i end : ℕ) → i < length s.forest.entries → end ≤ END_MAX → IsInventory (with_forest s (ended s.forest i end))
 ended_supplied s supplied i end within far =
-    let g = s.grove in
+    let g = s.forest in
     let h = ended g i end in
     let count = ended_count g i end in
     let kinds = ended_field (λ (e : Entry). e.kind) g i end within refl in

@@ -14,7 +14,7 @@ use Rattle.mini_broker.specs.declared.served.Served.{Served}
 use Rattle.mini_broker.specs.Stream.{sent_of}
 use Rattle.keep_exchange.specs.Exchanges.{Behind}
 use Rattle.keep_exchange.specs.Requests.{IsAsked, reply_in, request_of}
-use Rattle.mini_broker.specs.Ledger.{Ledger}
+use Rattle.mini_broker.specs.Table.{Table}
 use Rattle.mini_broker.specs.Step.{Says, step}
 use Rattle.keep_core.specs.LawsOfSteps.{IsShaped}
 use Rattle.keep_core.specs.declared.event.Event.{Event}
@@ -25,7 +25,7 @@ use Rattle.keep_core.specs.State.{State}
 use Rattle.keep_core.proofs.Shaped.{shape}
 use Rattle.keep_run.specs.Closed.{World, event_in, taken}
 use Rattle.keep_run.specs.Live.{Between}
-use Rattle.keep_run.specs.Playing.{Answers, stock_of}
+use Rattle.keep_run.specs.Playing.{Answers, inventory_with}
 use Rattle.keep_run.specs.Renewing.{IsAnswerOf, event_for, event_of, of_lease, of_token, told_by}
 use Rattle.keep_run.specs.Stops.{both}
 use Rattle.keep_run.specs.Text.{answer_line, answer_text, short_lines}
@@ -56,17 +56,17 @@ answers_for kind id i (Some r) = either i (r.status == 200) _ _ (told_for kind i
 
 -- ---- the answer
 
-behind_request : Ledger → ℕ → Served → Request → Behind
-behind_request l t sent r = record { table = (step l t r).ledger; wire = request_text r ++ sent_of sent }
+behind_request : Table → ℕ → Served → Request → Behind
+behind_request l t sent r = record { table = (step l t r).table; wire = request_text r ++ sent_of sent }
 
 pub one_answer :
     (cs : List (List ℕ)) (t i : ℕ) (old : World) (sent : Served) (output : Output) (request : Request) (event : Event) (k new : State) (l : Behind) (before mid after : List ℕ) →
-    request ≡ request_of 8200 cs old.keeper.forest i → Says t (step old.behind.table t request).answer sent → l ≡ record { table = (step old.behind.table t request).ledger; wire = request_text request ++ sent_of sent } →
+    request ≡ request_of 8200 cs old.keeper.forest i → Says t (step old.behind.table t request).answer sent → l ≡ record { table = (step old.behind.table t request).table; wire = request_text request ++ sent_of sent } →
     event ≡ event_for cs old.keeper.forest i (reply_in sent) → Turn old.keeper event (Ok output) k → new ≡ taken k →
     mid ≡ before ++ answer_line old.keeper.forest event (reply_in sent) → after ≡ mid ++ short_lines new.forest k.shortened →
     Answers cs t old i output (both new l) before after
 unfolding event_in answer_text behind_request
-one_answer cs t i old sent output request event k new l before mid after asked says ledger means turn quiet told short =
+one_answer cs t i old sent output request event k new l before mid after asked says table means turn quiet told short =
     let like : IsShaped old.keeper.forest new.forest = subst (λ (s : State). IsShaped old.keeper.forest s.forest) (sym quiet) (shape old.keeper k event (Ok output) turn) in
     let line = answer_line old.keeper.forest event (reply_in sent) in
     record {
@@ -78,7 +78,7 @@ one_answer cs t i old sent output request event k new l before mid after asked s
         keeper = k;
         turn = subst (λ e. Turn old.keeper e (Ok output) k) means turn;
         short = refl;
-        is = ap (λ s. both s l) quiet ∙ ap (λ m. both (taken k) m) (ledger ∙ ap (behind_request old.behind.table t sent) asked);
+        is = ap (λ s. both s l) quiet ∙ ap (λ m. both (taken k) m) (table ∙ ap (behind_request old.behind.table t sent) asked);
       };
       text_is = short
           ∙ ap (λ xs. mid ++ xs) (same_shorts old.keeper.forest new.forest like k.shortened)
@@ -116,7 +116,7 @@ answer_between None new cs t i port old reply event output k after' before mid a
 answer_between (Some b) new cs t i port old reply event output k after' before mid after at asks means turn quiet told short =
     let e = subst (λ p. IsAsked b.table t (request_of p cs old.forest i) reply new) at asks in
     let request = request_of 8200 cs old.forest i in
-    let a : Behind = record { table = (step b.table t request).ledger; wire = request_text request ++ sent_of e.sent } in (
+    let a : Behind = record { table = (step b.table t request).table; wire = request_text request ++ sent_of e.sent } in (
       a,
       (
         e.is,

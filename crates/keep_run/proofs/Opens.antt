@@ -13,7 +13,7 @@ use Rattle.keep_core.proofs.Once.{next_asks}
 use Rattle.keep_core.proofs.Shaped.{shape}
 use Rattle.keep_core.proofs.Turns.{replan_force}
 use Rattle.keep_run.specs.Closed.{Beat, Exchanged, IsBeat, Played, World, asked_in, asks_some, next_by, rounds, requests_of, taken}
-use Rattle.keep_run.specs.Playing.{Ends, IsQuietTo, Opens, Ticks, stock_of}
+use Rattle.keep_run.specs.Playing.{Ends, IsQuietTo, Opens, Ticks, inventory_with}
 use Rattle.keep_run.specs.Stops.{both}
 use Rattle.keep_run.specs.Text.{answer_text, beat_text, short_lines, wake_line}
 use Rattle.keep_run.proofs.Texts.{same_shorts, same_wake}
@@ -40,7 +40,7 @@ is_beat cs behind t old new output before after ticks none = record {
 
 silent_text :
     (cs : List (List ℕ)) (t : ℕ) (old new : State) (output : Output) (before after : List ℕ) → (ticks : Ticks t old output new before after) →
-    after ≡ before ++ flat_map (beat_text (stock_of cs old.forest)) (silent t old new output before after ticks ∷ [])
+    after ≡ before ++ flat_map (beat_text (inventory_with cs old.forest)) (silent t old new output before after ticks ∷ [])
 unfolding beat_text silent
 silent_text cs t old new output before after ticks =
     let like = ticks_shaped t old new output before after ticks in

@@ -7,11 +7,11 @@ use Rattle.std.proofs.lemmas.List.{drop_all, drop_more, length-set}
 use Rattle.std.proofs.lemmas.List.Elements.{All-head, All-tail}
 use Rattle.std.specs.List.{All}
 use Rattle.keep_moment.specs.declared.moment.TheConstants.{LAST}
-use Rattle.keep_tree.specs.Forest.{Grove, end_of, entry_at}
+use Rattle.keep_tree.specs.Forest.{Forest, end_of, entry_at}
 use Rattle.keep_rule.specs.Asks.{asks, first_of, is_wanted}
 use Rattle.keep_rule.specs.Schedule.{RisesStrictly}
 use Rattle.keep_tree.specs.declared.entry.Entry.{Entry}
-use Rattle.keep_inventory.specs.Stock.{credential_at}
+use Rattle.keep_inventory.specs.Inventories.{credential_at}
 use Rattle.keep_core.specs.declared.event.Event.{Event}
 use Rattle.keep_core.specs.declared.event.Event.TheVariants.{Tick, Told, Refused, Lost, Need}
 use Rattle.keep_core.specs.declared.event.Output.{Output}
@@ -45,7 +45,7 @@ abbrev Rests : State → Option ℕ → Type 0
 Rests s None = Unit {0}
 Rests s (Some u) = (s.round ≡ None) × Comes s.last (Some u)
 
-first_comes : (g : Grove) (t : ℕ) (ts : List ℕ) → IsPlanOf g t ts → Comes t (first_of ts)
+first_comes : (g : Forest) (t : ℕ) (ts : List ℕ) → IsPlanOf g t ts → Comes t (first_of ts)
 first_comes g t [] plan = tt
 first_comes g t (v ∷ rest) plan = ((best_first g t v rest plan).0, within_last g t v rest plan)
 
@@ -171,7 +171,7 @@ answer_steps old new (Lost j) output is turn = turn.1
 answer_steps old new (Tick u) output is turn = absurd is
 answer_steps old new (Need j until) output is turn = absurd is
 
-change_count : (g : Grove) (i : ℕ) (f : Entry → Entry) → length (change g i f).entries ≡ length g.entries
+change_count : (g : Forest) (i : ℕ) (f : Entry → Entry) → length (change g i f).entries ≡ length g.entries
 change_count g i f = length-set g.entries i (f (entry_at g.entries i))
 
 -- what is left of a round: others are waited for, or it is closed and the next moment comes
@@ -288,7 +288,7 @@ some_lead port cs t (x ∷ y ∷ ys) i others old now a answers =
 
 -- ---- a tick
 
-asks_rise : (g : Grove) (t : ℕ) (next : Option ℕ) → RisesStrictly 0 (asks g.entries g.margin t (end_of g.entries) t next)
+asks_rise : (g : Forest) (t : ℕ) (next : Option ℕ) → RisesStrictly 0 (asks g.entries g.margin t (end_of g.entries) t next)
 unfolding asks
 asks_rise g t next = filter_rises (is_wanted g.entries g.margin t (end_of g.entries) t next) (length g.entries) 0
 
@@ -370,14 +370,14 @@ run_rests port cs (b ∷ bs) old new (Some t) next rests played =
     run_rests port cs bs mid new (next_tick b) next after played.1.1.1
 
 pub never_refused : NeverRefusedLaw
-never_refused stock faults start port short opening final beats t late o played =
+never_refused inventory faults start port short opening final beats t late o played =
     let keeper_is = ap (λ (w : World). w.keeper) o.is in
     let first : Rests o.keeper (Some start) = (ap (λ (s : State). s.round) o.planned.is, (let l = ap (λ (s : State). s.last) o.planned.is in omega arith, late)) in
     let begins : Rests opening.keeper (Some start) = subst (λ (s : State). Rests s (Some start)) (sym keeper_is) first in
-    let rests = run_rests port stock.credentials beats opening final (Some start) (Some t) begins played in (
+    let rests = run_rests port inventory.credentials beats opening final (Some start) (Some t) begins played in (
       tick_taken final.keeper t rests.0 rests.1,
       λ asked keeper turn xs now i others who answers event result new of span.
           let opens = tick_opens final.keeper t asked keeper turn in
-          let waits = some_lead port stock.credentials t xs i others (record { keeper = taken keeper; behind = final.behind }) now (waits_taken keeper t _ (subst (Waits keeper t) (sym who) opens)) answers in
+          let waits = some_lead port inventory.credentials t xs i others (record { keeper = taken keeper; behind = final.behind }) now (waits_taken keeper t _ (subst (Waits keeper t) (sym who) opens)) answers in
           answer_taken now.keeper i event (first_within now.keeper t i others waits) (first_waits now.keeper t i others waits) of span result new,
     )

@@ -6,11 +6,11 @@ use Rattle.std.specs.Result.{IsErr, IsErrAnd}
 use Rattle.std.specs.Io.KnownBytes.{Appends}
 use Rattle.keep_device.specs.Front.{AppendsFront}
 use Rattle.keep_inventory.specs.declared.fault.InvFault.{InvFault}
-use Rattle.keep_inventory.specs.Inventory.{inventory}
-use Rattle.keep_inventory.specs.Stock.{IsStock, Stock}
+use Rattle.keep_inventory.specs.Inventory.{read_inventory}
+use Rattle.keep_inventory.specs.Inventories.{IsInventory, Inventory}
 use Rattle.keep_moment.specs.declared.moment.TheConstants.{LAST}
-use Rattle.keep_tree.specs.Forest.{Grove}
-use Rattle.mini_broker.specs.Ledger.{Ledger}
+use Rattle.keep_tree.specs.Forest.{Forest}
+use Rattle.mini_broker.specs.Table.{Table}
 use Rattle.mini_broker.specs.declared.fault.NumberedFault.{NumberedFault}
 use Rattle.keep_core.specs.LawsOfSteps.{IsShaped}
 use Rattle.keep_core.specs.declared.shortened.ShortNeed.{ShortNeed}
@@ -27,7 +27,7 @@ use Rattle.keep_report.specs.Told.{Reports}
 use Rattle.keep_run.specs.Closed.{IsOpening, World, taken}
 use Rattle.keep_run.specs.FaultWords.{SetsFaults, faults_of}
 use Rattle.keep_run.specs.Live.{IsReady}
-use Rattle.keep_run.specs.Playing.{Comes, Goes, IsText, Plays, PlaysFront, stock_of}
+use Rattle.keep_run.specs.Playing.{Comes, Goes, IsText, Plays, PlaysFront, inventory_with}
 use Rattle.keep_run.specs.Rehearse.{IsCalled, IsRunText, Rehearses, RehearseRun, RehearseTold, WritesFront, fresh}
 use Rattle.keep_run.specs.Stops.{IsStopped, SoFar, both}
 use Rattle.keep_run.specs.Text.{beat_text, course_text, done_text, short_lines}
@@ -36,100 +36,100 @@ use Rattle.keep_run.proofs.Texts.{same_beat_texts, same_shorts}
 
 -- ---- the run of an inventory, from that of a keeper
 
-module _ (stock : Stock) (faults : List NumberedFault) (start : ℕ) (k : State) (r : Replan (unplanned stock.grove) start k) where
-  like : IsShaped stock.grove k.forest
-  like = replanned stock.grove (unplanned stock.grove) start k (same stock.grove) r
+module _ (inventory : Inventory) (faults : List NumberedFault) (start : ℕ) (k : State) (r : Replan (unplanned inventory.forest) start k) where
+  like : IsShaped inventory.forest k.forest
+  like = replanned inventory.forest (unplanned inventory.forest) start k (same inventory.forest) r
 
   opening : World
-  opening = both (taken k) (fresh stock faults)
+  opening = both (taken k) (fresh inventory faults)
 
-  opens : IsOpening stock faults start k.shortened (both (taken k) (fresh stock faults))
+  opens : IsOpening inventory faults start k.shortened (both (taken k) (fresh inventory faults))
   opens = record { keeper = k; planned = r; short_is = refl; is = refl }
 
   shorts : List ℕ
-  shorts = short_lines stock.grove k.shortened
+  shorts = short_lines inventory.forest k.shortened
 
-  pub shorts_are : (lines : List ℕ) → lines ≡ short_lines k.forest k.shortened → lines ≡ short_lines stock.grove k.shortened
-  shorts_are lines is = is ∙ same_shorts stock.grove k.forest like k.shortened
+  pub shorts_are : (lines : List ℕ) → lines ≡ short_lines k.forest k.shortened → lines ≡ short_lines inventory.forest k.shortened
+  shorts_are lines is = is ∙ same_shorts inventory.forest k.forest like k.shortened
 
   pub so_far_of :
-      (final : World) (next : Option ℕ) (w a : ℕ) (lines : List ℕ) → Goes (stock_of stock.credentials k.forest) (both (taken k) (fresh stock faults)) (Some start) final next w a lines →
-      SoFar stock faults start final next w a (short_lines stock.grove k.shortened ++ lines)
+      (final : World) (next : Option ℕ) (w a : ℕ) (lines : List ℕ) → Goes (inventory_with inventory.credentials k.forest) (both (taken k) (fresh inventory faults)) (Some start) final next w a lines →
+      SoFar inventory faults start final next w a (short_lines inventory.forest k.shortened ++ lines)
   so_far_of final next w a lines goes = record {
     short = k.shortened;
-    opening = both (taken k) (fresh stock faults);
+    opening = both (taken k) (fresh inventory faults);
     opened = opens;
     beats = goes.beats;
     played = goes.played;
     wakes_are = goes.wakes_are;
     asked_are = goes.asked_are;
-    text_is = ap (λ l. short_lines stock.grove k.shortened ++ l) (goes.text_is ∙ same_beat_texts stock (stock_of stock.credentials k.forest) like refl goes.beats);
+    text_is = ap (λ l. short_lines inventory.forest k.shortened ++ l) (goes.text_is ∙ same_beat_texts inventory (inventory_with inventory.credentials k.forest) like refl goes.beats);
   }
 
   pub is_run_text :
-      (text : List ℕ) → IsText (stock_of stock.credentials k.forest) (both (taken k) (fresh stock faults)) start text → IsRunText stock faults start (short_lines stock.grove k.shortened ++ text)
+      (text : List ℕ) → IsText (inventory_with inventory.credentials k.forest) (both (taken k) (fresh inventory faults)) start text → IsRunText inventory faults start (short_lines inventory.forest k.shortened ++ text)
   is_run_text text t = record {
     final = t.new;
     next = t.next;
     wakes = t.wakes;
     asked = t.asked;
-    lines = short_lines stock.grove k.shortened ++ t.lines;
+    lines = short_lines inventory.forest k.shortened ++ t.lines;
     so_far = so_far_of t.new t.next t.wakes t.asked t.lines t.goes;
     text_is = by_text t.text_is;
   } where
     by_text : (text ≡ t.lines) ⊎ ((t.next ≡ None) × (text ≡ t.lines ++ done_text t.wakes t.asked)) →
-        (short_lines stock.grove k.shortened ++ text ≡ short_lines stock.grove k.shortened ++ t.lines)
-        ⊎ ((t.next ≡ None) × (short_lines stock.grove k.shortened ++ text ≡ (short_lines stock.grove k.shortened ++ t.lines) ++ done_text t.wakes t.asked))
-    by_text (inl is) = inl (ap (λ l. short_lines stock.grove k.shortened ++ l) is)
-    by_text (inr is) = inr (is.0, ap (λ l. short_lines stock.grove k.shortened ++ l) is.1 ∙ sym (append_assoc (short_lines stock.grove k.shortened) t.lines (done_text t.wakes t.asked)))
+        (short_lines inventory.forest k.shortened ++ text ≡ short_lines inventory.forest k.shortened ++ t.lines)
+        ⊎ ((t.next ≡ None) × (short_lines inventory.forest k.shortened ++ text ≡ (short_lines inventory.forest k.shortened ++ t.lines) ++ done_text t.wakes t.asked))
+    by_text (inl is) = inl (ap (λ l. short_lines inventory.forest k.shortened ++ l) is)
+    by_text (inr is) = inr (is.0, ap (λ l. short_lines inventory.forest k.shortened ++ l) is.1 ∙ sym (append_assoc (short_lines inventory.forest k.shortened) t.lines (done_text t.wakes t.asked)))
 
 -- ---- the rehearsal
 
 front_written :
-    (bytes : List ℕ) (words : List (List ℕ)) (stock : Stock) (faults : List NumberedFault) (start : ℕ) (k : State) (lines : List ℕ) (out : Sent) → IsCalled bytes words stock faults → (r : Replan (unplanned stock.grove) start k) →
-    lines ≡ short_lines k.forest k.shortened → PlaysFront (stock_of stock.credentials k.forest) (both (taken k) (fresh stock faults)) start lines out → WritesFront bytes start words out
-front_written bytes words stock faults start k lines out called r lines_are front = (
-  stock,
+    (bytes : List ℕ) (words : List (List ℕ)) (inventory : Inventory) (faults : List NumberedFault) (start : ℕ) (k : State) (lines : List ℕ) (out : Sent) → IsCalled bytes words inventory faults → (r : Replan (unplanned inventory.forest) start k) →
+    lines ≡ short_lines k.forest k.shortened → PlaysFront (inventory_with inventory.credentials k.forest) (both (taken k) (fresh inventory faults)) start lines out → WritesFront bytes start words out
+front_written bytes words inventory faults start k lines out called r lines_are front = (
+  inventory,
   faults,
   called,
-  short_lines stock.grove k.shortened ++ front.0,
-  is_run_text stock faults start k r front.0 front.1,
-  subst (λ l. AppendsFront out.old out.new (l ++ front.0)) (shorts_are stock faults start k r lines lines_are) front.2,
+  short_lines inventory.forest k.shortened ++ front.0,
+  is_run_text inventory faults start k r front.0 front.1,
+  subst (λ l. AppendsFront out.old out.new (l ++ front.0)) (shorts_are inventory faults start k r lines lines_are) front.2,
 )
 
 pub rehearsed :
-    (bytes : List ℕ) (words : List (List ℕ)) (stock : Stock) (faults : List NumberedFault) (start : ℕ) (k : State) (lines : List ℕ) (result : Result (Unit {0}) Stop) (new : World) (out : Sent) (old : Behind) →
-    IsCalled bytes words stock faults → (r : Replan (unplanned stock.grove) start k) → lines ≡ short_lines k.forest k.shortened →
-    Plays stock.credentials (both (taken k) (fresh stock faults)) start lines result new out → Rehearses bytes start words result out old new.behind
-rehearsed bytes words stock faults start k lines (Ok u) new out old called r lines_are p =
-    let so_far = so_far_of stock faults start k r new None p.wakes p.asked p.lines p.goes in
-    let whole = at_end stock faults start new p.wakes p.asked (short_lines stock.grove k.shortened ++ p.lines) so_far p.few in
-    let text = ap (λ l. l ++ (p.lines ++ done_text p.wakes p.asked)) (shorts_are stock faults start k r lines lines_are)
-    ∙ sym (append_assoc (short_lines stock.grove k.shortened) p.lines (done_text p.wakes p.asked))
+    (bytes : List ℕ) (words : List (List ℕ)) (inventory : Inventory) (faults : List NumberedFault) (start : ℕ) (k : State) (lines : List ℕ) (result : Result (Unit {0}) Stop) (new : World) (out : Sent) (old : Behind) →
+    IsCalled bytes words inventory faults → (r : Replan (unplanned inventory.forest) start k) → lines ≡ short_lines k.forest k.shortened →
+    Plays inventory.credentials (both (taken k) (fresh inventory faults)) start lines result new out → Rehearses bytes start words result out old new.behind
+rehearsed bytes words inventory faults start k lines (Ok u) new out old called r lines_are p =
+    let so_far = so_far_of inventory faults start k r new None p.wakes p.asked p.lines p.goes in
+    let whole = at_end inventory faults start new p.wakes p.asked (short_lines inventory.forest k.shortened ++ p.lines) so_far p.few in
+    let text = ap (λ l. l ++ (p.lines ++ done_text p.wakes p.asked)) (shorts_are inventory faults start k r lines lines_are)
+    ∙ sym (append_assoc (short_lines inventory.forest k.shortened) p.lines (done_text p.wakes p.asked))
     ∙ whole.1.1 in
-    (stock, faults, called, whole.0, new, whole.1.0, (subst (Appends out.old out.new) text p.sent.0, p.sent.1), refl)
-rehearsed bytes words stock faults start k lines (Err stops.TooLong) new out old called r lines_are p =
+    (inventory, faults, called, whole.0, new, whole.1.0, (subst (Appends out.old out.new) text p.sent.0, p.sent.1), refl)
+rehearsed bytes words inventory faults start k lines (Err stops.TooLong) new out old called r lines_are p =
     let final = both p.keeper new.behind in
-    let text = short_lines stock.grove k.shortened ++ p.lines in (
-      stock,
+    let text = short_lines inventory.forest k.shortened ++ p.lines in (
+      inventory,
       faults,
       called,
       inr (
         final,
         text,
-        record { due = p.due; asked = p.asked; so_far = so_far_of stock faults start k r final (Some p.due) 100000 p.asked p.lines p.goes; more = p.more },
-        (subst (λ l. Appends out.old out.new (l ++ p.lines)) (shorts_are stock faults start k r lines lines_are) p.sent.0, p.sent.1),
+        record { due = p.due; asked = p.asked; so_far = so_far_of inventory faults start k r final (Some p.due) 100000 p.asked p.lines p.goes; more = p.more },
+        (subst (λ l. Appends out.old out.new (l ++ p.lines)) (shorts_are inventory faults start k r lines lines_are) p.sent.0, p.sent.1),
         refl,
       ),
     )
-rehearsed bytes words stock faults start k lines (Err stops.Write) new out old called r lines_are p = (p.0, front_written bytes words stock faults start k lines out called r lines_are p.1)
-rehearsed bytes words stock faults start k lines (Err stops.Memory) new out old called r lines_are p = inr (front_written bytes words stock faults start k lines out called r lines_are p)
-rehearsed bytes words stock faults start k lines (Err stops.Read) new out old called r lines_are p = absurd p
-rehearsed bytes words stock faults start k lines (Err (stops.Inventory fault)) new out old called r lines_are p = absurd p
-rehearsed bytes words stock faults start k lines (Err (stops.Moments fault)) new out old called r lines_are p = absurd p
-rehearsed bytes words stock faults start k lines (Err (stops.FaultWord n)) new out old called r lines_are p = absurd p
-rehearsed bytes words stock faults start k lines (Err (stops.Broker name)) new out old called r lines_are p = absurd p
-rehearsed bytes words stock faults start k lines (Err (stops.Line n)) new out old called r lines_are p = absurd p
+rehearsed bytes words inventory faults start k lines (Err stops.Write) new out old called r lines_are p = (p.0, front_written bytes words inventory faults start k lines out called r lines_are p.1)
+rehearsed bytes words inventory faults start k lines (Err stops.Memory) new out old called r lines_are p = inr (front_written bytes words inventory faults start k lines out called r lines_are p)
+rehearsed bytes words inventory faults start k lines (Err stops.Read) new out old called r lines_are p = absurd p
+rehearsed bytes words inventory faults start k lines (Err (stops.Inventory fault)) new out old called r lines_are p = absurd p
+rehearsed bytes words inventory faults start k lines (Err (stops.Moments fault)) new out old called r lines_are p = absurd p
+rehearsed bytes words inventory faults start k lines (Err (stops.FaultWord n)) new out old called r lines_are p = absurd p
+rehearsed bytes words inventory faults start k lines (Err (stops.Broker name)) new out old called r lines_are p = absurd p
+rehearsed bytes words inventory faults start k lines (Err (stops.Line n)) new out old called r lines_are p = absurd p
 
 -- ---- by exit
 
@@ -164,15 +164,15 @@ untouched a n b m = (Keeps-refl a, refl, refl)
 
 -- the FAULT words are not taken
 pub words_stopped :
-    (bytes : List ℕ) (start : ℕ) (words : List (List ℕ)) (stock : Stock) (answer : Result (Unit {0}) Stop) (stop : Stop) (table now : Ledger) (a : Option (List ℕ)) (n : ℕ) (b m : Bool) (old : Behind) → inventory bytes ≡ Ok stock →
+    (bytes : List ℕ) (start : ℕ) (words : List (List ℕ)) (inventory : Inventory) (answer : Result (Unit {0}) Stop) (stop : Stop) (table now : Table) (a : Option (List ℕ)) (n : ℕ) (b m : Bool) (old : Behind) → read_inventory bytes ≡ Ok inventory →
     IsErr answer × IsErrAnd answer (λ (q : Stop). q ≡ stop) → SetsFaults words table (Err stop) now →
     Rehearses bytes start words answer (record { old = a; new = a; failed_before = n; failed_after = n; flushed_before = b; flushed = b; is_in_memory = m }) old old
-words_stopped bytes start words stock (Ok u) stop table now a n b m old read is sets = absurd (let no = is.0 in cc)
-words_stopped bytes start words stock (Err q) stop table now a n b m old read is sets =
+words_stopped bytes start words inventory (Ok u) stop table now a n b m old read is sets = absurd (let no = is.0 in cc)
+words_stopped bytes start words inventory (Err q) stop table now a n b m old read is sets =
     subst (λ (x : Stop). Rehearses bytes start words (Err x) (record { old = a; new = a; failed_before = n; failed_after = n; flushed_before = b; flushed = b; is_in_memory = m }) old old) (sym is.1) (by_stop stop sets) where
       by_stop : (x : Stop) → SetsFaults words table (Err x) now →
           Rehearses bytes start words (Err x) (record { old = a; new = a; failed_before = n; failed_after = n; flushed_before = b; flushed = b; is_in_memory = m }) old old
-      by_stop (stops.FaultWord k) is' = (stock, read, is', untouched a n b m, refl)
+      by_stop (stops.FaultWord k) is' = (inventory, read, is', untouched a n b m, refl)
       by_stop stops.Memory is' = inl (untouched a n b m)
       by_stop stops.TooLong is' = absurd is'
       by_stop stops.Read is' = absurd is'
@@ -191,40 +191,40 @@ memory_stopped bytes start words (Err q) a n b m old new is =
 
 -- the opening is not planned
 pub opening_stopped :
-    (bytes : List ℕ) (start : ℕ) (words : List (List ℕ)) (stock : Stock) (faults : List NumberedFault) (g : Grove) (answer : Result (Unit {0}) Stop) (stop : Stop) (a : Option (List ℕ)) (n : ℕ) (b m : Bool) (old new : Behind) →
-    inventory bytes ≡ Ok stock → faults_of words ≡ Ok faults → g ≡ stock.grove → new ≡ fresh stock faults → IsErr answer × IsErrAnd answer (λ (q : Stop). q ≡ stop) → (stop ≡ stops.Memory) ⊎ ((stop ≡ stops.TooLong) × ReplanTooLong g start) →
+    (bytes : List ℕ) (start : ℕ) (words : List (List ℕ)) (inventory : Inventory) (faults : List NumberedFault) (g : Forest) (answer : Result (Unit {0}) Stop) (stop : Stop) (a : Option (List ℕ)) (n : ℕ) (b m : Bool) (old new : Behind) →
+    read_inventory bytes ≡ Ok inventory → faults_of words ≡ Ok faults → g ≡ inventory.forest → new ≡ fresh inventory faults → IsErr answer × IsErrAnd answer (λ (q : Stop). q ≡ stop) → (stop ≡ stops.Memory) ⊎ ((stop ≡ stops.TooLong) × ReplanTooLong g start) →
     Rehearses bytes start words answer (record { old = a; new = a; failed_before = n; failed_after = n; flushed_before = b; flushed = b; is_in_memory = m }) old new
-opening_stopped bytes start words stock faults g (Ok u) stop a n b m old new read taken' is_g is_new is long = absurd (let no = is.0 in cc)
-opening_stopped bytes start words stock faults g (Err q) stop a n b m old new read taken' is_g is_new is (inl memory) =
+opening_stopped bytes start words inventory faults g (Ok u) stop a n b m old new read taken' is_g is_new is long = absurd (let no = is.0 in cc)
+opening_stopped bytes start words inventory faults g (Err q) stop a n b m old new read taken' is_g is_new is (inl memory) =
     subst (λ (x : Stop). Rehearses bytes start words (Err x) (record { old = a; new = a; failed_before = n; failed_after = n; flushed_before = b; flushed = b; is_in_memory = m }) old new) (sym (is.1 ∙ memory)) (inl (untouched a n b m))
-opening_stopped bytes start words stock faults g (Err q) stop a n b m old new read taken' is_g is_new is (inr long) =
+opening_stopped bytes start words inventory faults g (Err q) stop a n b m old new read taken' is_g is_new is (inr long) =
     subst (λ (x : Stop). Rehearses bytes start words (Err x) (record { old = a; new = a; failed_before = n; failed_after = n; flushed_before = b; flushed = b; is_in_memory = m }) old new) (sym (is.1 ∙ long.0))
-    (stock, faults, record { read = read; faults_are = taken' }, inl (subst (λ h. ReplanTooLong h start) is_g long.1, untouched a n b m, is_new))
+    (inventory, faults, record { read = read; faults_are = taken' }, inl (subst (λ h. ReplanTooLong h start) is_g long.1, untouched a n b m, is_new))
 
 -- the run is played
 pub plays_on :
-    (bytes : List ℕ) (words : List (List ℕ)) (stock : Stock) (faults : List NumberedFault) (start at : ℕ) (g : Grove) (cs : List (List ℕ)) (k now : State) (behind : Behind) (lines : List ℕ) (result : Result (Unit {0}) Stop) (new : World) (out : Sent) (old : Behind) →
-    inventory bytes ≡ Ok stock → faults_of words ≡ Ok faults → g ≡ stock.grove → cs ≡ stock.credentials → behind ≡ fresh stock faults → Replan (unplanned g) start k → now ≡ taken k → at ≡ start →
+    (bytes : List ℕ) (words : List (List ℕ)) (inventory : Inventory) (faults : List NumberedFault) (start at : ℕ) (g : Forest) (cs : List (List ℕ)) (k now : State) (behind : Behind) (lines : List ℕ) (result : Result (Unit {0}) Stop) (new : World) (out : Sent) (old : Behind) →
+    read_inventory bytes ≡ Ok inventory → faults_of words ≡ Ok faults → g ≡ inventory.forest → cs ≡ inventory.credentials → behind ≡ fresh inventory faults → Replan (unplanned g) start k → now ≡ taken k → at ≡ start →
     lines ≡ short_lines k.forest k.shortened → Plays cs (both now behind) at lines result new out → Rehearses bytes start words result out old new.behind
-plays_on bytes words stock faults start at g cs k now behind lines result new out old read taken' is_g is_cs is_behind r is_now is_at lines_are plays =
+plays_on bytes words inventory faults start at g cs k now behind lines result new out old read taken' is_g is_cs is_behind r is_now is_at lines_are plays =
     let p1 = subst (λ c. Plays c (both now behind) at lines result new out) is_cs plays in
-    let p2 = subst (λ e. Plays stock.credentials (both now e) at lines result new out) is_behind p1 in
-    let p3 = subst (λ s. Plays stock.credentials (both s (fresh stock faults)) at lines result new out) is_now p2 in
-    let p4 = subst (λ t. Plays stock.credentials (both (taken k) (fresh stock faults)) t lines result new out) is_at p3 in
-    rehearsed bytes words stock faults start k lines result new out old (record { read = read; faults_are = taken' }) (subst (λ h. Replan (unplanned h) start k) is_g r) lines_are p4
+    let p2 = subst (λ e. Plays inventory.credentials (both now e) at lines result new out) is_behind p1 in
+    let p3 = subst (λ s. Plays inventory.credentials (both s (fresh inventory faults)) at lines result new out) is_now p2 in
+    let p4 = subst (λ t. Plays inventory.credentials (both (taken k) (fresh inventory faults)) t lines result new out) is_at p3 in
+    rehearsed bytes words inventory faults start k lines result new out old (record { read = read; faults_are = taken' }) (subst (λ h. Replan (unplanned h) start k) is_g r) lines_are p4
 
 -- the keeper is ready for its first tick
-pub ready_opened : (stock : Stock) (g : Grove) (cs : List (List ℕ)) (start : ℕ) (k now : State) → IsStock stock → g ≡ stock.grove → cs ≡ stock.credentials → Replan (unplanned g) start k → now ≡ taken k → IsReady cs now
-ready_opened stock g cs start k now sound is_g is_cs r is_now =
+pub ready_opened : (inventory : Inventory) (g : Forest) (cs : List (List ℕ)) (start : ℕ) (k now : State) → IsInventory inventory → g ≡ inventory.forest → cs ≡ inventory.credentials → Replan (unplanned g) start k → now ≡ taken k → IsReady cs now
+ready_opened inventory g cs start k now sound is_g is_cs r is_now =
     let r' = subst (λ h. Replan (unplanned h) start k) is_g r in
-    let like = replanned stock.grove (unplanned stock.grove) start k (same stock.grove) r' in
+    let like = replanned inventory.forest (unplanned inventory.forest) start k (same inventory.forest) r' in
     record {
       count = ap length is_cs ∙ sound.credentials ∙ sym (ap (λ (s : State). length s.forest.entries) is_now ∙ like.count);
       quiet = ap (λ (s : State). s.shortened) is_now;
       closed = ap (λ (s : State). s.round) is_now ∙ ap (λ (s : State). s.round) r'.is;
     }
 
-pub comes_first : (g : Grove) (start at : ℕ) (k now : State) → Replan (unplanned g) start k → now ≡ taken k → at ≡ start → start ≤ LAST → Comes now.last (Some at)
+pub comes_first : (g : Forest) (start at : ℕ) (k now : State) → Replan (unplanned g) start k → now ≡ taken k → at ≡ start → start ≤ LAST → Comes now.last (Some at)
 comes_first g start at k now r is_now is_at late =
     let last : now.last ≡ start = ap (λ (s : State). s.last) is_now ∙ ap (λ (s : State). s.last) r.is in
     (omega arith, omega arith)

@@ -7,8 +7,8 @@ use Rattle.keep_tree.specs.declared.entry.Kind.{Kind}
 use Rattle.keep_tree.specs.declared.entry.Kind.TheVariants.{Token, Lease}
 use Rattle.keep_tree.specs.Forest.{entry_at}
 use Rattle.keep_tree.specs.Renewal.{renewal}
-use Rattle.keep_inventory.specs.Stock.{IsStock, Stock, credential_at}
-use Rattle.keep_inventory.proofs.Stocks.{credential_text}
+use Rattle.keep_inventory.specs.Inventories.{IsInventory, Inventory, credential_at}
+use Rattle.keep_inventory.proofs.Inventories.{credential_text}
 use Rattle.vault_http.specs.declared.reply.Reply.{Reply}
 use Rattle.vault_json.specs.Renewed.{renew_lease_answer, renew_self_answer}
 use Rattle.vault_json.specs.Written.{renewed_lease_text}
@@ -51,11 +51,11 @@ sent_told kind id i t row same text served.Dropped says = absurd says
 
 -- the reply tells the seconds to the rule's end
 pub tells_rule :
-    (s : Stock) → IsStock s → (t i : ℕ) → t ≤ LAST → i < length s.grove.entries → (entry_at s.grove.entries i).renewable ≡ true → (sent : Served) →
-    Says t (tells (call_for (entry_at s.grove.entries i).kind) (renewed_row s t i)) sent →
-    event_of (entry_at s.grove.entries i).kind (credential_at s.credentials i) i (reply_in sent) ≡ Told i (renewal (entry_at s.grove.entries i) t - t) true
+    (s : Inventory) → IsInventory s → (t i : ℕ) → t ≤ LAST → i < length s.forest.entries → (entry_at s.forest.entries i).renewable ≡ true → (sent : Served) →
+    Says t (tells (call_for (entry_at s.forest.entries i).kind) (renewed_row s t i)) sent →
+    event_of (entry_at s.forest.entries i).kind (credential_at s.credentials i) i (reply_in sent) ≡ Told i (renewal (entry_at s.forest.entries i) t - t) true
 tells_rule s supplied t i late within able sent says =
-    let e = entry_at s.grove.entries i in
+    let e = entry_at s.forest.entries i in
     let end = renewal e t in
     let far = renewal_within e t late (supplied.steps i within) in
     sent_told e.kind (credential_at s.credentials i) i t (renewed_row s t i) (credential_in s i) (λ lease. credential_text s supplied i within) sent says

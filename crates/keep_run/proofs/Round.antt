@@ -5,14 +5,14 @@ use Rattle.std.proofs.lemmas.List.Elements.{All-cons, All-nil}
 use Rattle.std.specs.List.{All}
 use Rattle.keep_moment.specs.declared.moment.TheConstants.{LAST}
 use Rattle.keep_tree.specs.declared.entry.Entry.{Entry}
-use Rattle.keep_tree.specs.Forest.{Grove, entry_at}
+use Rattle.keep_tree.specs.Forest.{Forest, entry_at}
 use Rattle.keep_tree.specs.Push.{IsForest}
 use Rattle.keep_tree.specs.Renewal.{renewal}
 use Rattle.keep_rule.specs.Asks.{first_of}
 use Rattle.keep_rule.specs.declared.limit.TheConstants.{LIMIT}
-use Rattle.keep_inventory.specs.Stock.{IsStock, Stock, credential_at}
+use Rattle.keep_inventory.specs.Inventories.{IsInventory, Inventory, credential_at}
 use Rattle.mini_broker.specs.declared.served.Served.{Served}
-use Rattle.mini_broker.specs.Ledger.{Ledger}
+use Rattle.mini_broker.specs.Table.{Table}
 use Rattle.mini_broker.specs.Faults.{next_number}
 use Rattle.mini_broker.specs.Renewing.{with_row}
 use Rattle.mini_broker.specs.Step.{Outcome, Says, step, tells}
@@ -38,10 +38,10 @@ use Rattle.mini_broker.specs.Granted.{call_for}
 use Rattle.keep_run.proofs.Serving.{renewed_row, serves}
 
 -- h is g but for the ends
-abbrev pub SameBut : Grove → Grove → Type 0
+abbrev pub SameBut : Forest → Forest → Type 0
 SameBut g h = (i : ℕ) → entry_at h.entries i ≡ record (entry_at g.entries i) { end = (entry_at h.entries i).end }
 
-same_after : (g h : Grove) (i end : ℕ) → i < length h.entries → SameBut g h → SameBut g (ended h i end)
+same_after : (g h : Forest) (i end : ℕ) → i < length h.entries → SameBut g h → SameBut g (ended h i end)
 same_after g h i end within same j = elim (cases_eq j i) [
   | inl here ↦
       let k = ended h i end in
@@ -52,62 +52,62 @@ same_after g h i end within same j = elim (cases_eq j i) [
       is ∙ same j ∙ ap (λ n. record (entry_at g.entries j) { end = n }) (sym (ap (λ (e : Entry). e.end) is))
 ]
 
-same_renewal : (g h : Grove) → SameBut g h → (i t : ℕ) → renewal (entry_at h.entries i) t ≡ renewal (entry_at g.entries i) t
+same_renewal : (g h : Forest) → SameBut g h → (i t : ℕ) → renewal (entry_at h.entries i) t ≡ renewal (entry_at g.entries i) t
 unfolding renewal
 same_renewal g h same i t = ap (λ (e : Entry). renewal e t) (same i)
 
 -- no round is open: the plan in force is these moments, and the table mirrors the forest
-pub record AtRest (stock : Stock) (w : World) (t : ℕ) (ts : List ℕ) : Type 0 where
-  pub g : Grove
+pub record AtRest (inventory : Inventory) (w : World) (t : ℕ) (ts : List ℕ) : Type 0 where
+  pub g : Forest
   pub keeper : w.keeper ≡ settled g t ts
   pub plan : IsPlanOf g t ts
   pub few : length ts ≤ LIMIT
   pub late : t ≤ LAST
-  pub same : SameBut stock.grove g
-  pub supplied : IsStock (with_forest stock g)
-  pub mirrors : Mirrors (with_forest stock g) t w.behind.table.rows
+  pub same : SameBut inventory.forest g
+  pub supplied : IsInventory (with_forest inventory g)
+  pub mirrors : Mirrors (with_forest inventory g) t w.behind.table.rows
   pub none : w.behind.table.faults ≡ []
 
 -- a round is open over g, and has led to h
-pub record InRound (stock : Stock) (w : World) (g h : Grove) (t : ℕ) (rest todo : List ℕ) : Type 0 where
+pub record InRound (inventory : Inventory) (w : World) (g h : Forest) (t : ℕ) (rest todo : List ℕ) : Type 0 where
   pub keeper : w.keeper ≡ waiting h t rest todo
   pub forest : IsForest g
   pub plan : IsPlanOf g t (t ∷ rest)
   pub mid : Midway g t rest todo h
   pub few : length rest ≤ LIMIT
   pub late : t ≤ LAST
-  pub same : SameBut stock.grove h
-  pub supplied : IsStock (with_forest stock h)
-  pub mirrors : Mirrors (with_forest stock h) t w.behind.table.rows
+  pub same : SameBut inventory.forest h
+  pub supplied : IsInventory (with_forest inventory h)
+  pub mirrors : Mirrors (with_forest inventory h) t w.behind.table.rows
   pub none : w.behind.table.faults ≡ []
 
 -- what one answer leaves
-pub record IsGranted (stock : Stock) (h : Grove) (t : ℕ) (rest : List ℕ) (i : ℕ) (todo : List ℕ) (x : Exchanged) (new : World) : Type 0 where
+pub record IsGranted (inventory : Inventory) (h : Forest) (t : ℕ) (rest : List ℕ) (i : ℕ) (todo : List ℕ) (x : Exchanged) (new : World) : Type 0 where
   pub output : x.output ≡ heard_as rest todo
-  pub told : IsToldByRule stock t x
+  pub told : IsToldByRule inventory t x
   pub keeper : new.keeper ≡ heard_state (ended h i (renewal (entry_at h.entries i) t)) t rest todo
-  pub supplied : IsStock (with_forest stock (ended h i (renewal (entry_at h.entries i) t)))
-  pub mirrors : Mirrors (with_forest stock (ended h i (renewal (entry_at h.entries i) t))) t new.behind.table.rows
+  pub supplied : IsInventory (with_forest inventory (ended h i (renewal (entry_at h.entries i) t)))
+  pub mirrors : Mirrors (with_forest inventory (ended h i (renewal (entry_at h.entries i) t))) t new.behind.table.rows
   pub none : new.behind.table.faults ≡ []
 
-heard_short : (h : Grove) (t : ℕ) (rest todo : List ℕ) → (heard_state h t rest todo).shortened ≡ []
+heard_short : (h : Forest) (t : ℕ) (rest todo : List ℕ) → (heard_state h t rest todo).shortened ≡ []
 heard_short h t rest [] = refl
 heard_short h t rest (j ∷ more) = refl
 
-heard_taken : (h : Grove) (t : ℕ) (rest todo : List ℕ) → taken (heard_state h t rest todo) ≡ heard_state h t rest todo
+heard_taken : (h : Forest) (t : ℕ) (rest todo : List ℕ) → taken (heard_state h t rest todo) ≡ heard_state h t rest todo
 heard_taken h t rest [] = refl
 heard_taken h t rest (j ∷ more) = refl
 
-event_is : (port : ℕ) (cs : List (List ℕ)) (g : Grove) (x : Exchanged) → event_in cs g x ≡ event_for cs g x.entry (reply_in x.sent)
+event_is : (port : ℕ) (cs : List (List ℕ)) (g : Forest) (x : Exchanged) → event_in cs g x ≡ event_for cs g x.entry (reply_in x.sent)
 unfolding event_in
 event_is port cs g x = refl
 
 pub grants :
-    (stock : Stock) (port : ℕ) (w new : World) (g h : Grove) (t : ℕ) (rest : List ℕ) (i : ℕ) (todo : List ℕ) (x : Exchanged) → InRound stock w g h t rest (i ∷ todo) →
-    IsAnswered port stock.credentials t w x new → x.entry ≡ i → IsGranted stock h t rest i todo x new
-grants stock port w new g h t rest i todo x r a here =
-    let s = with_forest stock h in
-    let cs = stock.credentials in
+    (inventory : Inventory) (port : ℕ) (w new : World) (g h : Forest) (t : ℕ) (rest : List ℕ) (i : ℕ) (todo : List ℕ) (x : Exchanged) → InRound inventory w g h t rest (i ∷ todo) →
+    IsAnswered port inventory.credentials t w x new → x.entry ≡ i → IsGranted inventory h t rest i todo x new
+grants inventory port w new g h t rest i todo x r a here =
+    let s = with_forest inventory h in
+    let cs = inventory.credentials in
     let e = entry_at h.entries i in
     let end = renewal e t in
     let n = end - t in
@@ -130,42 +130,42 @@ grants stock port w new g h t rest i todo x r a here =
     (subst (λ v. Turn w.keeper v (Ok x.output) a.keeper) event a.turn) in
     let known = told_turn g r.forest t rest i todo h r.plan r.few r.mid due n (omega arith) sums in
     let one = once (waiting h t rest (i ∷ todo)) a.keeper (heard_state k t rest todo) (Told i n true) (Ok x.output) (Ok (heard_as rest todo)) (λ bad. cc) (λ bad. cc) turn known in
-    let ledger : new.behind.table ≡ record { rows = with_row (listed s t) (renewed_row s t i); faults = []; count = next_number w.behind.table.count } = ap (λ (v : World). v.behind.table) a.is ∙ ap (λ (o : Outcome). o.ledger) outcome in
+    let table : new.behind.table ≡ record { rows = with_row (listed s t) (renewed_row s t i); faults = []; count = next_number w.behind.table.count } = ap (λ (v : World). v.behind.table) a.is ∙ ap (λ (o : Outcome). o.table) outcome in
     let supplied = ended_supplied s r.supplied i end within (omega arith) in
-    let rows = ap (λ (l : Ledger). l.rows) ledger ∙ with_row_listed s r.supplied.forest t i end within later (omega arith) in
-    let kind : e.kind ≡ (entry_at stock.grove.entries i).kind = ap (λ (y : Entry). y.kind) (r.same i) in
+    let rows = ap (λ (l : Table). l.rows) table ∙ with_row_listed s r.supplied.forest t i end within later (omega arith) in
+    let kind : e.kind ≡ (entry_at inventory.forest.entries i).kind = ap (λ (y : Entry). y.kind) (r.same i) in
     record {
       output = ok_same x.output (heard_as rest todo) one.0;
       told = record {
         seconds = n;
-        told = event_is port cs stock.grove x ∙ ap (λ j. event_for cs stock.grove j (reply_in x.sent)) here
+        told = event_is port cs inventory.forest x ∙ ap (λ j. event_for cs inventory.forest j (reply_in x.sent)) here
             ∙ ap (λ q. event_of q (credential_at cs i) i (reply_in x.sent)) (sym kind) ∙ told ∙ ap (λ j. Told j n true) (sym here);
-        by_rule = sums ∙ same_renewal stock.grove h r.same i t ∙ ap (λ j. renewal (entry_at stock.grove.entries j) t) (sym here);
+        by_rule = sums ∙ same_renewal inventory.forest h r.same i t ∙ ap (λ j. renewal (entry_at inventory.forest.entries j) t) (sym here);
         short = a.short ∙ ap (λ (q : State). q.shortened) one.1 ∙ heard_short k t rest todo;
       };
       keeper = ap (λ (v : World). v.keeper) a.is ∙ ap taken one.1 ∙ heard_taken k t rest todo;
       supplied = supplied;
-      mirrors = subst (Mirrors (with_forest stock k) t) (sym rows) (mirrors_listed (with_forest stock k) supplied.forest t);
-      none = ap (λ (l : Ledger). l.faults) ledger;
+      mirrors = subst (Mirrors (with_forest inventory k) t) (sym rows) (mirrors_listed (with_forest inventory k) supplied.forest t);
+      none = ap (λ (l : Table). l.faults) table;
     } where
       ok_same : (a b : Output) → ◌≡◌ {A = Result Output StepFault} (Ok a) (Ok b) → a ≡ b
       ok_same a b e = cc
 
 -- what a whole round leaves
-pub record RoundDone (stock : Stock) (g : Grove) (t : ℕ) (rest : List ℕ) (xs : List Exchanged) (before : Option ℕ) (new : World) : Type 0 where
-  pub rests : AtRest stock new t rest
+pub record RoundDone (inventory : Inventory) (g : Forest) (t : ℕ) (rest : List ℕ) (xs : List Exchanged) (before : Option ℕ) (new : World) : Type 0 where
+  pub rests : AtRest inventory new t rest
   pub answered : IsAnsweredByRule g rests.g t (first_of rest)
-  pub told : All (IsToldByRule stock t) xs
+  pub told : All (IsToldByRule inventory t) xs
   pub closes : closing before xs ≡ first_of rest
 
 pub round_goes :
-    (stock : Stock) (port : ℕ) (g : Grove) (t : ℕ) (rest : List ℕ) (i : ℕ) (todo : List ℕ) (xs : List Exchanged) (w new : World) (h : Grove) (before : Option ℕ) →
-    InRound stock w g h t rest (i ∷ todo) → map (λ (x : Exchanged). x.entry) xs ≡ i ∷ todo → AreAnswered port stock.credentials t w xs new → RoundDone stock g t rest xs before new
-round_goes stock port g t rest i todo [] w new h before r asked answers = absurd cc
-round_goes stock port g t rest i [] (x ∷ []) w new h before r asked answers =
+    (inventory : Inventory) (port : ℕ) (g : Forest) (t : ℕ) (rest : List ℕ) (i : ℕ) (todo : List ℕ) (xs : List Exchanged) (w new : World) (h : Forest) (before : Option ℕ) →
+    InRound inventory w g h t rest (i ∷ todo) → map (λ (x : Exchanged). x.entry) xs ≡ i ∷ todo → AreAnswered port inventory.credentials t w xs new → RoundDone inventory g t rest xs before new
+round_goes inventory port g t rest i todo [] w new h before r asked answers = absurd cc
+round_goes inventory port g t rest i [] (x ∷ []) w new h before r asked answers =
     let here : x.entry ≡ i = cc in
     let mid = answers.0 in
-    let e = grants stock port w mid g h t rest i [] x r answers.1.0 here in
+    let e = grants inventory port w mid g h t rest i [] x r answers.1.0 here in
     let last : new ≡ mid = answers.1.1 in
     let k = ended h i (renewal (entry_at h.entries i) t) in
     let due = is_due g r.forest t rest (i ∷ []) h r.mid i (here_first i []) in
@@ -178,50 +178,50 @@ round_goes stock port g t rest i [] (x ∷ []) w new h before r asked answers =
         plan = stays.1.1;
         few = r.few;
         late = r.late;
-        same = same_after stock.grove h i (renewal (entry_at h.entries i) t) due.within r.same;
+        same = same_after inventory.forest h i (renewal (entry_at h.entries i) t) due.within r.same;
         supplied = e.supplied;
-        mirrors = subst (λ (v : World). Mirrors (with_forest stock k) t v.behind.table.rows) (sym last) e.mirrors;
+        mirrors = subst (λ (v : World). Mirrors (with_forest inventory k) t v.behind.table.rows) (sym last) e.mirrors;
         none = ap (λ (v : World). v.behind.table.faults) last ∙ e.none;
       };
       answered = after;
-      told = All-cons (IsToldByRule stock t) x [] e.told (All-nil (IsToldByRule stock t));
+      told = All-cons (IsToldByRule inventory t) x [] e.told (All-nil (IsToldByRule inventory t));
       closes = ap (told_next before) e.output;
     }
-round_goes stock port g t rest i [] (x ∷ y ∷ xs) w new h before r asked answers = absurd cc
-round_goes stock port g t rest i (j ∷ more) (x ∷ xs) w new h before r asked answers =
+round_goes inventory port g t rest i [] (x ∷ y ∷ xs) w new h before r asked answers = absurd cc
+round_goes inventory port g t rest i (j ∷ more) (x ∷ xs) w new h before r asked answers =
     let here : x.entry ≡ i = cc in
     let others : map (λ (y : Exchanged). y.entry) xs ≡ j ∷ more = cc in
     let mid = answers.0 in
-    let e = grants stock port w mid g h t rest i (j ∷ more) x r answers.1.0 here in
+    let e = grants inventory port w mid g h t rest i (j ∷ more) x r answers.1.0 here in
     let k = ended h i (renewal (entry_at h.entries i) t) in
     let due = is_due g r.forest t rest (i ∷ j ∷ more) h r.mid i (here_first i (j ∷ more)) in
-    let next : InRound stock mid g k t rest (j ∷ more) = record {
+    let next : InRound inventory mid g k t rest (j ∷ more) = record {
       keeper = e.keeper;
       forest = r.forest;
       plan = r.plan;
       mid = midway_more g t rest i (j ∷ more) h r.mid due.within;
       few = r.few;
       late = r.late;
-      same = same_after stock.grove h i (renewal (entry_at h.entries i) t) due.within r.same;
+      same = same_after inventory.forest h i (renewal (entry_at h.entries i) t) due.within r.same;
       supplied = e.supplied;
       mirrors = e.mirrors;
       none = e.none;
     } in
-    let done = round_goes stock port g t rest j more xs mid new k before next others answers.1.1 in
+    let done = round_goes inventory port g t rest j more xs mid new k before next others answers.1.1 in
     record {
       rests = done.rests;
       answered = done.answered;
-      told = All-cons (IsToldByRule stock t) x xs e.told done.told;
+      told = All-cons (IsToldByRule inventory t) x xs e.told done.told;
       closes = ap (λ o. closing o xs) (ap (told_next before) e.output) ∙ done.closes;
     }
 
 -- ---- a part of a round
 
 goes_on :
-    (stock : Stock) (port : ℕ) (g : Grove) (t : ℕ) (rest : List ℕ) (i j : ℕ) (more : List ℕ) (x : Exchanged) (w mid : World) (h : Grove) → InRound stock w g h t rest (i ∷ j ∷ more) →
-    IsAnswered port stock.credentials t w x mid → x.entry ≡ i → InRound stock mid g (ended h i (renewal (entry_at h.entries i) t)) t rest (j ∷ more)
-goes_on stock port g t rest i j more x w mid h r a here =
-    let e = grants stock port w mid g h t rest i (j ∷ more) x r a here in
+    (inventory : Inventory) (port : ℕ) (g : Forest) (t : ℕ) (rest : List ℕ) (i j : ℕ) (more : List ℕ) (x : Exchanged) (w mid : World) (h : Forest) → InRound inventory w g h t rest (i ∷ j ∷ more) →
+    IsAnswered port inventory.credentials t w x mid → x.entry ≡ i → InRound inventory mid g (ended h i (renewal (entry_at h.entries i) t)) t rest (j ∷ more)
+goes_on inventory port g t rest i j more x w mid h r a here =
+    let e = grants inventory port w mid g h t rest i (j ∷ more) x r a here in
     let due = is_due g r.forest t rest (i ∷ j ∷ more) h r.mid i (here_first i (j ∷ more)) in
     record {
       keeper = e.keeper;
@@ -230,30 +230,30 @@ goes_on stock port g t rest i j more x w mid h r a here =
       mid = midway_more g t rest i (j ∷ more) h r.mid due.within;
       few = r.few;
       late = r.late;
-      same = same_after stock.grove h i (renewal (entry_at h.entries i) t) due.within r.same;
+      same = same_after inventory.forest h i (renewal (entry_at h.entries i) t) due.within r.same;
       supplied = e.supplied;
       mirrors = e.mirrors;
       none = e.none;
     }
 
 pub part_goes :
-    (stock : Stock) (port : ℕ) (g : Grove) (t : ℕ) (rest : List ℕ) (xs : List Exchanged) (i : ℕ) (others : List ℕ) (w now : World) (h : Grove) →
-    InRound stock w g h t rest (map (λ (x : Exchanged). x.entry) xs ++ (i ∷ others)) → AreAnswered port stock.credentials t w xs now → (k : Grove) × InRound stock now g k t rest (i ∷ others)
-part_goes stock port g t rest [] i others w now h r answers = (h, subst (λ v. InRound stock v g h t rest (i ∷ others)) (sym answers) r)
-part_goes stock port g t rest (x ∷ []) i others w now h r answers =
-    part_goes stock port g t rest [] i others answers.0 now _ (goes_on stock port g t rest x.entry i others x w answers.0 h r answers.1.0 refl) answers.1.1
-part_goes stock port g t rest (x ∷ y ∷ xs) i others w now h r answers =
-    part_goes stock port g t rest (y ∷ xs) i others answers.0 now _
-    (goes_on stock port g t rest x.entry y.entry (map (λ (z : Exchanged). z.entry) xs ++ (i ∷ others)) x w answers.0 h r answers.1.0 refl) answers.1.1
+    (inventory : Inventory) (port : ℕ) (g : Forest) (t : ℕ) (rest : List ℕ) (xs : List Exchanged) (i : ℕ) (others : List ℕ) (w now : World) (h : Forest) →
+    InRound inventory w g h t rest (map (λ (x : Exchanged). x.entry) xs ++ (i ∷ others)) → AreAnswered port inventory.credentials t w xs now → (k : Forest) × InRound inventory now g k t rest (i ∷ others)
+part_goes inventory port g t rest [] i others w now h r answers = (h, subst (λ v. InRound inventory v g h t rest (i ∷ others)) (sym answers) r)
+part_goes inventory port g t rest (x ∷ []) i others w now h r answers =
+    part_goes inventory port g t rest [] i others answers.0 now _ (goes_on inventory port g t rest x.entry i others x w answers.0 h r answers.1.0 refl) answers.1.1
+part_goes inventory port g t rest (x ∷ y ∷ xs) i others w now h r answers =
+    part_goes inventory port g t rest (y ∷ xs) i others answers.0 now _
+    (goes_on inventory port g t rest x.entry y.entry (map (λ (z : Exchanged). z.entry) xs ++ (i ∷ others)) x w answers.0 h r answers.1.0 refl) answers.1.1
 
 -- what the reply to the next of them tells, and the turn that the keeper makes of it
 pub next_turn :
-    (stock : Stock) (port : ℕ) (g : Grove) (t : ℕ) (rest : List ℕ) (i : ℕ) (todo : List ℕ) (w : World) (h : Grove) → InRound stock w g h t rest (i ∷ todo) → (sent : Served) →
-    Says t (step w.behind.table t (request_of port stock.credentials w.keeper.forest i)).answer sent →
-    (output : Output) × ((new : State) × Turn w.keeper (event_for stock.credentials w.keeper.forest i (reply_in sent)) (Ok output) new)
-next_turn stock port g t rest i todo w h r sent said =
-    let s = with_forest stock h in
-    let cs = stock.credentials in
+    (inventory : Inventory) (port : ℕ) (g : Forest) (t : ℕ) (rest : List ℕ) (i : ℕ) (todo : List ℕ) (w : World) (h : Forest) → InRound inventory w g h t rest (i ∷ todo) → (sent : Served) →
+    Says t (step w.behind.table t (request_of port inventory.credentials w.keeper.forest i)).answer sent →
+    (output : Output) × ((new : State) × Turn w.keeper (event_for inventory.credentials w.keeper.forest i (reply_in sent)) (Ok output) new)
+next_turn inventory port g t rest i todo w h r sent said =
+    let s = with_forest inventory h in
+    let cs = inventory.credentials in
     let e = entry_at h.entries i in
     let end = renewal e t in
     let n = end - t in

@@ -4,7 +4,7 @@ use Rattle.std.proofs.lemmas.List.{append-nil, flat_map_more, map-append}
 use Rattle.keep_core.specs.LawsOfSteps.{IsShaped}
 use Rattle.keep_core.specs.declared.event.Output.{Output}
 use Rattle.keep_run.specs.Closed.{Exchanged, World, closing, told_next}
-use Rattle.keep_run.specs.Playing.{Answers, AnswersAll, stock_of}
+use Rattle.keep_run.specs.Playing.{Answers, AnswersAll, inventory_with}
 use Rattle.keep_run.specs.Text.{answer_text}
 use Rattle.keep_run.proofs.Loops.{answer_more}
 use Rattle.keep_run.proofs.Texts.{same_answer_text}
@@ -17,14 +17,14 @@ pub answers_more :
     AnswersAll cs t old done next mid before middle → Answers cs t mid i output new middle after → AnswersAll cs t old (done ++ i ∷ []) (told_next next output) new before after
 answers_more cs t old mid new done i next output before middle after like a one =
     let more = answer_more 8200 cs t old mid new a.xs one.x a.answered one.answered in
-    let s = stock_of cs old.keeper.forest in
+    let s = inventory_with cs old.keeper.forest in
     record {
       xs = a.xs ++ one.x ∷ [];
       who = map-append (λ (x : Exchanged). x.entry) a.xs (one.x ∷ []) ∙ ap (λ is. is ++ one.x.entry ∷ []) a.who ∙ ap (λ j. done ++ j ∷ []) one.entry;
       answered = more.0;
       next_is = ap (λ n. told_next n output) a.next_is ∙ ap (λ o. told_next (closing None a.xs) o) (sym one.output_is) ∙ sym (more.1 None);
       text_is = one.text_is
-          ∙ ap (λ l. middle ++ l) (same_answer_text s (stock_of cs mid.keeper.forest) like refl one.x)
+          ∙ ap (λ l. middle ++ l) (same_answer_text s (inventory_with cs mid.keeper.forest) like refl one.x)
           ∙ ap (λ l. l ++ answer_text s one.x) a.text_is
           ∙ flat_map_more (answer_text s) before a.xs one.x;
     }

@@ -7,14 +7,14 @@ use Rattle.std.proofs.lemmas.List.Elements.{All-cons, All-nil, All-head, All-tai
 use Rattle.std.proofs.lemmas.List.Sums.{sum_by-cons}
 use Rattle.std.specs.List.{All}
 use Rattle.keep_moment.specs.declared.moment.TheConstants.{LAST}
-use Rattle.keep_tree.specs.Forest.{Grove, end_of}
+use Rattle.keep_tree.specs.Forest.{Forest, end_of}
 use Rattle.keep_rule.specs.declared.wake.Wake.{Wake}
 use Rattle.keep_rule.specs.Asks.{asking, asks, first_of, with_asks}
 use Rattle.keep_rule.specs.Plans.{IsPlan, moments}
 use Rattle.keep_rule.specs.Requests.{requests}
 use Rattle.keep_rule.proofs.LaterStart.{same_requests}
 use Rattle.keep_rule.specs.declared.limit.TheConstants.{LIMIT}
-use Rattle.keep_inventory.specs.Stock.{Stock}
+use Rattle.keep_inventory.specs.Inventories.{Inventory}
 use Rattle.mini_broker.specs.Sweep.{swept}
 use Rattle.keep_core.specs.declared.event.Event.TheVariants.{Tick}
 use Rattle.keep_core.specs.declared.event.Output.{Output}
@@ -41,15 +41,15 @@ Awaits t ts (Some u) = (t ≤ u) × ((u ≤ LAST) × All (λ v. u ≤ v) ts)
 
 -- ---- the keeper's turn at a tick
 
-pub tick_says : Grove → ℕ → List ℕ → Output
+pub tick_says : Forest → ℕ → List ℕ → Output
 tick_says g u [] = out.Idle
 tick_says g u (v ∷ rest) = cond (nat_lt u v) (out.Sleep v) (out.Ask (asks g.entries g.margin u (end_of g.entries) u (first_of rest)))
 
-pub tick_leaves : Grove → ℕ → List ℕ → State
+pub tick_leaves : Forest → ℕ → List ℕ → State
 tick_leaves g u [] = settled g u []
 tick_leaves g u (v ∷ rest) = cond (nat_lt u v) (settled g u (v ∷ rest)) (waiting g u rest (asks g.entries g.margin u (end_of g.entries) u (first_of rest)))
 
-takes_tick : (g : Grove) (t u : ℕ) (ts : List ℕ) → t ≤ u → u ≤ LAST → refusal (settled g t ts) (Tick u) ≡ None
+takes_tick : (g : Forest) (t u : ℕ) (ts : List ℕ) → t ≤ u → u ≤ LAST → refusal (settled g t ts) (Tick u) ≡ None
 unfolding refusal
 takes_tick g t u ts le late =
     let a : nat_lt LAST u ≡ false = grind (arith, nat_tests) in
@@ -57,7 +57,7 @@ takes_tick g t u ts le late =
     cond-false (nat_lt LAST u) _ _ a ∙ cond-false (nat_lt u t) _ _ b
 
 pub tick_turn :
-    (g : Grove) (t u : ℕ) (ts : List ℕ) → IsPlanOf g t ts → length ts ≤ LIMIT → t ≤ u → u ≤ LAST → All (λ v. u ≤ v) ts →
+    (g : Forest) (t u : ℕ) (ts : List ℕ) → IsPlanOf g t ts → length ts ≤ LIMIT → t ≤ u → u ≤ LAST → All (λ v. u ≤ v) ts →
     Turn (settled g t ts) (Tick u) (Ok (tick_says g u ts)) (tick_leaves g u ts)
 unfolding tick_says tick_leaves
 tick_turn g t u [] plan few le late all =
@@ -83,21 +83,21 @@ tick_turn g t u (v ∷ rest) plan few le late all =
 
 -- ---- one tick
 
-abbrev pub requests_from : Grove → ℕ → List ℕ → ℕ
+abbrev pub requests_from : Forest → ℕ → List ℕ → ℕ
 requests_from g t ts = requests (with_asks g.entries g.margin t (end_of g.entries) ts)
 
 -- what one tick leaves: the moments that are left, and what is still to be asked at them
-pub record BeatDone (stock : Stock) (g : Grove) (ts : List ℕ) (b : Beat) (new : World) : Type 0 where
+pub record BeatDone (inventory : Inventory) (g : Forest) (ts : List ℕ) (b : Beat) (new : World) : Type 0 where
   pub rest : List ℕ
-  pub rests : AtRest stock new b.at rest
+  pub rests : AtRest inventory new b.at rest
   pub awaits : Awaits b.at rest (next_tick b)
   pub moments : ts ≡ map (λ (c : Beat). c.at) (rounds (b ∷ [])) ++ rest
   pub requests : requests_from g b.at ts ≡ length b.answers + requests_from rests.g b.at rest
-  pub quiet : IsQuiet stock b
+  pub quiet : IsQuiet inventory b
 
 -- the same side by side, behind an equation
-moved : (stock : Stock) (w v : World) (t : ℕ) (ts : List ℕ) → AtRest stock w t ts → v ≡ w → AtRest stock v t ts
-moved stock w v t ts r same = record {
+moved : (inventory : Inventory) (w v : World) (t : ℕ) (ts : List ℕ) → AtRest inventory w t ts → v ≡ w → AtRest inventory v t ts
+moved inventory w v t ts r same = record {
   g = r.g;
   keeper = ap (λ (x : World). x.keeper) same ∙ r.keeper;
   plan = r.plan;
@@ -105,7 +105,7 @@ moved stock w v t ts r same = record {
   late = r.late;
   same = r.same;
   supplied = r.supplied;
-  mirrors = subst (λ (x : World). Mirrors (with_forest stock r.g) t x.behind.table.rows) (sym same) r.mirrors;
+  mirrors = subst (λ (x : World). Mirrors (with_forest inventory r.g) t x.behind.table.rows) (sym same) r.mirrors;
   none = ap (λ (x : World). x.behind.table.faults) same ∙ r.none;
 }
 
@@ -113,26 +113,26 @@ nobody_answers : (xs : List Exchanged) → map (λ (x : Exchanged). x.entry) xs 
 nobody_answers [] e = refl
 nobody_answers (x ∷ xs) e = absurd cc
 
-pub within_last : (g : Grove) (t v : ℕ) (rest : List ℕ) → IsPlanOf g t (v ∷ rest) → v ≤ LAST
+pub within_last : (g : Forest) (t v : ℕ) (rest : List ℕ) → IsPlanOf g t (v ∷ rest) → v ≤ LAST
 within_last g t v rest best = by_plan best.plan best.in_order best.at_these where
   by_plan : (ws : List Wake) → IsPlan t ws → moments ws ≡ v ∷ rest → v ≤ LAST
   by_plan [] plan is = absurd cc
   by_plan (w ∷ ws) plan is = let first : w.at ≡ v = cc in let l : w.at ≤ LAST = plan.1.0 in omega arith
 
 -- the next tick is at the first moment that is left
-awaits_first : (g : Grove) (t : ℕ) (ts : List ℕ) → IsPlanOf g t ts → Awaits t ts (first_of ts)
+awaits_first : (g : Forest) (t : ℕ) (ts : List ℕ) → IsPlanOf g t ts → Awaits t ts (first_of ts)
 awaits_first g t [] plan = refl
 awaits_first g t (v ∷ rest) plan = let first = best_first g t v rest plan in (first.0, (within_last g t v rest plan, first.1))
 
 -- a tick at which nobody is asked
 still :
-    (stock : Stock) (port : ℕ) (w new : World) (t : ℕ) (ts : List ℕ) (b : Beat) (r : AtRest stock w t ts) → t ≤ b.at → b.at ≤ LAST → All (λ v. b.at ≤ v) ts → (beat : IsBeat port stock.credentials w b new) →
-    asked_in b.output ≡ [] → asks_some b.output ≡ false → beat.keeper ≡ settled r.g b.at ts → Awaits b.at ts (next_tick b) → BeatDone stock r.g ts b new
+    (inventory : Inventory) (port : ℕ) (w new : World) (t : ℕ) (ts : List ℕ) (b : Beat) (r : AtRest inventory w t ts) → t ≤ b.at → b.at ≤ LAST → All (λ v. b.at ≤ v) ts → (beat : IsBeat port inventory.credentials w b new) →
+    asked_in b.output ≡ [] → asks_some b.output ≡ false → beat.keeper ≡ settled r.g b.at ts → Awaits b.at ts (next_tick b) → BeatDone inventory r.g ts b new
 unfolding rounds
-still stock port w new t ts b r le late all beat nobody quiet is awaits =
+still inventory port w new t ts b r le late all beat nobody quiet is awaits =
     let none = nobody_answers b.answers (beat.asked ∙ nobody) in
     let stays : new ≡ record { keeper = taken beat.keeper; behind = w.behind } =
-    subst (λ xs. AreAnswered port stock.credentials b.at (record { keeper = taken beat.keeper; behind = w.behind }) xs new) none beat.answered in
+    subst (λ xs. AreAnswered port inventory.credentials b.at (record { keeper = taken beat.keeper; behind = w.behind }) xs new) none beat.answered in
     record {
       rest = ts;
       rests = record {
@@ -149,7 +149,7 @@ still stock port w new t ts b r le late all beat nobody quiet is awaits =
       awaits = awaits;
       moments = sym (ap (λ c. map (λ (d : Beat). d.at) (cond c (b ∷ []) []) ++ ts) quiet);
       requests = (let zero' : length b.answers ≡ 0 = ap length none in omega arith);
-      quiet = record { short = beat.short ∙ ap (λ (q : State). q.shortened) is; told = subst (All (IsToldByRule stock b.at)) (sym none) (All-nil (IsToldByRule stock b.at)) };
+      quiet = record { short = beat.short ∙ ap (λ (q : State). q.shortened) is; told = subst (All (IsToldByRule inventory b.at)) (sym none) (All-nil (IsToldByRule inventory b.at)) };
     }
 
 some_of : (xs : List ℕ) → 0 < length xs → (i : ℕ) × ((todo : List ℕ) × (xs ≡ i ∷ todo))
@@ -158,11 +158,11 @@ some_of (x ∷ xs) some = (x, (xs, refl))
 
 -- a tick that opens a round
 opens :
-    (stock : Stock) (port : ℕ) (w new : World) (t : ℕ) (rest : List ℕ) (b : Beat) (r : AtRest stock w t (b.at ∷ rest)) → t ≤ b.at → b.at ≤ LAST → All (λ v. b.at ≤ v) (b.at ∷ rest) → (beat : IsBeat port stock.credentials w b new) →
+    (inventory : Inventory) (port : ℕ) (w new : World) (t : ℕ) (rest : List ℕ) (b : Beat) (r : AtRest inventory w t (b.at ∷ rest)) → t ≤ b.at → b.at ≤ LAST → All (λ v. b.at ≤ v) (b.at ∷ rest) → (beat : IsBeat port inventory.credentials w b new) →
     b.output ≡ out.Ask (asks r.g.entries r.g.margin b.at (end_of r.g.entries) b.at (first_of rest)) →
-    beat.keeper ≡ waiting r.g b.at rest (asks r.g.entries r.g.margin b.at (end_of r.g.entries) b.at (first_of rest)) → BeatDone stock r.g (b.at ∷ rest) b new
+    beat.keeper ≡ waiting r.g b.at rest (asks r.g.entries r.g.margin b.at (end_of r.g.entries) b.at (first_of rest)) → BeatDone inventory r.g (b.at ∷ rest) b new
 unfolding rounds
-opens stock port w new t rest b r le late all beat asks_is is =
+opens inventory port w new t rest b r le late all beat asks_is is =
     let g = r.g in
     let u = b.at in
     let asked = asks g.entries g.margin u (end_of g.entries) u (first_of rest) in
@@ -172,7 +172,7 @@ opens stock port w new t rest b r le late all beat asks_is is =
     let todo = some.1.0 in
     let first : asked ≡ i ∷ todo = some.1.1 in
     let start : World = record { keeper = taken beat.keeper; behind = w.behind } in
-    let open' : InRound stock start g g u rest asked = record {
+    let open' : InRound inventory start g g u rest asked = record {
       keeper = ap taken is;
       forest = r.supplied.forest;
       plan = plan;
@@ -185,7 +185,7 @@ opens stock port w new t rest b r le late all beat asks_is is =
       none = r.none;
     } in
     let who : map (λ (x : Exchanged). x.entry) b.answers ≡ asked = beat.asked ∙ ap asked_in asks_is in
-    let done = round_goes stock port g u rest i todo b.answers start new g None (subst (InRound stock start g g u rest) first open') (who ∙ first) beat.answered in
+    let done = round_goes inventory port g u rest i todo b.answers start new g None (subst (InRound inventory start g g u rest) first open') (who ∙ first) beat.answered in
     let next : next_tick b ≡ first_of rest = ap (λ o. next_by o b.answers) asks_is ∙ done.closes in
     let count : length b.answers ≡ length asked = sym (length-map b.answers (λ (x : Exchanged). x.entry)) ∙ ap length who in
     record {
@@ -203,8 +203,8 @@ opens stock port w new t rest b r le late all beat asks_is is =
 ok_same : (a b : Output) → ◌≡◌ {A = Result Output StepFault} (Ok a) (Ok b) → a ≡ b
 ok_same a b e = cc
 
-at_moment : (stock : Stock) (w : World) (t v u : ℕ) (rest : List ℕ) → AtRest stock w t (v ∷ rest) → v ≡ u → AtRest stock w t (u ∷ rest)
-at_moment stock w t v u rest r same = record {
+at_moment : (inventory : Inventory) (w : World) (t v u : ℕ) (rest : List ℕ) → AtRest inventory w t (v ∷ rest) → v ≡ u → AtRest inventory w t (u ∷ rest)
+at_moment inventory w t v u rest r same = record {
   g = r.g;
   keeper = r.keeper ∙ ap (λ n. settled r.g t (n ∷ rest)) same;
   plan = subst (λ n. IsPlanOf r.g t (n ∷ rest)) same r.plan;
@@ -217,15 +217,15 @@ at_moment stock w t v u rest r same = record {
 }
 
 pub beat_goes :
-    (stock : Stock) (port : ℕ) (w new : World) (t : ℕ) (ts : List ℕ) (b : Beat) (r : AtRest stock w t ts) → Awaits t ts (Some b.at) → IsBeat port stock.credentials w b new → BeatDone stock r.g ts b new
+    (inventory : Inventory) (port : ℕ) (w new : World) (t : ℕ) (ts : List ℕ) (b : Beat) (r : AtRest inventory w t ts) → Awaits t ts (Some b.at) → IsBeat port inventory.credentials w b new → BeatDone inventory r.g ts b new
 unfolding tick_says tick_leaves at_moment
-beat_goes stock port w new t [] b r awaits beat =
+beat_goes inventory port w new t [] b r awaits beat =
     let u = b.at in
     let turn : Turn (settled r.g t []) (Tick u) (Ok b.output) beat.keeper = subst (λ (q : State). Turn q (Tick u) (Ok b.output) beat.keeper) r.keeper beat.turn in
     let one = once (settled r.g t []) beat.keeper (settled r.g u []) (Tick u) (Ok b.output) (Ok out.Idle) (λ bad. cc) (λ bad. cc) turn (tick_turn r.g t u [] r.plan r.few awaits.0 awaits.1.0 awaits.1.1) in
     let output = ok_same b.output out.Idle one.0 in
-    still stock port w new t [] b r awaits.0 awaits.1.0 awaits.1.1 beat (ap asked_in output) (ap asks_some output) one.1 (subst (Awaits u []) (sym (ap (λ o. next_by o b.answers) output)) refl)
-beat_goes stock port w new t (v ∷ rest) b r awaits beat =
+    still inventory port w new t [] b r awaits.0 awaits.1.0 awaits.1.1 beat (ap asked_in output) (ap asks_some output) one.1 (subst (Awaits u []) (sym (ap (λ o. next_by o b.answers) output)) refl)
+beat_goes inventory port w new t (v ∷ rest) b r awaits beat =
     let u = b.at in
     let ts = v ∷ rest in
     let turn : Turn (settled r.g t ts) (Tick u) (Ok b.output) beat.keeper = subst (λ (q : State). Turn q (Tick u) (Ok b.output) beat.keeper) r.keeper beat.turn in
@@ -239,15 +239,15 @@ beat_goes stock port w new t (v ∷ rest) b r awaits beat =
           let output = says ∙ cond-true (nat_lt u v) (out.Sleep v) (out.Ask asked) yes' in
           let keeper = one.1 ∙ cond-true (nat_lt u v) (settled r.g u ts) (waiting r.g u rest asked) yes' in
           let first = best_first r.g t v rest r.plan in
-          still stock port w new t ts b r awaits.0 awaits.1.0 awaits.1.1 beat (ap asked_in output) (ap asks_some output) keeper
+          still inventory port w new t ts b r awaits.0 awaits.1.0 awaits.1.1 beat (ap asked_in output) (ap asks_some output) keeper
           (subst (Awaits u ts) (sym (ap (λ o. next_by o b.answers) output)) (low, (within_last r.g t v rest r.plan, first.1)))
       | inr not_before ↦
           let no' : nat_lt u v ≡ false = grind (arith, nat_tests) in
           let same : v ≡ u = omega arith in
           let output = says ∙ cond-false (nat_lt u v) (out.Sleep v) (out.Ask asked) no' in
           let keeper = one.1 ∙ cond-false (nat_lt u v) (settled r.g u ts) (waiting r.g u rest asked) no' in
-          subst (λ n. BeatDone stock r.g (n ∷ rest) b new) (sym same)
-          (opens stock port w new t rest b (at_moment stock w t v u rest r same) awaits.0 awaits.1.0 (subst (λ n. All (λ k. u ≤ k) (n ∷ rest)) same awaits.1.1) beat output keeper)
+          subst (λ n. BeatDone inventory r.g (n ∷ rest) b new) (sym same)
+          (opens inventory port w new t rest b (at_moment inventory w t v u rest r same) awaits.0 awaits.1.0 (subst (λ n. All (λ k. u ≤ k) (n ∷ rest)) same awaits.1.1) beat output keeper)
     ]
 
 same_asked : (a b : List ℕ) → ◌≡◌ {A = Result Output StepFault} (Ok (out.Ask a)) (Ok (out.Ask b)) → a ≡ b
@@ -255,24 +255,24 @@ same_asked a b e = cc
 
 -- a tick that asks has a moment to come
 pub asks_left :
-    (stock : Stock) (w : World) (t : ℕ) (ts : List ℕ) (u : ℕ) (r : AtRest stock w t ts) → Awaits t ts (Some u) → (asked : List ℕ) (keeper : State) → Turn w.keeper (Tick u) (Ok (out.Ask asked)) keeper → 0 < length ts
+    (inventory : Inventory) (w : World) (t : ℕ) (ts : List ℕ) (u : ℕ) (r : AtRest inventory w t ts) → Awaits t ts (Some u) → (asked : List ℕ) (keeper : State) → Turn w.keeper (Tick u) (Ok (out.Ask asked)) keeper → 0 < length ts
 unfolding tick_says tick_leaves
-asks_left stock w t [] u r awaits asked keeper turn =
+asks_left inventory w t [] u r awaits asked keeper turn =
     let now : Turn (settled r.g t []) (Tick u) (Ok (out.Ask asked)) keeper = subst (λ (q : State). Turn q (Tick u) (Ok (out.Ask asked)) keeper) r.keeper turn in
     let one = once (settled r.g t []) keeper (settled r.g u []) (Tick u) (Ok (out.Ask asked)) (Ok out.Idle) (λ bad. cc) (λ bad. cc) now (tick_turn r.g t u [] r.plan r.few awaits.0 awaits.1.0 awaits.1.1) in
     absurd (let bad = one.0 in cc)
-asks_left stock w t (v ∷ rest) u r awaits asked keeper turn = omega arith
+asks_left inventory w t (v ∷ rest) u r awaits asked keeper turn = omega arith
 
 -- a tick that asks opens a round
 pub asks_open :
-    (stock : Stock) (w : World) (t : ℕ) (ts : List ℕ) (u : ℕ) (r : AtRest stock w t ts) → Awaits t ts (Some u) → (asked : List ℕ) (keeper : State) → Turn w.keeper (Tick u) (Ok (out.Ask asked)) keeper →
-    (rest : List ℕ) × InRound stock (record { keeper = taken keeper; behind = w.behind }) r.g r.g u rest asked
+    (inventory : Inventory) (w : World) (t : ℕ) (ts : List ℕ) (u : ℕ) (r : AtRest inventory w t ts) → Awaits t ts (Some u) → (asked : List ℕ) (keeper : State) → Turn w.keeper (Tick u) (Ok (out.Ask asked)) keeper →
+    (rest : List ℕ) × InRound inventory (record { keeper = taken keeper; behind = w.behind }) r.g r.g u rest asked
 unfolding tick_says tick_leaves
-asks_open stock w t [] u r awaits asked keeper turn =
+asks_open inventory w t [] u r awaits asked keeper turn =
     let now : Turn (settled r.g t []) (Tick u) (Ok (out.Ask asked)) keeper = subst (λ (q : State). Turn q (Tick u) (Ok (out.Ask asked)) keeper) r.keeper turn in
     let one = once (settled r.g t []) keeper (settled r.g u []) (Tick u) (Ok (out.Ask asked)) (Ok out.Idle) (λ bad. cc) (λ bad. cc) now (tick_turn r.g t u [] r.plan r.few awaits.0 awaits.1.0 awaits.1.1) in
     absurd (let bad = one.0 in cc)
-asks_open stock w t (v ∷ rest) u r awaits asked keeper turn =
+asks_open inventory w t (v ∷ rest) u r awaits asked keeper turn =
     let g = r.g in
     let ts = v ∷ rest in
     let now : Turn (settled g t ts) (Tick u) (Ok (out.Ask asked)) keeper = subst (λ (q : State). Turn q (Tick u) (Ok (out.Ask asked)) keeper) r.keeper turn in
@@ -291,7 +291,7 @@ asks_open stock w t (v ∷ rest) u r awaits asked keeper turn =
           let who : asked ≡ want = same_asked asked want says in
           let leaves = one.1 ∙ cond-false (nat_lt u v) (settled g u ts) (waiting g u rest want) no' in (
             rest,
-            subst (InRound stock (record { keeper = taken keeper; behind = w.behind }) g g u rest) (sym who) (record {
+            subst (InRound inventory (record { keeper = taken keeper; behind = w.behind }) g g u rest) (sym who) (record {
               keeper = ap taken leaves;
               forest = r.supplied.forest;
               plan = subst (λ n. IsPlanOf g u (n ∷ rest)) same (tick g t u ts awaits.0 awaits.1.1 r.plan).1.1;
@@ -308,14 +308,14 @@ asks_open stock w t (v ∷ rest) u r awaits asked keeper turn =
 
 -- ---- the run
 
-pub record RunDone (stock : Stock) (g : Grove) (t : ℕ) (ts : List ℕ) (beats : List Beat) (final : World) (next : Option ℕ) : Type 0 where
+pub record RunDone (inventory : Inventory) (g : Forest) (t : ℕ) (ts : List ℕ) (beats : List Beat) (final : World) (next : Option ℕ) : Type 0 where
   pub last : ℕ
   pub rest : List ℕ
-  pub rests : AtRest stock final last rest
+  pub rests : AtRest inventory final last rest
   pub awaits : Awaits last rest next
   pub moments : ts ≡ map (λ (c : Beat). c.at) (rounds beats) ++ rest
   pub requests : requests_from g t ts ≡ requests_of beats + requests_from rests.g last rest
-  pub quiet : All (IsQuiet stock) beats
+  pub quiet : All (IsQuiet inventory) beats
   pub bound : (m : ℕ) → t ≤ m → All (λ (c : Beat). c.at ≤ m) beats → last ≤ m
 
 more_moments : (b : Beat) (bs : List Beat) (rest : List ℕ) → map (λ (c : Beat). c.at) (rounds (b ∷ [])) ++ (map (λ (c : Beat). c.at) (rounds bs) ++ rest) ≡ map (λ (c : Beat). c.at) (rounds (b ∷ bs)) ++ rest
@@ -341,26 +341,26 @@ no_requests : (n : ℕ) → n ≡ requests_of [] + n
 no_requests n = let none = no_beats in omega arith
 
 pub run_goes :
-    (stock : Stock) (port : ℕ) (beats : List Beat) (w final : World) (t : ℕ) (ts : List ℕ) (r : AtRest stock w t ts) (due next : Option ℕ) → Awaits t ts due →
-    Played port stock.credentials w due beats final next → RunDone stock r.g t ts beats final next
+    (inventory : Inventory) (port : ℕ) (beats : List Beat) (w final : World) (t : ℕ) (ts : List ℕ) (r : AtRest inventory w t ts) (due next : Option ℕ) → Awaits t ts due →
+    Played port inventory.credentials w due beats final next → RunDone inventory r.g t ts beats final next
 unfolding moved
-run_goes stock port [] w final t ts r due next awaits played = record {
+run_goes inventory port [] w final t ts r due next awaits played = record {
   last = t;
   rest = ts;
-  rests = moved stock w final t ts r played.0;
+  rests = moved inventory w final t ts r played.0;
   awaits = subst (Awaits t ts) (sym played.1) awaits;
   moments = no_moments ts;
   requests = no_requests (requests_from r.g t ts);
-  quiet = All-nil (IsQuiet stock);
+  quiet = All-nil (IsQuiet inventory);
   bound = λ m from all. from;
 }
-run_goes stock port (b ∷ bs) w final t ts r None next awaits played = absurd played
-run_goes stock port (b ∷ bs) w final t ts r (Some u) next awaits played =
+run_goes inventory port (b ∷ bs) w final t ts r None next awaits played = absurd played
+run_goes inventory port (b ∷ bs) w final t ts r (Some u) next awaits played =
     let here : b.at ≡ u = played.0 in
     let mid = played.1.0 in
     let now : Awaits t ts (Some b.at) = subst (λ n. Awaits t ts (Some n)) (sym here) awaits in
-    let one = beat_goes stock port w mid t ts b r now played.1.1.0 in
-    let more = run_goes stock port bs mid final b.at one.rest one.rests (next_tick b) next one.awaits played.1.1.1 in
+    let one = beat_goes inventory port w mid t ts b r now played.1.1.0 in
+    let more = run_goes inventory port bs mid final b.at one.rest one.rests (next_tick b) next one.awaits played.1.1.1 in
     let earlier = same_requests r.g.entries r.g.margin t b.at (end_of r.g.entries) ts (best_from r.g t ts r.plan) now.1.1 in
     record {
       last = more.last;
@@ -369,6 +369,6 @@ run_goes stock port (b ∷ bs) w final t ts r (Some u) next awaits played =
       awaits = more.awaits;
       moments = one.moments ∙ ap (λ xs. map (λ (c : Beat). c.at) (rounds (b ∷ [])) ++ xs) more.moments ∙ more_moments b bs more.rest;
       requests = (let a = ap requests earlier in let c = one.requests in let d = more.requests in let e = more_requests b bs in omega arith);
-      quiet = All-cons (IsQuiet stock) b bs one.quiet more.quiet;
+      quiet = All-cons (IsQuiet inventory) b bs one.quiet more.quiet;
       bound = λ m from all. more.bound m (All-head (λ (c : Beat). c.at ≤ m) b bs all) (All-tail (λ (c : Beat). c.at ≤ m) b bs all);
     }

@@ -8,8 +8,8 @@ use Rattle.keep_tree.specs.declared.entry.Kind.{Kind}
 use Rattle.keep_tree.specs.declared.entry.Kind.TheVariants.{Token, Lease}
 use Rattle.keep_tree.specs.Forest.{end_of, entry_at}
 use Rattle.keep_tree.specs.Renewal.{all_last, is_granted, renewal}
-use Rattle.keep_inventory.specs.Stock.{IsStock, Stock, credential_at}
-use Rattle.keep_inventory.proofs.Stocks.{credential_text}
+use Rattle.keep_inventory.specs.Inventories.{IsInventory, Inventory, credential_at}
+use Rattle.keep_inventory.proofs.Inventories.{credential_text}
 use Rattle.vault_json.specs.Request.{increment_answer}
 use Rattle.vault_json.specs.Written.{lease_text, renew_text}
 use Rattle.vault_json.proofs.ReadBack.{lease_body_is_read, renew_body_is_read}
@@ -17,7 +17,7 @@ use Rattle.mini_broker.specs.declared.row.Row.{Row}
 use Rattle.mini_broker.specs.declared.call.Call.TheVariants.{RenewSelf, RenewLease}
 use Rattle.mini_broker.specs.Faults.{fault_at, next_number, without}
 use Rattle.mini_broker.specs.Granted.{AsksRenewal, asked_for, bearer_for, call_for}
-use Rattle.mini_broker.specs.Ledger.{Ledger}
+use Rattle.mini_broker.specs.Table.{Table}
 use Rattle.mini_broker.specs.Listed.{is_alive, listed}
 use Rattle.mini_broker.specs.Renewing.{with_row}
 use Rattle.mini_broker.specs.Request.{a_text, answered, asked, call_of, increment_in, is_write, lease_id_in, of_lease as lease_asked, of_token as token_asked}
@@ -28,14 +28,14 @@ use Rattle.mini_broker.proofs.Granting.{by_the_rule, renewed_by}
 use Rattle.keep_exchange.specs.Requests.{asked_as, request_of}
 
 -- the row of i, renewed at t
-abbrev pub renewed_row : Stock → ℕ → ℕ → Row
-renewed_row s t i = record (row_of s i) { end = renewal (entry_at s.grove.entries i) t }
+abbrev pub renewed_row : Inventory → ℕ → ℕ → Row
+renewed_row s t i = record (row_of s i) { end = renewal (entry_at s.forest.entries i) t }
 
-pub credential_in : (s : Stock) (i : ℕ) → (row_of s i).credential ≡ credential_at s.credentials i
+pub credential_in : (s : Inventory) (i : ℕ) → (row_of s i).credential ≡ credential_at s.credentials i
 unfolding row_of
 credential_in s i = refl
 
-pub renewable_in : (s : Stock) (i : ℕ) → (row_of s i).renewable ≡ (entry_at s.grove.entries i).renewable
+pub renewable_in : (s : Inventory) (i : ℕ) → (row_of s i).renewable ≡ (entry_at s.forest.entries i).renewable
 unfolding row_of
 renewable_in s i = refl
 
@@ -68,7 +68,7 @@ unfolding is_write
 method_as Token port cs i e = refl
 method_as Lease port cs i e = refl
 
-token_as : (k : Kind) (port : ℕ) (s : Stock) (i : ℕ) → (asked_as k port s.credentials i (entry_at s.grove.entries i)).token ≡ bearer_for k s i
+token_as : (k : Kind) (port : ℕ) (s : Inventory) (i : ℕ) → (asked_as k port s.credentials i (entry_at s.forest.entries i)).token ≡ bearer_for k s i
 token_as Token port s i = refl
 token_as Lease port s i = refl
 
@@ -78,20 +78,20 @@ body_as Token port cs i e utf8 small = renew_asked e.step small
 body_as Lease port cs i e utf8 small = lease_renew_asked (credential_at cs i) e.step utf8 small
 
 -- the request for an entry asks for its renewal
-pub asks_renewal : (s : Stock) → IsStock s → (port i : ℕ) → i < length s.grove.entries → AsksRenewal s i (request_of port s.credentials s.grove i)
+pub asks_renewal : (s : Inventory) → IsInventory s → (port i : ℕ) → i < length s.forest.entries → AsksRenewal s i (request_of port s.credentials s.forest i)
 unfolding request_of
-asks_renewal s stock port i within =
-    let e = entry_at s.grove.entries i in
+asks_renewal s inventory port i within =
+    let e = entry_at s.forest.entries i in
     record {
       call = call_as e.kind port s.credentials i e;
       method = method_as e.kind port s.credentials i e;
       token = token_as e.kind port s i;
-      body = body_as e.kind port s.credentials i e (credential_text s stock i within) (stock.steps i within);
+      body = body_as e.kind port s.credentials i e (credential_text s inventory i within) (inventory.steps i within);
     }
 
-grants : (s : Stock) (t i : ℕ) → (entry_at s.grove.entries i).renewable ≡ true → is_alive s.grove t i ≡ true → is_granted s.grove.entries 1 (end_of s.grove.entries) t i ≡ true
+grants : (s : Inventory) (t i : ℕ) → (entry_at s.forest.entries i).renewable ≡ true → is_alive s.forest t i ≡ true → is_granted s.forest.entries 1 (end_of s.forest.entries) t i ≡ true
 unfolding is_granted is_alive
-grants s t i able alive = and_from (entry_at s.grove.entries i).renewable (all_last s.grove.entries (end_of s.grove.entries) (t + 1) i) able alive
+grants s t i able alive = and_from (entry_at s.forest.entries i).renewable (all_last s.forest.entries (end_of s.forest.entries) (t + 1) i) able alive
 
 no_fault : (n : ℕ) → fault_at [] n ≡ None
 unfolding fault_at
@@ -103,14 +103,14 @@ none_left n = refl
 
 -- the table and the answer after the request of an entry that is alive and renewable
 pub serves :
-    (s : Stock) → IsStock s → (port t i : ℕ) (l : Ledger) → i < length s.grove.entries → (entry_at s.grove.entries i).renewable ≡ true → is_alive s.grove t i ≡ true →
+    (s : Inventory) → IsInventory s → (port t i : ℕ) (l : Table) → i < length s.forest.entries → (entry_at s.forest.entries i).renewable ≡ true → is_alive s.forest t i ≡ true →
     l.faults ≡ [] → swept t l.rows ≡ listed s t →
-    step l t (request_of port s.credentials s.grove i)
-    ≡ record { answer = tells (call_for (entry_at s.grove.entries i).kind) (renewed_row s t i); ledger = record { rows = with_row (listed s t) (renewed_row s t i); faults = []; count = next_number l.count } }
-serves s stock port t i l within able alive none same =
+    step l t (request_of port s.credentials s.forest i)
+    ≡ record { answer = tells (call_for (entry_at s.forest.entries i).kind) (renewed_row s t i); table = record { rows = with_row (listed s t) (renewed_row s t i); faults = []; count = next_number l.count } }
+serves s inventory port t i l within able alive none same =
     let grant = grants s t i able alive in
-    let call = call_for (entry_at s.grove.entries i).kind in
+    let call = call_for (entry_at s.forest.entries i).kind in
     let n = next_number l.count in
-    by_the_rule s stock t i within grant l same (ap (λ faults. fault_at faults n) none ∙ no_fault n) (request_of port s.credentials s.grove i) (asks_renewal s stock port i within)
-    ∙ ap (λ (row : Row). record { answer = tells call row; ledger = record { rows = with_row (listed s t) row; faults = without l.faults n; count = n } }) (sym (renewed_by s t i grant))
-    ∙ ap (λ faults. record { answer = tells call (renewed_row s t i); ledger = record { rows = with_row (listed s t) (renewed_row s t i); faults = faults; count = n } }) (ap (λ faults. without faults n) none ∙ none_left n)
+    by_the_rule s inventory t i within grant l same (ap (λ faults. fault_at faults n) none ∙ no_fault n) (request_of port s.credentials s.forest i) (asks_renewal s inventory port i within)
+    ∙ ap (λ (row : Row). record { answer = tells call row; table = record { rows = with_row (listed s t) row; faults = without l.faults n; count = n } }) (sym (renewed_by s t i grant))
+    ∙ ap (λ faults. record { answer = tells call (renewed_row s t i); table = record { rows = with_row (listed s t) (renewed_row s t i); faults = faults; count = n } }) (ap (λ faults. without faults n) none ∙ none_left n)

@@ -1,8 +1,8 @@
 -- Texts: the lines of a run are those of its inventory's names, also by a forest as it was told.
 use Rattle.std.proofs.Common.{◌≡◌, ℕ, List, [], ◌∷◌, ◌++◌, Option, codes, decimal, flat_map, refl, sym, ap, ◌∙◌, subst}
 use Rattle.keep_tree.specs.declared.entry.Entry.{Entry}
-use Rattle.keep_tree.specs.Forest.{Grove, entry_at}
-use Rattle.keep_inventory.specs.Stock.{Stock, credential_at}
+use Rattle.keep_tree.specs.Forest.{Forest, entry_at}
+use Rattle.keep_inventory.specs.Inventories.{Inventory, credential_at}
 use Rattle.vault_http.specs.declared.reply.Reply.{Reply}
 use Rattle.keep_core.specs.LawsOfSteps.{IsShaped}
 use Rattle.keep_core.specs.declared.event.Event.{Event}
@@ -15,7 +15,7 @@ use Rattle.keep_run.specs.Closed.{Beat, Exchanged, event_in}
 use Rattle.keep_run.specs.Renewing.{event_of}
 use Rattle.keep_run.specs.Text.{answer_line, answer_text, beat_text, line, name_of, names_of, short_line, short_lines, status_in, wake_line}
 
-module _ (g h : Grove) (like : IsShaped g h) where
+module _ (g h : Forest) (like : IsShaped g h) where
   same_name : (i : ℕ) → name_of h i ≡ name_of g i
   same_name i = ap (λ (e : Entry). e.name) (like.each i)
 
@@ -48,15 +48,15 @@ module _ (g h : Grove) (like : IsShaped g h) where
   same_answer (Need i until) reply = refl
 
 -- of two inventories with the same credentials, and forests of one shape
-module _ (s u : Stock) (like : IsShaped s.grove u.grove) (credentials : u.credentials ≡ s.credentials) where
+module _ (s u : Inventory) (like : IsShaped s.forest u.forest) (credentials : u.credentials ≡ s.credentials) where
   pub same_answer_text : (x : Exchanged) → answer_text u x ≡ answer_text s x
   unfolding answer_text
   same_answer_text x =
-      let event : event_in u.credentials u.grove x ≡ event_in s.credentials s.grove x = ap (λ cs. event_in cs u.grove x) credentials ∙ same_event s.grove u.grove like s.credentials x in
+      let event : event_in u.credentials u.forest x ≡ event_in s.credentials s.forest x = ap (λ cs. event_in cs u.forest x) credentials ∙ same_event s.forest u.forest like s.credentials x in
       let reply = reply_in x.sent in
-      ap (λ e. answer_line u.grove e reply ++ short_lines u.grove x.short) event
-      ∙ ap (λ xs. xs ++ short_lines u.grove x.short) (same_answer s.grove u.grove like (event_in s.credentials s.grove x) reply)
-      ∙ ap (λ xs. answer_line s.grove (event_in s.credentials s.grove x) reply ++ xs) (same_shorts s.grove u.grove like x.short)
+      ap (λ e. answer_line u.forest e reply ++ short_lines u.forest x.short) event
+      ∙ ap (λ xs. xs ++ short_lines u.forest x.short) (same_answer s.forest u.forest like (event_in s.credentials s.forest x) reply)
+      ∙ ap (λ xs. answer_line s.forest (event_in s.credentials s.forest x) reply ++ xs) (same_shorts s.forest u.forest like x.short)
 
   pub same_answer_texts : (xs : List Exchanged) → flat_map (answer_text u) xs ≡ flat_map (answer_text s) xs
   same_answer_texts [] = refl
@@ -65,9 +65,9 @@ module _ (s u : Stock) (like : IsShaped s.grove u.grove) (credentials : u.creden
   same_beat_text : (b : Beat) → beat_text u b ≡ beat_text s b
   unfolding beat_text
   same_beat_text b =
-      ap (λ l. l ++ (wake_line u.grove b.at b.output ++ flat_map (answer_text u) b.answers)) (same_shorts s.grove u.grove like b.short)
-      ∙ ap (λ l. short_lines s.grove b.short ++ (l ++ flat_map (answer_text u) b.answers)) (same_wake s.grove u.grove like b.at b.output)
-      ∙ ap (λ l. short_lines s.grove b.short ++ (wake_line s.grove b.at b.output ++ l)) (same_answer_texts b.answers)
+      ap (λ l. l ++ (wake_line u.forest b.at b.output ++ flat_map (answer_text u) b.answers)) (same_shorts s.forest u.forest like b.short)
+      ∙ ap (λ l. short_lines s.forest b.short ++ (l ++ flat_map (answer_text u) b.answers)) (same_wake s.forest u.forest like b.at b.output)
+      ∙ ap (λ l. short_lines s.forest b.short ++ (wake_line s.forest b.at b.output ++ l)) (same_answer_texts b.answers)
 
   pub same_beat_texts : (bs : List Beat) → flat_map (beat_text u) bs ≡ flat_map (beat_text s) bs
   same_beat_texts [] = refl

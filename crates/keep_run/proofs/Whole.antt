@@ -7,7 +7,7 @@ use Rattle.std.proofs.lemmas.List.Elements.{All-cons, All-nil, All-head, All-tai
 use Rattle.std.specs.List.{All, flat_map}
 use Rattle.keep_moment.specs.declared.moment.TheConstants.{LAST}
 use Rattle.keep_tree.specs.declared.entry.Entry.{Entry}
-use Rattle.keep_tree.specs.Forest.{Grove, end_of, entry_at}
+use Rattle.keep_tree.specs.Forest.{Forest, end_of, entry_at}
 use Rattle.keep_rule.specs.declared.wake.Wake.{Wake}
 use Rattle.keep_rule.specs.Asks.{with_asks}
 use Rattle.keep_rule.specs.Ends.{ends_after}
@@ -16,7 +16,7 @@ use Rattle.keep_rule.specs.Plans.{moments}
 use Rattle.keep_rule.proofs.Alive.{last_from_alive}
 use Rattle.keep_rule.proofs.Keeping.{one_least}
 use Rattle.keep_rule.specs.declared.limit.TheConstants.{LIMIT}
-use Rattle.keep_inventory.specs.Stock.{IsStock, Stock}
+use Rattle.keep_inventory.specs.Inventories.{IsInventory, Inventory}
 use Rattle.mini_broker.specs.Rows.{row_named}
 use Rattle.mini_broker.specs.Sweep.{swept}
 use Rattle.keep_core.specs.declared.event.Event.{Event}
@@ -54,9 +54,9 @@ use Rattle.mini_broker.proofs.Sweeping.{named_among}
 
 -- ---- the opening
 
-opened_as : (stock : Stock) (start : ℕ) (ts : List ℕ) (short : List ShortNeed) (w : World) → IsPlanOf stock.grove start ts → (o : IsOpening stock [] start short w) → o.keeper ≡ settled stock.grove start ts
-opened_as stock start ts short w plan o =
-    let g = stock.grove in
+opened_as : (inventory : Inventory) (start : ℕ) (ts : List ℕ) (short : List ShortNeed) (w : World) → IsPlanOf inventory.forest start ts → (o : IsOpening inventory [] start short w) → o.keeper ≡ settled inventory.forest start ts
+opened_as inventory start ts short w plan o =
+    let g = inventory.forest in
     let same = keepable g start (best_keepable g start ts plan) in
     let best : IsPlanOf g start o.planned.moments = subst (λ h. IsPlanOf h start o.planned.moments) same.0 o.planned.best in
     let moments_are = one_least g.entries g.margin start (end_of g.entries) o.planned.moments ts best plan in
@@ -65,16 +65,16 @@ opened_as stock start ts short w plan o =
     ∙ ap (λ ps. record (settled g start o.planned.moments) { shortened = ps }) same.1
     ∙ ap (λ us. settled g start us) moments_are
 
-opening_rests : (stock : Stock) (start : ℕ) (ts : List ℕ) (short : List ShortNeed) (w : World) → IsStock stock → start ≤ LAST → IsPlanOf stock.grove start ts → length ts ≤ LIMIT → IsOpening stock [] start short w → AtRest stock w start ts
-opening_rests stock start ts short w supplied late plan few o = record {
-  g = stock.grove;
-  keeper = ap (λ (x : World). x.keeper) o.is ∙ ap taken (opened_as stock start ts short w plan o);
+opening_rests : (inventory : Inventory) (start : ℕ) (ts : List ℕ) (short : List ShortNeed) (w : World) → IsInventory inventory → start ≤ LAST → IsPlanOf inventory.forest start ts → length ts ≤ LIMIT → IsOpening inventory [] start short w → AtRest inventory w start ts
+opening_rests inventory start ts short w supplied late plan few o = record {
+  g = inventory.forest;
+  keeper = ap (λ (x : World). x.keeper) o.is ∙ ap taken (opened_as inventory start ts short w plan o);
   plan = plan;
   few = few;
   late = late;
   same = λ i. refl;
   supplied = supplied;
-  mirrors = λ m from. ap (λ (x : World). swept m x.behind.table.rows) o.is ∙ mirrors_first stock supplied.forest start m from;
+  mirrors = λ m from. ap (λ (x : World). swept m x.behind.table.rows) o.is ∙ mirrors_first inventory supplied.forest start m from;
   none = ap (λ (x : World). x.behind.table.faults) o.is;
 }
 
@@ -88,7 +88,7 @@ none_yet m (w ∷ ws) later =
     cond-false (nat_le w.at m) (w ∷ filter (λ (v : Wake). nat_le v.at m) ws) (filter (λ (v : Wake). nat_le v.at m) ws) miss ∙ none_yet m ws (All-tail (λ u. m < u) w.at (moments ws) later)
 
 -- before the first moment that is left, what is needed is alive by the ends as told
-alive_now : (g : Grove) (t : ℕ) (ts : List ℕ) → IsPlanOf g t ts → (m i : ℕ) → t ≤ m → All (λ u. m < u) ts → m < (entry_at g.entries i).need → is_alive g m i ≡ true
+alive_now : (g : Forest) (t : ℕ) (ts : List ℕ) → IsPlanOf g t ts → (m i : ℕ) → t ≤ m → All (λ u. m < u) ts → m < (entry_at g.entries i).need → is_alive g m i ≡ true
 unfolding is_alive ends_at ends_after
 alive_now g t ts plan m i from later needed =
     let none = none_yet m plan.plan (subst (λ us. All (λ u. m < u) us) (sym plan.at_these) later) in
@@ -106,17 +106,17 @@ left_later t m rest None none later = subst (λ xs. All (λ u. m < u) xs) (sym n
 left_later t m rest (Some u) awaits later = all_later m u rest later awaits.1.1
 
 stands :
-    (stock : Stock) (w : World) (t : ℕ) (rest : List ℕ) (next : Option ℕ) → AtRest stock w t rest → Awaits t rest next → (m i : ℕ) → t ≤ m → IfSome next (λ u. m < u) →
-    m < (entry_at stock.grove.entries i).need → is_some (row_named (swept m w.behind.table.rows) (entry_at stock.grove.entries i).name) ≡ true
+    (inventory : Inventory) (w : World) (t : ℕ) (rest : List ℕ) (next : Option ℕ) → AtRest inventory w t rest → Awaits t rest next → (m i : ℕ) → t ≤ m → IfSome next (λ u. m < u) →
+    m < (entry_at inventory.forest.entries i).need → is_some (row_named (swept m w.behind.table.rows) (entry_at inventory.forest.entries i).name) ≡ true
 unfolding listed
-stands stock w t rest next r awaits m i from later needed =
+stands inventory w t rest next r awaits m i from later needed =
     let g = r.g in
-    let s = with_forest stock g in
-    let need : (entry_at g.entries i).need ≡ (entry_at stock.grove.entries i).need = ap (λ (e : Entry). e.need) (r.same i) in
+    let s = with_forest inventory g in
+    let need : (entry_at g.entries i).need ≡ (entry_at inventory.forest.entries i).need = ap (λ (e : Entry). e.need) (r.same i) in
     let now : m < (entry_at g.entries i).need = omega arith in
     let alive = alive_now g t rest r.plan m i from (left_later t m rest next awaits later) now in
     let within = needed_within g.entries m i now in
-    ap (λ rows. is_some (row_named rows (entry_at stock.grove.entries i).name)) (r.mirrors m from)
+    ap (λ rows. is_some (row_named rows (entry_at inventory.forest.entries i).name)) (r.mirrors m from)
     ∙ ap (λ n. is_some (row_named (listed s m) n)) (sym (ap (λ (e : Entry). e.name) (r.same i)))
     ∙ ap is_some (named_among s r.supplied.forest (is_alive g m) i within alive)
 
@@ -133,11 +133,11 @@ taken_turn old new other event output known (Err BadIndex) turn = let one = once
 taken_turn old new other event output known (Err OutOfRange) turn = let one = once old new other event (Err OutOfRange) (Ok output) (λ bad. cc) (λ bad. cc) turn known in absurd (let bad = one.0 in cc)
 taken_turn old new other event output known (Err TooLong) turn = let one = once old new other event (Err TooLong) (Ok output) (λ bad. cc) (λ bad. cc) turn known in absurd (let bad = one.0 in cc)
 
-not_refused : (g : Grove) (t u : ℕ) (ts : List ℕ) → IsPlanOf g t ts → length ts ≤ LIMIT → Awaits t ts (Some u) → (result : Result Output StepFault) (new : State) → Turn (settled g t ts) (Tick u) result new → IsTaken result
+not_refused : (g : Forest) (t u : ℕ) (ts : List ℕ) → IsPlanOf g t ts → length ts ≤ LIMIT → Awaits t ts (Some u) → (result : Result Output StepFault) (new : State) → Turn (settled g t ts) (Tick u) result new → IsTaken result
 not_refused g t u ts plan few awaits result new turn =
     taken_turn (settled g t ts) new (tick_leaves g u ts) (Tick u) (tick_says g u ts) (tick_turn g t u ts plan few awaits.0 awaits.1.0 awaits.1.1) result turn
 
-no_shorts : (g : Grove) (text : List ℕ) → short_lines g [] ++ text ≡ text
+no_shorts : (g : Forest) (text : List ℕ) → short_lines g [] ++ text ≡ text
 unfolding short_lines
 no_shorts g text = refl
 
@@ -147,25 +147,25 @@ ended_rest : (t : ℕ) (rest : List ℕ) (next : Option ℕ) → Awaits t rest n
 ended_rest t rest None none e = none
 ended_rest t rest (Some u) awaits e = absurd cc
 
-nothing_left : (g : Grove) (t : ℕ) → requests_from g t [] ≡ 0
+nothing_left : (g : Forest) (t : ℕ) → requests_from g t [] ≡ 0
 unfolding with_asks
 nothing_left g t = refl
 
 pub so_far : SoFarLaw
 unfolding opening_rests
-so_far stock start ts supplied late plan few short opening final beats next o played =
-    let begins = opening_rests stock start ts short opening supplied late plan few o in
-    let first : Awaits start ts (Some start) = (omega arith, (late, best_from stock.grove start ts plan)) in
-    let done = run_goes stock 8200 beats opening final start ts begins (Some start) next first played in
+so_far inventory start ts supplied late plan few short opening final beats next o played =
+    let begins = opening_rests inventory start ts short opening supplied late plan few o in
+    let first : Awaits start ts (Some start) = (omega arith, (late, best_from inventory.forest start ts plan)) in
+    let done = run_goes inventory 8200 beats opening final start ts begins (Some start) next first played in
     let r = done.rests in (
-      o.short_is ∙ ap (λ (q : State). q.shortened) (opened_as stock start ts short opening plan o),
+      o.short_is ∙ ap (λ (q : State). q.shortened) (opened_as inventory start ts short opening plan o),
       record {
         rest = done.rest;
         moments = done.moments;
         ended = λ none. ended_rest done.last done.rest next done.awaits none;
         asked = λ none.
             let over = ended_rest done.last done.rest next done.awaits none in
-            let all : requests_from stock.grove start ts ≡ requests_of beats + requests_from r.g done.last done.rest = done.requests in
+            let all : requests_from inventory.forest start ts ≡ requests_of beats + requests_from r.g done.last done.rest = done.requests in
             let left = ap (requests_from r.g done.last) over in
             let zero' = nothing_left r.g done.last in
             omega arith;
@@ -173,13 +173,13 @@ so_far stock start ts supplied late plan few short opening final beats next o pl
         taken = λ t result new is turn.
             not_refused r.g done.last t done.rest r.plan r.few (subst (Awaits done.last done.rest) is done.awaits) result new
             (subst (λ (q : State). Turn q (Tick t) result new) r.keeper turn);
-        stands = λ m i from all later needed. stands stock final done.last done.rest next r done.awaits m i (done.bound m from all) later needed;
+        stands = λ m i from all later needed. stands inventory final done.last done.rest next r done.awaits m i (done.bound m from all) later needed;
       },
     )
 
 pub rehearsal : RehearsalLaw
-rehearsal stock start ts supplied late plan few course final run =
-    let all = so_far stock start ts supplied late plan (omega arith) course.short run.opening final course.beats None run.opened run.played in
+rehearsal inventory start ts supplied late plan few course final run =
+    let all = so_far inventory start ts supplied late plan (omega arith) course.short run.opening final course.beats None run.opened run.played in
     let goes = all.1 in
     let none = goes.ended refl in (
       sym (goes.moments ∙ ap (λ xs. map (λ (b : Beat). b.at) (rounds course.beats) ++ xs) none ∙ append-nil (map (λ (b : Beat). b.at) (rounds course.beats))),
@@ -187,37 +187,37 @@ rehearsal stock start ts supplied late plan few course final run =
     )
 
 pub least : LeastLaw
-least stock start ts supplied late plan few course final run other in_order keeps =
-    let is = rehearsal stock start ts supplied late plan few course final run in
+least inventory start ts supplied late plan few course final run other in_order keeps =
+    let is = rehearsal inventory start ts supplied late plan few course final run in
     let count = length-map (rounds course.beats) (λ (b : Beat). b.at) in
     let same = ap length is.0 in
     let fewest = plan.least other in_order keeps in
     omega arith
 
 pub answers_taken : AnswersTakenLaw
-answers_taken stock start ts supplied late plan few short opening final beats t o played asked keeper ticked xs now i others who answers sent result new says turn =
-    let begins = opening_rests stock start ts short opening supplied late plan few o in
-    let first : Awaits start ts (Some start) = (omega arith, (late, best_from stock.grove start ts plan)) in
-    let done = run_goes stock 8200 beats opening final start ts begins (Some start) (Some t) first played in
+answers_taken inventory start ts supplied late plan few short opening final beats t o played asked keeper ticked xs now i others who answers sent result new says turn =
+    let begins = opening_rests inventory start ts short opening supplied late plan few o in
+    let first : Awaits start ts (Some start) = (omega arith, (late, best_from inventory.forest start ts plan)) in
+    let done = run_goes inventory 8200 beats opening final start ts begins (Some start) (Some t) first played in
     let r = done.rests in
     let start' : World = record { keeper = taken keeper; behind = final.behind } in
-    let open' = asks_open stock final done.last done.rest t r done.awaits asked keeper ticked in
-    let part = part_goes stock 8200 r.g t open'.0 xs i others start' now r.g (subst (InRound stock start' r.g r.g t open'.0) (sym who) open'.1) answers in
-    let next = next_turn stock 8200 r.g t open'.0 i others now part.0 part.1 sent says in
-    taken_turn now.keeper new next.1.0 (event_for stock.credentials now.keeper.forest i (reply_in sent)) next.0 next.1.1 result turn
+    let open' = asks_open inventory final done.last done.rest t r done.awaits asked keeper ticked in
+    let part = part_goes inventory 8200 r.g t open'.0 xs i others start' now r.g (subst (InRound inventory start' r.g r.g t open'.0) (sym who) open'.1) answers in
+    let next = next_turn inventory 8200 r.g t open'.0 i others now part.0 part.1 sent says in
+    taken_turn now.keeper new next.1.0 (event_for inventory.credentials now.keeper.forest i (reply_in sent)) next.0 next.1.1 result turn
 
 pub planned_run : PlannedRunLaw
 unfolding course_text
-planned_run bytes stock start p read late decides few course final run =
+planned_run bytes inventory start p read late decides few course final run =
     let ts = moments_of (to_come p) in
-    let plan : IsPlanOf stock.grove start ts = decides.best.least in
+    let plan : IsPlanOf inventory.forest start ts = decides.best.least in
     let count : length ts ≡ length (to_come p) = length-map (to_come p) (λ (x : Force). x.at) in
-    let is = rehearsal stock start ts (inventory_law bytes stock read) late plan (omega arith) course final run in
+    let is = rehearsal inventory start ts (inventory_law bytes inventory read) late plan (omega arith) course final run in
     let rounds_are : length (rounds course.beats) ≡ length (to_come p) = sym (length-map (rounds course.beats) (λ (b : Beat). b.at)) ∙ ap length is.0 ∙ count in
-    let text = flat_map (beat_text stock) course.beats in (
+    let text = flat_map (beat_text inventory) course.beats in (
       is.0,
-      ap (λ ps. short_lines stock.grove ps ++ (text ++ done_text (length (rounds course.beats)) (requests_of course.beats))) is.1.1.0
-          ∙ no_shorts stock.grove (text ++ done_text (length (rounds course.beats)) (requests_of course.beats))
+      ap (λ ps. short_lines inventory.forest ps ++ (text ++ done_text (length (rounds course.beats)) (requests_of course.beats))) is.1.1.0
+          ∙ no_shorts inventory.forest (text ++ done_text (length (rounds course.beats)) (requests_of course.beats))
           ∙ ap (λ n. text ++ done_text n (requests_of course.beats)) rounds_are
           ∙ ap (λ n. text ++ done_text (length (to_come p)) n) is.1.0,
     )
@@ -231,27 +231,27 @@ comes_later port cs w v (Some u) (b ∷ bs) m played later =
     omega arith
 
 pub all_stand : StandsLaw
-all_stand stock start ts supplied late plan few short opening mid final before after due o first then' m i from up later needed =
-    (so_far stock start ts supplied late plan few short opening mid before due o first).1.stands m i from up (comes_later 8200 stock.credentials mid final due after m then' later) needed
+all_stand inventory start ts supplied late plan few short opening mid final before after due o first then' m i from up later needed =
+    (so_far inventory start ts supplied late plan few short opening mid before due o first).1.stands m i from up (comes_later 8200 inventory.credentials mid final due after m then' later) needed
 
 -- ---- one wake-up more than the plan has
 
 pub more_to_come :
-    (stock : Stock) (start : ℕ) (ts : List ℕ) → IsStock stock → start ≤ LAST → IsPlanOf stock.grove start ts → length ts ≤ LIMIT → (short : List ShortNeed) (opening final : World) (beats : List Beat) (t : ℕ) →
-    IsOpening stock [] start short opening → Played 8200 stock.credentials opening (Some start) beats final (Some t) → (asked : List ℕ) (keeper : State) → Turn final.keeper (Tick t) (Ok (out.Ask asked)) keeper →
+    (inventory : Inventory) (start : ℕ) (ts : List ℕ) → IsInventory inventory → start ≤ LAST → IsPlanOf inventory.forest start ts → length ts ≤ LIMIT → (short : List ShortNeed) (opening final : World) (beats : List Beat) (t : ℕ) →
+    IsOpening inventory [] start short opening → Played 8200 inventory.credentials opening (Some start) beats final (Some t) → (asked : List ℕ) (keeper : State) → Turn final.keeper (Tick t) (Ok (out.Ask asked)) keeper →
     length (rounds beats) < length ts
 unfolding opening_rests
-more_to_come stock start ts supplied late plan few short opening final beats t o played asked keeper turn =
-    let begins = opening_rests stock start ts short opening supplied late plan few o in
-    let first : Awaits start ts (Some start) = (omega arith, (late, best_from stock.grove start ts plan)) in
-    let done = run_goes stock 8200 beats opening final start ts begins (Some start) (Some t) first played in
-    let some = asks_left stock final done.last done.rest t done.rests done.awaits asked keeper turn in
+more_to_come inventory start ts supplied late plan few short opening final beats t o played asked keeper turn =
+    let begins = opening_rests inventory start ts short opening supplied late plan few o in
+    let first : Awaits start ts (Some start) = (omega arith, (late, best_from inventory.forest start ts plan)) in
+    let done = run_goes inventory 8200 beats opening final start ts begins (Some start) (Some t) first played in
+    let some = asks_left inventory final done.last done.rest t done.rests done.awaits asked keeper turn in
     let count = ap length done.moments ∙ length-append (map (λ (c : Beat). c.at) (rounds beats)) done.rest in
     let same = length-map (rounds beats) (λ (b : Beat). b.at) in
     omega arith
 
 -- nor is the opening too long
-pub opening_fits : (g : Grove) (start : ℕ) (ts : List ℕ) → IsPlanOf g start ts → length ts ≤ LIMIT → ReplanTooLong g start → ⊥
+pub opening_fits : (g : Forest) (start : ℕ) (ts : List ℕ) → IsPlanOf g start ts → length ts ≤ LIMIT → ReplanTooLong g start → ⊥
 opening_fits g start ts plan few long =
     let same = keepable g start (best_keepable g start ts plan) in
     let best : IsPlanOf g start long.moments = subst (λ h. IsPlanOf h start long.moments) same.0 long.best in

@@ -8,7 +8,7 @@ use Rattle.std.specs.List.{All, range_with_len}
 use Rattle.keep_moment.specs.declared.moment.TheConstants.{LAST}
 use Rattle.keep_core.specs.declared.fault.StepFault.TheVariants.{OutOfRange}
 use Rattle.keep_core.specs.Refusal.{refusal}
-use Rattle.keep_tree.specs.Forest.{Grove, end_of}
+use Rattle.keep_tree.specs.Forest.{Forest, end_of}
 use Rattle.keep_rule.specs.Asks.{asks, first_of, is_wanted}
 use Rattle.keep_core.specs.LawsOfSteps.{IsShaped}
 use Rattle.keep_core.specs.declared.event.Event.{Event}
@@ -33,7 +33,7 @@ all_to n (suc k) a h = All-cons (λ i. i < n) a (range_with_len (a + 1) k) (omeg
 abbrev pub AreOf : ℕ → List ShortNeed → Type 0
 AreOf n ps = All (λ p. p.entry < n) ps
 
-pairs_within : (g : Grove) (t : ℕ) → AreOf (length g.entries) (pairs g t)
+pairs_within : (g : Forest) (t : ℕ) → AreOf (length g.entries) (pairs g t)
 unfolding pairs
 pairs_within g t =
     let is : List ℕ = range_with_len 0 (length g.entries) in
@@ -81,7 +81,7 @@ short_within old new (Refused i) output quiet turn = answer_within old (Refused 
 short_within old new (Lost i) output quiet turn = answer_within old (Lost i) output new quiet turn.1
 short_within old new (Need i until) output quiet turn = need_within old i until output new quiet turn.1
 
-asks_are_within : (g : Grove) (t : ℕ) (next : Option ℕ) → All (λ i. i < length g.entries) (asks g.entries g.margin t (end_of g.entries) t next)
+asks_are_within : (g : Forest) (t : ℕ) (next : Option ℕ) → All (λ i. i < length g.entries) (asks g.entries g.margin t (end_of g.entries) t next)
 unfolding asks
 asks_are_within g t next =
     let is : List ℕ = range_with_len 0 (length g.entries) in
@@ -109,7 +109,7 @@ filter_few p (i ∷ is) =
       | inr no' ↦ (let e = ap length (cond-false (p i) (i ∷ filter p is) (filter p is) no') in omega arith)
     ]
 
-asks_few : (g : Grove) (t : ℕ) (next : Option ℕ) → length (asks g.entries g.margin t (end_of g.entries) t next) ≤ length g.entries
+asks_few : (g : Forest) (t : ℕ) (next : Option ℕ) → length (asks g.entries g.margin t (end_of g.entries) t next) ≤ length g.entries
 unfolding asks
 asks_few g t next =
     let few = filter_few (is_wanted g.entries g.margin t (end_of g.entries) t next) (range_with_len 0 (length g.entries)) in

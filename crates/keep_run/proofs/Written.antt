@@ -9,7 +9,7 @@ use Rattle.keep_device.specs.Failures.{Counts, HasFailed, one_more}
 use Rattle.keep_device.specs.Front.{AppendsFront}
 use Rattle.keep_device.specs.declared.fault.SinkFault.{SinkFault}
 use Rattle.keep_device.specs.declared.fault.SinkFault.TheVariants as sink
-use Rattle.keep_inventory.specs.Stock.{Stock}
+use Rattle.keep_inventory.specs.Inventories.{Inventory}
 use Rattle.keep_exchange.specs.Exchanges.{Behind}
 use Rattle.keep_core.specs.LawsOfSteps.{IsShaped}
 use Rattle.keep_core.specs.State.{State}
@@ -21,7 +21,7 @@ use Rattle.keep_report.proofs.Counting.{failed_once}
 use Rattle.keep_report.specs.Sent.{IsAll, Sent}
 use Rattle.keep_run.specs.Closed.{World}
 use Rattle.keep_run.specs.Live.{IsReady}
-use Rattle.keep_run.specs.Playing.{Comes, Ends, Finishes, Goes, IsText, LastFront, LastPlays, Plays, PlaysFront, stock_of}
+use Rattle.keep_run.specs.Playing.{Comes, Ends, Finishes, Goes, IsText, LastFront, LastPlays, Plays, PlaysFront, inventory_with}
 use Rattle.keep_run.specs.Stops.{both}
 use Rattle.keep_run.specs.Text.{done_text}
 use Rattle.keep_run.proofs.Goes.{ends_go, goes_as, goes_nowhere, goes_on}
@@ -41,10 +41,10 @@ pub whole_front : (a b : Option (List ℕ)) (x y : List ℕ) → Appends a b x �
 whole_front a b x y all = (length x, subst (Appends a b) (sym (take-append_seam x y)) all)
 
 -- a run's text so far, and with its last line
-so_far : (s : Stock) (old new : World) (start : ℕ) (next : Option ℕ) (w a : ℕ) (lines : List ℕ) → Goes s old (Some start) new next w a lines → IsText s old start lines
+so_far : (s : Inventory) (old new : World) (start : ℕ) (next : Option ℕ) (w a : ℕ) (lines : List ℕ) → Goes s old (Some start) new next w a lines → IsText s old start lines
 so_far s old new start next w a lines goes = record { new = new; next = next; wakes = w; asked = a; lines = lines; goes = goes; text_is = inl refl }
 
-with_done : (s : Stock) (old new : World) (start : ℕ) (w a : ℕ) (lines : List ℕ) → Goes s old (Some start) new None w a lines → IsText s old start (lines ++ done_text w a)
+with_done : (s : Inventory) (old new : World) (start : ℕ) (w a : ℕ) (lines : List ℕ) → Goes s old (Some start) new None w a lines → IsText s old start (lines ++ done_text w a)
 with_done s old new start w a lines goes = record { new = new; next = None; wakes = w; asked = a; lines = lines; goes = goes; text_is = inr (refl, refl) }
 
 -- ---- the loop
@@ -52,7 +52,7 @@ with_done s old new start w a lines goes = record { new = new; next = None; wake
 -- a run that has come so far: its lines were written behind those before it, and no write has failed
 pub record Going (cs : List (List ℕ)) (old : World) (start : ℕ) (before : List ℕ) (first : Option (List ℕ)) (failed : ℕ) (now : World) (due wakes asked : ℕ) (written : Option (List ℕ)) (failed_now : ℕ) : Type 0 where
   pub lines : List ℕ
-  pub goes : Goes (stock_of cs old.keeper.forest) old (Some start) now (Some due) wakes asked lines
+  pub goes : Goes (inventory_with cs old.keeper.forest) old (Some start) now (Some due) wakes asked lines
   pub all : Appends first written (before ++ lines)
   pub count : failed_now ≡ failed
   pub ready : IsReady cs now.keeper
@@ -65,7 +65,7 @@ pub going_first :
     Appends first written before → failed_now ≡ failed → Going cs old start before first failed old start 0 0 written failed_now
 going_first cs old start before first failed written failed_now ready comes all count = record {
   lines = [];
-  goes = goes_nowhere (stock_of cs old.keeper.forest) old (Some start);
+  goes = goes_nowhere (inventory_with cs old.keeper.forest) old (Some start);
   all = subst (Appends first written) (sym (append-nil before)) all;
   count = count;
   ready = ready;
@@ -76,17 +76,17 @@ going_first cs old start before first failed written failed_now ready comes all 
 
 module _ (cs : List (List ℕ)) (old : World) (start : ℕ) (before : List ℕ) (first : Option (List ℕ)) (failed : ℕ) (now : World) (due wakes asked : ℕ) (written : Option (List ℕ)) (failed_now : ℕ)
     (g : Going cs old start before first failed now due wakes asked written failed_now) where
-  s : Stock
-  s = stock_of cs old.keeper.forest
+  s : Inventory
+  s = inventory_with cs old.keeper.forest
 
-  on : (new : World) (next : Option ℕ) (w a : ℕ) (text : List ℕ) → Goes (stock_of cs now.keeper.forest) now (Some due) new next w a text → Goes (stock_of cs old.keeper.forest) old (Some start) new next (wakes + w) (asked + a) (g.lines ++ text)
+  on : (new : World) (next : Option ℕ) (w a : ℕ) (text : List ℕ) → Goes (inventory_with cs now.keeper.forest) now (Some due) new next w a text → Goes (inventory_with cs old.keeper.forest) old (Some start) new next (wakes + w) (asked + a) (g.lines ++ text)
   unfolding s
   on new next w a text more =
-      goes_on s old now new (Some start) (Some due) next wakes w asked a g.lines text g.goes (goes_as s (stock_of cs now.keeper.forest) now new (Some due) next w a text g.like refl more)
+      goes_on s old now new (Some start) (Some due) next wakes w asked a g.lines text g.goes (goes_as s (inventory_with cs now.keeper.forest) now new (Some due) next w a text g.like refl more)
 
   -- a wake-up more, and its lines were written
   pub going_more :
-      (new : World) (then' a : ℕ) (text : List ℕ) (after : Option (List ℕ)) (failed_after : ℕ) → Goes (stock_of cs now.keeper.forest) now (Some due) new (Some then') 1 a text → IsShaped now.keeper.forest new.keeper.forest →
+      (new : World) (then' a : ℕ) (text : List ℕ) (after : Option (List ℕ)) (failed_after : ℕ) → Goes (inventory_with cs now.keeper.forest) now (Some due) new (Some then') 1 a text → IsShaped now.keeper.forest new.keeper.forest →
       IsReady cs new.keeper → Comes new.keeper.last (Some then') → a ≤ 4096 → Appends written after text → failed_after ≡ failed_now → Going cs old start before first failed new then' (wakes + 1) (asked + a) after failed_after
   unfolding on
   going_more new then' a text after failed_after more like ready comes few all count = record {
@@ -104,7 +104,7 @@ module _ (cs : List (List ℕ)) (old : World) (start : ℕ) (before : List ℕ) 
   pub going_stops : (new : World) (out : Sent) → out.old ≡ first → out.new ≡ written → Plays cs old start before (Err stops.Memory) new out
   going_stops new out old_is new_is = (
     g.lines,
-    so_far (stock_of cs old.keeper.forest) old now start (Some due) wakes asked g.lines g.goes,
+    so_far (inventory_with cs old.keeper.forest) old now start (Some due) wakes asked g.lines g.goes,
     subst (λ o. AppendsFront o out.new (before ++ g.lines)) (sym old_is)
         (subst (λ o. AppendsFront first o (before ++ g.lines)) (sym new_is) (subst (AppendsFront first written) (append-nil (before ++ g.lines)) (whole_front first written (before ++ g.lines) [] g.all))),
   )
@@ -112,26 +112,26 @@ module _ (cs : List (List ℕ)) (old : World) (start : ℕ) (before : List ℕ) 
   -- the lines of a wake-up were not written whole
   pub going_unwritten :
       (answer : Result (Unit {0}) Stop) (fault : SinkFault) (new final : World) (next : Option ℕ) (w a : ℕ) (text : List ℕ) (out : Sent) → IsErr answer × IsErrAnd answer (λ stop. stop ≡ stop_of_sink fault) →
-      Goes (stock_of cs now.keeper.forest) now (Some due) new next w a text → out.old ≡ first → out.failed_before ≡ failed → AppendsFront written out.new text → Counts {X = Unit {0}} (Err fault) failed_now out.failed_after →
+      Goes (inventory_with cs now.keeper.forest) now (Some due) new next w a text → out.old ≡ first → out.failed_before ≡ failed → AppendsFront written out.new text → Counts {X = Unit {0}} (Err fault) failed_now out.failed_after →
       Plays cs old start before answer final out
   unfolding on
   going_unwritten (Ok u) fault new final next w a text out is more old_is failed_is front count = absurd (let no = is.0 in cc)
   going_unwritten (Err stop) sink.Failed new final next w a text out is more old_is failed_is front count =
       subst (λ (q : Stop). Plays cs old start before (Err q) final out) (sym is.1)
       (failed_once out.failed_before out.failed_after (count ∙ ap one_more (g.count ∙ sym failed_is)), cut) where
-        cut : PlaysFront (stock_of cs old.keeper.forest) old start before out
+        cut : PlaysFront (inventory_with cs old.keeper.forest) old start before out
         cut = (
           g.lines ++ text,
-          so_far (stock_of cs old.keeper.forest) old new start next (wakes + w) (asked + a) (g.lines ++ text) (on new next w a text more),
+          so_far (inventory_with cs old.keeper.forest) old new start next (wakes + w) (asked + a) (g.lines ++ text) (on new next w a text more),
           subst (λ o. AppendsFront o out.new (before ++ (g.lines ++ text))) (sym old_is)
               (subst (AppendsFront first out.new) (append_assoc before g.lines text) (front_then first written out.new (before ++ g.lines) text g.all front)),
         )
   going_unwritten (Err stop) sink.OutOfMemory new final next w a text out is more old_is failed_is front count =
       subst (λ (q : Stop). Plays cs old start before (Err q) final out) (sym is.1) cut where
-        cut : PlaysFront (stock_of cs old.keeper.forest) old start before out
+        cut : PlaysFront (inventory_with cs old.keeper.forest) old start before out
         cut = (
           g.lines ++ text,
-          so_far (stock_of cs old.keeper.forest) old new start next (wakes + w) (asked + a) (g.lines ++ text) (on new next w a text more),
+          so_far (inventory_with cs old.keeper.forest) old new start next (wakes + w) (asked + a) (g.lines ++ text) (on new next w a text more),
           subst (λ o. AppendsFront o out.new (before ++ (g.lines ++ text))) (sym old_is)
               (subst (AppendsFront first out.new) (append_assoc before g.lines text) (front_then first written out.new (before ++ g.lines) text g.all front)),
         )
@@ -144,19 +144,19 @@ regroup a b c d = append_assoc a b (c ++ d) ∙ ap (λ l. a ++ l) (sym (append_a
 -- only a front of what was left was sent
 cut_at :
     (cs : List (List ℕ)) (old : World) (start : ℕ) (before : List ℕ) (new : World) (w a : ℕ) (front rest : List ℕ) (written : Option (List ℕ)) (last out : Sent) →
-    Goes (stock_of cs old.keeper.forest) old (Some start) new None w a (front ++ rest) → Appends out.old written (before ++ front) → AppendsFront last.old last.new (rest ++ done_text w a) → last.old ≡ written → last.new ≡ out.new →
-    PlaysFront (stock_of cs old.keeper.forest) old start before out
+    Goes (inventory_with cs old.keeper.forest) old (Some start) new None w a (front ++ rest) → Appends out.old written (before ++ front) → AppendsFront last.old last.new (rest ++ done_text w a) → last.old ≡ written → last.new ≡ out.new →
+    PlaysFront (inventory_with cs old.keeper.forest) old start before out
 cut_at cs old start before new w a front rest written last out goes all ends old_is new_is =
     let part : AppendsFront written out.new (rest ++ done_text w a) = subst (λ o. AppendsFront o out.new (rest ++ done_text w a)) old_is (subst (λ o. AppendsFront last.old o (rest ++ done_text w a)) new_is ends) in (
       (front ++ rest) ++ done_text w a,
-      with_done (stock_of cs old.keeper.forest) old new start w a (front ++ rest) goes,
+      with_done (inventory_with cs old.keeper.forest) old new start w a (front ++ rest) goes,
       subst (AppendsFront out.old out.new) (regroup before front rest (done_text w a)) (front_then out.old written out.new (before ++ front) (rest ++ done_text w a) all part),
     )
 
 -- the run has come to its end; front of its lines is written, and what is left of them is sent with the last line
 pub finished :
     (cs : List (List ℕ)) (old : World) (start : ℕ) (before : List ℕ) (new : World) (w a : ℕ) (front rest : List ℕ) (written : Option (List ℕ)) (failed_now : ℕ) (result : Result (Unit {0}) Stop) (last out : Sent) →
-    Goes (stock_of cs old.keeper.forest) old (Some start) new None w a (front ++ rest) → Appends out.old written (before ++ front) → w ≤ 100000 → Finishes (rest ++ done_text w a) result last → last.old ≡ written → last.new ≡ out.new →
+    Goes (inventory_with cs old.keeper.forest) old (Some start) new None w a (front ++ rest) → Appends out.old written (before ++ front) → w ≤ 100000 → Finishes (rest ++ done_text w a) result last → last.old ≡ written → last.new ≡ out.new →
     last.failed_before ≡ out.failed_before → last.failed_after ≡ out.failed_after → last.flushed ≡ out.flushed → Plays cs old start before result new out
 finished cs old start before new w a front rest written failed_now (Ok u) last out goes all few ends old_is new_is failed_is failed_after_is flushed_is =
     let whole : Appends written out.new (rest ++ done_text w a) = subst (λ o. Appends o out.new (rest ++ done_text w a)) old_is (subst (λ o. Appends last.old o (rest ++ done_text w a)) new_is ends.0) in
@@ -184,19 +184,19 @@ finished cs old start before new w a front rest written failed_now (Err (stops.L
 last_cut :
     (cs : List (List ℕ)) (old : World) (start : ℕ) (before : List ℕ) (first : Option (List ℕ)) (failed : ℕ) (now : World) (due asked : ℕ) (written : Option (List ℕ)) (failed_now : ℕ) (last out : Sent) →
     Going cs old start before first failed now due 100000 asked written failed_now → LastFront cs now.behind now.keeper due asked last → out.old ≡ first → last.old ≡ written → last.new ≡ out.new →
-    PlaysFront (stock_of cs old.keeper.forest) old start before out
+    PlaysFront (inventory_with cs old.keeper.forest) old start before out
 last_cut cs old start before first failed now due asked written failed_now last out g (inl kept) old_is last_old_is new_is =
     let stays : Keeps written out.new = subst (λ o. Keeps o out.new) last_old_is (subst (λ o. Keeps last.old o) new_is kept) in (
       g.lines,
-      so_far (stock_of cs old.keeper.forest) old now start (Some due) 100000 asked g.lines g.goes,
+      so_far (inventory_with cs old.keeper.forest) old now start (Some due) 100000 asked g.lines g.goes,
       subst (λ o. AppendsFront o out.new (before ++ g.lines)) (sym old_is)
           (subst (AppendsFront first out.new) (append-nil (before ++ g.lines)) (whole_front first out.new (before ++ g.lines) [] (Appends-kept first written out.new (before ++ g.lines) g.all stays))),
     )
 last_cut cs old start before first failed now due asked written failed_now last out g (inr part) old_is last_old_is new_is =
     cut_at cs old start before part.0 100000 asked g.lines part.1 written last out
-    (subst (λ n. Goes (stock_of cs old.keeper.forest) old (Some start) part.0 None 100000 n (g.lines ++ part.1)) (let z : asked + 0 ≡ asked = omega arith in z)
-    (goes_on (stock_of cs old.keeper.forest) old now part.0 (Some start) (Some due) None 100000 0 asked 0 g.lines part.1 g.goes
-    (goes_as (stock_of cs old.keeper.forest) (stock_of cs now.keeper.forest) now part.0 (Some due) None 0 0 part.1 g.like refl part.2)))
+    (subst (λ n. Goes (inventory_with cs old.keeper.forest) old (Some start) part.0 None 100000 n (g.lines ++ part.1)) (let z : asked + 0 ≡ asked = omega arith in z)
+    (goes_on (inventory_with cs old.keeper.forest) old now part.0 (Some start) (Some due) None 100000 0 asked 0 g.lines part.1 g.goes
+    (goes_as (inventory_with cs old.keeper.forest) (inventory_with cs now.keeper.forest) now part.0 (Some due) None 0 0 part.1 g.like refl part.2)))
     (subst (λ o. Appends o written (before ++ g.lines)) (sym old_is) g.all) part.3 last_old_is new_is
 
 -- behind the last wake-up that a run may have
@@ -206,9 +206,9 @@ pub last_played :
     last.new ≡ out.new → last.failed_before ≡ out.failed_before → last.failed_after ≡ out.failed_after → last.flushed ≡ out.flushed → Plays cs old start before result (both keeper now.behind) out
 last_played cs old start before first failed now due asked written failed_now (Ok u) keeper last out g ends old_is last_old_is new_is failed_is failed_after_is flushed_is =
     finished cs old start before (both keeper now.behind) 100000 asked g.lines ends.0 written failed_now (Ok u) last out
-    (subst (λ n. Goes (stock_of cs old.keeper.forest) old (Some start) (both keeper now.behind) None 100000 n (g.lines ++ ends.0)) (let z : asked + 0 ≡ asked = omega arith in z)
-    (goes_on (stock_of cs old.keeper.forest) old now (both keeper now.behind) (Some start) (Some due) None 100000 0 asked 0 g.lines ends.0 g.goes
-    (goes_as (stock_of cs old.keeper.forest) (stock_of cs now.keeper.forest) now (both keeper now.behind) (Some due) None 0 0 ends.0 g.like refl ends.1)))
+    (subst (λ n. Goes (inventory_with cs old.keeper.forest) old (Some start) (both keeper now.behind) None 100000 n (g.lines ++ ends.0)) (let z : asked + 0 ≡ asked = omega arith in z)
+    (goes_on (inventory_with cs old.keeper.forest) old now (both keeper now.behind) (Some start) (Some due) None 100000 0 asked 0 g.lines ends.0 g.goes
+    (goes_as (inventory_with cs old.keeper.forest) (inventory_with cs now.keeper.forest) now (both keeper now.behind) (Some due) None 0 0 ends.0 g.like refl ends.1)))
     (subst (λ o. Appends o written (before ++ g.lines)) (sym old_is) g.all) (omega arith) ends.2 last_old_is new_is failed_is failed_after_is flushed_is
 last_played cs old start before first failed now due asked written failed_now (Err stops.TooLong) keeper last out g ends old_is last_old_is new_is failed_is failed_after_is flushed_is =
     let none : Appends written out.new [] = subst (λ o. Appends o out.new []) last_old_is (subst (λ o. Appends last.old o []) new_is ends.1.0) in
@@ -242,11 +242,11 @@ pub last_ends :
     (cs : List (List ℕ)) (behind : Behind) (old new : State) (due asked : ℕ) (before text : List ℕ) (result : Result (Unit {0}) Stop) (out : Sent) → before ≡ [] → Ends cs behind old due new before text →
     Finishes (text ++ done_text 100000 asked) result out → LastPlays cs behind old due asked result new out
 last_ends cs behind old new due asked before text result out none e ends = by_result result ends where
-  goes : (piece : List ℕ) × (Goes (stock_of cs old.forest) (both old behind) (Some due) (both new behind) None 0 0 piece × (text ≡ before ++ piece))
+  goes : (piece : List ℕ) × (Goes (inventory_with cs old.forest) (both old behind) (Some due) (both new behind) None 0 0 piece × (text ≡ before ++ piece))
   goes = ends_go cs behind old new due before text e
 
-  here : Goes (stock_of cs old.forest) (both old behind) (Some due) (both new behind) None 0 0 text
-  here = subst (Goes (stock_of cs old.forest) (both old behind) (Some due) (both new behind) None 0 0) (sym (goes.1.1 ∙ ap (λ l. l ++ goes.0) none)) goes.1.0
+  here : Goes (inventory_with cs old.forest) (both old behind) (Some due) (both new behind) None 0 0 text
+  here = subst (Goes (inventory_with cs old.forest) (both old behind) (Some due) (both new behind) None 0 0) (sym (goes.1.1 ∙ ap (λ l. l ++ goes.0) none)) goes.1.0
 
   by_result : (r : Result (Unit {0}) Stop) → Finishes (text ++ done_text 100000 asked) r out → LastPlays cs behind old due asked r new out
   by_result (Ok u) is = (text, here, is)
@@ -270,10 +270,10 @@ pub unwritten_before :
     (cs : List (List ℕ)) (old new : World) (start : ℕ) (before : List ℕ) (answer : Result (Unit {0}) Stop) (fault : SinkFault) (out : Sent) → IsErr answer × IsErrAnd answer (λ stop. stop ≡ stop_of_sink fault) →
     AppendsFront out.old out.new before → Counts {X = Unit {0}} (Err fault) out.failed_before out.failed_after → Plays cs old start before answer new out
 unwritten_before cs old new start before answer fault out is front count = by_answer answer fault is count where
-  cut : PlaysFront (stock_of cs old.keeper.forest) old start before out
+  cut : PlaysFront (inventory_with cs old.keeper.forest) old start before out
   cut = (
     [],
-    so_far (stock_of cs old.keeper.forest) old old start (Some start) 0 0 [] (goes_nowhere (stock_of cs old.keeper.forest) old (Some start)),
+    so_far (inventory_with cs old.keeper.forest) old old start (Some start) 0 0 [] (goes_nowhere (inventory_with cs old.keeper.forest) old (Some start)),
     subst (AppendsFront out.old out.new) (sym (append-nil before)) front,
   )
 
@@ -286,21 +286,21 @@ unwritten_before cs old new start before answer fault out is front count = by_an
 
 -- a piece of text that a wake-up made
 abbrev pub Piece : (cs : List (List ℕ)) → World → ℕ → World → Option ℕ → ℕ → ℕ → List ℕ → List ℕ → Type 0
-Piece cs now due new next w a before after = (text : List ℕ) × (Goes (stock_of cs now.keeper.forest) now (Some due) new next w a text × (after ≡ before ++ text))
+Piece cs now due new next w a before after = (text : List ℕ) × (Goes (inventory_with cs now.keeper.forest) now (Some due) new next w a text × (after ≡ before ++ text))
 
-pub piece_goes : (cs : List (List ℕ)) (now new : World) (due : ℕ) (next : Option ℕ) (w a : ℕ) (before after : List ℕ) → before ≡ [] → Piece cs now due new next w a before after → Goes (stock_of cs now.keeper.forest) now (Some due) new next w a after
+pub piece_goes : (cs : List (List ℕ)) (now new : World) (due : ℕ) (next : Option ℕ) (w a : ℕ) (before after : List ℕ) → before ≡ [] → Piece cs now due new next w a before after → Goes (inventory_with cs now.keeper.forest) now (Some due) new next w a after
 piece_goes cs now new due next w a before after none piece =
-    subst (Goes (stock_of cs now.keeper.forest) now (Some due) new next w a) (sym (piece.1.1 ∙ ap (λ l. l ++ piece.0) none)) piece.1.0
+    subst (Goes (inventory_with cs now.keeper.forest) now (Some due) new next w a) (sym (piece.1.1 ∙ ap (λ l. l ++ piece.0) none)) piece.1.0
 
 -- no wake-up was left, and the lines behind the last one are sent with the last line
 pub going_to_end :
     (cs : List (List ℕ)) (old : World) (start : ℕ) (before : List ℕ) (first : Option (List ℕ)) (failed : ℕ) (now : World) (due wakes asked : ℕ) (written : Option (List ℕ)) (failed_now : ℕ) (new : World) (text : List ℕ)
-    (result : Result (Unit {0}) Stop) (last out : Sent) → Going cs old start before first failed now due wakes asked written failed_now → Goes (stock_of cs now.keeper.forest) now (Some due) new None 0 0 text → wakes ≤ 100000 →
+    (result : Result (Unit {0}) Stop) (last out : Sent) → Going cs old start before first failed now due wakes asked written failed_now → Goes (inventory_with cs now.keeper.forest) now (Some due) new None 0 0 text → wakes ≤ 100000 →
     Finishes (text ++ done_text wakes asked) result last → out.old ≡ first → last.old ≡ written → last.new ≡ out.new → last.failed_before ≡ out.failed_before → last.failed_after ≡ out.failed_after → last.flushed ≡ out.flushed →
     Plays cs old start before result new out
 going_to_end cs old start before first failed now due wakes asked written failed_now new text result last out g more few ends old_is last_old_is new_is failed_is failed_after_is flushed_is =
-    let s = stock_of cs old.keeper.forest in
-    let goes = goes_on s old now new (Some start) (Some due) None wakes 0 asked 0 g.lines text g.goes (goes_as s (stock_of cs now.keeper.forest) now new (Some due) None 0 0 text g.like refl more) in
+    let s = inventory_with cs old.keeper.forest in
+    let goes = goes_on s old now new (Some start) (Some due) None wakes 0 asked 0 g.lines text g.goes (goes_as s (inventory_with cs now.keeper.forest) now new (Some due) None 0 0 text g.like refl more) in
     let goes' = subst (λ n. Goes s old (Some start) new None n (asked + 0) (g.lines ++ text)) (let z : wakes + 0 ≡ wakes = omega arith in z) goes in
     let goes'' = subst (λ n. Goes s old (Some start) new None wakes n (g.lines ++ text)) (let z : asked + 0 ≡ asked = omega arith in z) goes' in
     finished cs old start before new wakes asked g.lines text written failed_now result last out goes'' (subst (λ o. Appends o written (before ++ g.lines)) (sym old_is) g.all) few ends last_old_is new_is failed_is failed_after_is flushed_is
@@ -308,12 +308,12 @@ going_to_end cs old start before first failed now due wakes asked written failed
 -- a wake-up was the last, its lines are written, and the last line is sent
 pub going_done :
     (cs : List (List ℕ)) (old : World) (start : ℕ) (before : List ℕ) (first : Option (List ℕ)) (failed : ℕ) (now : World) (due wakes asked : ℕ) (written : Option (List ℕ)) (failed_now : ℕ) (new : World) (a : ℕ) (text rest : List ℕ)
-    (after : Option (List ℕ)) (result : Result (Unit {0}) Stop) (last out : Sent) → Going cs old start before first failed now due wakes asked written failed_now → Goes (stock_of cs now.keeper.forest) now (Some due) new None 1 a text →
+    (after : Option (List ℕ)) (result : Result (Unit {0}) Stop) (last out : Sent) → Going cs old start before first failed now due wakes asked written failed_now → Goes (inventory_with cs now.keeper.forest) now (Some due) new None 1 a text →
     wakes < 100000 → Appends written after text → rest ≡ [] → Finishes (rest ++ done_text (wakes + 1) (asked + a)) result last → out.old ≡ first → last.old ≡ after → last.new ≡ out.new → last.failed_before ≡ out.failed_before →
     last.failed_after ≡ out.failed_after → last.flushed ≡ out.flushed → Plays cs old start before result new out
 going_done cs old start before first failed now due wakes asked written failed_now new a text rest after result last out g more few all none ends old_is last_old_is new_is failed_is failed_after_is flushed_is =
-    let s = stock_of cs old.keeper.forest in
-    let goes = goes_on s old now new (Some start) (Some due) None wakes 1 asked a g.lines text g.goes (goes_as s (stock_of cs now.keeper.forest) now new (Some due) None 1 a text g.like refl more) in
+    let s = inventory_with cs old.keeper.forest in
+    let goes = goes_on s old now new (Some start) (Some due) None wakes 1 asked a g.lines text g.goes (goes_as s (inventory_with cs now.keeper.forest) now new (Some due) None 1 a text g.like refl more) in
     let whole = g.lines ++ text in
     finished cs old start before new (wakes + 1) (asked + a) whole rest after failed_now result last out
     (subst (Goes s old (Some start) new None (wakes + 1) (asked + a)) (sym (ap (λ l. whole ++ l) none ∙ append-nil whole)) goes)

@@ -2,8 +2,8 @@
 -- Source: this project's own.
 use Rattle.std.specs.Prelude.{◌≡◌, ℕ, ◌≤◌, Bool, true, false, List, [], ◌∷◌, ◌++◌, Option, Some, None, Ok, length, map}
 use Rattle.std.specs.List.{filter, sum_by}
-use Rattle.keep_tree.specs.Forest.{Grove}
-use Rattle.keep_inventory.specs.Stock.{Stock}
+use Rattle.keep_tree.specs.Forest.{Forest}
+use Rattle.keep_inventory.specs.Inventories.{Inventory}
 use Rattle.vault_http.specs.Written.{request_text}
 use Rattle.keep_exchange.specs.Exchanges.{Behind}
 use Rattle.keep_exchange.specs.Requests.{reply_in, request_of}
@@ -49,13 +49,13 @@ abbrev pub taken : State → State
 taken s = record s { shortened = [] }
 
 -- what the reply of an exchange means
-unfoldable pub event_in : List (List ℕ) → Grove → Exchanged → Event
+unfoldable pub event_in : List (List ℕ) → Forest → Exchanged → Event
 event_in cs g x = event_for cs g x.entry (reply_in x.sent)
 
 -- the broker's table behind the request, and the bytes of both messages
 abbrev pub carried : ℕ → List (List ℕ) → ℕ → World → Exchanged → Behind
 carried port cs t old x = record {
-  table = (step old.behind.table t (request_of port cs old.keeper.forest x.entry)).ledger;
+  table = (step old.behind.table t (request_of port cs old.keeper.forest x.entry)).table;
   wire = request_text (request_of port cs old.keeper.forest x.entry) ++ sent_of x.sent;
 }
 
@@ -114,11 +114,11 @@ Played port cs old None (b ∷ bs) new next = ⊥
 Played port cs old (Some t) (b ∷ bs) new next = (b.at ≡ t) × ((mid : World) × (IsBeat port cs old b mid × Played port cs mid (next_tick b) bs new next))
 
 -- the keeper planned from the start, and the broker's table, of the same inventory
-pub record IsOpening (stock : Stock) (faults : List NumberedFault) (start : ℕ) (short : List ShortNeed) (world : World) : Type 0 where
+pub record IsOpening (inventory : Inventory) (faults : List NumberedFault) (start : ℕ) (short : List ShortNeed) (world : World) : Type 0 where
   pub keeper : State
-  pub planned : Replan (unplanned stock.grove) start keeper
+  pub planned : Replan (unplanned inventory.forest) start keeper
   pub short_is : short ≡ keeper.shortened
-  pub is : world ≡ record { keeper = taken keeper; behind = record { table = record { rows = rows_of stock; faults = faults; count = 0 }; wire = [] } }
+  pub is : world ≡ record { keeper = taken keeper; behind = record { table = record { rows = rows_of inventory; faults = faults; count = 0 }; wire = [] } }
 
 -- whether entries were asked: a wake-up
 abbrev pub asks_some : Output → Bool
@@ -140,8 +140,8 @@ pub record Course : Type 0 where
 
 -- the Closed run of an inventory from a start with these faults, over memory: it ends where no tick is next, and has at most
 -- 100,000 wake-ups
-pub record IsClosedRun (stock : Stock) (faults : List NumberedFault) (start : ℕ) (course : Course) (final : World) : Type 0 where
+pub record IsClosedRun (inventory : Inventory) (faults : List NumberedFault) (start : ℕ) (course : Course) (final : World) : Type 0 where
   pub opening : World
-  pub opened : IsOpening stock faults start course.short opening
-  pub played : Played 8200 stock.credentials opening (Some start) course.beats final None
+  pub opened : IsOpening inventory faults start course.short opening
+  pub played : Played 8200 inventory.credentials opening (Some start) course.beats final None
   pub few : length (rounds course.beats) ≤ 100000

@@ -5,7 +5,7 @@ use Rattle.keep_moment.specs.declared.moment.TheConstants.{LAST}
 use Rattle.keep_run.specs.declared.event_line.Heard.{Heard}
 use Rattle.keep_run.specs.declared.event_line.Heard.TheVariants.{Tick, Need, Unknown}
 use Rattle.keep_run.specs.declared.event_line.TheConstants.{MOST_LINE}
-use Rattle.keep_tree.specs.Forest.{Grove, index_named}
+use Rattle.keep_tree.specs.Forest.{Forest, index_named}
 use Rattle.keep_words.specs.Numbers.{number_up_to}
 use Rattle.keep_words.specs.Pieces.{words}
 
@@ -19,17 +19,17 @@ needed (Some i) until = Need i until
 needed None until = Unknown
 
 -- `need NAME T`, where a name has at least one byte
-abbrev pub need_in : Grove → List ℕ → List ℕ → List ℕ → Option Heard
+abbrev pub need_in : Forest → List ℕ → List ℕ → List ℕ → Option Heard
 need_in g word name until =
     if bytes_eq word (codes "need") then (if length name == 0 then None else option_map (needed (index_named g.entries name)) (number_up_to LAST until)) else None
 
-abbrev pub words_in : Grove → List (List ℕ) → Option Heard
+abbrev pub words_in : Forest → List (List ℕ) → Option Heard
 words_in g (word ∷ t ∷ []) = tick_in word t
 words_in g (word ∷ name ∷ until ∷ []) = need_in g word name until
 words_in g ws = None
 
 -- what a line without its line feed says, which has 256 bytes at most with it; none where it is no event line
-unfoldable pub heard_in : Grove → List ℕ → Option Heard
+unfoldable pub heard_in : Forest → List ℕ → Option Heard
 heard_in g line = if nat_lt (length line) MOST_LINE then words_in g (words line) else None
 
 -- the entry that is needed, if one is, is among so many

@@ -8,7 +8,7 @@ use Rattle.mini_broker.specs.declared.fault.NumberedFault.{NumberedFault}
 use Rattle.mini_broker.specs.declared.fault.SetFault.{SetFault}
 use Rattle.mini_broker.specs.declared.fault.SetFault.TheVariants.{BadNumber, Twice, OutOfMemory}
 use Rattle.mini_broker.specs.Faults.{fault_refusal}
-use Rattle.mini_broker.specs.Ledger.{Ledger}
+use Rattle.mini_broker.specs.Table.{Table}
 use Rattle.keep_report.specs.declared.stop.Stop.{Stop}
 use Rattle.keep_report.specs.declared.stop.Stop.TheVariants as stops
 use Rattle.keep_words.specs.Numbers.{number_up_to}
@@ -61,7 +61,7 @@ stop_at Twice place = stops.FaultWord place
 stop_at OutOfMemory place = stops.Memory
 
 -- giving a table the faults of these words
-abbrev pub SetsFaults : List (List ℕ) → Ledger → Result (Unit {0}) Stop → Ledger → Type 0
+abbrev pub SetsFaults : List (List ℕ) → Table → Result (Unit {0}) Stop → Table → Type 0
 SetsFaults words old (Ok u) new = (faults : List NumberedFault) × (faults_of words ≡ Ok faults) × (new ≡ record old { faults = faults })
 SetsFaults words old (Err (stops.FaultWord position)) new = faults_of words ≡ Err position
 SetsFaults words old (Err stops.Memory) new = Unit {0}

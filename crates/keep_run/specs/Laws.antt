@@ -14,8 +14,8 @@ use Rattle.keep_rule.specs.Runs.{moments_of}
 use Rattle.keep_plan.specs.declared.decision.Decision.TheVariants.{Keep}
 use Rattle.keep_plan.specs.Decides.{Decides}
 use Rattle.keep_plan.specs.Planned.{Planned, to_come}
-use Rattle.keep_inventory.specs.Inventory.{inventory}
-use Rattle.keep_inventory.specs.Stock.{IsStock, Stock}
+use Rattle.keep_inventory.specs.Inventory.{read_inventory}
+use Rattle.keep_inventory.specs.Inventories.{IsInventory, Inventory}
 use Rattle.mini_broker.specs.declared.served.Served.{Served}
 use Rattle.mini_broker.specs.Step.{Says, step}
 use Rattle.mini_broker.specs.Rows.{row_named}
@@ -35,82 +35,82 @@ use Rattle.keep_run.specs.Stops.{IsTaken}
 use Rattle.keep_run.specs.Text.{beat_text, course_text, done_text}
 
 -- the entry was told the end that the renewal rule gives at t, and nothing was shortened
-pub record IsToldByRule (stock : Stock) (t : ℕ) (x : Exchanged) : Type 0 where
+pub record IsToldByRule (inventory : Inventory) (t : ℕ) (x : Exchanged) : Type 0 where
   pub seconds : ℕ
-  pub told : event_in stock.credentials stock.grove x ≡ Told x.entry seconds true
-  pub by_rule : t + seconds ≡ renewal (entry_at stock.grove.entries x.entry) t
+  pub told : event_in inventory.credentials inventory.forest x ≡ Told x.entry seconds true
+  pub by_rule : t + seconds ≡ renewal (entry_at inventory.forest.entries x.entry) t
   pub short : x.short ≡ []
 
-pub record IsQuiet (stock : Stock) (b : Beat) : Type 0 where
+pub record IsQuiet (inventory : Inventory) (b : Beat) : Type 0 where
   pub short : b.short ≡ []
-  pub told : All (IsToldByRule stock b.at) b.answers
+  pub told : All (IsToldByRule inventory b.at) b.answers
 
 -- the ticks so far of a run by a plan at these moments: its rounds are at the first of them, all are where no tick is next;
 -- who was asked was told by the rule, and nothing was shortened; the next tick is not refused; and at a moment from the
 -- start that comes before the next tick and behind none of these, each entry that is needed longer has its row in the table,
 -- after a sweep at that moment
-pub record GoesAsPlanned (stock : Stock) (start : ℕ) (ts : List ℕ) (beats : List Beat) (final : World) (next : Option ℕ) : Type 0 where
+pub record GoesAsPlanned (inventory : Inventory) (start : ℕ) (ts : List ℕ) (beats : List Beat) (final : World) (next : Option ℕ) : Type 0 where
   pub rest : List ℕ
   pub moments : ts ≡ map (λ b. b.at) (rounds beats) ++ rest
   pub ended : next ≡ None → rest ≡ []
-  pub asked : next ≡ None → requests_of beats ≡ requests (with_asks stock.grove.entries stock.grove.margin start (end_of stock.grove.entries) ts)
-  pub quiet : All (IsQuiet stock) beats
+  pub asked : next ≡ None → requests_of beats ≡ requests (with_asks inventory.forest.entries inventory.forest.margin start (end_of inventory.forest.entries) ts)
+  pub quiet : All (IsQuiet inventory) beats
   pub taken : (t : ℕ) (result : Result Output StepFault) (new : State) → next ≡ Some t → Turn final.keeper (Tick t) result new → IsTaken result
-  pub stands : (m i : ℕ) → start ≤ m → All (λ b. b.at ≤ m) beats → IfSome next (λ t. m < t) → m < (entry_at stock.grove.entries i).need
-      → is_some (row_named (swept m final.behind.table.rows) (entry_at stock.grove.entries i).name) ≡ true
+  pub stands : (m i : ℕ) → start ≤ m → All (λ b. b.at ≤ m) beats → IfSome next (λ t. m < t) → m < (entry_at inventory.forest.entries i).need
+      → is_some (row_named (swept m final.behind.table.rows) (entry_at inventory.forest.entries i).name) ≡ true
 
 -- without faults, a run of an inventory that a plan keeps goes as planned, as far as it went
 abbrev pub SoFarLaw : Type 0
 SoFarLaw =
-    (stock : Stock) (start : ℕ) (ts : List ℕ) → IsStock stock → start ≤ LAST → IsPlanOf stock.grove start ts → length ts ≤ LIMIT →
-    (short : List ShortNeed) (opening final : World) (beats : List Beat) (next : Option ℕ) → IsOpening stock [] start short opening →
-    Played 8200 stock.credentials opening (Some start) beats final next →
-    (short ≡ []) × GoesAsPlanned stock start ts beats final next
+    (inventory : Inventory) (start : ℕ) (ts : List ℕ) → IsInventory inventory → start ≤ LAST → IsPlanOf inventory.forest start ts → length ts ≤ LIMIT →
+    (short : List ShortNeed) (opening final : World) (beats : List Beat) (next : Option ℕ) → IsOpening inventory [] start short opening →
+    Played 8200 inventory.credentials opening (Some start) beats final next →
+    (short ≡ []) × GoesAsPlanned inventory start ts beats final next
 
 -- so the closed run has exactly as many rounds as the plan has wake-ups, at its moments, and as many requests as its Asks
 abbrev pub RehearsalLaw : Type 0
 RehearsalLaw =
-    (stock : Stock) (start : ℕ) (ts : List ℕ) → IsStock stock → start ≤ LAST → IsPlanOf stock.grove start ts → length ts ≤ 100000 →
-    (course : Course) (final : World) → IsClosedRun stock [] start course final →
+    (inventory : Inventory) (start : ℕ) (ts : List ℕ) → IsInventory inventory → start ≤ LAST → IsPlanOf inventory.forest start ts → length ts ≤ 100000 →
+    (course : Course) (final : World) → IsClosedRun inventory [] start course final →
     (map (λ b. b.at) (rounds course.beats) ≡ ts)
-    × ((requests_of course.beats ≡ requests (with_asks stock.grove.entries stock.grove.margin start (end_of stock.grove.entries) ts))
-    × ((course.short ≡ []) × All (IsQuiet stock) course.beats))
+    × ((requests_of course.beats ≡ requests (with_asks inventory.forest.entries inventory.forest.margin start (end_of inventory.forest.entries) ts))
+    × ((course.short ≡ []) × All (IsQuiet inventory) course.beats))
 
 -- and no plan that keeps has fewer wake-ups than the rehearsal made
 abbrev pub LeastLaw : Type 0
 LeastLaw =
-    (stock : Stock) (start : ℕ) (ts : List ℕ) → IsStock stock → start ≤ LAST → IsPlanOf stock.grove start ts → length ts ≤ 100000 →
-    (course : Course) (final : World) → IsClosedRun stock [] start course final →
-    (plan : List Wake) → IsPlan start plan → Keeps stock.grove.entries stock.grove.margin start (end_of stock.grove.entries) plan → length (rounds course.beats) ≤ length plan
+    (inventory : Inventory) (start : ℕ) (ts : List ℕ) → IsInventory inventory → start ≤ LAST → IsPlanOf inventory.forest start ts → length ts ≤ 100000 →
+    (course : Course) (final : World) → IsClosedRun inventory [] start course final →
+    (plan : List Wake) → IsPlan start plan → Keeps inventory.forest.entries inventory.forest.margin start (end_of inventory.forest.entries) plan → length (rounds course.beats) ≤ length plan
 
 -- nor is any answer of a round refused: the round at t was opened, some of the asked have answered, and i is the next
 abbrev pub AnswersTakenLaw : Type 0
 AnswersTakenLaw =
-    (stock : Stock) (start : ℕ) (ts : List ℕ) → IsStock stock → start ≤ LAST → IsPlanOf stock.grove start ts → length ts ≤ LIMIT →
-    (short : List ShortNeed) (opening final : World) (beats : List Beat) (t : ℕ) → IsOpening stock [] start short opening →
-    Played 8200 stock.credentials opening (Some start) beats final (Some t) →
+    (inventory : Inventory) (start : ℕ) (ts : List ℕ) → IsInventory inventory → start ≤ LAST → IsPlanOf inventory.forest start ts → length ts ≤ LIMIT →
+    (short : List ShortNeed) (opening final : World) (beats : List Beat) (t : ℕ) → IsOpening inventory [] start short opening →
+    Played 8200 inventory.credentials opening (Some start) beats final (Some t) →
     (asked : List ℕ) (keeper : State) → Turn final.keeper (Tick t) (Ok (out.Ask asked)) keeper →
     (xs : List Exchanged) (now : World) (i : ℕ) (others : List ℕ) → map (λ x. x.entry) xs ++ (i ∷ others) ≡ asked →
-    AreAnswered 8200 stock.credentials t (record { keeper = taken keeper; behind = final.behind }) xs now →
-    (sent : Served) (result : Result Output StepFault) (new : State) → Says t (step now.behind.table t (request_of 8200 stock.credentials now.keeper.forest i)).answer sent →
-    Turn now.keeper (event_for stock.credentials now.keeper.forest i (reply_in sent)) result new → IsTaken result
+    AreAnswered 8200 inventory.credentials t (record { keeper = taken keeper; behind = final.behind }) xs now →
+    (sent : Served) (result : Result Output StepFault) (new : State) → Says t (step now.behind.table t (request_of 8200 inventory.credentials now.keeper.forest i)).answer sent →
+    Turn now.keeper (event_for inventory.credentials now.keeper.forest i (reply_in sent)) result new → IsTaken result
 
 -- over the bytes of an inventory, and for the plan that `plan` gives: the run's text ends in its number of wake-ups and the
 -- sum of the lengths of its Asks
 abbrev pub PlannedRunLaw : Type 0
 PlannedRunLaw =
-    (bytes : List ℕ) (stock : Stock) (start : ℕ) (p : Planned) → inventory bytes ≡ Ok stock → start ≤ LAST → Decides stock.grove start (Keep p) → length (to_come p) ≤ 100000 →
-    (course : Course) (final : World) → IsClosedRun stock [] start course final →
+    (bytes : List ℕ) (inventory : Inventory) (start : ℕ) (p : Planned) → read_inventory bytes ≡ Ok inventory → start ≤ LAST → Decides inventory.forest start (Keep p) → length (to_come p) ≤ 100000 →
+    (course : Course) (final : World) → IsClosedRun inventory [] start course final →
     (map (λ b. b.at) (rounds course.beats) ≡ moments_of (to_come p))
-    × (course_text stock course ≡ flat_map (beat_text stock) course.beats
-    ++ done_text (length (to_come p)) (requests (with_asks stock.grove.entries stock.grove.margin start (end_of stock.grove.entries) (moments_of (to_come p)))))
+    × (course_text inventory course ≡ flat_map (beat_text inventory) course.beats
+    ++ done_text (length (to_come p)) (requests (with_asks inventory.forest.entries inventory.forest.margin start (end_of inventory.forest.entries) (moments_of (to_come p)))))
 
 -- at each moment from the start, before a need, that need's entry stands in the rows, after the ticks up to that moment and
 -- a sweep at it
 abbrev pub StandsLaw : Type 0
 StandsLaw =
-    (stock : Stock) (start : ℕ) (ts : List ℕ) → IsStock stock → start ≤ LAST → IsPlanOf stock.grove start ts → length ts ≤ LIMIT →
-    (short : List ShortNeed) (opening mid final : World) (before after : List Beat) (due : Option ℕ) → IsOpening stock [] start short opening →
-    Played 8200 stock.credentials opening (Some start) before mid due → Played 8200 stock.credentials mid due after final None →
-    (m i : ℕ) → start ≤ m → All (λ b. b.at ≤ m) before → All (λ b. m < b.at) after → m < (entry_at stock.grove.entries i).need
-    → is_some (row_named (swept m mid.behind.table.rows) (entry_at stock.grove.entries i).name) ≡ true
+    (inventory : Inventory) (start : ℕ) (ts : List ℕ) → IsInventory inventory → start ≤ LAST → IsPlanOf inventory.forest start ts → length ts ≤ LIMIT →
+    (short : List ShortNeed) (opening mid final : World) (before after : List Beat) (due : Option ℕ) → IsOpening inventory [] start short opening →
+    Played 8200 inventory.credentials opening (Some start) before mid due → Played 8200 inventory.credentials mid due after final None →
+    (m i : ℕ) → start ≤ m → All (λ b. b.at ≤ m) before → All (λ b. m < b.at) after → m < (entry_at inventory.forest.entries i).need
+    → is_some (row_named (swept m mid.behind.table.rows) (entry_at inventory.forest.entries i).name) ≡ true

@@ -1,20 +1,20 @@
 -- Mirrors: rows that a sweep brings to those of the entries that are alive, by the forest as it was told.
 -- Source: this project's own.
 use Rattle.std.specs.Prelude.{◌≡◌, ℕ, ◌≤◌, List, slice_set}
-use Rattle.keep_tree.specs.Forest.{Grove, entry_at}
-use Rattle.keep_inventory.specs.Stock.{Stock}
+use Rattle.keep_tree.specs.Forest.{Forest, entry_at}
+use Rattle.keep_inventory.specs.Inventories.{Inventory}
 use Rattle.mini_broker.specs.declared.row.Row.{Row}
 use Rattle.mini_broker.specs.Listed.{listed}
 use Rattle.mini_broker.specs.Sweep.{swept}
 
 -- from t on, a sweep of these rows leaves those of the entries that are alive
-abbrev pub Mirrors : Stock → ℕ → List Row → Type 0
+abbrev pub Mirrors : Inventory → ℕ → List Row → Type 0
 Mirrors s t rows = (m : ℕ) → t ≤ m → swept m rows ≡ listed s m
 
 -- an inventory with the forest as it was told
-abbrev pub with_forest : Stock → Grove → Stock
-with_forest s g = record { grove = g; credentials = s.credentials; terms = s.terms }
+abbrev pub with_forest : Inventory → Forest → Inventory
+with_forest s g = record { forest = g; credentials = s.credentials; terms = s.terms }
 
 -- the forest with another end for the entry i
-unfoldable pub ended : Grove → ℕ → ℕ → Grove
+unfoldable pub ended : Forest → ℕ → ℕ → Forest
 ended g i end = record { entries = slice_set g.entries i (record (entry_at g.entries i) { end = end }); margin = g.margin }

@@ -3,7 +3,7 @@
 use Rattle.std.specs.Prelude.{◌≡◌, ℕ, ◌+◌, ◌-◌, ◌^◌, ◌<◌, ◌≤◌, ◌⊎◌, ◌++◌, IsTrue, List, [], ◌∷◌, Option, None, Some, Result, Ok, Err, IfSome, length, take}
 use Rattle.std.specs.Io.KnownBytes.{Appends, Consumes, IsAtEnd}
 use Rattle.keep_words.specs.Pieces.{pieces}
-use Rattle.keep_tree.specs.Forest.{Grove}
+use Rattle.keep_tree.specs.Forest.{Forest}
 use Rattle.keep_core.specs.declared.event.Event.TheVariants as events
 use Rattle.keep_core.specs.declared.fault.StepFault.TheVariants as steps
 use Rattle.keep_core.specs.History.{Turn}
@@ -49,7 +49,7 @@ whole_line behind = None
 
 -- the first of these pieces is no event line: it says no event; or it has no line feed, and is as long as an event line may be,
 -- or the events have ended
-abbrev pub IsNoEvent : Grove → List (List ℕ) → Type 0 → Type 0
+abbrev pub IsNoEvent : Forest → List (List ℕ) → Type 0 → Type 0
 IsNoEvent g [] HasEnded = ⊥
 IsNoEvent g (rest ∷ []) HasEnded = (MOST_LINE ≤ length rest) ⊎ (HasEnded × (0 < length rest))
 IsNoEvent g (line ∷ next ∷ more) HasEnded = heard_in g line ≡ None

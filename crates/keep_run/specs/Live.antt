@@ -9,13 +9,13 @@ use Rattle.keep_core.specs.declared.fault.StepFault.TheVariants as steps
 use Rattle.keep_core.specs.History.{Turn}
 use Rattle.keep_core.specs.State.{State}
 use Rattle.keep_exchange.specs.Exchanges.{Behind}
-use Rattle.keep_inventory.specs.Stock.{Stock}
+use Rattle.keep_inventory.specs.Inventories.{Inventory}
 use Rattle.keep_report.specs.declared.stop.Stop.{Stop}
 use Rattle.keep_report.specs.declared.stop.Stop.TheVariants as stops
 use Rattle.keep_run.specs.Closed.{Beat, Exchanged, IsBeat, World, closing, taken}
 use Rattle.keep_run.specs.declared.event_line.Heard.{Heard}
 use Rattle.keep_run.specs.declared.event_line.Heard.TheVariants.{Tick, Need, Unknown}
-use Rattle.keep_run.specs.Playing.{Answers, AnswersAll, stock_of}
+use Rattle.keep_run.specs.Playing.{Answers, AnswersAll, inventory_with}
 use Rattle.keep_run.specs.Stops.{both}
 use Rattle.keep_run.specs.Text.{beat_text, line, short_lines}
 
@@ -41,14 +41,14 @@ last_line out.Idle answers = line (codes "idle" ∷ [])
 last_line output answers = []
 
 -- a tick: the needs that it shortened, who was asked and what they were told, and its last line
-abbrev pub tick_text : Stock → Beat → List ℕ
+abbrev pub tick_text : Inventory → Beat → List ℕ
 tick_text s b = beat_text s b ++ last_line b.output b.answers
 
 -- ---- what is heard
 
 -- a tick that is told at t, with its answers
 abbrev pub TicksLive : List (List ℕ) → ℕ → World → World → List ℕ → Type 0
-TicksLive cs t old new text = (b : Beat) × ((b.at ≡ t) × (IsBeat 8200 cs old b new × (text ≡ tick_text (stock_of cs old.keeper.forest) b)))
+TicksLive cs t old new text = (b : Beat) × ((b.at ≡ t) × (IsBeat 8200 cs old b new × (text ≡ tick_text (inventory_with cs old.keeper.forest) b)))
 
 -- a tick before the last moment is refused
 abbrev pub IsLate : ℕ → World → World → List ℕ → Type 0

@@ -10,8 +10,8 @@ use Rattle.keep_device.specs.Front.{AppendsFront}
 use Rattle.keep_device.specs.Whole.{MakesAtMost}
 use Rattle.keep_exchange.specs.Exchanges.{Behind}
 use Rattle.keep_inventory.specs.declared.fault.InvFault.{InvFault}
-use Rattle.keep_inventory.specs.Inventory.{inventory}
-use Rattle.keep_inventory.specs.Stock.{Stock}
+use Rattle.keep_inventory.specs.Inventory.{read_inventory}
+use Rattle.keep_inventory.specs.Inventories.{Inventory}
 use Rattle.keep_report.specs.declared.exit.Exit.{Exit}
 use Rattle.keep_report.specs.declared.exit.Exit.TheVariants as exits
 use Rattle.keep_report.specs.declared.stop.Stop.{Stop}
@@ -35,15 +35,15 @@ use Rattle.keep_words.specs.Pieces.{pieces}
 -- were shortened
 pub record IsLiveOpening (port start : ℕ) (old : Looked) (opening : World) (text : List ℕ) : Type 0 where
   pub looked : Looked
-  pub all : AreLookedUp port start old (first (length old.stock.grove.entries)) looked
+  pub all : AreLookedUp port start old (first (length old.inventory.forest.entries)) looked
   pub keeper : State
-  pub planned : Replan (unplanned looked.stock.grove) start keeper
+  pub planned : Replan (unplanned looked.inventory.forest) start keeper
   pub is : opening ≡ both (taken keeper) looked.behind
-  pub text_is : text ≡ looked_text looked.stock (first (length old.stock.grove.entries)) ++ short_lines looked.stock.grove keeper.shortened
+  pub text_is : text ≡ looked_text looked.inventory (first (length old.inventory.forest.entries)) ++ short_lines looked.inventory.forest keeper.shortened
 
 -- a run that was opened, with these credentials: its lines were written and flushed, and no write failed
 pub record IsOpened (port start : ℕ) (old : Looked) (credentials : List (List ℕ)) (keeper : State) (new : Option Behind) (out : Sent) : Type 0 where
-  pub same : credentials ≡ old.stock.credentials
+  pub same : credentials ≡ old.inventory.credentials
   pub behind : Behind
   pub is : new ≡ Some behind
   pub text : List ℕ
@@ -54,9 +54,9 @@ pub record IsOpened (port start : ℕ) (old : Looked) (credentials : List (List 
 -- all entries were looked up, and their lines written and flushed; the plan from the start is too long
 pub record IsUnplanned (port start : ℕ) (old : Looked) (out : Sent) (new : Option Behind) : Type 0 where
   pub looked : Looked
-  pub all : AreLookedUp port start old (first (length old.stock.grove.entries)) looked
-  pub long : ReplanTooLong looked.stock.grove start
-  pub said : IsSaid (looked_text looked.stock (first (length old.stock.grove.entries))) out
+  pub all : AreLookedUp port start old (first (length old.inventory.forest.entries)) looked
+  pub long : ReplanTooLong looked.inventory.forest start
+  pub said : IsSaid (looked_text looked.inventory (first (length old.inventory.forest.entries))) out
   pub left : new ≡ Some looked.behind
 
 -- no more than a front of the lines of the opening was written
@@ -83,7 +83,7 @@ pub record IsLiveRun (port start : ℕ) (old : Looked) (lines : List (List ℕ))
   pub before : List ℕ
   pub opened : IsLiveOpening port start old opening before
   pub spoken : List ℕ
-  pub heard : AreHeard port old.stock.credentials (side opening.keeper (Some opening.behind)) lines final spoken
+  pub heard : AreHeard port old.inventory.credentials (side opening.keeper (Some opening.behind)) lines final spoken
   pub text_is : text ≡ before ++ spoken
 
 -- a run that listened: what was read of the events, by at most 65,536 reads; the lines of its first 1 MiB that were heard, with the
@@ -99,7 +99,7 @@ pub record HasListened (port start : ℕ) (old : Looked) (result : Result (Unit 
   pub mid : Side
   pub text : List ℕ
   pub run : IsLiveRun port start old lines mid text
-  pub ends : ListensTo port old.stock.credentials read (length lines + 1) mid behind text result new fed out
+  pub ends : ListensTo port old.inventory.credentials read (length lines + 1) mid behind text result new fed out
 
 -- ---- how it ends
 
@@ -115,11 +115,11 @@ RunsTo port start old (Err stop) fed out new =
 
 -- how the run over the bytes of an inventory ends
 abbrev pub LivesTo : ℕ → List ℕ → ℕ → Behind → Result (Unit {0}) Stop → Fed → Sent → Option Behind → Type 0
-LivesTo port bytes start old (Err (stops.Inventory fault)) fed out new = (inventory bytes ≡ Err fault) × IsUnread fed × IsUntouched out × (new ≡ Some old)
+LivesTo port bytes start old (Err (stops.Inventory fault)) fed out new = (read_inventory bytes ≡ Err fault) × IsUnread fed × IsUntouched out × (new ≡ Some old)
 LivesTo port bytes start old (Err stops.Memory) fed out new =
     (IsUnread fed × IsUntouched out × (new ≡ Some old))
-    ⊎ ((stock : Stock) × (inventory bytes ≡ Ok stock) × RunsTo port start (record { stock = stock; behind = old }) (Err stops.Memory) fed out new)
-LivesTo port bytes start old result fed out new = (stock : Stock) × (inventory bytes ≡ Ok stock) × RunsTo port start (record { stock = stock; behind = old }) result fed out new
+    ⊎ ((inventory : Inventory) × (read_inventory bytes ≡ Ok inventory) × RunsTo port start (record { inventory = inventory; behind = old }) (Err stops.Memory) fed out new)
+LivesTo port bytes start old result fed out new = (inventory : Inventory) × (read_inventory bytes ≡ Ok inventory) × RunsTo port start (record { inventory = inventory; behind = old }) result fed out new
 
 -- `run` over the bytes of an inventory and a start, by exit: how the run ends, and what it tells of that
 abbrev pub LiveRun : ℕ → List ℕ → ℕ → Behind → Exit → Fed → Sent → Sent → Option Behind → Type 0
@@ -141,7 +141,7 @@ IsListenStop stop = ⊥
 
 -- why a run over these bytes stops
 abbrev pub IsLiveStop : List ℕ → Stop → Type 0
-IsLiveStop bytes (stops.Inventory fault) = inventory bytes ≡ Err fault
+IsLiveStop bytes (stops.Inventory fault) = read_inventory bytes ≡ Err fault
 IsLiveStop bytes stop = IsListenStop stop
 
 -- what a run tells of its end: nothing where it is done, else the line of why it stopped, with the exit of that

@@ -7,7 +7,7 @@ use Rattle.keep_device.specs.Front.{AppendsFront}
 use Rattle.keep_exchange.specs.Exchanges.{Behind, IsGivenUp}
 use Rattle.keep_exchange.specs.Lookups.{IsLookedUp, IsServed}
 use Rattle.keep_exchange.specs.Requests.{lookup_of}
-use Rattle.keep_inventory.specs.Stock.{Stock}
+use Rattle.keep_inventory.specs.Inventories.{Inventory}
 use Rattle.keep_report.specs.declared.stop.Stop.{Stop}
 use Rattle.keep_report.specs.declared.stop.Stop.TheVariants as stops
 use Rattle.keep_report.specs.Sent.{IsAll, IsUntouched, Sent}
@@ -17,23 +17,23 @@ use Rattle.keep_tree.specs.Forest.{entry_at}
 
 -- an inventory, and what stands behind the exchange over which it is looked up
 pub record Looked : Type 0 where
-  pub stock : Stock
+  pub inventory : Inventory
   pub behind : Behind
 
 -- these entries are looked up at t, one after another, and each lookup is applied
 abbrev pub AreLookedUp : ℕ → ℕ → Looked → List ℕ → Looked → Type 0
 AreLookedUp port t old [] new = new ≡ old
-AreLookedUp port t old (i ∷ is) new = (mid : Looked) × (IsLookedUp port old.behind.table t old.stock i true mid.stock (Some mid.behind) × AreLookedUp port t mid is new)
+AreLookedUp port t old (i ∷ is) new = (mid : Looked) × (IsLookedUp port old.behind.table t old.inventory i true mid.inventory (Some mid.behind) × AreLookedUp port t mid is new)
 
 -- the first n entries, by index
 abbrev pub first : ℕ → List ℕ
 first n = range_with_len 0 n
 
 -- the line of an entry, as an inventory has it
-abbrev pub looked_line : Stock → ℕ → List ℕ
-looked_line s i = entry_line (name_of s.grove i) (entry_at s.grove.entries i).end
+abbrev pub looked_line : Inventory → ℕ → List ℕ
+looked_line s i = entry_line (name_of s.forest i) (entry_at s.forest.entries i).end
 
-unfoldable pub looked_text : Stock → List ℕ → List ℕ
+unfoldable pub looked_text : Inventory → List ℕ → List ℕ
 looked_text s is = flat_map (looked_line s) is
 
 -- ---- how looking up ends
@@ -43,56 +43,56 @@ abbrev pub IsSaid : List ℕ → Sent → Type 0
 IsSaid text out = IsAll text out ⊎ ((text ≡ []) × IsUntouched out)
 
 -- all entries were looked up, and their lines written and flushed; no write failed
-pub record LooksAll (port t : ℕ) (old : Looked) (out : Sent) (stock : Stock) (new : Option Behind) : Type 0 where
+pub record LooksAll (port t : ℕ) (old : Looked) (out : Sent) (inventory : Inventory) (new : Option Behind) : Type 0 where
   pub behind : Behind
   pub is : new ≡ Some behind
-  pub looked : AreLookedUp port t old (first (length old.stock.grove.entries)) (record { stock = stock; behind = behind })
-  pub said : IsSaid (looked_text stock (first (length old.stock.grove.entries))) out
+  pub looked : AreLookedUp port t old (first (length old.inventory.forest.entries)) (record { inventory = inventory; behind = behind })
+  pub said : IsSaid (looked_text inventory (first (length old.inventory.forest.entries))) out
   pub kept : out.failed_after ≡ out.failed_before
 
 -- the first n entries were looked up, and their lines written and flushed; the lookup of the next, of that name, is not applied
 pub record IsUnlooked (port t : ℕ) (old : Looked) (name : List ℕ) (out : Sent) (new : Option Behind) : Type 0 where
   pub n : ℕ
-  pub within : n < length old.stock.grove.entries
+  pub within : n < length old.inventory.forest.entries
   pub now : Looked
   pub looked : AreLookedUp port t old (first n) now
-  pub said : IsSaid (looked_text now.stock (first n)) out
-  pub name_is : name ≡ name_of now.stock.grove n
-  pub unapplied : IsLookedUp port now.behind.table t now.stock n false now.stock new
+  pub said : IsSaid (looked_text now.inventory (first n)) out
+  pub name_is : name ≡ name_of now.inventory.forest n
+  pub unapplied : IsLookedUp port now.behind.table t now.inventory n false now.inventory new
 
 -- the first n entries were looked up, and no more than a front of their lines was written
 pub record IsCut (port t : ℕ) (old now : Looked) (n : ℕ) (out : Sent) : Type 0 where
-  pub within : n ≤ length old.stock.grove.entries
+  pub within : n ≤ length old.inventory.forest.entries
   pub looked : AreLookedUp port t old (first n) now
-  pub front : AppendsFront out.old out.new (looked_text now.stock (first n))
+  pub front : AppendsFront out.old out.new (looked_text now.inventory (first n))
 
 -- where memory was wanting, the exchange is as the lookups left it, or as the one under way did
 abbrev pub IsLeft : ℕ → ℕ → Looked → ℕ → Option Behind → Type 0
 IsLeft port t now n new =
-    (new ≡ Some now.behind) ⊎ (IsGivenUp now.behind.table t (lookup_of port now.stock.credentials now.stock.grove n) new ⊎ IsServed now.behind.table t (lookup_of port now.stock.credentials now.stock.grove n) new)
+    (new ≡ Some now.behind) ⊎ (IsGivenUp now.behind.table t (lookup_of port now.inventory.credentials now.inventory.forest n) new ⊎ IsServed now.behind.table t (lookup_of port now.inventory.credentials now.inventory.forest n) new)
 
 -- what looking all entries up comes to: with the inventory as it then is, and what then stands behind the exchange
-abbrev pub LooksAllUp : ℕ → ℕ → Looked → Result (Unit {0}) Stop → Sent → Stock → Option Behind → Type 0
-LooksAllUp port t old (Ok u) out stock new = LooksAll port t old out stock new
-LooksAllUp port t old (Err (stops.Broker name)) out stock new = IsUnlooked port t old name out new
-LooksAllUp port t old (Err stops.Write) out stock new =
+abbrev pub LooksAllUp : ℕ → ℕ → Looked → Result (Unit {0}) Stop → Sent → Inventory → Option Behind → Type 0
+LooksAllUp port t old (Ok u) out inventory new = LooksAll port t old out inventory new
+LooksAllUp port t old (Err (stops.Broker name)) out inventory new = IsUnlooked port t old name out new
+LooksAllUp port t old (Err stops.Write) out inventory new =
     (n : ℕ) × (now : Looked) × IsCut port t old now n out × (new ≡ Some now.behind) × HasFailed out.failed_before out.failed_after
-LooksAllUp port t old (Err stops.Memory) out stock new = (n : ℕ) × (now : Looked) × IsCut port t old now n out × IsLeft port t now n new
-LooksAllUp port t old (Err stop) out stock new = ⊥
+LooksAllUp port t old (Err stops.Memory) out inventory new = (n : ℕ) × (now : Looked) × IsCut port t old now n out × IsLeft port t now n new
+LooksAllUp port t old (Err stop) out inventory new = ⊥
 
 -- ---- words for one lookup. No public clause cites them
 
 -- the lookup is applied, and what then stands behind the exchange
-abbrev pub Applies : ℕ → ℕ → Looked → ℕ → Stock → Option Behind → Type 0
-Applies port t old i stock new = (behind : Behind) × ((new ≡ Some behind) × IsLookedUp port old.behind.table t old.stock i true stock (Some behind))
+abbrev pub Applies : ℕ → ℕ → Looked → ℕ → Inventory → Option Behind → Type 0
+Applies port t old i inventory new = (behind : Behind) × ((new ≡ Some behind) × IsLookedUp port old.behind.table t old.inventory i true inventory (Some behind))
 
 -- what looking one entry up comes to
-abbrev pub LooksOneUp : ℕ → ℕ → Looked → ℕ → Result (Unit {0}) Stop → Sent → Stock → Option Behind → Type 0
-LooksOneUp port t old i (Ok u) out stock new = Applies port t old i stock new × IsAll (looked_line stock i) out × (out.failed_after ≡ out.failed_before)
-LooksOneUp port t old i (Err (stops.Broker name)) out stock new =
-    (name ≡ name_of old.stock.grove i) × IsLookedUp port old.behind.table t old.stock i false old.stock new × IsUntouched out
-LooksOneUp port t old i (Err stops.Write) out stock new =
-    Applies port t old i stock new × HasFailed out.failed_before out.failed_after × AppendsFront out.old out.new (looked_line stock i)
-LooksOneUp port t old i (Err stops.Memory) out stock new =
-    (IsUntouched out × IsLeft port t old i new) ⊎ (Applies port t old i stock new × AppendsFront out.old out.new (looked_line stock i))
-LooksOneUp port t old i (Err stop) out stock new = ⊥
+abbrev pub LooksOneUp : ℕ → ℕ → Looked → ℕ → Result (Unit {0}) Stop → Sent → Inventory → Option Behind → Type 0
+LooksOneUp port t old i (Ok u) out inventory new = Applies port t old i inventory new × IsAll (looked_line inventory i) out × (out.failed_after ≡ out.failed_before)
+LooksOneUp port t old i (Err (stops.Broker name)) out inventory new =
+    (name ≡ name_of old.inventory.forest i) × IsLookedUp port old.behind.table t old.inventory i false old.inventory new × IsUntouched out
+LooksOneUp port t old i (Err stops.Write) out inventory new =
+    Applies port t old i inventory new × HasFailed out.failed_before out.failed_after × AppendsFront out.old out.new (looked_line inventory i)
+LooksOneUp port t old i (Err stops.Memory) out inventory new =
+    (IsUntouched out × IsLeft port t old i new) ⊎ (Applies port t old i inventory new × AppendsFront out.old out.new (looked_line inventory i))
+LooksOneUp port t old i (Err stop) out inventory new = ⊥

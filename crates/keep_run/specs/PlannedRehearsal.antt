@@ -9,8 +9,8 @@ use Rattle.keep_rule.specs.Runs.{moments_of}
 use Rattle.keep_plan.specs.declared.decision.Decision.TheVariants.{Keep}
 use Rattle.keep_plan.specs.Decides.{Decides}
 use Rattle.keep_plan.specs.Planned.{Planned, to_come}
-use Rattle.keep_inventory.specs.Inventory.{inventory}
-use Rattle.keep_inventory.specs.Stock.{Stock}
+use Rattle.keep_inventory.specs.Inventory.{read_inventory}
+use Rattle.keep_inventory.specs.Inventories.{Inventory}
 use Rattle.keep_exchange.specs.Exchanges.{Behind}
 use Rattle.keep_report.specs.declared.exit.Exit.{Exit}
 use Rattle.keep_report.specs.declared.exit.Exit.TheVariants as exits
@@ -22,25 +22,25 @@ use Rattle.keep_run.specs.Text.{beat_text, done_text}
 
 -- the closed run has its rounds at the plan's moments, all who are asked are told the renewal rule's ends, and its lines end in
 -- the plan's number of wake-ups and the sum of the lengths of its Asks
-pub record IsPlannedRun (stock : Stock) (start : ℕ) (p : Planned) (out : Sent) (new : Behind) : Type 0 where
+pub record IsPlannedRun (inventory : Inventory) (start : ℕ) (p : Planned) (out : Sent) (new : Behind) : Type 0 where
   pub course : Course
   pub final : World
-  pub run : IsClosedRun stock [] start course final
+  pub run : IsClosedRun inventory [] start course final
   pub moments : map (λ b. b.at) (rounds course.beats) ≡ moments_of (to_come p)
-  pub quiet : All (IsQuiet stock) course.beats
-  pub sent : IsAll (flat_map (beat_text stock) course.beats
-      ++ done_text (length (to_come p)) (requests (with_asks stock.grove.entries stock.grove.margin start (end_of stock.grove.entries) (moments_of (to_come p))))) out
+  pub quiet : All (IsQuiet inventory) course.beats
+  pub sent : IsAll (flat_map (beat_text inventory) course.beats
+      ++ done_text (length (to_come p)) (requests (with_asks inventory.forest.entries inventory.forest.margin start (end_of inventory.forest.entries) (moments_of (to_come p))))) out
   pub left : new ≡ final.behind
 
 -- it comes to its end, unless the writer fails or memory is wanting
-abbrev pub EndsAsPlanned : Stock → ℕ → Planned → Exit → Sent → Behind → Type 0
-EndsAsPlanned stock start p exits.Done out new = IsPlannedRun stock start p out new
-EndsAsPlanned stock start p exits.Device out new = Unit {0}
-EndsAsPlanned stock start p exits.Memory out new = Unit {0}
-EndsAsPlanned stock start p exit out new = ⊥
+abbrev pub EndsAsPlanned : Inventory → ℕ → Planned → Exit → Sent → Behind → Type 0
+EndsAsPlanned inventory start p exits.Done out new = IsPlannedRun inventory start p out new
+EndsAsPlanned inventory start p exits.Device out new = Unit {0}
+EndsAsPlanned inventory start p exits.Memory out new = Unit {0}
+EndsAsPlanned inventory start p exit out new = ⊥
 
 -- where `plan` keeps with at most 100,000 wake-ups, the rehearsal without FAULT words makes just these
 abbrev pub PlannedRehearsalLaw : Type 0
 PlannedRehearsalLaw =
-    (bytes : List ℕ) (stock : Stock) (start : ℕ) (p : Planned) (exit : Exit) (out : Sent) (old new : Behind) → inventory bytes ≡ Ok stock → start ≤ LAST → Decides stock.grove start (Keep p) → length (to_come p) ≤ 100000 →
-    RehearseRun bytes start [] exit out old new → EndsAsPlanned stock start p exit out new
+    (bytes : List ℕ) (inventory : Inventory) (start : ℕ) (p : Planned) (exit : Exit) (out : Sent) (old new : Behind) → read_inventory bytes ≡ Ok inventory → start ≤ LAST → Decides inventory.forest start (Keep p) → length (to_come p) ≤ 100000 →
+    RehearseRun bytes start [] exit out old new → EndsAsPlanned inventory start p exit out new

@@ -4,9 +4,9 @@ use Rattle.std.specs.Prelude.{◌≡◌, ◌≢◌, ℕ, ◌<◌, ◌≤◌, ◌
 use Rattle.std.specs.Io.KnownBytes.{Keeps}
 use Rattle.std.specs.List.{All, flat_map}
 use Rattle.keep_moment.specs.declared.moment.TheConstants.{LAST}
-use Rattle.keep_tree.specs.Forest.{Grove}
+use Rattle.keep_tree.specs.Forest.{Forest}
 use Rattle.keep_rule.specs.Schedule.{RisesStrictly}
-use Rattle.keep_inventory.specs.Stock.{Stock}
+use Rattle.keep_inventory.specs.Inventories.{Inventory}
 use Rattle.keep_exchange.specs.Exchanges.{Behind}
 use Rattle.keep_core.specs.declared.event.Event.{Event}
 use Rattle.keep_core.specs.declared.event.Event.TheVariants.{Tick}
@@ -29,8 +29,8 @@ use Rattle.keep_run.specs.Stops.{IsDue, both}
 use Rattle.keep_run.specs.Text.{answer_text, beat_text, done_text, short_lines, wake_line}
 
 -- an inventory of these credentials and this forest
-abbrev pub stock_of : List (List ℕ) → Grove → Stock
-stock_of cs g = record { grove = g; credentials = cs; terms = [] }
+abbrev pub inventory_with : List (List ℕ) → Forest → Inventory
+inventory_with cs g = record { forest = g; credentials = cs; terms = [] }
 
 -- ---- what the keeper takes
 
@@ -79,7 +79,7 @@ pub record Answers (cs : List (List ℕ)) (t : ℕ) (old : World) (i : ℕ) (out
   pub entry : x.entry ≡ i
   pub output_is : x.output ≡ output
   pub answered : IsAnswered 8200 cs t old x new
-  pub text_is : after ≡ before ++ answer_text (stock_of cs old.keeper.forest) x
+  pub text_is : after ≡ before ++ answer_text (inventory_with cs old.keeper.forest) x
 
 -- the answers of these, one after another, and their text
 pub record AnswersAll (cs : List (List ℕ)) (t : ℕ) (old : World) (asked : List ℕ) (next : Option ℕ) (new : World) (before after : List ℕ) : Type 0 where
@@ -87,7 +87,7 @@ pub record AnswersAll (cs : List (List ℕ)) (t : ℕ) (old : World) (asked : Li
   pub who : map (λ x. x.entry) xs ≡ asked
   pub answered : AreAnswered 8200 cs t old xs new
   pub next_is : next ≡ closing None xs
-  pub text_is : after ≡ before ++ flat_map (answer_text (stock_of cs old.keeper.forest)) xs
+  pub text_is : after ≡ before ++ flat_map (answer_text (inventory_with cs old.keeper.forest)) xs
 
 -- one tick, without the answers, and its text
 pub record Ticks (t : ℕ) (old : State) (output : Output) (new : State) (before after : List ℕ) : Type 0 where
@@ -108,13 +108,13 @@ pub record Opens (cs : List (List ℕ)) (behind : Behind) (old : State) (due : �
   pub mid : State
   pub quiet : IsQuietTo cs (both old behind) (Some due) (both mid behind) (Some t) beats
   pub middle : List ℕ
-  pub quiet_text : middle ≡ before ++ flat_map (beat_text (stock_of cs old.forest)) beats
+  pub quiet_text : middle ≡ before ++ flat_map (beat_text (inventory_with cs old.forest)) beats
   pub ticks : Ticks t mid (out.Ask asked) new middle after
 
 pub record Ends (cs : List (List ℕ)) (behind : Behind) (old : State) (due : ℕ) (new : State) (before after : List ℕ) : Type 0 where
   pub beats : List Beat
   pub quiet : IsQuietTo cs (both old behind) (Some due) (both new behind) None beats
-  pub text_is : after ≡ before ++ flat_map (beat_text (stock_of cs old.forest)) beats
+  pub text_is : after ≡ before ++ flat_map (beat_text (inventory_with cs old.forest)) beats
 
 -- what opening a wake-up gave: the moment and who is asked, or that none is next
 abbrev pub OpensOrEnds : List (List ℕ) → Behind → State → ℕ → Option Opened → State → List ℕ → List ℕ → Type 0
@@ -132,7 +132,7 @@ asked_of (Some o) = o.asked
 
 -- a run that goes on from a world with a tick at due, if there is one: where it led and when the next tick is; how many
 -- wake-ups and requests it made, and its text
-pub record Goes (s : Stock) (old : World) (due : Option ℕ) (new : World) (next : Option ℕ) (wakes asked : ℕ) (text : List ℕ) : Type 0 where
+pub record Goes (s : Inventory) (old : World) (due : Option ℕ) (new : World) (next : Option ℕ) (wakes asked : ℕ) (text : List ℕ) : Type 0 where
   pub beats : List Beat
   pub played : Played 8200 s.credentials old due beats new next
   pub wakes_are : wakes ≡ length (rounds beats)
@@ -149,8 +149,8 @@ requests_in (Some w) = w.requests
 
 -- to the end of the first round, or to the end of the run where there is none
 abbrev pub Wakes : List (List ℕ) → World → ℕ → Option Woken → World → List ℕ → List ℕ → Type 0
-Wakes cs old due None new before after = (text : List ℕ) × (Goes (stock_of cs old.keeper.forest) old (Some due) new None 0 0 text × (after ≡ before ++ text))
-Wakes cs old due (Some w) new before after = (text : List ℕ) × (Goes (stock_of cs old.keeper.forest) old (Some due) new w.next 1 w.requests text × (after ≡ before ++ text))
+Wakes cs old due None new before after = (text : List ℕ) × (Goes (inventory_with cs old.keeper.forest) old (Some due) new None 0 0 text × (after ≡ before ++ text))
+Wakes cs old due (Some w) new before after = (text : List ℕ) × (Goes (inventory_with cs old.keeper.forest) old (Some due) new w.next 1 w.requests text × (after ≡ before ++ text))
 
 -- ---- what is written
 
@@ -164,17 +164,17 @@ Finishes text (Err stop) out = ⊥
 -- behind 100,000 wake-ups: no more than a front of the last lines was written
 abbrev pub LastFront : List (List ℕ) → Behind → State → ℕ → ℕ → Sent → Type 0
 LastFront cs behind old due asked out =
-    Keeps out.old out.new ⊎ ((new : World) × (text : List ℕ) × Goes (stock_of cs old.forest) (both old behind) (Some due) new None 0 0 text × AppendsFront out.old out.new (text ++ done_text 100000 asked))
+    Keeps out.old out.new ⊎ ((new : World) × (text : List ℕ) × Goes (inventory_with cs old.forest) (both old behind) (Some due) new None 0 0 text × AppendsFront out.old out.new (text ++ done_text 100000 asked))
 
 abbrev pub LastPlays : List (List ℕ) → Behind → State → ℕ → ℕ → Result (Unit {0}) Stop → State → Sent → Type 0
-LastPlays cs behind old due asked (Ok u) new out = (text : List ℕ) × Goes (stock_of cs old.forest) (both old behind) (Some due) (both new behind) None 0 0 text × IsAll (text ++ done_text 100000 asked) out
+LastPlays cs behind old due asked (Ok u) new out = (text : List ℕ) × Goes (inventory_with cs old.forest) (both old behind) (Some due) (both new behind) None 0 0 text × IsAll (text ++ done_text 100000 asked) out
 LastPlays cs behind old due asked (Err stops.TooLong) new out = IsDue cs (both old behind) due × IsAll [] out
 LastPlays cs behind old due asked (Err stops.Write) new out = HasFailed out.failed_before out.failed_after × LastFront cs behind old due asked out
 LastPlays cs behind old due asked (Err stops.Memory) new out = LastFront cs behind old due asked out
 LastPlays cs behind old due asked (Err stop) new out = ⊥
 
 -- the lines of a run so far, or all of them with the last one
-pub record IsText (s : Stock) (old : World) (start : ℕ) (text : List ℕ) : Type 0 where
+pub record IsText (s : Inventory) (old : World) (start : ℕ) (text : List ℕ) : Type 0 where
   pub new : World
   pub next : Option ℕ
   pub wakes : ℕ
@@ -183,7 +183,7 @@ pub record IsText (s : Stock) (old : World) (start : ℕ) (text : List ℕ) : Ty
   pub goes : Goes s old (Some start) new next wakes asked lines
   pub text_is : (text ≡ lines) ⊎ ((next ≡ None) × (text ≡ lines ++ done_text wakes asked))
 
-pub record PlaysWhole (s : Stock) (old : World) (start : ℕ) (before : List ℕ) (new : World) (out : Sent) : Type 0 where
+pub record PlaysWhole (s : Inventory) (old : World) (start : ℕ) (before : List ℕ) (new : World) (out : Sent) : Type 0 where
   pub wakes : ℕ
   pub asked : ℕ
   pub lines : List ℕ
@@ -191,7 +191,7 @@ pub record PlaysWhole (s : Stock) (old : World) (start : ℕ) (before : List ℕ
   pub few : wakes ≤ 100000
   pub sent : IsAll (before ++ (lines ++ done_text wakes asked)) out
 
-pub record PlaysLong (s : Stock) (old : World) (start : ℕ) (before : List ℕ) (behind : Behind) (out : Sent) : Type 0 where
+pub record PlaysLong (s : Inventory) (old : World) (start : ℕ) (before : List ℕ) (behind : Behind) (out : Sent) : Type 0 where
   pub keeper : State
   pub due : ℕ
   pub asked : ℕ
@@ -201,13 +201,13 @@ pub record PlaysLong (s : Stock) (old : World) (start : ℕ) (before : List ℕ)
   pub sent : IsAll (before ++ lines) out
 
 -- no more than a front of the lines was written
-abbrev pub PlaysFront : Stock → World → ℕ → List ℕ → Sent → Type 0
+abbrev pub PlaysFront : Inventory → World → ℕ → List ℕ → Sent → Type 0
 PlaysFront s old start before out = (text : List ℕ) × IsText s old start text × AppendsFront out.old out.new (before ++ text)
 
 -- what playing a run came to
 abbrev pub Plays : List (List ℕ) → World → ℕ → List ℕ → Result (Unit {0}) Stop → World → Sent → Type 0
-Plays cs old start before (Ok u) new out = PlaysWhole (stock_of cs old.keeper.forest) old start before new out
-Plays cs old start before (Err stops.TooLong) new out = PlaysLong (stock_of cs old.keeper.forest) old start before new.behind out
-Plays cs old start before (Err stops.Write) new out = HasFailed out.failed_before out.failed_after × PlaysFront (stock_of cs old.keeper.forest) old start before out
-Plays cs old start before (Err stops.Memory) new out = PlaysFront (stock_of cs old.keeper.forest) old start before out
+Plays cs old start before (Ok u) new out = PlaysWhole (inventory_with cs old.keeper.forest) old start before new out
+Plays cs old start before (Err stops.TooLong) new out = PlaysLong (inventory_with cs old.keeper.forest) old start before new.behind out
+Plays cs old start before (Err stops.Write) new out = HasFailed out.failed_before out.failed_after × PlaysFront (inventory_with cs old.keeper.forest) old start before out
+Plays cs old start before (Err stops.Memory) new out = PlaysFront (inventory_with cs old.keeper.forest) old start before out
 Plays cs old start before (Err stop) new out = ⊥

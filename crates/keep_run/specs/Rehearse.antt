@@ -4,8 +4,8 @@ use Rattle.std.specs.Prelude.{◌≡◌, ℕ, ◌⊎◌, List, [], ◌++◌, Opt
 use Rattle.keep_device.specs.Failures.{HasFailed}
 use Rattle.keep_device.specs.Front.{AppendsFront}
 use Rattle.keep_inventory.specs.declared.fault.InvFault.{InvFault}
-use Rattle.keep_inventory.specs.Inventory.{inventory}
-use Rattle.keep_inventory.specs.Stock.{Stock}
+use Rattle.keep_inventory.specs.Inventory.{read_inventory}
+use Rattle.keep_inventory.specs.Inventories.{Inventory}
 use Rattle.mini_broker.specs.declared.fault.NumberedFault.{NumberedFault}
 use Rattle.keep_exchange.specs.Exchanges.{Behind}
 use Rattle.mini_broker.specs.Rows.{rows_of}
@@ -23,44 +23,44 @@ use Rattle.keep_run.specs.Stops.{IsStopped, SoFar}
 use Rattle.keep_run.specs.Text.{course_text, done_text}
 
 -- the inventory and the FAULT words are read
-pub record IsCalled (bytes : List ℕ) (words : List (List ℕ)) (stock : Stock) (faults : List NumberedFault) : Type 0 where
-  pub read : inventory bytes ≡ Ok stock
+pub record IsCalled (bytes : List ℕ) (words : List (List ℕ)) (inventory : Inventory) (faults : List NumberedFault) : Type 0 where
+  pub read : read_inventory bytes ≡ Ok inventory
   pub faults_are : faults_of words ≡ Ok faults
 
 -- the lines of a run so far, or all of them with the last one
-pub record IsRunText (stock : Stock) (faults : List NumberedFault) (start : ℕ) (text : List ℕ) : Type 0 where
+pub record IsRunText (inventory : Inventory) (faults : List NumberedFault) (start : ℕ) (text : List ℕ) : Type 0 where
   pub final : World
   pub next : Option ℕ
   pub wakes : ℕ
   pub asked : ℕ
   pub lines : List ℕ
-  pub so_far : SoFar stock faults start final next wakes asked lines
+  pub so_far : SoFar inventory faults start final next wakes asked lines
   pub text_is : (text ≡ lines) ⊎ ((next ≡ None) × (text ≡ lines ++ done_text wakes asked))
 
 -- no more than a front of the lines of the run was written
 abbrev pub WritesFront : List ℕ → ℕ → List (List ℕ) → Sent → Type 0
 WritesFront bytes start words out =
-    (stock : Stock) × (faults : List NumberedFault) × IsCalled bytes words stock faults × (text : List ℕ) × IsRunText stock faults start text × AppendsFront out.old out.new text
+    (inventory : Inventory) × (faults : List NumberedFault) × IsCalled bytes words inventory faults × (text : List ℕ) × IsRunText inventory faults start text × AppendsFront out.old out.new text
 
 -- the inventory's table with these faults, and nothing carried yet
-abbrev pub fresh : Stock → List NumberedFault → Behind
-fresh stock faults = record { table = record { rows = rows_of stock; faults = faults; count = 0 }; wire = [] }
+abbrev pub fresh : Inventory → List NumberedFault → Behind
+fresh inventory faults = record { table = record { rows = rows_of inventory; faults = faults; count = 0 }; wire = [] }
 
 -- the plan of the opening is too long, and nothing was written; or the lines of 100,000 wake-ups were, and another is due
-abbrev pub RunsLong : Stock → List NumberedFault → ℕ → Sent → Behind → Type 0
-RunsLong stock faults start out behind =
-    (ReplanTooLong stock.grove start × IsUntouched out × (behind ≡ fresh stock faults))
-    ⊎ ((final : World) × (text : List ℕ) × IsStopped stock faults start final text × IsAll text out × (behind ≡ final.behind))
+abbrev pub RunsLong : Inventory → List NumberedFault → ℕ → Sent → Behind → Type 0
+RunsLong inventory faults start out behind =
+    (ReplanTooLong inventory.forest start × IsUntouched out × (behind ≡ fresh inventory faults))
+    ⊎ ((final : World) × (text : List ℕ) × IsStopped inventory faults start final text × IsAll text out × (behind ≡ final.behind))
 
 -- `rehearse` over the bytes of an inventory, a start and FAULT words, by exit
 abbrev pub RehearseRun : List ℕ → ℕ → List (List ℕ) → Exit → Sent → Behind → Behind → Type 0
 RehearseRun bytes start words exits.Done out old new =
-    (stock : Stock) × (faults : List NumberedFault) × IsCalled bytes words stock faults
-    × (course : Course) × (final : World) × IsClosedRun stock faults start course final × IsAll (course_text stock course) out × (new ≡ final.behind)
-RehearseRun bytes start words exits.Inventory out old new = (fault : InvFault) × (inventory bytes ≡ Err fault) × IsUntouched out × (new ≡ old)
+    (inventory : Inventory) × (faults : List NumberedFault) × IsCalled bytes words inventory faults
+    × (course : Course) × (final : World) × IsClosedRun inventory faults start course final × IsAll (course_text inventory course) out × (new ≡ final.behind)
+RehearseRun bytes start words exits.Inventory out old new = (fault : InvFault) × (read_inventory bytes ≡ Err fault) × IsUntouched out × (new ≡ old)
 RehearseRun bytes start words exits.CommandLine out old new =
-    (stock : Stock) × (inventory bytes ≡ Ok stock) × (position : ℕ) × (faults_of words ≡ Err position) × IsUntouched out × (new ≡ old)
-RehearseRun bytes start words exits.TooLong out old new = (stock : Stock) × (faults : List NumberedFault) × IsCalled bytes words stock faults × RunsLong stock faults start out new
+    (inventory : Inventory) × (read_inventory bytes ≡ Ok inventory) × (position : ℕ) × (faults_of words ≡ Err position) × IsUntouched out × (new ≡ old)
+RehearseRun bytes start words exits.TooLong out old new = (inventory : Inventory) × (faults : List NumberedFault) × IsCalled bytes words inventory faults × RunsLong inventory faults start out new
 RehearseRun bytes start words exits.Device out old new = HasFailed out.failed_before out.failed_after × WritesFront bytes start words out
 RehearseRun bytes start words exits.Memory out old new = IsUntouched out ⊎ WritesFront bytes start words out
 RehearseRun bytes start words exit out old new = ⊥
@@ -73,8 +73,8 @@ RehearseTold bytes words exit errors = Told (codes "leasekeep") bytes exit error
 -- the same without its fault line, by what stops it
 abbrev pub Rehearses : List ℕ → ℕ → List (List ℕ) → Result (Unit {0}) Stop → Sent → Behind → Behind → Type 0
 Rehearses bytes start words (Ok u) out old new = RehearseRun bytes start words exits.Done out old new
-Rehearses bytes start words (Err (stops.Inventory fault)) out old new = (inventory bytes ≡ Err fault) × IsUntouched out × (new ≡ old)
-Rehearses bytes start words (Err (stops.FaultWord position)) out old new = (stock : Stock) × (inventory bytes ≡ Ok stock) × (faults_of words ≡ Err position) × IsUntouched out × (new ≡ old)
+Rehearses bytes start words (Err (stops.Inventory fault)) out old new = (read_inventory bytes ≡ Err fault) × IsUntouched out × (new ≡ old)
+Rehearses bytes start words (Err (stops.FaultWord position)) out old new = (inventory : Inventory) × (read_inventory bytes ≡ Ok inventory) × (faults_of words ≡ Err position) × IsUntouched out × (new ≡ old)
 Rehearses bytes start words (Err stops.TooLong) out old new = RehearseRun bytes start words exits.TooLong out old new
 Rehearses bytes start words (Err stops.Write) out old new = RehearseRun bytes start words exits.Device out old new
 Rehearses bytes start words (Err stops.Memory) out old new = RehearseRun bytes start words exits.Memory out old new

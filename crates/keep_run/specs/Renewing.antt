@@ -4,8 +4,8 @@
 use Rattle.std.specs.Prelude.{◌≡◌, ℕ, ◌==◌, ◌&&◌, not, List, Option, Some, None, Result, Ok, Err, bytes_eq, nat_le, nat_lt, if◌then◌else◌}
 use Rattle.keep_tree.specs.declared.entry.Kind.{Kind}
 use Rattle.keep_tree.specs.declared.entry.Kind.TheVariants.{Token, Lease}
-use Rattle.keep_tree.specs.Forest.{Grove, entry_at}
-use Rattle.keep_inventory.specs.Stock.{credential_at}
+use Rattle.keep_tree.specs.Forest.{Forest, entry_at}
+use Rattle.keep_inventory.specs.Inventories.{credential_at}
 use Rattle.keep_core.specs.declared.event.Event.{Event}
 use Rattle.keep_core.specs.declared.event.Event.TheVariants.{Told, Refused, Lost}
 use Rattle.keep_core.specs.LawsOfHistories.{IsAnswer}
@@ -39,7 +39,7 @@ event_of kind id i None = Lost i
 event_of kind id i (Some r) = if r.status == 200 then told_by kind id i r.body else refuses r.status (Refused i) (Lost i)
 
 -- the same for the entry i of a forest
-abbrev pub event_for : List (List ℕ) → Grove → ℕ → Option Reply → Event
+abbrev pub event_for : List (List ℕ) → Forest → ℕ → Option Reply → Event
 event_for cs g i reply = event_of (entry_at g.entries i).kind (credential_at cs i) i reply
 
 -- an answer of the entry i

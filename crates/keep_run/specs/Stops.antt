@@ -2,7 +2,7 @@
 -- Source: this project's own.
 use Rattle.std.specs.Prelude.{◌≡◌, ℕ, ◌≤◌, List, [], ◌∷◌, ◌++◌, Option, Some, None, Result, Ok, Err, length, map}
 use Rattle.std.specs.List.{flat_map}
-use Rattle.keep_inventory.specs.Stock.{Stock}
+use Rattle.keep_inventory.specs.Inventories.{Inventory}
 use Rattle.mini_broker.specs.declared.fault.NumberedFault.{NumberedFault}
 use Rattle.mini_broker.specs.declared.served.Served.{Served}
 use Rattle.keep_exchange.specs.Exchanges.{Behind}
@@ -25,15 +25,15 @@ use Rattle.keep_run.specs.Text.{answer_line, answer_text, beat_text, course_text
 -- ---- what the loops keep
 
 -- the outer loop: the ticks so far, where they led and when the next is; how many wake-ups and requests they were, and their text
-pub record SoFar (stock : Stock) (faults : List NumberedFault) (start : ℕ) (final : World) (next : Option ℕ) (wakes asked : ℕ) (text : List ℕ) : Type 0 where
+pub record SoFar (inventory : Inventory) (faults : List NumberedFault) (start : ℕ) (final : World) (next : Option ℕ) (wakes asked : ℕ) (text : List ℕ) : Type 0 where
   pub short : List ShortNeed
   pub opening : World
-  pub opened : IsOpening stock faults start short opening
+  pub opened : IsOpening inventory faults start short opening
   pub beats : List Beat
-  pub played : Played 8200 stock.credentials opening (Some start) beats final next
+  pub played : Played 8200 inventory.credentials opening (Some start) beats final next
   pub wakes_are : wakes ≡ length (rounds beats)
   pub asked_are : asked ≡ requests_of beats
-  pub text_is : text ≡ short_lines stock.grove short ++ flat_map (beat_text stock) beats
+  pub text_is : text ≡ short_lines inventory.forest short ++ flat_map (beat_text inventory) beats
 
 -- ---- runs without an end: exit 5
 
@@ -49,11 +49,11 @@ pub record IsDue (cs : List (List ℕ)) (old : World) (t : ℕ) : Type 0 where
   pub turn : Turn mid.keeper (Tick at) (Ok (out.Ask asked)) keeper
 
 -- a run that has made 100,000 wake-ups, of which another is due, and its text
-pub record IsStopped (stock : Stock) (faults : List NumberedFault) (start : ℕ) (final : World) (text : List ℕ) : Type 0 where
+pub record IsStopped (inventory : Inventory) (faults : List NumberedFault) (start : ℕ) (final : World) (text : List ℕ) : Type 0 where
   pub due : ℕ
   pub asked : ℕ
-  pub so_far : SoFar stock faults start final (Some due) 100000 asked text
-  pub more : IsDue stock.credentials final due
+  pub so_far : SoFar inventory faults start final (Some due) 100000 asked text
+  pub more : IsDue inventory.credentials final due
 
 -- ---- laws of the loops
 
@@ -72,8 +72,8 @@ AnswerMoreLaw =
 -- the outer loop at its end: the closed run, and its whole text
 abbrev pub EndLaw : Type 0
 EndLaw =
-    (stock : Stock) (faults : List NumberedFault) (start : ℕ) (final : World) (wakes asked : ℕ) (text : List ℕ) → SoFar stock faults start final None wakes asked text → wakes ≤ 100000 →
-    (course : Course) × (IsClosedRun stock faults start course final × (text ++ done_text wakes asked ≡ course_text stock course))
+    (inventory : Inventory) (faults : List NumberedFault) (start : ℕ) (final : World) (wakes asked : ℕ) (text : List ℕ) → SoFar inventory faults start final None wakes asked text → wakes ≤ 100000 →
+    (course : Course) × (IsClosedRun inventory faults start course final × (text ++ done_text wakes asked ≡ course_text inventory course))
 
 -- ---- no refusals
 
@@ -86,12 +86,12 @@ IsTaken (Err fault) = ⊥
 -- whatever the broker does, the keeper refuses neither the next tick nor the next answer of a round, but for want of memory
 abbrev pub NeverRefusedLaw : Type 0
 NeverRefusedLaw =
-    (stock : Stock) (faults : List NumberedFault) (start port : ℕ) (short : List ShortNeed) (opening final : World) (beats : List Beat) (t : ℕ) → start ≤ LAST → IsOpening stock faults start short opening →
-    Played port stock.credentials opening (Some start) beats final (Some t) →
+    (inventory : Inventory) (faults : List NumberedFault) (start port : ℕ) (short : List ShortNeed) (opening final : World) (beats : List Beat) (t : ℕ) → start ≤ LAST → IsOpening inventory faults start short opening →
+    Played port inventory.credentials opening (Some start) beats final (Some t) →
     ((result : Result Output StepFault) (new : State) → Turn final.keeper (Tick t) result new → IsTaken result)
     × ((asked : List ℕ) (keeper : State) → Turn final.keeper (Tick t) (Ok (out.Ask asked)) keeper →
     (xs : List Exchanged) (now : World) (i : ℕ) (others : List ℕ) → map (λ (x : Exchanged). x.entry) xs ++ (i ∷ others) ≡ asked →
-    AreAnswered port stock.credentials t (record { keeper = taken keeper; behind = final.behind }) xs now →
+    AreAnswered port inventory.credentials t (record { keeper = taken keeper; behind = final.behind }) xs now →
     (event : Event) (result : Result Output StepFault) (new : State) → IsAnswerOf i event → TellsSpan event → Turn now.keeper event result new → IsTaken result)
 
 -- ---- the code of one answer

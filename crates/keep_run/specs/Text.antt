@@ -2,8 +2,8 @@
 -- Source: this project's own.
 use Rattle.std.specs.Prelude.{ℕ, List, [], ◌∷◌, ◌++◌, Option, Some, None, codes, decimal, length}
 use Rattle.std.specs.List.{flat_map}
-use Rattle.keep_tree.specs.Forest.{Grove, entry_at}
-use Rattle.keep_inventory.specs.Stock.{Stock}
+use Rattle.keep_tree.specs.Forest.{Forest, entry_at}
+use Rattle.keep_inventory.specs.Inventories.{Inventory}
 use Rattle.vault_http.specs.declared.reply.Reply.{Reply}
 use Rattle.keep_core.specs.declared.event.Event.{Event}
 use Rattle.keep_core.specs.declared.event.Event.TheVariants.{Tick, Told, Refused, Lost, Need}
@@ -19,18 +19,18 @@ line [] = 10 ∷ []
 line (w ∷ []) = w ++ 10 ∷ []
 line (w ∷ ws) = w ++ (32 ∷ line ws)
 
-abbrev pub name_of : Grove → ℕ → List ℕ
+abbrev pub name_of : Forest → ℕ → List ℕ
 name_of g i = (entry_at g.entries i).name
 
-abbrev pub names_of : Grove → List ℕ → List (List ℕ)
+abbrev pub names_of : Forest → List ℕ → List (List ℕ)
 names_of g [] = []
 names_of g (i ∷ is) = name_of g i ∷ names_of g is
 
 -- each need that was shortened
-abbrev pub short_line : Grove → ShortNeed → List ℕ
+abbrev pub short_line : Forest → ShortNeed → List ℕ
 short_line g p = line (codes "short" ∷ name_of g p.entry ∷ decimal p.need ∷ [])
 
-unfoldable pub short_lines : Grove → List ShortNeed → List ℕ
+unfoldable pub short_lines : Forest → List ShortNeed → List ℕ
 short_lines g ps = flat_map (short_line g) ps
 
 abbrev pub status_in : Option Reply → ℕ
@@ -38,28 +38,28 @@ status_in None = 0
 status_in (Some r) = r.status
 
 -- an answer
-abbrev pub answer_line : Grove → Event → Option Reply → List ℕ
+abbrev pub answer_line : Forest → Event → Option Reply → List ℕ
 answer_line g (Told i seconds renewable) reply = line (codes "told" ∷ name_of g i ∷ decimal seconds ∷ [])
 answer_line g (Refused i) reply = line (codes "refused" ∷ name_of g i ∷ decimal (status_in reply) ∷ [])
 answer_line g (Lost i) reply = line (codes "lost" ∷ name_of g i ∷ [])
 answer_line g (Tick t) reply = []
 answer_line g (Need i until) reply = []
 
-unfoldable pub answer_text : Stock → Exchanged → List ℕ
-answer_text s x = answer_line s.grove (event_in s.credentials s.grove x) (reply_in x.sent) ++ short_lines s.grove x.short
+unfoldable pub answer_text : Inventory → Exchanged → List ℕ
+answer_text s x = answer_line s.forest (event_in s.credentials s.forest x) (reply_in x.sent) ++ short_lines s.forest x.short
 
 -- a round opens
-abbrev pub wake_line : Grove → ℕ → Output → List ℕ
+abbrev pub wake_line : Forest → ℕ → Output → List ℕ
 wake_line g at (out.Ask asked) = line (codes "wake" ∷ decimal at ∷ names_of g asked)
 wake_line g at output = []
 
-unfoldable pub beat_text : Stock → Beat → List ℕ
-beat_text s b = short_lines s.grove b.short ++ (wake_line s.grove b.at b.output ++ flat_map (answer_text s) b.answers)
+unfoldable pub beat_text : Inventory → Beat → List ℕ
+beat_text s b = short_lines s.forest b.short ++ (wake_line s.forest b.at b.output ++ flat_map (answer_text s) b.answers)
 
 -- how many wake-ups and how many requests
 unfoldable pub done_text : ℕ → ℕ → List ℕ
 done_text wakes asked = line (codes "done" ∷ decimal wakes ∷ decimal asked ∷ [])
 
 -- the text of a run that has come to its end
-unfoldable pub course_text : Stock → Course → List ℕ
-course_text s c = short_lines s.grove c.short ++ (flat_map (beat_text s) c.beats ++ done_text (length (rounds c.beats)) (requests_of c.beats))
+unfoldable pub course_text : Inventory → Course → List ℕ
+course_text s c = short_lines s.forest c.short ++ (flat_map (beat_text s) c.beats ++ done_text (length (rounds c.beats)) (requests_of c.beats))

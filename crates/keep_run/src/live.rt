@@ -80,8 +80,8 @@ fn begin<E: Exchange, W: Sink>(
     out: &mut W,
 ) -> Result<(Keeper, Credentials), Stop>
     ensures stops { IfErr result IsListenStop }
-    ensures early { IfErr result (λ stop. IfSome (E.behind exchange.old) (λ b. EndsEarly port start (record { stock = inventory; behind = b }) stop (⟦<W as Watched>⟧.sent out.old out.new) (E.behind exchange.new))) }
-    ensures opened { IfOk result (λ begun. IfSome (E.behind exchange.old) (λ b. IsOpened port start (record { stock = inventory; behind = b }) begun.1 begun.0 (E.behind exchange.new) (⟦<W as Watched>⟧.sent out.old out.new))) }
+    ensures early { IfErr result (λ stop. IfSome (E.behind exchange.old) (λ b. EndsEarly port start (record { inventory = inventory; behind = b }) stop (⟦<W as Watched>⟧.sent out.old out.new) (E.behind exchange.new))) }
+    ensures opened { IfOk result (λ begun. IfSome (E.behind exchange.old) (λ b. IsOpened port start (record { inventory = inventory; behind = b }) begun.1 begun.0 (E.behind exchange.new) (⟦<W as Watched>⟧.sent out.old out.new))) }
     ensures ready { IfOk result (λ begun. IsReady begun.1 begun.0) }
     ensures flushed { OnOk result (IsTrue (W.is_flushed out.new)) }
 {

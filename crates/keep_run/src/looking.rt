@@ -25,7 +25,7 @@ pub(crate) fn look_all_up<E: Exchange, W: Sink>(
     out: &mut W,
 ) -> Result<(), Stop>
     ensures stops { IfErr result IsListenStop }
-    ensures looked { IfSome (E.behind exchange.old) (λ b. LooksAllUp port start (record { stock = inventory.old; behind = b }) result (⟦<W as Watched>⟧.sent out.old out.new) inventory.new (E.behind exchange.new)) }
+    ensures looked { IfSome (E.behind exchange.old) (λ b. LooksAllUp port start (record { inventory = inventory.old; behind = b }) result (⟦<W as Watched>⟧.sent out.old out.new) inventory.new (E.behind exchange.new)) }
 {
     let mut i = 0;
     while i < inventory.forest().len() {
@@ -45,9 +45,9 @@ fn look_one_up<E: Exchange, W: Sink>(
     exchange: &mut E,
     out: &mut W,
 ) -> Result<(), Stop>
-    requires { i < length inventory.old.grove.entries }
+    requires { i < length inventory.old.forest.entries }
     ensures stops { IfErr result IsListenStop }
-    ensures looked { IfSome (E.behind exchange.old) (λ b. LooksOneUp port start (record { stock = inventory.old; behind = b }) i result (⟦<W as Watched>⟧.sent out.old out.new) inventory.new (E.behind exchange.new)) }
+    ensures looked { IfSome (E.behind exchange.old) (λ b. LooksOneUp port start (record { inventory = inventory.old; behind = b }) i result (⟦<W as Watched>⟧.sent out.old out.new) inventory.new (E.behind exchange.new)) }
 {
     let name = Text::of(alloc, inventory.forest().get(i).name.list())?;
     if !look_up(alloc, exchange, start, port, inventory, i)? {
@@ -63,7 +63,7 @@ fn write_entry<W: Sink>(
     i: u32,
     out: &mut W,
 ) -> Result<(), Stop>
-    requires { i < length inventory.now.grove.entries }
+    requires { i < length inventory.now.forest.entries }
     ensures stops { IfErr result IsListenStop }
     ensures written { Finishes (looked_line inventory.now i) result (⟦<W as Watched>⟧.sent out.old out.new) }
     ensures kept { OnOk result (W.failed_calls out.new ≡ W.failed_calls out.old) }

@@ -6,7 +6,7 @@ use Rattle.std.proofs.lemmas.Bool.Decides.{nat_tests}
 use Rattle.std.proofs.lemmas.List.{get_or_past}
 use Rattle.keep_tree.specs.declared.entry.Entry.{Entry}
 use Rattle.keep_tree.specs.Carried.{IsFrom, carried}
-use Rattle.keep_tree.specs.Forest.{Grove, end_of, entry_at}
+use Rattle.keep_tree.specs.Forest.{Forest, end_of, entry_at}
 use Rattle.keep_tree.specs.Over.{Over, is_over}
 use Rattle.keep_tree.specs.Push.{IsForest}
 use Rattle.keep_tree.specs.Renewal.{capped, renewal}
@@ -43,7 +43,7 @@ capped_short None x need h = (λ _. refl, λ _. refl)
 capped_short (Some m) x need h = let k : need ≤ m = h m refl in (λ l. omega arith, λ l. omega arith)
 
 -- what terms have to show of a forest
-pub record Shows (g : Grove) (s : ℕ) (t : Terms) : Type 0 where
+pub record Shows (g : Forest) (s : ℕ) (t : Terms) : Type 0 where
   pub end : (i : ℕ) → t.end i ≡ end_of g.entries i
   pub step : (i : ℕ) → t.step i ≡ (entry_at g.entries i).step
   pub need : (i : ℕ) → t.need i ≡ carried g.entries s i
@@ -60,7 +60,7 @@ bound_before es i = refl
 
 -- where the bound falls short, or the deadline, they are the same
 pub same_bound :
-    (g : Grove) (s : ℕ) (t : Terms) → Shows g s t → AllKeepable g s (end_of g.entries) → (prev : Option ℕ) (i : ℕ) →
+    (g : Forest) (s : ℕ) (t : Terms) → Shows g s t → AllKeepable g s (end_of g.entries) → (prev : Option ℕ) (i : ℕ) →
     (bound g.entries (end_of g.entries) prev i < carried g.entries s i → bound g.entries (end_of g.entries) prev i ≡ deadline t prev i)
     × (deadline t prev i < t.need i → bound g.entries (end_of g.entries) prev i ≡ deadline t prev i)
 same_bound g s t shows keepable None i =
@@ -89,7 +89,7 @@ same_bound g s t shows keepable (Some v) i =
     )
 
 pub led_forces :
-    (g : Grove) (s : ℕ) (t : Terms) → Shows g s t → AllKeepable g s (end_of g.entries) → (prev : Option ℕ) (xs : List Force) →
+    (g : Forest) (s : ℕ) (t : Terms) → Shows g s t → AllKeepable g s (end_of g.entries) → (prev : Option ℕ) (xs : List Force) →
     AreLed t prev xs → AreForces g.entries g.margin s (end_of g.entries) prev xs
 led_forces g s t shows keepable prev [] led = λ i.
     let same = same_bound g s t shows keepable prev i in
@@ -128,7 +128,7 @@ pub one_from : (es : List Entry) (s i n m : ℕ) → IsFrom es s i n → IsFrom 
 one_from es s i n m a b = let p = a.lowest m b.over b.need in let q = b.lowest n a.over a.need in omega arith
 
 pub forces_led :
-    (g : Grove) (s : ℕ) (t : Terms) → Shows g s t → AllKeepable g s (end_of g.entries) → (prev : Option ℕ) (xs : List Force) →
+    (g : Forest) (s : ℕ) (t : Terms) → Shows g s t → AllKeepable g s (end_of g.entries) → (prev : Option ℕ) (xs : List Force) →
     AreForces g.entries g.margin s (end_of g.entries) prev xs → AreLed t prev xs
 forces_led g s t shows keepable prev [] forces = λ i.
     let same = same_bound g s t shows keepable prev i in
@@ -183,7 +183,7 @@ over_from es first (suc n) a f h over =
 pub over_at_most : (es : List Entry) → ParentsFirst es → (a f : ℕ) → Over es a f → a ≤ f
 over_at_most es first a f over = over_from es first (suc f) a f (omega arith) over
 
-pub carried_past : (g : Grove) (s i : ℕ) → IsForest g → length g.entries ≤ i → carried g.entries s i ≡ 0
+pub carried_past : (g : Forest) (s i : ℕ) → IsForest g → length g.entries ≤ i → carried g.entries s i ≡ 0
 carried_past g s i forest past =
     elim (cases_lt 0 (carried g.entries s i)) [
       | inl some ↦ absurd (
@@ -200,28 +200,28 @@ names_from : (es : List Entry) (s i : ℕ) (o : Option ℕ) → NamesFrom es s i
 names_from es s i None names some = absurd (omega arith)
 names_from es s i (Some n) names some = names.1
 
-pub shows_of : (o : Prospect) (s : ℕ) → IsForest o.grove → IsCarried o.grove s o.loads → Shows o.grove s (terms_of o)
+pub shows_of : (o : Prospect) (s : ℕ) → IsForest o.forest → IsCarried o.forest s o.loads → Shows o.forest s (terms_of o)
 unfolding terms_of load_at
 shows_of o s forest is = record {
   end = λ i. refl;
   step = λ i. refl;
   need = λ i.
-      elim (cases_lt i (length o.grove.entries)) [
+      elim (cases_lt i (length o.forest.entries)) [
         | inl within ↦ is.need i within
         | inr past ↦
-            let c = carried_past o.grove s i forest past in
+            let c = carried_past o.forest s i forest past in
             let count = is.count in
             ap (λ (l : CarriedNeed). l.need) (get_or_past o.loads i (record { need = 0; from = None }) (omega arith)) ∙ sym c
       ];
   from = λ i some.
-      elim (cases_lt i (length o.grove.entries)) [
-        | inl within ↦ names_from o.grove.entries s i (load_at o.loads i).from (is.from i within) some
-        | inr past ↦ absurd (let c = carried_past o.grove s i forest past in omega arith)
+      elim (cases_lt i (length o.forest.entries)) [
+        | inl within ↦ names_from o.forest.entries s i (load_at o.loads i).from (is.from i within) some
+        | inr past ↦ absurd (let c = carried_past o.forest s i forest past in omega arith)
       ];
   margin = refl;
 }
 
-pub sound_of : (g : Grove) (s : ℕ) (t : Terms) → Shows g s t → IsForest g → AllKeepable g s (end_of g.entries) → IsSound t
+pub sound_of : (g : Forest) (s : ℕ) (t : Terms) → Shows g s t → IsForest g → AllKeepable g s (end_of g.entries) → IsSound t
 sound_of g s t shows forest keepable = record {
   step = λ i h.
       let end = shows.end i in
@@ -254,5 +254,5 @@ pub need_past : (o : Prospect) (i : ℕ) → length o.loads ≤ i → (terms_of 
 unfolding terms_of load_at
 need_past o i past = ap (λ (l : CarriedNeed). l.need) (get_or_past o.loads i (record { need = 0; from = None }) past)
 
-pub in_sight : (o : Prospect) (s : ℕ) → IsForest o.grove → IsCarried o.grove s o.loads → AllKeepable o.grove s (end_of o.grove.entries) → IsInSight o
-in_sight o s forest is keepable = record { count = is.count; sound = sound_of o.grove s (terms_of o) (shows_of o s forest is) forest keepable }
+pub in_sight : (o : Prospect) (s : ℕ) → IsForest o.forest → IsCarried o.forest s o.loads → AllKeepable o.forest s (end_of o.forest.entries) → IsInSight o
+in_sight o s forest is keepable = record { count = is.count; sound = sound_of o.forest s (terms_of o) (shows_of o s forest is) forest keepable }

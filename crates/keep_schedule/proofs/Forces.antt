@@ -4,7 +4,7 @@ use Rattle.std.proofs.lemmas.Bool.{and_from, cases_Bool, cases_eq, cases_lt}
 use Rattle.std.proofs.lemmas.Bool.Decides.{nat_tests}
 use Rattle.keep_tree.specs.declared.entry.Entry.{Entry}
 use Rattle.keep_tree.specs.Carried.{IsFrom, carried}
-use Rattle.keep_tree.specs.Forest.{Grove, end_of, entry_at}
+use Rattle.keep_tree.specs.Forest.{Forest, end_of, entry_at}
 use Rattle.keep_tree.specs.Over.{is_over}
 use Rattle.keep_tree.proofs.Carrying.{and_left, and_right, carried_at_least}
 use Rattle.keep_rule.specs.Forced.{bound}
@@ -129,7 +129,7 @@ forces_are_best g s forest keepable =
 
 -- each force is the lowest pair that is Forced at its wake-up: whoever is Forced there falls short, by no later bound
 forces_lowest :
-    (g : Grove) (s : ℕ) (ends : ℕ → ℕ) → AllKeepable g s ends → (prev : Option ℕ) (xs : List Force) → AreForces g.entries g.margin s ends prev xs →
+    (g : Forest) (s : ℕ) (ends : ℕ → ℕ) → AllKeepable g s ends → (prev : Option ℕ) (xs : List Force) → AreForces g.entries g.margin s ends prev xs →
     AreLowest g.entries g.margin s ends prev xs
 forces_lowest g s ends keepable prev [] forces = tt
 forces_lowest g s ends keepable prev (x ∷ xs) forces =

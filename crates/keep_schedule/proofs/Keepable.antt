@@ -1,7 +1,7 @@
 -- Where each entry reaches the need that it carries, no pair is unkeepable; for the tests.
 use Rattle.std.proofs.Common.{◌≡◌, ℕ, ◌<◌, ◌≤◌, List, Some, length, arith, inl, inr}
 use Rattle.std.proofs.lemmas.Bool.{cases_lt}
-use Rattle.keep_tree.specs.Forest.{Grove, end_of}
+use Rattle.keep_tree.specs.Forest.{Forest, end_of}
 use Rattle.keep_tree.specs.Push.{IsForest}
 use Rattle.keep_tree.proofs.Carrying.{carried_at_least}
 use Rattle.keep_rule.specs.Unkeepable.{AllKeepable}
@@ -10,7 +10,7 @@ use Rattle.keep_needs.specs.Carried.{CarriedNeed, IsCarried, load_at}
 use Rattle.keep_schedule.proofs.Bridge.{carried_past}
 
 pub all_keepable :
-    (g : Grove) (s n : ℕ) (loads : List CarriedNeed) → IsForest g → IsCarried g s loads → length g.entries ≤ n →
+    (g : Forest) (s n : ℕ) (loads : List CarriedNeed) → IsForest g → IsCarried g s loads → length g.entries ≤ n →
     ((i : ℕ) → i < n → (most : ℕ) → reach g.entries g.margin s (end_of g.entries) i ≡ Some most → (load_at loads i).need ≤ most) → AllKeepable g s (end_of g.entries)
 all_keepable g s n loads forest carried all reaches entry needed pair =
     let least = carried_at_least g.entries s entry needed pair.over pair.later in

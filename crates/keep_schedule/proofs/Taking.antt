@@ -7,7 +7,7 @@ use Rattle.keep_schedule.specs.Courses.{IsToCome}
 use Rattle.keep_schedule.specs.Prospect.{Prospect, terms_of}
 use Rattle.keep_schedule.specs.Given.{GivesHead}
 use Rattle.keep_schedule.specs.Terms.{AreLed, Leads, deadline}
-use Rattle.keep_tree.specs.Forest.{Grove, end_of}
+use Rattle.keep_tree.specs.Forest.{Forest, end_of}
 use Rattle.keep_tree.specs.Push.{IsForest}
 use Rattle.keep_rule.specs.Unkeepable.{AllKeepable}
 use Rattle.keep_needs.specs.Carried.{CarriedNeed, IsCarried}
@@ -42,10 +42,10 @@ gives_head o prev v x leads at is needed =
 
 -- the list that a new schedule stands for is that of the forces
 pub comes_forces :
-    (o : Prospect) (g : Grove) (loads : List CarriedNeed) (s : ℕ) → o ≡ record { grove = g; loads = loads } → IsForest g → IsCarried g s loads → AllKeepable g s (end_of g.entries) → (xs : List Force) →
+    (o : Prospect) (g : Forest) (loads : List CarriedNeed) (s : ℕ) → o ≡ record { forest = g; loads = loads } → IsForest g → IsCarried g s loads → AllKeepable g s (end_of g.entries) → (xs : List Force) →
     (IsToCome (record { prospect = o; last = None }) xs → AreForces g.entries g.margin s (end_of g.entries) None xs)
     × (AreForces g.entries g.margin s (end_of g.entries) None xs → IsToCome (record { prospect = o; last = None }) xs)
 unfolding IsToCome
 comes_forces o g loads s is forest carried keepable xs =
-    let shows : Shows g s (terms_of o) = subst (λ (p : Prospect). Shows g s (terms_of p)) (sym is) (shows_of (record { grove = g; loads = loads }) s forest carried) in
+    let shows : Shows g s (terms_of o) = subst (λ (p : Prospect). Shows g s (terms_of p)) (sym is) (shows_of (record { forest = g; loads = loads }) s forest carried) in
     (led_forces g s (terms_of o) shows keepable None xs, forces_led g s (terms_of o) shows keepable None xs)

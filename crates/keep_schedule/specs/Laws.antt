@@ -1,6 +1,6 @@
 -- Laws: that there is one list of forces, and that its moments are least and latest.
 use Rattle.std.specs.Prelude.{◌≡◌, ℕ, List, None}
-use Rattle.keep_tree.specs.Forest.{Grove, end_of}
+use Rattle.keep_tree.specs.Forest.{Forest, end_of}
 use Rattle.keep_tree.specs.Push.{IsForest}
 use Rattle.keep_rule.specs.Unkeepable.{AllKeepable}
 use Rattle.keep_rule.specs.Least.{IsLeastAndLatest}
@@ -13,7 +13,7 @@ use Rattle.keep_schedule.specs.Forces.{AreForced, AreForces, AreLowest}
 -- names, and its moments rise strictly from s on and are least and latest
 abbrev pub ForcesLaw : Type 0
 ForcesLaw =
-    (g : Grove) (s : ℕ) → IsForest g → AllKeepable g s (end_of g.entries) →
+    (g : Forest) (s : ℕ) → IsForest g → AllKeepable g s (end_of g.entries) →
     (xs : List Force)
     × (AreForces g.entries g.margin s (end_of g.entries) None xs
     × (((ys : List Force) → AreForces g.entries g.margin s (end_of g.entries) None ys → ys ≡ xs)
@@ -23,5 +23,5 @@ ForcesLaw =
 -- and each of its wake-ups has its force: the lowest entry that is Forced there, and the from of what that entry carries
 abbrev pub LowestLaw : Type 0
 LowestLaw =
-    (g : Grove) (s : ℕ) → IsForest g → AllKeepable g s (end_of g.entries) → (xs : List Force) → AreForces g.entries g.margin s (end_of g.entries) None xs →
+    (g : Forest) (s : ℕ) → IsForest g → AllKeepable g s (end_of g.entries) → (xs : List Force) → AreForces g.entries g.margin s (end_of g.entries) None xs →
     AreLowest g.entries g.margin s (end_of g.entries) None xs

@@ -27,9 +27,9 @@ impl<'a> Model for Outlook<'a> {
 
     ghost Value = { Prospect };
 
-    ghost view = { λ o. record { grove = o.forest.now; loads = o.carried.now } };
+    ghost view = { λ o. record { forest = o.forest.now; loads = o.carried.now } };
 
-    ghost invariant = { λ o. IsInSight (record { grove = o.forest.now; loads = o.carried.now }) };
+    ghost invariant = { λ o. IsInSight (record { forest = o.forest.now; loads = o.carried.now }) };
 }
 
 impl<'a> Outlook<'a> {
@@ -38,7 +38,7 @@ impl<'a> Outlook<'a> {
     pub(crate) fn new(forest: &'a Forest, carried: &'a Carried, _start: Moment) -> Outlook<'a>
         requires carried { IsCarried forest.now _start carried.now }
         requires keepable { AllKeepable forest.now _start (end_of forest.now.entries) }
-        ensures value { result ≡ record { grove = forest.now; loads = carried.now } }
+        ensures value { result ≡ record { forest = forest.now; loads = carried.now } }
         ensures sound { IsForest forest.now }
     {
         // Its contract says that the forest is one, which the proof needs here.

@@ -10,13 +10,13 @@ use Rattle.keep_moment.specs.declared.moment.TheConstants.{LAST}
 use Rattle.keep_tree.specs.declared.entry.Entry.{Entry}
 use Rattle.keep_tree.specs.declared.fault.TreeFault.{TreeFault}
 use Rattle.keep_tree.specs.declared.forest.TheConstants.{END_MAX, MARGIN_MAX, MAX_DEPTH, MAX_ENTRIES}
-use Rattle.keep_tree.specs.Forest.{Grove, entry_at, index_named}
+use Rattle.keep_tree.specs.Forest.{Forest, entry_at, index_named}
 use Rattle.keep_tree.specs.Over.{chain}
 use Rattle.keep_tree.specs.Push.{IsForest, IsPlaced, depth_under, is_lease, is_name, is_out_of_range, is_too_high, is_under_lease, lacks_parent, refusal}
 use Rattle.keep_tree.proofs.Entries.{entry_at_past, entry_at_push_new, entry_at_push_old, entry_at_set_other, entry_at_set_same, index_named_push, index_named_set, later_index, later_index_found, later_index_new}
 use Rattle.keep_tree.proofs.Chains.{ParentsFirst, SameParents, cases_Option, chain_child, chain_root, chain_same}
 
-pub parents_first : (g : Grove) → IsForest g → ParentsFirst g.entries
+pub parents_first : (g : Forest) → IsForest g → ParentsFirst g.entries
 parents_first g forest i p child =
     elim (cases_lt i (length g.entries)) [
       | inl within ↦ (forest.placed i within).parent_first p child
@@ -34,7 +34,7 @@ under_same k es fs same (Some p) below = ap is_lease (same p (below p refl))
 
 -- an entry of a changed forest keeps what it kept, where its name, and the kinds and parents up to it, are as before
 placed_like :
-    (g h : Grove) → IsForest g → (k i : ℕ) → i < k → IsPlaced g i → SameParents k g.entries h.entries → SameKinds k g.entries h.entries →
+    (g h : Forest) → IsForest g → (k i : ℕ) → i < k → IsPlaced g i → SameParents k g.entries h.entries → SameKinds k g.entries h.entries →
     (entry_at h.entries i).name ≡ (entry_at g.entries i).name → index_named h.entries (entry_at g.entries i).name ≡ Some i →
     h.margin < (entry_at h.entries i).step → is_out_of_range (entry_at h.entries i) ≡ false → IsPlaced h i
 placed_like g h forest k i within placed parents kinds name alone step range = record {
@@ -56,7 +56,7 @@ pub empty_is_forest : (margin : ℕ) → 0 < margin → margin ≤ MARGIN_MAX �
 empty_is_forest margin above within = record { margin_above = above; margin_within = within; few = omega arith; placed = λ i h. absurd (omega arith) }
 
 -- an entry with the name, kind and parent of the one that it replaces, and with its step and moments in range
-pub record Replaces (g : Grove) (i : ℕ) (e : Entry) : Type 0 where
+pub record Replaces (g : Forest) (i : ℕ) (e : Entry) : Type 0 where
   pub within : i < length g.entries
   pub name : e.name ≡ (entry_at g.entries i).name
   pub kind : e.kind ≡ (entry_at g.entries i).kind
@@ -72,7 +72,7 @@ kept field es i e within same j =
       | inr there ↦ ap field (entry_at_set_other es i j e there)
     ]
 
-pub replaced_is_forest : (g : Grove) → IsForest g → (i : ℕ) (e : Entry) → Replaces g i e → IsForest (record { entries = set g.entries i e; margin = g.margin })
+pub replaced_is_forest : (g : Forest) → IsForest g → (i : ℕ) (e : Entry) → Replaces g i e → IsForest (record { entries = set g.entries i e; margin = g.margin })
 replaced_is_forest g forest i e with = record {
   margin_above = forest.margin_above;
   margin_within = forest.margin_within;
@@ -97,7 +97,7 @@ replaced_is_forest g forest i e with = record {
 }
 
 -- what an entry that is not refused has
-pub record IsTaken (g : Grove) (e : Entry) : Type 0 where
+pub record IsTaken (g : Forest) (e : Entry) : Type 0 where
   pub named : is_name e.name ≡ true
   pub new : is_some (index_named g.entries e.name) ≡ false
   pub parent_there : lacks_parent g.entries e.parent ≡ false
@@ -112,7 +112,7 @@ passed : (met : Bool) (fault : TreeFault) (others : Option TreeFault) → cond m
 passed true fault others e = absurd cc
 passed false fault others e = (refl, e)
 
-pub taken_from_refusal : (g : Grove) (e : Entry) → refusal g e ≡ None → IsTaken g e
+pub taken_from_refusal : (g : Forest) (e : Entry) → refusal g e ≡ None → IsTaken g e
 taken_from_refusal g e none =
     let a = passed _ _ _ none in
     let b = passed _ _ _ a.1 in
@@ -144,7 +144,7 @@ parent_below es (Some q) there p e =
     let t : nat_le (length es) q ≡ false = there in
     grind (arith, nat_tests)
 
-chain_of_new : (g : Grove) → IsForest g → (e : Entry) → ParentsFirst (g.entries ++ e ∷ []) → IsTaken g e → length (chain (g.entries ++ e ∷ []) (length g.entries)) ≤ MAX_DEPTH
+chain_of_new : (g : Forest) → IsForest g → (e : Entry) → ParentsFirst (g.entries ++ e ∷ []) → IsTaken g e → length (chain (g.entries ++ e ∷ []) (length g.entries)) ≤ MAX_DEPTH
 unfolding depth_under
 chain_of_new g forest e first taken =
     let es = g.entries ++ e ∷ [] in
@@ -160,7 +160,7 @@ chain_of_new g forest e first taken =
     let shallow : length (chain g.entries p) < MAX_DEPTH = subst (λ o. depth_under g.entries o < MAX_DEPTH) child taken.shallow in
     subst (λ (c : List ℕ). length c ≤ MAX_DEPTH) (sym (one ∙ ap (λ c. n ∷ c) old)) (omega arith))
 
-pushed_parents : (g : Grove) → IsForest g → (e : Entry) → IsTaken g e → ParentsFirst (g.entries ++ e ∷ [])
+pushed_parents : (g : Forest) → IsForest g → (e : Entry) → IsTaken g e → ParentsFirst (g.entries ++ e ∷ [])
 pushed_parents g forest e taken i p child =
     elim (cases_lt i (length g.entries)) [
       | inl within ↦ parents_first g forest i p (sym (ap (λ (x : Entry). x.parent) (entry_at_push_old g.entries e i within)) ∙ child)
@@ -179,7 +179,7 @@ pub none_from_is_some : (o : Option ℕ) → is_some o ≡ false → o ≡ None
 none_from_is_some None e = refl
 none_from_is_some (Some x) e = absurd cc
 
-new_is_placed : (g : Grove) → IsForest g → (e : Entry) → IsTaken g e → IsPlaced (record { entries = g.entries ++ e ∷ []; margin = g.margin }) (length g.entries)
+new_is_placed : (g : Forest) → IsForest g → (e : Entry) → IsTaken g e → IsPlaced (record { entries = g.entries ++ e ∷ []; margin = g.margin }) (length g.entries)
 new_is_placed g forest e taken =
     let es = g.entries ++ e ∷ [] in
     let n = length g.entries in
@@ -201,7 +201,7 @@ new_is_placed g forest e taken =
       depth = chain_of_new g forest e first taken;
     }
 
-pub pushed_is_forest : (g : Grove) → IsForest g → (e : Entry) → refusal g e ≡ None → IsForest (record { entries = g.entries ++ e ∷ []; margin = g.margin })
+pub pushed_is_forest : (g : Forest) → IsForest g → (e : Entry) → refusal g e ≡ None → IsForest (record { entries = g.entries ++ e ∷ []; margin = g.margin })
 pushed_is_forest g forest e none =
     let taken = taken_from_refusal g e none in
     let es = g.entries ++ e ∷ [] in
@@ -254,7 +254,7 @@ range_from_parts e parts =
 
 -- for the setters: the entry that was read at an index, with a field changed
 pub replaces_read :
-    (g : Grove) → IsForest g → (i : ℕ) (x e : Entry) → i < length g.entries → x ≡ entry_at g.entries i → e.name ≡ x.name → e.kind ≡ x.kind → e.parent ≡ x.parent →
+    (g : Forest) → IsForest g → (i : ℕ) (x e : Entry) → i < length g.entries → x ≡ entry_at g.entries i → e.name ≡ x.name → e.kind ≡ x.kind → e.parent ≡ x.parent →
     g.margin < e.step → InRange e → Replaces g i e
 replaces_read g forest i x e within read name kind parent step range = record {
   within = within;
@@ -266,18 +266,18 @@ replaces_read g forest i x e within read name kind parent step range = record {
 }
 
 -- what was read keeps what its index keeps
-pub read_step : (g : Grove) → IsForest g → (i : ℕ) (x : Entry) → i < length g.entries → x ≡ entry_at g.entries i → g.margin < x.step
+pub read_step : (g : Forest) → IsForest g → (i : ℕ) (x : Entry) → i < length g.entries → x ≡ entry_at g.entries i → g.margin < x.step
 read_step g forest i x within read = subst (λ (y : Entry). g.margin < y.step) (sym read) (forest.placed i within).step_past_margin
 
-pub read_range : (g : Grove) → IsForest g → (i : ℕ) (x : Entry) → i < length g.entries → x ≡ entry_at g.entries i → InRange x
+pub read_range : (g : Forest) → IsForest g → (i : ℕ) (x : Entry) → i < length g.entries → x ≡ entry_at g.entries i → InRange x
 read_range g forest i x within read = range_parts x (ap is_out_of_range read ∙ (forest.placed i within).in_range)
 
 -- the forest after a change of what was read, in the words of the setters' clauses
 pub change_returns :
-    (old : Grove) (es : List Entry) (margin i : ℕ) (x : Entry) (change : Entry → Entry) → record { entries = es; margin = margin } ≡ old → x ≡ entry_at es i →
+    (old : Forest) (es : List Entry) (margin i : ℕ) (x : Entry) (change : Entry → Entry) → record { entries = es; margin = margin } ≡ old → x ≡ entry_at es i →
     record { entries = set es i (change x); margin = margin } ≡ record old { entries = set old.entries i (change (entry_at old.entries i)) }
 change_returns old es margin i x change view read =
-    let Goal : Grove → Type 0 = λ g. record { entries = set es i (change x); margin = margin } ≡ record g { entries = set g.entries i (change (entry_at g.entries i)) } in
+    let Goal : Forest → Type 0 = λ g. record { entries = set es i (change x); margin = margin } ≡ record g { entries = set g.entries i (change (entry_at g.entries i)) } in
     subst Goal view (ap (λ y. record { entries = set es i (change y); margin = margin }) read)
 
 pub ceiling_within : (ceiling : Option ℕ) → IfSome ceiling (λ c. c ≤ END_MAX) → is_too_high ceiling ≡ false

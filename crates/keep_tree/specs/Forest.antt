@@ -5,7 +5,7 @@ use Rattle.keep_tree.specs.declared.entry.Entry.{Entry}
 use Rattle.keep_tree.specs.declared.entry.Kind.TheVariants.{Token}
 
 -- a forest: its entries in the order of their indices, and its margin in seconds
-pub record Grove : Type 0 where
+pub record Forest : Type 0 where
   pub entries : List Entry
   pub margin : ℕ
 

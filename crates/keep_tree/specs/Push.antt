@@ -10,7 +10,7 @@ use Rattle.keep_tree.specs.declared.entry.Kind.TheVariants.{Token, Lease}
 use Rattle.keep_tree.specs.declared.fault.TreeFault.{TreeFault}
 use Rattle.keep_tree.specs.declared.fault.TreeFault.TheVariants.{BadName, NameTwice, NoParent, ParentIsLease, LeaseWithoutToken, StepTooSmall, OutOfRange, TooDeep, Full}
 use Rattle.keep_tree.specs.declared.forest.TheConstants.{END_MAX, MARGIN_MAX, MAX_DEPTH, MAX_ENTRIES, NAME_MAX}
-use Rattle.keep_tree.specs.Forest.{Grove, entry_at, index_named}
+use Rattle.keep_tree.specs.Forest.{Forest, entry_at, index_named}
 use Rattle.keep_tree.specs.Over.{chain}
 
 -- an ASCII letter or digit, or one of - _ . /
@@ -54,7 +54,7 @@ first_met [] = None
 first_met (t ∷ tests) = if t.0 then Some t.1 else first_met tests
 
 -- why a forest does not take an entry, None where it does
-abbrev pub refusal : Grove → Entry → Option TreeFault
+abbrev pub refusal : Forest → Entry → Option TreeFault
 refusal g e =
     first_met ((not (is_name e.name), BadName)
     ∷ (is_some (index_named g.entries e.name), NameTwice)
@@ -68,7 +68,7 @@ refusal g e =
     ∷ [])
 
 -- what the entry at an index keeps
-pub record IsPlaced (g : Grove) (i : ℕ) : Type 0 where
+pub record IsPlaced (g : Forest) (i : ℕ) : Type 0 where
   pub named : is_name (entry_at g.entries i).name ≡ true
   pub alone : index_named g.entries (entry_at g.entries i).name ≡ Some i
   pub parent_first : (p : ℕ) → (entry_at g.entries i).parent ≡ Some p → p < i
@@ -79,7 +79,7 @@ pub record IsPlaced (g : Grove) (i : ℕ) : Type 0 where
   pub depth : length (chain g.entries i) ≤ MAX_DEPTH
 
 -- what holds of every forest
-pub record IsForest (g : Grove) : Type 0 where
+pub record IsForest (g : Forest) : Type 0 where
   pub margin_above : 0 < g.margin
   pub margin_within : g.margin ≤ MARGIN_MAX
   pub few : length g.entries ≤ MAX_ENTRIES

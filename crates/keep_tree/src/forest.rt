@@ -42,10 +42,10 @@ impl Model for Forest {
     ghost use Rattle.std.specs.BTreeMap.{get_by};
     ghost use Rattle.std.specs.Cmp.Lexicographic.{slice_cmp};
     ghost use Rattle.std.specs.Ordering.{nat_cmp};
-    ghost use Rattle.keep_tree.specs.Forest.{Grove, index_named};
+    ghost use Rattle.keep_tree.specs.Forest.{Forest, index_named};
     ghost use Rattle.keep_tree.specs.Push.{IsForest};
 
-    ghost Value = { Grove };
+    ghost Value = { Forest };
 
     ghost view = { λ f. record { entries = f.entries.items; margin = f.margin } };
 

@@ -3,7 +3,7 @@ use Rattle.std.proofs.Common.{◌≡◌, ℕ, List, ◌++◌, IsTrue, refl, sym,
 use Rattle.std.specs.Io.KnownBytes.{Appends, Keeps}
 use Rattle.mini_broker.specs.declared.stream.StreamFault.{StreamFault}
 use Rattle.mini_broker.specs.declared.stream.StreamFault.TheVariants as streams
-use Rattle.mini_broker.specs.Ledger.{Ledger}
+use Rattle.mini_broker.specs.Table.{Table}
 use Rattle.vault_http.specs.declared.http_fault.HttpFault.{HttpFault}
 use Rattle.vault_http.specs.declared.http_fault.HttpFault.TheVariants as https
 use Rattle.vault_http.specs.declared.request.Request.{Request}
@@ -30,7 +30,7 @@ of_both P Q R (Err e) f p q = tt
 
 -- a failed sending leaves what handling the message has left
 pub left_by_sending :
-    {X : Type 0} (ends : Ends) (l after : Ledger) (t : ℕ) (r : Result X StreamFault) (before now : ℕ) → CountsSending r before now →
+    {X : Type 0} (ends : Ends) (l after : Table) (t : ℕ) (r : Result X StreamFault) (before now : ℕ) → CountsSending r before now →
     IsHandled ends l t after → IfErr r (λ fault. Leaves ends l t fault after)
 left_by_sending ends l after t (Ok x) before now count done = tt
 left_by_sending ends l after t (Err streams.ReadFailed) before now count done = elim count [ ]
@@ -41,14 +41,14 @@ keeps_same : (o : Option (List ℕ)) → Keeps o o
 keeps_same None = tt
 keeps_same (Some xs) = refl
 
-leaves_unserved : (ends : Ends) (l after : Ledger) (t : ℕ) (message : Result Request HttpFault) → (WantsMemory l t message after → IsUnserved ends l t after) → (fault : StreamFault) → Fails l t message fault after → Leaves ends l t fault after
+leaves_unserved : (ends : Ends) (l after : Table) (t : ℕ) (message : Result Request HttpFault) → (WantsMemory l t message after → IsUnserved ends l t after) → (fault : StreamFault) → Fails l t message fault after → Leaves ends l t fault after
 leaves_unserved ends l after t message wants streams.ReadFailed fails = fails.1
 leaves_unserved ends l after t message wants streams.WriteFailed fails = absurd fails
 leaves_unserved ends l after t message wants streams.OutOfMemory fails = inl (wants fails)
 
 -- a message that was not handled leaves what handling it says
 pub left_unserved :
-    {X : Type 0} (ends : Ends) (l after : Ledger) (t : ℕ) (message : Result Request HttpFault) (left : ℕ) (unread : Option (List ℕ)) →
+    {X : Type 0} (ends : Ends) (l after : Table) (t : ℕ) (message : Result Request HttpFault) (left : ℕ) (unread : Option (List ℕ)) →
     IfSome ends.remaining (λ bytes. SettlesRequest MOST_REQUEST bytes unread ends.reads_left left message) → unread ≡ ends.rest → Keeps ends.old ends.new →
     (fault : StreamFault) → Fails l t message fault after → (r : Result X StreamFault) → (y : StreamFault) → r ≡ Err y → y ≡ fault → IfErr r (λ f. Leaves ends l t f after)
 left_unserved ends l after t message left unread read rest unwritten fault fails r y is same =
@@ -82,7 +82,7 @@ answer_sent t (tells call row) served.Dropped h = tt
 answer_sent t drops (served.Reply reply) h = absurd h
 answer_sent t drops served.Dropped h = tt
 
-pub handled_sent : (l : Ledger) (t : ℕ) (message : Result Request HttpFault) (after : Ledger) (done : Served) → Handles l t message after done → MaySend done
+pub handled_sent : (l : Table) (t : ℕ) (message : Result Request HttpFault) (after : Table) (done : Served) → Handles l t message after done → MaySend done
 handled_sent l t (Ok r) after done h = answer_sent t (step l t r).answer done h.0
 handled_sent l t (Err https.Truncated) after done h = subst MaySend (sym h.0) tt
 handled_sent l t (Err https.ReadFailed) after done h = absurd h

@@ -5,12 +5,12 @@ use Rattle.std.proofs.lemmas.Bool.Decides.{nat_tests}
 use Rattle.std.specs.Cmp.Lexicographic.{bytes_decides}
 use Rattle.std.specs.List.{range_with_len}
 use Rattle.keep_tree.specs.declared.forest.TheConstants.{MAX_ENTRIES}
-use Rattle.keep_tree.specs.Forest.{Grove, end_of, entry_at, index_named}
+use Rattle.keep_tree.specs.Forest.{Forest, end_of, entry_at, index_named}
 use Rattle.keep_tree.specs.Push.{IsForest}
 use Rattle.keep_tree.proofs.Carrying.{and_right}
 use Rattle.keep_tree.proofs.Chains.{all_last_child, all_last_root, cases_Option}
 use Rattle.keep_tree.proofs.Placed.{parents_first}
-use Rattle.keep_inventory.specs.Stock.{Stock}
+use Rattle.keep_inventory.specs.Inventories.{Inventory}
 use Rattle.mini_broker.specs.declared.row.Row.{Row}
 use Rattle.mini_broker.specs.Rows.{row_named, row_of, rows_of}
 use Rattle.mini_broker.specs.Sweep.{lives, lives_of, parent_passes, passes, swept}
@@ -24,31 +24,31 @@ lt_is_le t e = elim (cases_lt t e) [
   | inr h ↦ (let a : nat_lt t e ≡ false = grind (arith, nat_tests) in let b : nat_le (t + 1) e ≡ false = grind (arith, nat_tests) in a ∙ sym b)
 ]
 
-pub alive_root : (g : Grove) (t i : ℕ) → (entry_at g.entries i).parent ≡ None → is_alive g t i ≡ nat_le (t + 1) (entry_at g.entries i).end
+pub alive_root : (g : Forest) (t i : ℕ) → (entry_at g.entries i).parent ≡ None → is_alive g t i ≡ nat_le (t + 1) (entry_at g.entries i).end
 unfolding is_alive end_of
 alive_root g t i root = all_last_root g.entries (λ k. (entry_at g.entries k).end) (t + 1) i root
 
-pub alive_child : (g : Grove) → IsForest g → (t i p : ℕ) → (entry_at g.entries i).parent ≡ Some p → is_alive g t i ≡ nat_le (t + 1) (entry_at g.entries i).end && is_alive g t p
+pub alive_child : (g : Forest) → IsForest g → (t i p : ℕ) → (entry_at g.entries i).parent ≡ Some p → is_alive g t i ≡ nat_le (t + 1) (entry_at g.entries i).end && is_alive g t p
 unfolding is_alive end_of
 alive_child g forest t i p child = all_last_child g.entries (λ k. (entry_at g.entries k).end) (t + 1) i p (parents_first g forest) child
 
 -- of these entries each parent is one too, and is the row that has its name
-abbrev Named : Stock → List Row → (ℕ → Type 0) → Type 0
-Named s rows these = (i p : ℕ) → these i → (entry_at s.grove.entries i).parent ≡ Some p → these p × (row_named rows (entry_at s.grove.entries p).name ≡ Some (row_of s p))
+abbrev Named : Inventory → List Row → (ℕ → Type 0) → Type 0
+Named s rows these = (i p : ℕ) → these i → (entry_at s.forest.entries i).parent ≡ Some p → these p × (row_named rows (entry_at s.forest.entries p).name ≡ Some (row_of s p))
 
 lives_step : (n : ℕ) (rows : List Row) (t : ℕ) (r : Row) → lives_of (suc n) rows t r ≡ nat_lt t r.end && parent_passes (lives_of n rows t) rows r.parent
 unfolding lives_of
 lives_step n rows t r = refl
 
-end_in : (s : Stock) (i : ℕ) → (row_of s i).end ≡ (entry_at s.grove.entries i).end
+end_in : (s : Inventory) (i : ℕ) → (row_of s i).end ≡ (entry_at s.forest.entries i).end
 unfolding row_of
 end_in s i = refl
 
-parent_in : (s : Stock) (i : ℕ) → (row_of s i).parent ≡ option_map (λ p. (entry_at s.grove.entries p).name) (entry_at s.grove.entries i).parent
+parent_in : (s : Inventory) (i : ℕ) → (row_of s i).parent ≡ option_map (λ p. (entry_at s.forest.entries p).name) (entry_at s.forest.entries i).parent
 unfolding row_of
 parent_in s i = refl
 
-pub name_in : (s : Stock) (i : ℕ) → (row_of s i).name ≡ (entry_at s.grove.entries i).name
+pub name_in : (s : Inventory) (i : ℕ) → (row_of s i).name ≡ (entry_at s.forest.entries i).name
 unfolding row_of
 name_in s i = refl
 
@@ -58,10 +58,10 @@ and_true false = refl
 
 -- a row lives where its entry is alive
 lives_of_alive :
-    (s : Stock) → IsForest s.grove → (rows : List Row) (t : ℕ) (these : ℕ → Type 0) → Named s rows these → (n i : ℕ) → i < n → these i → lives_of n rows t (row_of s i) ≡ is_alive s.grove t i
+    (s : Inventory) → IsForest s.forest → (rows : List Row) (t : ℕ) (these : ℕ → Type 0) → Named s rows these → (n i : ℕ) → i < n → these i → lives_of n rows t (row_of s i) ≡ is_alive s.forest t i
 lives_of_alive s forest rows t these named zero i below here = absurd (omega arith)
 lives_of_alive s forest rows t these named (suc n) i below here =
-    let g = s.grove in
+    let g = s.forest in
     let es = g.entries in
     let test = lives_of n rows t in
     lives_step n rows t (row_of s i)
@@ -82,12 +82,12 @@ lives_of_alive s forest rows t these named (suc n) i below here =
     ∙ sym (alive_child g forest t i p child))
 
 lives_alive :
-    (s : Stock) → IsForest s.grove → (rows : List Row) (t : ℕ) (these : ℕ → Type 0) → Named s rows these → (i : ℕ) → i < length s.grove.entries → these i → lives rows t (row_of s i) ≡ is_alive s.grove t i
+    (s : Inventory) → IsForest s.forest → (rows : List Row) (t : ℕ) (these : ℕ → Type 0) → Named s rows these → (i : ℕ) → i < length s.forest.entries → these i → lives rows t (row_of s i) ≡ is_alive s.forest t i
 unfolding lives
 lives_alive s forest rows t these named i within here = lives_of_alive s forest rows t these named MAX_ENTRIES i (let few = forest.few in omega arith) here
 
 -- names tell entries apart
-pub lone_name : (g : Grove) → IsForest g → (i j : ℕ) → i < length g.entries → j < length g.entries → (entry_at g.entries j).name ≡ (entry_at g.entries i).name → j ≡ i
+pub lone_name : (g : Forest) → IsForest g → (i j : ℕ) → i < length g.entries → j < length g.entries → (entry_at g.entries j).name ≡ (entry_at g.entries i).name → j ≡ i
 lone_name g forest i j hi hj same =
     let a = (forest.placed i hi).alone in
     let b = (forest.placed j hj).alone in
@@ -96,24 +96,24 @@ lone_name g forest i j hi hj same =
 
 -- the row of a name, among those of some entries
 pub named_among :
-    (s : Stock) → IsForest s.grove → (p : ℕ → Bool) (i : ℕ) → i < length s.grove.entries → p i ≡ true →
-    row_named (map (row_of s) (filter p (range_with_len 0 (length s.grove.entries)))) (entry_at s.grove.entries i).name ≡ Some (row_of s i)
+    (s : Inventory) → IsForest s.forest → (p : ℕ → Bool) (i : ℕ) → i < length s.forest.entries → p i ≡ true →
+    row_named (map (row_of s) (filter p (range_with_len 0 (length s.forest.entries)))) (entry_at s.forest.entries i).name ≡ Some (row_of s i)
 unfolding row_named
 named_among s forest p i within there =
-    let name = (entry_at s.grove.entries i).name in
-    found_lone (λ r. bytes_eq r.name name) (row_of s) p i (length s.grove.entries) 0
+    let name = (entry_at s.forest.entries i).name in
+    found_lone (λ r. bytes_eq r.name name) (row_of s) p i (length s.forest.entries) 0
     (ap (λ n. bytes_eq n name) (name_in s i) ∙ (bytes_decides name name).1 refl) there (omega arith) (omega arith)
-    (λ j low high hit. lone_name s.grove forest i j within (omega arith) (sym (name_in s j) ∙ (bytes_decides (row_of s j).name name).0 hit))
+    (λ j low high hit. lone_name s.forest forest i j within (omega arith) (sym (name_in s j) ∙ (bytes_decides (row_of s j).name name).0 hit))
 
-all_rows : (s : Stock) → rows_of s ≡ map (row_of s) (filter (λ i. true) (range_with_len 0 (length s.grove.entries)))
+all_rows : (s : Inventory) → rows_of s ≡ map (row_of s) (filter (λ i. true) (range_with_len 0 (length s.forest.entries)))
 unfolding rows_of
-all_rows s = ap (map (row_of s)) (sym (filter_all (range_with_len 0 (length s.grove.entries))))
+all_rows s = ap (map (row_of s)) (sym (filter_all (range_with_len 0 (length s.forest.entries))))
 
 -- an inventory's rows mirror its forest
 pub swept_inventory : SweptInventory
 unfolding swept listed rows_of
 swept_inventory s forest t =
-    let g = s.grove in
+    let g = s.forest in
     let n = length g.entries in
     let rows = map (row_of s) (range_with_len 0 n) in
     let same : rows ≡ map (row_of s) (filter (λ i. true) (range_with_len 0 n)) = ap (map (row_of s)) (sym (filter_all (range_with_len 0 n))) in
@@ -125,5 +125,5 @@ swept_inventory s forest t =
     ∙ ap (map (row_of s)) (filter_range (λ i. lives rows t (row_of s i)) (is_alive g t) n 0
     (λ i low high. lives_alive s forest rows t (λ i. i < n) named i (omega arith) (omega arith)))
 
-pub alive_up : (g : Grove) → IsForest g → (t i p : ℕ) → (entry_at g.entries i).parent ≡ Some p → is_alive g t i ≡ true → is_alive g t p ≡ true
+pub alive_up : (g : Forest) → IsForest g → (t i p : ℕ) → (entry_at g.entries i).parent ≡ Some p → is_alive g t i ≡ true → is_alive g t p ≡ true
 alive_up g forest t i p child alive = and_right (nat_le (t + 1) (entry_at g.entries i).end) (is_alive g t p) (sym (alive_child g forest t i p child) ∙ alive)

@@ -5,7 +5,7 @@ use Rattle.keep_tree.specs.declared.entry.Kind.{Kind}
 use Rattle.keep_tree.specs.declared.entry.Kind.TheVariants.{Token, Lease}
 use Rattle.keep_tree.specs.Forest.{end_of, entry_at}
 use Rattle.keep_tree.specs.Renewal.{renewed}
-use Rattle.keep_inventory.specs.Stock.{Stock, credential_at}
+use Rattle.keep_inventory.specs.Inventories.{Inventory, credential_at}
 use Rattle.vault_http.specs.declared.request.Request.{Request}
 use Rattle.mini_broker.specs.declared.row.Row.{Row}
 use Rattle.mini_broker.specs.declared.asked.Asked.{Asked}
@@ -20,9 +20,9 @@ call_for Token = RenewSelf
 call_for Lease = RenewLease
 
 -- a token is renewed with its own credential, a lease with that of the token it belongs to
-abbrev pub bearer_for : Kind → Stock → ℕ → Option (List ℕ)
+abbrev pub bearer_for : Kind → Inventory → ℕ → Option (List ℕ)
 bearer_for Token s i = Some (credential_at s.credentials i)
-bearer_for Lease s i = option_map (credential_at s.credentials) (entry_at s.grove.entries i).parent
+bearer_for Lease s i = option_map (credential_at s.credentials) (entry_at s.forest.entries i).parent
 
 -- and the body asks for the entry's step, of a lease with its id
 abbrev pub asked_for : Kind → List ℕ → ℕ → Asked
@@ -30,13 +30,13 @@ asked_for Token credential step = record { lease_id = None; increment = Some ste
 asked_for Lease credential step = record { lease_id = Some credential; increment = Some step }
 
 -- the request asks for the renewal of the entry i by its own step
-pub record AsksRenewal (s : Stock) (i : ℕ) (r : Request) : Type 0 where
-  pub call : call_of r.path ≡ Some (call_for (entry_at s.grove.entries i).kind)
+pub record AsksRenewal (s : Inventory) (i : ℕ) (r : Request) : Type 0 where
+  pub call : call_of r.path ≡ Some (call_for (entry_at s.forest.entries i).kind)
   pub method : is_write r.method ≡ true
-  pub token : r.token ≡ bearer_for (entry_at s.grove.entries i).kind s i
-  pub body : asked (call_for (entry_at s.grove.entries i).kind) r.body
-      ≡ Some (asked_for (entry_at s.grove.entries i).kind (credential_at s.credentials i) (entry_at s.grove.entries i).step)
+  pub token : r.token ≡ bearer_for (entry_at s.forest.entries i).kind s i
+  pub body : asked (call_for (entry_at s.forest.entries i).kind) r.body
+      ≡ Some (asked_for (entry_at s.forest.entries i).kind (credential_at s.credentials i) (entry_at s.forest.entries i).step)
 
 -- the row of the entry i with the end that the renewal rule gives at t, with a margin of one second
-unfoldable pub renewed_row : Stock → ℕ → ℕ → Row
-renewed_row s t i = record (row_of s i) { end = renewed s.grove.entries 1 (end_of s.grove.entries) t i }
+unfoldable pub renewed_row : Inventory → ℕ → ℕ → Row
+renewed_row s t i = record (row_of s i) { end = renewed s.forest.entries 1 (end_of s.forest.entries) t i }

@@ -2,7 +2,7 @@ pub mod Rows
 pub mod Sweep
 pub mod Listed
 pub mod Faults
-pub mod Ledger
+pub mod Table
 pub mod Slots
 pub mod Request
 pub mod Subject

@@ -4,7 +4,7 @@ use Rattle.std.specs.List.{range_with_len}
 use Rattle.keep_tree.specs.Forest.{entry_at}
 use Rattle.keep_tree.specs.declared.entry.Kind.TheVariants.{Token}
 use Rattle.keep_tree.specs.declared.forest.TheConstants.{MAX_ENTRIES}
-use Rattle.keep_inventory.specs.Stock.{Stock}
+use Rattle.keep_inventory.specs.Inventories.{Inventory}
 use Rattle.mini_broker.specs.declared.row.Row.{Row}
 use Rattle.mini_broker.specs.declared.slot.Slot.{Slot}
 use Rattle.mini_broker.specs.Rows.{row_of}
@@ -38,11 +38,11 @@ pub record AreSlots (slots : List Slot) : Type 0 where
   pub tied : (i : ℕ) → i < length slots → IsTied slots i (slot_at slots i).over (slot_at slots i).row.parent
 
 -- the slots of an inventory
-unfoldable pub slot_of : Stock → ℕ → Slot
-slot_of s i = record { row = row_of s i; over = (entry_at s.grove.entries i).parent; listed = true }
+unfoldable pub slot_of : Inventory → ℕ → Slot
+slot_of s i = record { row = row_of s i; over = (entry_at s.forest.entries i).parent; listed = true }
 
-unfoldable pub slots_of : Stock → List Slot
-slots_of s = map (slot_of s) (range_with_len 0 (length s.grove.entries))
+unfoldable pub slots_of : Inventory → List Slot
+slots_of s = map (slot_of s) (range_with_len 0 (length s.forest.entries))
 
 -- the slot over another is listed, where there is one
 abbrev pub is_listed : List Slot → Option ℕ → Bool

@@ -14,7 +14,7 @@ use Rattle.mini_broker.specs.declared.refusal.Refusal.TheVariants.{UnsupportedPa
 use Rattle.mini_broker.specs.declared.served.Served.{Served}
 use Rattle.mini_broker.specs.declared.served.Served.TheVariants as served
 use Rattle.mini_broker.specs.Faults.{fault_at, next_number, without}
-use Rattle.mini_broker.specs.Ledger.{Ledger}
+use Rattle.mini_broker.specs.Table.{Table}
 use Rattle.mini_broker.specs.Renewing.{renewal, rows_after}
 use Rattle.mini_broker.specs.Request.{allows, call_of, is_renewal, status_of, text_of}
 use Rattle.mini_broker.specs.Subject.{Subject, subject}
@@ -29,7 +29,7 @@ pub data Answer : Type 0 where
 -- an answer, and the table behind it
 pub record Outcome : Type 0 where
   pub answer : Answer
-  pub ledger : Ledger
+  pub table : Table
 
 abbrev pub is_drop : Option Fault → Bool
 is_drop None = false
@@ -48,27 +48,27 @@ renewed call fault (Err refusal) = refuses refusal
 renewed call fault (Ok row) = if is_drop fault then drops else tells call row
 
 -- a renewal request is counted, and its fault is used
-abbrev pub counted : Ledger → ℕ → Call → Option Fault → Result Row Refusal → Outcome
+abbrev pub counted : Table → ℕ → Call → Option Fault → Result Row Refusal → Outcome
 counted l number call fault found = record {
   answer = renewed call fault found;
-  ledger = record { rows = rows_after l.rows found; faults = without l.faults number; count = number };
+  table = record { rows = rows_after l.rows found; faults = without l.faults number; count = number };
 }
 
-unfoldable pub renews : Ledger → ℕ → Call → Request → Outcome
+unfoldable pub renews : Table → ℕ → Call → Request → Outcome
 renews l t call r =
     counted l (next_number l.count) call (fault_at l.faults (next_number l.count)) (renewal l.rows t call r (fault_at l.faults (next_number l.count)))
 
-abbrev pub by_call : Ledger → ℕ → Request → Option Call → Outcome
-by_call l t r None = record { answer = refuses UnsupportedPath; ledger = l }
+abbrev pub by_call : Table → ℕ → Request → Option Call → Outcome
+by_call l t r None = record { answer = refuses UnsupportedPath; table = l }
 by_call l t r (Some call) =
-    if allows call r.method then (if is_renewal call then renews l t call r else record { answer = looked call (subject l.rows call r); ledger = l })
-    else record { answer = refuses UnsupportedMethod; ledger = l }
+    if allows call r.method then (if is_renewal call then renews l t call r else record { answer = looked call (subject l.rows call r); table = l })
+    else record { answer = refuses UnsupportedMethod; table = l }
 
-abbrev pub after_sweep : Ledger → ℕ → Ledger
+abbrev pub after_sweep : Table → ℕ → Table
 after_sweep l t = record { rows = swept t l.rows; faults = l.faults; count = l.count }
 
 -- the Broker step
-unfoldable pub step : Ledger → ℕ → Request → Outcome
+unfoldable pub step : Table → ℕ → Request → Outcome
 step l t r = by_call (after_sweep l t) t r (call_of r.path)
 
 -- ---- the text of an answer

@@ -18,7 +18,7 @@ use Rattle.mini_broker.specs.declared.served.Served.TheVariants as served
 use Rattle.mini_broker.specs.declared.stream.StreamFault.{StreamFault}
 use Rattle.mini_broker.specs.declared.stream.StreamFault.TheVariants as streams
 use Rattle.mini_broker.specs.declared.stream.TheConstants.{MOST_REQUEST}
-use Rattle.mini_broker.specs.Ledger.{Ledger}
+use Rattle.mini_broker.specs.Table.{Table}
 use Rattle.mini_broker.specs.Step.{Refuses, Says, after_sweep, step}
 
 -- the bytes that are sent
@@ -28,8 +28,8 @@ sent_of served.Dropped = []
 
 -- what is done with a message: a request is served; one that ends too soon gets no reply; every other that cannot be read
 -- is refused, and is not counted
-abbrev pub Handles : Ledger → ℕ → Result Request HttpFault → Ledger → Served → Type 0
-Handles l t (Ok r) after done = (Says t (step l t r).answer done) × (after ≡ (step l t r).ledger)
+abbrev pub Handles : Table → ℕ → Result Request HttpFault → Table → Served → Type 0
+Handles l t (Ok r) after done = (Says t (step l t r).answer done) × (after ≡ (step l t r).table)
 Handles l t (Err https.Truncated) after done = (done ≡ served.Dropped) × (after ≡ l)
 Handles l t (Err https.ReadFailed) after done = ⊥
 Handles l t (Err https.OutOfMemory) after done = ⊥
@@ -50,7 +50,7 @@ pub record Ends : Type 0 where
   pub flushed : Bool
 
 -- one message is read by its bytes, where the stream tells them, and it is handled; what was not read stays
-pub record IsHandled (ends : Ends) (l : Ledger) (t : ℕ) (after : Ledger) : Type 0 where
+pub record IsHandled (ends : Ends) (l : Table) (t : ℕ) (after : Table) : Type 0 where
   pub message : Result Request HttpFault
   pub left : ℕ
   pub unread : Option (List ℕ)
@@ -70,14 +70,14 @@ IsFlushed (served.Reply reply) flushed = IsTrue flushed
 IsFlushed served.Dropped flushed = Unit {0}
 
 -- one message is handled, and what is sent for it is appended
-pub record IsStreamed (ends : Ends) (l : Ledger) (t : ℕ) (after : Ledger) : Type 0 where
+pub record IsStreamed (ends : Ends) (l : Table) (t : ℕ) (after : Table) : Type 0 where
   pub done : IsHandled ends l t after
   pub sent : Appends ends.old ends.new (sent_of done.done)
   pub flushed : IsFlushed done.done ends.flushed
 
 -- what want of memory leaves of the table: what it was where the message was not read or is refused, and what a sweep leaves
 -- where it is a request. No reply to a message that ends too soon is made, so none wants memory
-abbrev pub WantsMemory : Ledger → ℕ → Result Request HttpFault → Ledger → Type 0
+abbrev pub WantsMemory : Table → ℕ → Result Request HttpFault → Table → Type 0
 WantsMemory l t (Ok r) after = after ≡ after_sweep l t
 WantsMemory l t (Err https.Truncated) after = ⊥
 WantsMemory l t (Err https.ReadFailed) after = ⊥
@@ -89,7 +89,7 @@ WantsMemory l t (Err https.TooLong) after = after ≡ l
 WantsMemory l t (Err https.TwoLengths) after = after ≡ l
 
 -- one message is read by its bytes, where the stream tells them, or was refused memory, and nothing is sent
-pub record IsUnserved (ends : Ends) (l : Ledger) (t : ℕ) (after : Ledger) : Type 0 where
+pub record IsUnserved (ends : Ends) (l : Table) (t : ℕ) (after : Table) : Type 0 where
   pub message : Result Request HttpFault
   pub left : ℕ
   pub unread : Option (List ℕ)
@@ -100,7 +100,7 @@ pub record IsUnserved (ends : Ends) (l : Ledger) (t : ℕ) (after : Ledger) : Ty
 
 -- what a fault leaves of the table: what it was where a read failed, and what handling the message has left where a write
 -- failed. Memory may be wanting while a message is read, while a request is served, and while the reply is sent
-abbrev pub Leaves : Ends → Ledger → ℕ → StreamFault → Ledger → Type 0
+abbrev pub Leaves : Ends → Table → ℕ → StreamFault → Table → Type 0
 Leaves ends l t streams.ReadFailed after = after ≡ l
 Leaves ends l t streams.WriteFailed after = IsHandled ends l t after
 Leaves ends l t streams.OutOfMemory after = IsUnserved ends l t after ⊎ IsHandled ends l t after
@@ -113,7 +113,7 @@ CountsStream (Err streams.WriteFailed) before now = now ≡ one_more before
 CountsStream (Err streams.OutOfMemory) before now = now ≡ before
 
 -- what handling a message comes to where it fails
-abbrev pub Fails : Ledger → ℕ → Result Request HttpFault → StreamFault → Ledger → Type 0
+abbrev pub Fails : Table → ℕ → Result Request HttpFault → StreamFault → Table → Type 0
 Fails l t message streams.ReadFailed after = (message ≡ Err https.ReadFailed) × (after ≡ l)
 Fails l t message streams.WriteFailed after = ⊥
 Fails l t message streams.OutOfMemory after = WantsMemory l t message after

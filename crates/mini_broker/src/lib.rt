@@ -2,7 +2,7 @@
 //! faults by number.
 //!
 //! The contract for the layers above: a [`Table`] is its rows, its faults and its count of renewal requests
-//! (`specs/Ledger.antt`), and each call is one part of the Broker step, whose definitions stand in `specs/`. Begin with
+//! (`specs/Table.antt`), and each call is one part of the Broker step, whose definitions stand in `specs/`. Begin with
 //! `row`, then `table`.
 #![tactic(auto)]
 

@@ -2,7 +2,7 @@ ghost use Rattle.std.specs.Prelude.{◌≡◌, IfOk, OnOk, OnErr, Ok};
 ghost use Rattle.mini_broker.specs.Faults.{fault_at, next_number};
 ghost use Rattle.mini_broker.specs.Found.{row_granted, IsGrantWithin, GrantNamesText};
 ghost use Rattle.mini_broker.specs.Index.{IsIndexed, credentials_of};
-ghost use Rattle.mini_broker.specs.Ledger.{Ledger};
+ghost use Rattle.mini_broker.specs.Table.{Table};
 ghost use Rattle.mini_broker.specs.Renewing.{renewal, rows_after};
 ghost use Rattle.mini_broker.specs.Request.{call_of};
 ghost use Rattle.mini_broker.specs.Slots.{AreSlots, listed_rows};
@@ -37,8 +37,8 @@ pub(crate) fn answer(
     requires sound { AreSlots slots.old }
     requires indexed { IsIndexed index.now slots.old }
     ensures says { IfOk result (λ served. Says t (by_call (record { rows = listed_rows slots.old; faults = faults.old.items; count = count.old }) t request.now (call_of request.now.path)).answer served) }
-    ensures ledger { OnOk result (◌≡◌ {A = Ledger} (record { rows = listed_rows slots.new; faults = faults.new.items; count = count.new })
-        (by_call (record { rows = listed_rows slots.old; faults = faults.old.items; count = count.old }) t request.now (call_of request.now.path)).ledger) }
+    ensures table { OnOk result (◌≡◌ {A = Table} (record { rows = listed_rows slots.new; faults = faults.new.items; count = count.new })
+        (by_call (record { rows = listed_rows slots.old; faults = faults.old.items; count = count.old }) t request.now (call_of request.now.path)).table) }
     ensures unchanged { OnErr result ((slots.new ≡ slots.old) × (faults.new.items ≡ faults.old.items) × (count.new ≡ count.old)) }
     ensures sound { AreSlots slots.new }
     ensures credentials { credentials_of slots.new ≡ credentials_of slots.old }
@@ -102,8 +102,8 @@ fn renew(
     requires sound { AreSlots slots.old }
     requires indexed { IsIndexed index.now slots.old }
     ensures says { IfOk result (λ served. Says t (renews (record { rows = listed_rows slots.old; faults = faults.old.items; count = count.old }) t call request.now).answer served) }
-    ensures ledger { OnOk result (◌≡◌ {A = Ledger} (record { rows = listed_rows slots.new; faults = faults.new.items; count = count.new })
-        (renews (record { rows = listed_rows slots.old; faults = faults.old.items; count = count.old }) t call request.now).ledger) }
+    ensures table { OnOk result (◌≡◌ {A = Table} (record { rows = listed_rows slots.new; faults = faults.new.items; count = count.new })
+        (renews (record { rows = listed_rows slots.old; faults = faults.old.items; count = count.old }) t call request.now).table) }
     ensures unchanged { OnErr result ((slots.new ≡ slots.old) × (faults.new.items ≡ faults.old.items) × (count.new ≡ count.old)) }
     ensures sound { AreSlots slots.new }
     ensures credentials { credentials_of slots.new ≡ credentials_of slots.old }

@@ -39,7 +39,7 @@ pub(crate) fn slots_of(alloc: Global, inventory: &Inventory) -> Result<Vec<Slot>
 /// The slot of an entry.
 #[tactic(auto, unfolding(crate::specs::Rows::row_of, crate::specs::Slots::slot_of))]
 fn slot_of(alloc: Global, inventory: &Inventory, index: u32) -> Result<Slot, AllocError>
-    requires { index < length inventory.now.grove.entries }
+    requires { index < length inventory.now.forest.entries }
     ensures { IfOk result (λ slot. slot ≡ slot_of inventory.now index) }
 {
     let entry = inventory.forest().get(index);
@@ -70,8 +70,8 @@ fn parent_of(
     inventory: &Inventory,
     parent: Option<u32>,
 ) -> Result<Option<Name>, AllocError>
-    requires { lacks_parent inventory.now.grove.entries parent ≡ false }
-    ensures { IfOk result (λ name. name ≡ option_map (λ p. (entry_at inventory.now.grove.entries p).name) parent) }
+    requires { lacks_parent inventory.now.forest.entries parent ≡ false }
+    ensures { IfOk result (λ name. name ≡ option_map (λ p. (entry_at inventory.now.forest.entries p).name) parent) }
 {
     match parent {
         None => Ok(None),

@@ -35,10 +35,10 @@ pub struct Table {
 
 impl Model for Table {
     ghost use Rattle.mini_broker.specs.Index.{IsIndexed};
-    ghost use Rattle.mini_broker.specs.Ledger.{Ledger};
+    ghost use Rattle.mini_broker.specs.Table.{Table};
     ghost use Rattle.mini_broker.specs.Slots.{AreSlots, listed_rows};
 
-    ghost Value = { Ledger };
+    ghost Value = { Table };
 
     ghost view = { λ t. record { rows = listed_rows t.slots.items; faults = t.faults.items; count = t.count } };
 
@@ -104,7 +104,7 @@ impl Table {
     #[tactic(auto, unfolding(crate::specs::Step::step))]
     pub fn serve(&mut self, t: Moment, request: &Request) -> Result<Served, ServeFault>
         ensures says { IfOk result (λ served. Says t (step self.old t request.now).answer served) }
-        ensures after { OnOk result (self.new ≡ (step self.old t request.now).ledger) }
+        ensures after { OnOk result (self.new ≡ (step self.old t request.now).table) }
         ensures unserved { OnErr result (self.new ≡ after_sweep self.old t) }
     {
         self.sweep(t);

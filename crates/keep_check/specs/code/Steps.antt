@@ -2,7 +2,7 @@
 use Rattle.std.specs.Prelude.{◌≡◌, ℕ, ◌+◌, ◌*◌, ◌≤◌, ◌<◌, ◌⊎◌, max, min, slice_index, true, false, List, [], ◌∷◌, ◌++◌, length, Option, Some, None}
 use Rattle.std.specs.List.{AllByRecursion}
 use Rattle.keep_tree.specs.declared.entry.Entry.{Entry}
-use Rattle.keep_tree.specs.Forest.{Grove, end_of, entry_at}
+use Rattle.keep_tree.specs.Forest.{Forest, end_of, entry_at}
 use Rattle.keep_tree.specs.Renewal.{all_last, renewal}
 use Rattle.keep_rule.specs.Forced.{latest_end}
 use Rattle.keep_rule.specs.declared.force.Force.{Force}
@@ -13,7 +13,7 @@ use Rattle.keep_check.specs.Walk.{fault}
 
 -- what a walk over the wake-ups us finds, by the present ends, whatever follows them: with no fault in them it goes on
 -- behind one at last with the k'-th
-abbrev pub Finds : Grove → ℕ → Option ℕ → ℕ → List Force → ℕ → ℕ → Option Cause → Type 0
+abbrev pub Finds : Forest → ℕ → Option ℕ → ℕ → List Force → ℕ → ℕ → Option Cause → Type 0
 Finds g s prev k us last k' None =
     (rest : List Force) → fault g.entries g.margin s (end_of g.entries) prev k (us ++ rest) ≡ fault g.entries g.margin s (end_of g.entries) (Some last) k' rest
 Finds g s prev k us last k' (Some cause) = (rest : List Force) → fault g.entries g.margin s (end_of g.entries) prev k (us ++ rest) ≡ Some cause
@@ -32,11 +32,11 @@ pub record Stops (e : Entry) (margin end gap t k n : ℕ) : Type 0 where
   pub stop : (k ≡ n) ⊎ (max end (renewal e (t + k * gap)) < t + k * gap + gap + margin)
 
 -- each of the first n entries with a need after s lasts, with those over it, until that
-abbrev pub AllLast : Grove → ℕ → (ℕ → ℕ) → ℕ → Type 0
+abbrev pub AllLast : Forest → ℕ → (ℕ → ℕ) → ℕ → Type 0
 AllLast g s ends n = (j : ℕ) → j < n → s < (entry_at g.entries j).need → all_last g.entries ends (entry_at g.entries j).need j ≡ true
 
 -- the first that does not
-abbrev pub FirstShort : Grove → ℕ → (ℕ → ℕ) → Option ℕ → Type 0
+abbrev pub FirstShort : Forest → ℕ → (ℕ → ℕ) → Option ℕ → Type 0
 FirstShort g s ends None = AllLast g s ends (length g.entries)
 FirstShort g s ends (Some i) =
     (i < length g.entries) × ((s < (entry_at g.entries i).need) × ((all_last g.entries ends (entry_at g.entries i).need i ≡ false) × AllLast g s ends i))

@@ -3,7 +3,7 @@
 use Rattle.std.specs.Prelude.{◌≡◌, ℕ, ◌≤◌, ◌<◌, Bool, true, false, not, ◌&&◌, if◌then◌else◌, List, ◌∷◌, Option, Some, None, filter, length, slice_index_or}
 use Rattle.std.specs.List.{range_with_len}
 use Rattle.keep_moment.specs.declared.moment.TheConstants.{LAST}
-use Rattle.keep_tree.specs.Forest.{Grove, end_of, entry_at}
+use Rattle.keep_tree.specs.Forest.{Forest, end_of, entry_at}
 use Rattle.keep_tree.specs.Push.{IsForest}
 use Rattle.keep_tree.specs.Renewal.{renewal}
 use Rattle.keep_rule.specs.Asks.{asking, first_of}
@@ -37,8 +37,8 @@ seen (Some r) = Some (shown r)
 
 -- g is the forest at the opening of a round at t, with a plan whose first wake-up was x and whose others are still to come;
 -- of the entries that were asked, those that are no longer waited for were told the rule's end and stay renewable
-pub record IsByRule (h : Grove) (t : ℕ) (p : Planned) (flags : List Bool) : Type 0 where
-  pub g : Grove
+pub record IsByRule (h : Forest) (t : ℕ) (p : Planned) (flags : List Bool) : Type 0 where
+  pub g : Forest
   pub forest : IsForest g
   pub x : Force
   pub at : x.at ≡ t
@@ -51,7 +51,7 @@ pub record IsByRule (h : Grove) (t : ℕ) (p : Planned) (flags : List Bool) : Ty
       ≡ record (entry_at g.entries i) { end = if is_asked (asking g.entries g.margin t (end_of g.entries) t (first_of (moments_of (to_come p)))) i && not (flag flags i) then renewal (entry_at g.entries i) t else (entry_at g.entries i).end }
 
 -- a round that is open since the last moment
-pub record IsOpen (h : Grove) (last : ℕ) (p : Planned) (r : OpenRound) : Type 0 where
+pub record IsOpen (h : Forest) (last : ℕ) (p : Planned) (r : OpenRound) : Type 0 where
   pub at : r.at ≡ last
   pub count : length r.waiting.items ≡ length h.entries
   pub left : r.left ≡ length (waited_for r.waiting.items)
@@ -60,7 +60,7 @@ pub record IsOpen (h : Grove) (last : ℕ) (p : Planned) (r : OpenRound) : Type 
   pub by_rule : r.by_rule ≡ true → IsByRule h last p r.waiting.items
 
 -- a forest, the last moment, a plan and a round, if one is open, that belong together
-pub record IsKeeper (h : Grove) (last : ℕ) (p : Planned) (round : Option OpenRound) : Type 0 where
+pub record IsKeeper (h : Forest) (last : ℕ) (p : Planned) (round : Option OpenRound) : Type 0 where
   pub forest : IsForest h
   pub late : last ≤ LAST
   pub carried : IsCarried h p.start p.carried

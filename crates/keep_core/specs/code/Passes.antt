@@ -3,7 +3,7 @@
 use Rattle.std.specs.Prelude.{◌≡◌, ℕ, ◌<◌, if◌then◌else◌, List, Option, Some, None, length, map, nat_lt, slice_index, slice_index_or}
 use Rattle.std.specs.List.{range_with_len}
 use Rattle.keep_tree.specs.declared.entry.Entry.{Entry}
-use Rattle.keep_tree.specs.Forest.{Grove, entry_at}
+use Rattle.keep_tree.specs.Forest.{Forest, entry_at}
 use Rattle.keep_plan.specs.Decides.{IsTooLong}
 use Rattle.keep_core.specs.declared.fault.StepFault.{StepFault}
 use Rattle.keep_core.specs.declared.fault.StepFault.TheVariants.{TooLong, OutOfMemory}
@@ -18,7 +18,7 @@ abbrev pub so_far : List Entry → List ℕ → ℕ → ℕ → ℕ
 so_far es needs n i = if nat_lt i n then slice_index needs i else (entry_at es i).need
 
 -- the least reach of each of the first n entries
-pub record AreLeast (g : Grove) (t n : ℕ) (reaches : List (Option ℕ)) : Type 0 where
+pub record AreLeast (g : Forest) (t n : ℕ) (reaches : List (Option ℕ)) : Type 0 where
   pub count : length reaches ≡ n
   pub each : (i : ℕ) → i < n → slice_index_or reaches i None ≡ least_reach g t i
 
@@ -28,11 +28,11 @@ pub record AreNeeds (n : ℕ) (f : ℕ → ℕ) (needs : List ℕ) : Type 0 wher
   pub each : (i : ℕ) → i < n → slice_index needs i ≡ f i
 
 -- the forest with these needs
-abbrev pub with_needs : Grove → List ℕ → Grove
+abbrev pub with_needs : Forest → List ℕ → Forest
 with_needs g needs = record { entries = needing g.entries (slice_index needs); margin = g.margin }
 
 -- the needs of a forest
-abbrev pub HasNeeds : Grove → List ℕ → Type 0
+abbrev pub HasNeeds : Forest → List ℕ → Type 0
 HasNeeds g needs = AreNeeds (length g.entries) (λ i. (entry_at g.entries i).need) needs
 
 -- what a need is shortened to, None where it is not
@@ -40,7 +40,7 @@ unfoldable pub shorter : ℕ → Option ℕ → ℕ → Option ℕ
 shorter t reach need = if exceeds t reach need then Some (cut_to reach need) else None
 
 -- what stands in the way of a plan for a forest in which no need is to be shortened
-abbrev pub PlanRefused : Grove → ℕ → StepFault → Type 0
+abbrev pub PlanRefused : Forest → ℕ → StepFault → Type 0
 PlanRefused g t TooLong = IsTooLong g t
 PlanRefused g t OutOfMemory = Unit {0}
 PlanRefused g t fault = ⊥

@@ -2,7 +2,7 @@
 -- Source: this project's own.
 use Rattle.std.specs.Prelude.{◌≡◌, ◌==◌, ℕ, ◌<◌, Bool, false, List, [], ◌∷◌, Option, Some, None, IfSome, length, nat_lt}
 use Rattle.std.specs.List.{list_any}
-use Rattle.keep_tree.specs.Forest.{Grove, end_of}
+use Rattle.keep_tree.specs.Forest.{Forest, end_of}
 use Rattle.keep_tree.specs.Push.{IsForest}
 use Rattle.keep_rule.specs.Asks.{asks, first_of}
 use Rattle.keep_core.specs.declared.event.Output.{Output}
@@ -23,7 +23,7 @@ pub record AreFlags (n : ℕ) (asked : List ℕ) (flags : List Bool) : Type 0 wh
   pub each : (i : ℕ) → flag flags i ≡ list_any (λ j. j == i) asked
 
 -- the first moment to come is t; the Asks there are asked, and then waited for
-pub record IsOpening (h : Grove) (t : ℕ) (ts : List ℕ) (o : Opening) : Type 0 where
+pub record IsOpening (h : Forest) (t : ℕ) (ts : List ℕ) (o : Opening) : Type 0 where
   pub forest : IsForest h
   pub rest : List ℕ
   pub is : ts ≡ t ∷ rest
@@ -35,7 +35,7 @@ pub record IsOpening (h : Grove) (t : ℕ) (ts : List ℕ) (o : Opening) : Type 
   pub some : 0 < length o.asked
 
 -- what opens a round at t, None where the first moment to come is after t, or there is none
-abbrev pub Opens : Grove → ℕ → List ℕ → Option Opening → Type 0
+abbrev pub Opens : Forest → ℕ → List ℕ → Option Opening → Type 0
 Opens h t ts None = IfSome (first_of ts) (λ w. t < w)
 Opens h t ts (Some o) = IsOpening h t ts o
 

@@ -1,7 +1,7 @@
 -- Words for the pass over the entries that says which are to be asked. No public clause cites them.
 -- Source: this project's own.
 use Rattle.std.specs.Prelude.{ℕ, ◌+◌, Bool, ◌&&◌, List, Option, Some, None, nat_lt}
-use Rattle.keep_tree.specs.Forest.{Grove, end_of}
+use Rattle.keep_tree.specs.Forest.{Forest, end_of}
 use Rattle.keep_tree.specs.Renewal.{renewed}
 use Rattle.keep_rule.specs.Asks.{is_due}
 use Rattle.keep_needs.specs.Carried.{CarriedNeed, load_at}
@@ -12,7 +12,7 @@ waits_until margin None = None
 waits_until margin (Some next) = Some (next + margin)
 
 -- the question of the code: i ends before the need that it carries, cannot wait, and gains by a renewal at `at`
-abbrev pub is_test : Grove → List CarriedNeed → ℕ → Option ℕ → ℕ → Bool
+abbrev pub is_test : Forest → List CarriedNeed → ℕ → Option ℕ → ℕ → Bool
 is_test g loads at until i =
     nat_lt (end_of g.entries i) (load_at loads i).need
     && (is_due 0 until (end_of g.entries i) && nat_lt (end_of g.entries i) (renewed g.entries g.margin (end_of g.entries) at i))

@@ -13,5 +13,5 @@ pub record IsSound (t : Terms) : Type 0 where
 
 -- what is known of its terms
 pub record IsInSight (o : Prospect) : Type 0 where
-  pub count : length o.loads ≡ length o.grove.entries
+  pub count : length o.loads ≡ length o.forest.entries
   pub sound : IsSound (terms_of o)

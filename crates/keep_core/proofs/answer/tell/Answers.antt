@@ -1,6 +1,6 @@
 use Rattle.std.proofs.Common.{◌∙◌, ◌+◌, ap, set, sym}
 use Rattle.keep_tree.specs.declared.entry.Entry.{Entry}
-use Rattle.keep_tree.specs.Forest.{Grove, entry_at}
+use Rattle.keep_tree.specs.Forest.{Forest, entry_at}
 use Rattle.keep_core.specs.Step.{answered, change}
 use Rattle.keep_core.proofs.Hearing.{set_own, set_then, untouched}
 use Rattle.keep_core.proofs.answer.tell.Goals as goal
@@ -12,7 +12,7 @@ returns-in-Told c =
     let i = c.args.i in
     let able : Entry → Entry = λ e. record e { renewable = c.in-Told.renewable } in
     let e : Entry = record (entry_at g.entries i) { end = c.get.result + c.in-Told.seconds } in
-    c.set_renewable.ensures ∙ ap (λ (h : Grove). change h i able) c.set_end.ensures ∙ set_then g i e able c.requires.within
+    c.set_renewable.ensures ∙ ap (λ (h : Forest). change h i able) c.set_end.ensures ∙ set_then g i e able c.requires.within
     ∙ ap (λ at. record { entries = set g.entries i (record (entry_at g.entries i) { end = at + c.in-Told.seconds; renewable = c.in-Told.renewable }); margin = g.margin }) c.get.ensures.value
     ∙ ap (λ event. change g i (answered c.args.at event)) (sym c.in-Told.is)
 

@@ -1,6 +1,6 @@
 use Rattle.std.proofs.Common.{◌≡◌, ◌∙◌, ap, arith, get_or, length, set}
 use Rattle.std.proofs.lemmas.List.{get_or_read}
-use Rattle.keep_tree.specs.Forest.{Grove, entry_at}
+use Rattle.keep_tree.specs.Forest.{Forest, entry_at}
 use Rattle.keep_core.specs.code.Passes.{so_far}
 use Rattle.keep_core.proofs.Needing.{length_needing}
 use Rattle.keep_core.proofs.Passing.{all_set, none_set, one_set}
@@ -12,7 +12,7 @@ loop-index-init c = let g = c.args.forest.now in ap (λ es. record { entries = e
 pub set_need-requires : goal.set_need-requires
 set_need-requires c =
     let g = c.args.forest.now in
-    let same = ap (λ (h : Grove). length h.entries) c.loop-index.invariant in
+    let same = ap (λ (h : Forest). length h.entries) c.loop-index.invariant in
     let size = length_needing g.entries (so_far g.entries c.args.needs.now c.loop-index.index) in
     omega (arith, c.len-index-end.ensures.value)
 
@@ -21,7 +21,7 @@ loop-index-preserved c =
     let g = c.args.forest.now in
     let needs = c.args.needs.now in
     let i = c.loop-index.index in
-    let next : Grove → Grove = λ h. record { entries = set h.entries i (record (entry_at h.entries i) { need = get_or needs i 0 }); margin = h.margin } in
+    let next : Forest → Forest = λ h. record { entries = set h.entries i (record (entry_at h.entries i) { need = get_or needs i 0 }); margin = h.margin } in
     let read : c.index-needs-index.result ≡ get_or needs i 0 =
     get_or_read needs i c.index-needs-index.result (omega (arith, c.len-index-end.ensures.value, c.requires)) c.index-needs-index.is 0 in
     c.set_need.ensures ∙ ap (λ n. record { entries = set c.loop-index.forest.entries i (record (entry_at c.loop-index.forest.entries i) { need = n }); margin = c.loop-index.forest.margin }) read ∙ ap next c.loop-index.invariant ∙ ap (λ es. record { entries = es; margin = g.margin }) (one_set g.entries needs i (omega (arith, c.len-index-end.ensures.value)))

@@ -1,5 +1,5 @@
 use Rattle.std.proofs.Common.{◌≡◌, ◌∙◌, ap, arith, length, subst, sym}
-use Rattle.keep_tree.specs.Forest.{Grove, end_of}
+use Rattle.keep_tree.specs.Forest.{Forest, end_of}
 use Rattle.keep_rule.specs.Unkeepable.{AllKeepable}
 use Rattle.keep_core.specs.code.Passes.{HasNeeds, PlanRefused}
 use Rattle.keep_core.proofs.Passing.{fails, taken_back}
@@ -9,17 +9,17 @@ use Rattle.keep_core.proofs.tick.replan_late.Goals as goal
 pub plan_late-requires : goal.plan_late-requires
 plan_late-requires c =
     let after = c.in_ok-needs.ensures in
-    subst (λ (h : Grove). AllKeepable h c.args.at (end_of h.entries)) (sym after.shortened.0) (shorten_keepable c.args.forest.now after.sound.0 c.args.at)
+    subst (λ (h : Forest). AllKeepable h c.args.at (end_of h.entries)) (sym after.shortened.0) (shorten_keepable c.args.forest.now after.sound.0 c.args.at)
 
 pub restore-requires : goal.restore-requires
 restore-requires c =
     let after = c.in_ok-needs.ensures in
-    ap length c.deref.ensures.value ∙ after.before.count ∙ sym (shorten_count c.args.forest.now c.args.at) ∙ ap (λ (h : Grove). length h.entries) (sym after.shortened.0)
+    ap length c.deref.ensures.value ∙ after.before.count ∙ sym (shorten_count c.args.forest.now c.args.at) ∙ ap (λ (h : Forest). length h.entries) (sym after.shortened.0)
 
 pub returns-clause-refused : goal.returns-clause-refused
 returns-clause-refused c =
     let after = c.in_ok-needs.ensures in
-    fails c.args.forest.now after.sound.0 c.args.at c.in-Err.fault (subst (λ (h : Grove). PlanRefused h c.args.at c.in-Err.fault) after.shortened.0 c.in-Err.ensures.refused)
+    fails c.args.forest.now after.sound.0 c.args.at c.in-Err.fault (subst (λ (h : Forest). PlanRefused h c.args.at c.in-Err.fault) after.shortened.0 c.in-Err.ensures.refused)
 
 pub returns-clause-unchanged : goal.returns-clause-unchanged
 returns-clause-unchanged c =

@@ -1,5 +1,5 @@
 use Rattle.keep_inventory.proofs.Inventoried.{sendable_law}
-use Rattle.keep_inventory.proofs.Stocks.{text_law}
+use Rattle.keep_inventory.proofs.Inventories.{text_law}
 use Rattle.keep_inventory.proofs.laws.credentials_are_sendable.Goals as goal
 
 pub returns-clause-inventory : goal.returns-clause-inventory

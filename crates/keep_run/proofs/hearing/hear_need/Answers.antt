@@ -1,6 +1,6 @@
 use Rattle.std.proofs.Common.{◌≡◌, ◌≤◌, ap, ◌∙◌, Ok, length, sym, subst}
 use Rattle.keep_moment.specs.declared.moment.TheConstants.{LAST}
-use Rattle.keep_tree.specs.Forest.{Grove}
+use Rattle.keep_tree.specs.Forest.{Forest}
 use Rattle.keep_core.specs.declared.event.Event.TheVariants.{Need}
 use Rattle.keep_core.specs.State.{State}
 use Rattle.keep_core.proofs.Shaped.{shape}
@@ -12,7 +12,7 @@ use Rattle.keep_run.proofs.hearing.hear_need.Goals as goal
 pub push_short_lines-requires : goal.push_short_lines-requires
 push_short_lines-requires c =
     let all = short_within c.args.keeper.now c.step.new.self (Need c.args.i c.get.result) c.in-Ok.field-0 c.requires.ready.quiet c.in-Ok.ensures in
-    subst (λ n. AreOf n c.list.result.now) (sym (ap (λ (g : Grove). length g.entries) (c.forest.ensures ∙ ap (λ (s : State). s.forest) c.take_shortened-short.ensures.after)))
+    subst (λ n. AreOf n c.list.result.now) (sym (ap (λ (g : Forest). length g.entries) (c.forest.ensures ∙ ap (λ (s : State). s.forest) c.take_shortened-short.ensures.after)))
     (subst (AreOf (length c.step.new.self.forest.entries)) (sym (c.list.ensures ∙ c.take_shortened-short.ensures.value)) all)
 
 pub returns-clause-ready : goal.returns-clause-ready

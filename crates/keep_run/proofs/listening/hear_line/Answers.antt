@@ -1,7 +1,7 @@
 -- The text that hearing the line gave is sent.
 use Rattle.std.proofs.Common.{ap, sym, subst, ◌∙◌}
 use Rattle.keep_report.specs.Sent.{Sends, Sent}
-use Rattle.keep_tree.specs.Forest.{Grove}
+use Rattle.keep_tree.specs.Forest.{Forest}
 use Rattle.keep_run.specs.EventLines.{heard_in}
 use Rattle.keep_run.specs.Live.{side}
 use Rattle.keep_run.proofs.LineByLine.{heard_line, line_sent}
@@ -25,6 +25,6 @@ returns-clause-hears g c =
       is_in_memory = g.W.Device.is_in_memory;
     } in
     let one = heard_line c.args.port c.args.credentials.now before after old new line c.new-text.result.items text c.in-Some.heard c.new-text.ensures.items
-    (sym (c.in-Some.ensures.heard ∙ ap (λ (h : Grove). heard_in h line) c.forest.ensures)) c.in_ok-hear.ensures.heard in
+    (sym (c.in-Some.ensures.heard ∙ ap (λ (h : Forest). heard_in h line) c.forest.ensures)) c.in_ok-hear.ensures.heard in
     line_sent c.args.port c.args.credentials.now c.args.number (side old before) line (side new after) text c.send.result out one
     (subst (λ t. Sends c.send.result t out) c.deref.ensures.value c.send.ensures.sent) c.send.ensures.count

@@ -1,6 +1,6 @@
 use Rattle.std.proofs.Common.{◌≡◌, ◌∙◌, ◌++◌, ap, length, refl, sym, subst}
 use Rattle.keep_report.specs.declared.stop.Stop.TheVariants as stops
-use Rattle.keep_tree.specs.Forest.{Grove}
+use Rattle.keep_tree.specs.Forest.{Forest}
 use Rattle.keep_core.specs.State.{State}
 use Rattle.keep_run.specs.Text.{short_lines}
 use Rattle.keep_run.proofs.Rehearsed.{ready_opened}
@@ -12,7 +12,7 @@ pub push_short_lines-requires : goal.push_short_lines-requires
 push_short_lines-requires g c =
     let k = c.in_ok-keeper.keeper in
     let all = replan_within _ c.args.start k refl c.in_ok-keeper.ensures.opened in
-    subst (λ n. AreOf n c.list.result.now) (sym (ap (λ (h : Grove). length h.entries) (c.forest.ensures ∙ ap (λ (s : State). s.forest) c.take_shortened-short.ensures.after)))
+    subst (λ n. AreOf n c.list.result.now) (sym (ap (λ (h : Forest). length h.entries) (c.forest.ensures ∙ ap (λ (s : State). s.forest) c.take_shortened-short.ensures.after)))
     (subst (AreOf (length k.forest.entries)) (sym (c.list.ensures ∙ c.take_shortened-short.ensures.value)) all)
 
 pub returns-clause-ready : goal.returns-clause-ready

@@ -1,6 +1,6 @@
 use Rattle.std.proofs.Common.{ap, ◌∙◌, ◌<◌, ◌≤◌, Err, Ok, arith, length, sym, subst}
 use Rattle.std.specs.List.{All}
-use Rattle.keep_tree.specs.Forest.{Grove}
+use Rattle.keep_tree.specs.Forest.{Forest}
 use Rattle.keep_core.specs.State.{State}
 use Rattle.keep_run.specs.Closed.{asked_in}
 use Rattle.keep_core.specs.declared.event.Event.TheVariants.{Tick}
@@ -18,7 +18,7 @@ push_short_lines-requires c =
 pub push_wake_line-requires : goal.push_wake_line-requires
 push_wake_line-requires c =
     let all = asked_within c.args.keeper.now c.step.new.self c.args.t c.in-Ok.output c.in-Ok.ensures in
-    let count = ap (λ (g : Grove). length g.entries) (c.forest-in-Ask.ensures ∙ ap (λ (s : State). s.forest) c.take_shortened-short.ensures.after) in
+    let count = ap (λ (g : Forest). length g.entries) (c.forest-in-Ask.ensures ∙ ap (λ (s : State). s.forest) c.take_shortened-short.ensures.after) in
     let who = ap asked_in c.in-Ask.is ∙ sym c.list-in-Ask.ensures in
     subst (λ n. All (λ i. i < n) c.list-in-Ask.result.now) (sym count) (subst (All (λ i. i < length c.step.new.self.forest.entries)) who all)
 
@@ -39,5 +39,5 @@ returns-clause-few c =
     let asked = asked_few c.args.keeper.now c.step.new.self c.args.t c.in-Ok.output c.in-Ok.ensures in
     let like = shape c.args.keeper.now c.step.new.self (Tick c.args.t) (Ok c.in-Ok.output) c.in-Ok.ensures in
     let count = like.count in
-    let few : length c.args.keeper.now.forest.entries ≤ 4096 = subst (λ (g : Grove). length g.entries ≤ 4096) c.forest.ensures c.len-entries.ensures.sound.few in
+    let few : length c.args.keeper.now.forest.entries ≤ 4096 = subst (λ (g : Forest). length g.entries ≤ 4096) c.forest.ensures c.len-entries.ensures.sound.few in
     omega arith

@@ -3,7 +3,7 @@ use Rattle.std.specs.Io.KnownBytes.{Appends}
 use Rattle.keep_device.specs.Front.{AppendsFront}
 use Rattle.keep_report.specs.declared.stop.Stop.TheVariants as stops
 use Rattle.keep_report.specs.Sent.{Sent}
-use Rattle.keep_run.specs.Playing.{Comes, Goes, Plays, Wakes, next_in, requests_in, stock_of}
+use Rattle.keep_run.specs.Playing.{Comes, Goes, Plays, Wakes, next_in, requests_in, inventory_with}
 use Rattle.keep_run.specs.Stops.{both}
 use Rattle.keep_run.proofs.Written.{Going, for_memory, going_done, going_first, going_more, going_stops, going_to_end, going_unwritten, last_played, piece_goes, unwritten_before}
 use Rattle.keep_run.proofs.playing.play.Goals as goal
@@ -63,7 +63,7 @@ returns-in_default-next g c =
     let now = both c.loop-wakes.keeper c.loop-wakes.exchange in
     let new = both c.wake.new.keeper c.wake.new.exchange in
     let piece = subst (λ w. Wakes cs now c.loop-wakes.due w new c.new-text.result.items c.wake.new.text.items) c.in-Some.is c.in_ok-woken.ensures.wakes in
-    let more = subst (λ n. Goes (stock_of cs now.keeper.forest) now (Some c.loop-wakes.due) new n 1 c.in-Some.woken.requests c.wake.new.text.items) c.in_default-next.is
+    let more = subst (λ n. Goes (inventory_with cs now.keeper.forest) now (Some c.loop-wakes.due) new n 1 c.in-Some.woken.requests c.wake.new.text.items) c.in_default-next.is
     (piece_goes cs now new c.loop-wakes.due c.in-Some.woken.next 1 c.in-Some.woken.requests c.new-text.result.items c.wake.new.text.items c.new-text.ensures.items piece) in
     let all = subst (Appends (g.W.Device.written c.loop-wakes.out) (g.W.Device.written c.write_all-in-loop-wakes.new.sink)) c.deref.ensures.value c.in_ok-write_all-2.ensures.written in
     going_done cs (both c.args.keeper.now c.args.exchange.now) c.args.start c.args.lines.now _ _ now c.loop-wakes.due c.loop-wakes.wakes c.loop-wakes.requests _ _ new c.in-Some.woken.requests c.wake.new.text.items c.new.result.items _
@@ -75,7 +75,7 @@ loop-wakes-preserved g c =
     let now = both c.loop-wakes.keeper c.loop-wakes.exchange in
     let new = both c.wake.new.keeper c.wake.new.exchange in
     let piece = subst (λ w. Wakes cs now c.loop-wakes.due w new c.new-text.result.items c.wake.new.text.items) c.in-Some.is c.in_ok-woken.ensures.wakes in
-    let more = subst (λ n. Goes (stock_of cs now.keeper.forest) now (Some c.loop-wakes.due) new n 1 c.in-Some.woken.requests c.wake.new.text.items) c.in-Some-next.is
+    let more = subst (λ n. Goes (inventory_with cs now.keeper.forest) now (Some c.loop-wakes.due) new n 1 c.in-Some.woken.requests c.wake.new.text.items) c.in-Some-next.is
     (piece_goes cs now new c.loop-wakes.due c.in-Some.woken.next 1 c.in-Some.woken.requests c.new-text.result.items c.wake.new.text.items c.new-text.ensures.items piece) in
     let few = subst (λ w. requests_in w ≤ 4096) c.in-Some.is c.in_ok-woken.ensures.few in
     let comes = subst (Comes c.wake.new.keeper.last) c.in-Some-next.is (subst (λ w. Comes c.wake.new.keeper.last (next_in w)) c.in-Some.is c.in_ok-woken.ensures.comes) in

@@ -1,8 +1,8 @@
 use Rattle.std.proofs.Common.{◌≡◌, ◌∙◌, ◌++◌, ◌≤◌, [], ap, length, refl, sym, subst}
 use Rattle.keep_moment.specs.declared.moment.TheConstants.{LAST}
-use Rattle.keep_tree.specs.Forest.{Grove}
+use Rattle.keep_tree.specs.Forest.{Forest}
 use Rattle.keep_core.specs.State.{State}
-use Rattle.mini_broker.specs.Ledger.{Ledger}
+use Rattle.mini_broker.specs.Table.{Table}
 use Rattle.keep_exchange.specs.Exchanges.{Behind}
 use Rattle.keep_run.specs.Stops.{both}
 use Rattle.keep_run.specs.Text.{short_lines}
@@ -18,8 +18,8 @@ returns-in_err-set_faults g c =
 pub returns-in_err-keeper : goal.returns-in_err-keeper
 returns-in_err-keeper g c =
     let sets = c.in_ok-set_faults.ensures in
-    let table = sets.2 ∙ ap (λ (t : Ledger). record t { faults = sets.0 }) c.in_ok-table.ensures in
-    let behind = c.give.ensures ∙ ap (λ (t : Ledger). record { table = t; wire = [] }) table in
+    let table = sets.2 ∙ ap (λ (t : Table). record t { faults = sets.0 }) c.in_ok-table.ensures in
+    let behind = c.give.ensures ∙ ap (λ (t : Table). record { table = t; wire = [] }) table in
     opening_stopped c.args.inventory.now c.args.start c.args.words.now c.in_ok-inventory.inventory sets.0 c.into_parts-forest.result.0 c.from_residual-in_err-keeper.result c.in_err-keeper.field-0.0 _ _ _ _ c.args.exchange.now c.give.new.self
     c.in_ok-inventory.ensures sets.1 c.into_parts-forest.ensures.forest behind c.from_residual-in_err-keeper.ensures c.in_err-keeper.ensures.long
 
@@ -27,7 +27,7 @@ pub push_short_lines-requires : goal.push_short_lines-requires
 push_short_lines-requires g c =
     let k = c.in_ok-keeper.keeper in
     let all = replan_within _ c.args.start k refl c.in_ok-keeper.ensures.opened in
-    subst (λ n. AreOf n c.list.result.now) (sym (ap (λ (h : Grove). length h.entries) (c.forest.ensures ∙ ap (λ (s : State). s.forest) c.take_shortened-short.ensures.after)))
+    subst (λ n. AreOf n c.list.result.now) (sym (ap (λ (h : Forest). length h.entries) (c.forest.ensures ∙ ap (λ (s : State). s.forest) c.take_shortened-short.ensures.after)))
     (subst (AreOf (length k.forest.entries)) (sym (c.list.ensures ∙ c.take_shortened-short.ensures.value)) all)
 
 pub returns-in_err-push_short_lines : goal.returns-in_err-push_short_lines
@@ -46,8 +46,8 @@ play-requires-clause-comes g c =
 pub returns : goal.returns
 returns g c =
     let sets = c.in_ok-set_faults.ensures in
-    let table = sets.2 ∙ ap (λ (t : Ledger). record t { faults = sets.0 }) c.in_ok-table.ensures in
-    let behind = c.give.ensures ∙ ap (λ (t : Ledger). record { table = t; wire = [] }) table in
+    let table = sets.2 ∙ ap (λ (t : Table). record t { faults = sets.0 }) c.in_ok-table.ensures in
+    let behind = c.give.ensures ∙ ap (λ (t : Table). record { table = t; wire = [] }) table in
     let k = c.in_ok-keeper.keeper in
     let now = c.take_shortened-short.new.self in
     let lines : c.deref.result.now ≡ short_lines k.forest k.shortened =

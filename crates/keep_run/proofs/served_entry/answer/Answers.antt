@@ -1,6 +1,6 @@
 use Rattle.std.proofs.Common.{◌≡◌, ap, ◌∙◌, ◌++◌, Err, IfSome, Ok, length, sym, subst}
 use Rattle.keep_tree.specs.declared.entry.Entry.{Entry}
-use Rattle.keep_tree.specs.Forest.{Grove, entry_at}
+use Rattle.keep_tree.specs.Forest.{Forest, entry_at}
 use Rattle.keep_core.specs.State.{State}
 use Rattle.keep_exchange.specs.Requests.{IsAsked, request_of}
 use Rattle.keep_run.specs.Renewing.{IsAnswerOf, event_for, event_of}
@@ -28,7 +28,7 @@ returns-in-Err-clause-memory g c =
 pub push_short_lines-requires : goal.push_short_lines-requires
 push_short_lines-requires g c =
     let all = short_within c.args.keeper.now c.step.new.self c.in_ok-event.event c.in-Ok.output c.requires.quiet c.in-Ok.ensures in
-    subst (λ n. AreOf n c.list.result.now) (sym (ap (λ (h : Grove). length h.entries) (c.forest-4.ensures ∙ ap (λ (s : State). s.forest) c.take_shortened-short.ensures.after)))
+    subst (λ n. AreOf n c.list.result.now) (sym (ap (λ (h : Forest). length h.entries) (c.forest-4.ensures ∙ ap (λ (s : State). s.forest) c.take_shortened-short.ensures.after)))
     (subst (AreOf (length c.step.new.self.forest.entries)) (sym (c.list.ensures ∙ c.take_shortened-short.ensures.value)) all)
 
 pub returns-clause-hears : goal.returns-clause-hears
@@ -47,14 +47,14 @@ returns-clause-answers g c =
     let old = c.args.keeper.now in
     let event = c.in_ok-event.event in
     let reply = c.in_ok-reply.reply in
-    let asks = subst (λ (h : Grove). IfSome (g.E.Exchange.behind c.args.exchange.now) (λ b. IsAsked b.table c.args.t (request_of c.args.port cs h i) reply (g.E.Exchange.behind c.ask.new.exchange))) c.forest-2.ensures c.in_ok-reply.ensures in
+    let asks = subst (λ (h : Forest). IfSome (g.E.Exchange.behind c.args.exchange.now) (λ b. IsAsked b.table c.args.t (request_of c.args.port cs h i) reply (g.E.Exchange.behind c.ask.new.exchange))) c.forest-2.ensures c.in_ok-reply.ensures in
     let means : event ≡ event_for cs old.forest i reply =
     c.in_ok-event.ensures.is
-    ∙ ap (λ (q : Entry). event_of q.kind c.get-2.result.now i reply) (c.get.ensures.value ∙ ap (λ (h : Grove). entry_at h.entries i) c.forest.ensures)
+    ∙ ap (λ (q : Entry). event_of q.kind c.get-2.result.now i reply) (c.get.ensures.value ∙ ap (λ (h : Forest). entry_at h.entries i) c.forest.ensures)
     ∙ ap (λ id. event_of (entry_at old.forest.entries i).kind id i reply) c.get-2.ensures.value in
     λ port. answer_between (g.E.Exchange.behind c.args.exchange.now) (g.E.Exchange.behind c.ask.new.exchange) cs c.args.t i c.args.port old reply event c.in-Ok.output c.step.new.self c.take_shortened-short.new.self
     c.args.text.now.items c.push_answer_line.new.text.items c.push_short_lines.new.text.items port asks means c.in-Ok.ensures c.take_shortened-short.ensures.after
-    (c.in_ok-push_answer_line.ensures ∙ ap (λ (h : Grove). c.args.text.now.items ++ answer_line h event reply) c.forest-3.ensures)
+    (c.in_ok-push_answer_line.ensures ∙ ap (λ (h : Forest). c.args.text.now.items ++ answer_line h event reply) c.forest-3.ensures)
     (c.in_ok-push_short_lines.ensures
-    ∙ ap (λ (h : Grove). c.push_answer_line.new.text.items ++ short_lines h c.list.result.now) c.forest-4.ensures
+    ∙ ap (λ (h : Forest). c.push_answer_line.new.text.items ++ short_lines h c.list.result.now) c.forest-4.ensures
     ∙ ap (λ ps. c.push_answer_line.new.text.items ++ short_lines c.take_shortened-short.new.self.forest ps) (c.list.ensures ∙ c.take_shortened-short.ensures.value))

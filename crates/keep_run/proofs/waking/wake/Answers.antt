@@ -1,6 +1,6 @@
 use Rattle.std.specs.Prelude.{◌≢◌}
 use Rattle.std.proofs.Common.{◌≡◌, ap, ◌∙◌, ◌++◌, List, [], ℕ, None, Some, length, sym, subst, true, false}
-use Rattle.keep_run.specs.Playing.{AnswersAll, Goes, LeavesOpen, OpensOrEnds, Waits, stock_of}
+use Rattle.keep_run.specs.Playing.{AnswersAll, Goes, LeavesOpen, OpensOrEnds, Waits, inventory_with}
 use Rattle.keep_core.specs.declared.event.Output.TheVariants as out
 use Rattle.keep_run.specs.Stops.{both}
 use Rattle.keep_run.proofs.Goes.{ends_go, round_goes_on}
@@ -31,7 +31,7 @@ returns-clause-wakes c =
     (c.in_ok-next.ensures.answers c.port-port.ensures))) in
     let goes = round_goes_on cs c.args.exchange.now c.args.keeper.now c.open.new.keeper (both c.round.new.keeper c.round.new.exchange) c.args.due c.in-Some.opened.at c.in-Some.opened.asked c.args.text.now.items c.open.new.text.items c.round.new.text.items
     c.in_ok-next.next c.in_ok-opened.ensures.shaped opens answers in
-    subst (λ n. (text : List ℕ) × (Goes (stock_of cs c.args.keeper.now.forest) (both c.args.keeper.now c.args.exchange.now) (Some c.args.due) (both c.round.new.keeper c.round.new.exchange) c.in_ok-next.next 1 n text × (c.round.new.text.items ≡ c.args.text.now.items ++ text)))
+    subst (λ n. (text : List ℕ) × (Goes (inventory_with cs c.args.keeper.now.forest) (both c.args.keeper.now c.args.exchange.now) (Some c.args.due) (both c.round.new.keeper c.round.new.exchange) c.in_ok-next.next 1 n text × (c.round.new.text.items ≡ c.args.text.now.items ++ text)))
     (ap length (sym c.list-2.ensures)) goes
 
 pub round-requires-clause-waits : goal.round-requires-clause-waits

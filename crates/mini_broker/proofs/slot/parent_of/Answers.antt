@@ -1,9 +1,9 @@
 use Rattle.std.proofs.Common.{◌<◌, length, subst, sym}
-use Rattle.keep_tree.specs.Forest.{Grove}
+use Rattle.keep_tree.specs.Forest.{Forest}
 use Rattle.keep_tree.proofs.Placed.{parent_below}
 use Rattle.mini_broker.proofs.slot.parent_of.Goals as goal
 
 pub get-requires : goal.get-requires
 get-requires c =
-    subst (λ (g : Grove). c.in-Some.index < length g.entries) (sym c.forest.ensures.value)
-    (parent_below c.args.inventory.now.grove.entries c.args.parent c.requires c.in-Some.index c.in-Some.is)
+    subst (λ (g : Forest). c.in-Some.index < length g.entries) (sym c.forest.ensures.value)
+    (parent_below c.args.inventory.now.forest.entries c.args.parent c.requires c.in-Some.index c.in-Some.is)

@@ -1,5 +1,5 @@
 use Rattle.std.proofs.Common.{◌≡◌, ◌∙◌, ap, arith, length, subst, sym}
-use Rattle.keep_tree.specs.Forest.{Grove}
+use Rattle.keep_tree.specs.Forest.{Forest}
 use Rattle.keep_tree.specs.Push.{IsForest}
 use Rattle.mini_broker.specs.Index.{AreUnlike}
 use Rattle.mini_broker.specs.Slots.{AreSlots}
@@ -13,16 +13,16 @@ loop-index-preserved c =
 
 pub returns-clause-slots : goal.returns-clause-slots
 returns-clause-slots c =
-    let count : c.len-index-end.result ≡ length c.args.inventory.now.grove.entries = c.len-index-end.ensures.value ∙ ap (λ (g : Grove). length g.entries) c.forest.ensures.value in
+    let count : c.len-index-end.result ≡ length c.args.inventory.now.forest.entries = c.len-index-end.ensures.value ∙ ap (λ (g : Forest). length g.entries) c.forest.ensures.value in
     all_slots c.args.inventory.now c.loop-index.index c.loop-index.slots.items c.loop-index.invariant (omega arith)
 
 pub returns-clause-sound : goal.returns-clause-sound
 returns-clause-sound c =
-    let count : c.len-index-end.result ≡ length c.args.inventory.now.grove.entries = c.len-index-end.ensures.value ∙ ap (λ (g : Grove). length g.entries) c.forest.ensures.value in
-    let forest : IsForest c.args.inventory.now.grove = subst IsForest c.forest.ensures.value c.len-index-end.ensures.sound in
+    let count : c.len-index-end.result ≡ length c.args.inventory.now.forest.entries = c.len-index-end.ensures.value ∙ ap (λ (g : Forest). length g.entries) c.forest.ensures.value in
+    let forest : IsForest c.args.inventory.now.forest = subst IsForest c.forest.ensures.value c.len-index-end.ensures.sound in
     subst AreSlots (sym (all_slots c.args.inventory.now c.loop-index.index c.loop-index.slots.items c.loop-index.invariant (omega arith))) (slots_are_sound c.args.inventory.now forest)
 
 pub returns-clause-unlike : goal.returns-clause-unlike
 returns-clause-unlike c =
-    let count : c.len-index-end.result ≡ length c.args.inventory.now.grove.entries = c.len-index-end.ensures.value ∙ ap (λ (g : Grove). length g.entries) c.forest.ensures.value in
+    let count : c.len-index-end.result ≡ length c.args.inventory.now.forest.entries = c.len-index-end.ensures.value ∙ ap (λ (g : Forest). length g.entries) c.forest.ensures.value in
     subst AreUnlike (sym (all_slots c.args.inventory.now c.loop-index.index c.loop-index.slots.items c.loop-index.invariant (omega arith))) (slots_are_unlike c.args.inventory.now c.forest.ensures.sound.apart)

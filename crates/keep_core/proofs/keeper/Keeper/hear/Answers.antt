@@ -1,6 +1,6 @@
 use Rattle.std.proofs.Common.{◌≡◌, ◌∙◌, ◌+◌, ◌-◌, ◌<◌, ◌&&◌, false, Option, Some, ap, arith, length, refl, set, subst, sym}
 use Rattle.std.specs.Vec.{with_item}
-use Rattle.keep_tree.specs.Forest.{Grove, entry_at}
+use Rattle.keep_tree.specs.Forest.{Forest, entry_at}
 use Rattle.keep_core.specs.declared.round.OpenRound.{OpenRound}
 use Rattle.keep_core.specs.code.Hearing.{heard_in, is_rules}
 use Rattle.keep_core.specs.code.Keeping.{seen, waited_for}
@@ -64,7 +64,7 @@ returns c =
     let old = state_of h c.self.inside.last c.self.inside.plan c.self.inside.round c.self.inside.shortened.items in
     let unanswered : waited_for n.waiting.items ≡ without (of_entry event) (waited_for r.waiting.items) =
     ap (λ i. waited_for (set r.waiting.items i false)) (sym c.requires.entry) ∙ waited_set r.waiting.items (of_entry event) hears.taken.there in
-    ap (λ (g : Grove). record old { forest = g; round = seen (Some n) }) told
+    ap (λ (g : Forest). record old { forest = g; round = seen (Some n) }) told
     ∙ ap (λ us. record old { forest = change h (of_entry event) (answered r.at event); round = Some (record { at = r.at; unanswered = us }) }) unanswered
     ∙ ap (λ (o : Option OpenRound). heard_in (seen o) old event) (sym is)
     ∙ ap (λ (s : State). heard_in s.round s event) c.self.view_is

@@ -1,6 +1,6 @@
 use Rattle.std.proofs.Common.{◌∙◌, ◌<◌, ◌≤◌, ℕ, List, ◌++◌, ◌-◌, ap, length, arith, subst, sym}
-use Rattle.keep_inventory.specs.Stock.{IsSendable, credential_at}
-use Rattle.keep_inventory.proofs.Stocks.{first_half, second_half, sendable_at}
+use Rattle.keep_inventory.specs.Inventories.{IsSendable, credential_at}
+use Rattle.keep_inventory.proofs.Inventories.{first_half, second_half, sendable_at}
 use Rattle.keep_inventory.proofs.inventory.Credentials.get.Goals as goal
 
 pub returns-then-index-tokens-clause-sendable : goal.returns-then-index-tokens-clause-sendable

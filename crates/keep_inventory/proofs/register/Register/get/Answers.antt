@@ -1,6 +1,6 @@
 use Rattle.std.proofs.Common.{◌<◌, List, ℕ, length, sym, subst, ap, ◌∙◌}
-use Rattle.keep_inventory.specs.Stock.{credential_at}
-use Rattle.keep_inventory.proofs.Stocks.{credential_read}
+use Rattle.keep_inventory.specs.Inventories.{credential_at}
+use Rattle.keep_inventory.proofs.Inventories.{credential_read}
 use Rattle.keep_inventory.proofs.register.Register.get.Goals as goal
 
 pub returns : goal.returns

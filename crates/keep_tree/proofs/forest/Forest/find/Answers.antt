@@ -1,9 +1,9 @@
 use Rattle.std.proofs.Common.{ap, ◌∙◌}
-use Rattle.keep_tree.specs.Forest.{Grove, index_named}
+use Rattle.keep_tree.specs.Forest.{Forest, index_named}
 use Rattle.keep_tree.proofs.Entries.{index_within}
 use Rattle.keep_tree.proofs.forest.Forest.find.Goals as goal
 
 pub returns-clause-within : goal.returns-clause-within
 returns-clause-within c =
     index_within c.args.self.now.entries c.args.name.now c.copied.result
-    (c.copied.ensures ∙ c.get.ensures.value ∙ c.self.invariant.1 c.args.name.now ∙ ap (λ (g : Grove). index_named g.entries c.args.name.now) c.self.view_is)
+    (c.copied.ensures ∙ c.get.ensures.value ∙ c.self.invariant.1 c.args.name.now ∙ ap (λ (g : Forest). index_named g.entries c.args.name.now) c.self.view_is)

@@ -1,9 +1,9 @@
 use Rattle.std.proofs.Common.{◌<◌, length, sym, subst, ap, ◌∙◌}
-use Rattle.keep_tree.specs.Forest.{Grove, entry_at}
+use Rattle.keep_tree.specs.Forest.{Forest, entry_at}
 use Rattle.keep_tree.proofs.Entries.{entry_read}
 use Rattle.keep_tree.proofs.forest.Forest.get.Goals as goal
 
 pub returns-clause-value : goal.returns-clause-value
 returns-clause-value c =
-    let within : c.args.index < length c.self.inside.entries.items = subst (λ (g : Grove). c.args.index < length g.entries) (sym c.self.view_is) c.requires in
-    entry_read c.self.inside.entries.items c.args.index c.index.result.now within c.index.ensures ∙ ap (λ (g : Grove). entry_at g.entries c.args.index) c.self.view_is
+    let within : c.args.index < length c.self.inside.entries.items = subst (λ (g : Forest). c.args.index < length g.entries) (sym c.self.view_is) c.requires in
+    entry_read c.self.inside.entries.items c.args.index c.index.result.now within c.index.ensures ∙ ap (λ (g : Forest). entry_at g.entries c.args.index) c.self.view_is

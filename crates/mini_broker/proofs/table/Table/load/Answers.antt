@@ -2,17 +2,17 @@ use Rattle.std.proofs.Common.{◌≡◌, ◌∙◌, ap, subst, List}
 use Rattle.mini_broker.specs.declared.fault.NumberedFault.{NumberedFault}
 use Rattle.mini_broker.specs.declared.row.Row.{Row}
 use Rattle.mini_broker.specs.Index.{IsIndexed}
-use Rattle.mini_broker.specs.Ledger.{Ledger}
+use Rattle.mini_broker.specs.Table.{Table}
 use Rattle.mini_broker.specs.Slots.{listed_rows}
 use Rattle.mini_broker.proofs.Loaded.{rows_of_slots}
 use Rattle.mini_broker.proofs.table.Table.load.Goals as goal
 
-ledgers : (rows rows' : List Row) (faults faults' : List NumberedFault) → rows ≡ rows' → faults ≡ faults' → ◌≡◌ {A = Ledger} (record { rows = rows; faults = faults; count = 0 }) (record { rows = rows'; faults = faults'; count = 0 })
-ledgers rows rows' faults faults' e f = ap (λ rs. record { rows = rs; faults = faults; count = 0 }) e ∙ ap (λ fs. record { rows = rows'; faults = fs; count = 0 }) f
+tables : (rows rows' : List Row) (faults faults' : List NumberedFault) → rows ≡ rows' → faults ≡ faults' → ◌≡◌ {A = Table} (record { rows = rows; faults = faults; count = 0 }) (record { rows = rows'; faults = faults'; count = 0 })
+tables rows rows' faults faults' e f = ap (λ rs. record { rows = rs; faults = faults; count = 0 }) e ∙ ap (λ fs. record { rows = rows'; faults = fs; count = 0 }) f
 
 pub returns : goal.returns
 returns c =
-    ledgers _ _ _ _ (ap listed_rows c.in_ok-slots.ensures.slots ∙ rows_of_slots c.args.inventory.now) c.new.ensures.items
+    tables _ _ _ _ (ap listed_rows c.in_ok-slots.ensures.slots ∙ rows_of_slots c.args.inventory.now) c.new.ensures.items
 
 pub invariant_of-result : goal.invariant_of-result
 invariant_of-result c = (c.in_ok-slots.ensures.sound, subst (IsIndexed c.in_ok-index.index) c.deref.ensures.value c.in_ok-index.ensures)

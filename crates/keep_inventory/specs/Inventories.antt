@@ -1,14 +1,14 @@
 -- What an inventory holds: a forest, and beside each entry the credential that is sent for it and its terms.
 use Rattle.std.specs.Prelude.{◌≡◌, ℕ, ◌<◌, ◌≤◌, List, [], None, length, slice_index_or}
 use Rattle.std.specs.List.{All}
-use Rattle.keep_tree.specs.Forest.{Grove, entry_at}
+use Rattle.keep_tree.specs.Forest.{Forest, entry_at}
 use Rattle.keep_tree.specs.Push.{IsForest}
 use Rattle.keep_inventory.specs.declared.limits.TheConstants.{CREDENTIAL_MAX, SPAN_MAX}
 use Rattle.keep_inventory.specs.declared.terms.Terms.{Terms}
 use Rattle.keep_inventory.specs.Terms.{ceiling_of, step_of}
 
-pub record Stock : Type 0 where
-  pub grove : Grove
+pub record Inventory : Type 0 where
+  pub forest : Forest
   pub credentials : List (List ℕ)
   pub terms : List Terms
 
@@ -25,9 +25,9 @@ unfoldable pub credential_at : List (List ℕ) → ℕ → List ℕ
 credential_at cs i = slice_index_or cs i []
 
 -- no two tokens have the same credential, and no two leases
-abbrev pub AreApart : Stock → Type 0
+abbrev pub AreApart : Inventory → Type 0
 AreApart s =
-    (i j : ℕ) → i < length s.grove.entries → j < length s.grove.entries → (entry_at s.grove.entries i).kind ≡ (entry_at s.grove.entries j).kind →
+    (i j : ℕ) → i < length s.forest.entries → j < length s.forest.entries → (entry_at s.forest.entries i).kind ≡ (entry_at s.forest.entries j).kind →
     credential_at s.credentials i ≡ credential_at s.credentials j → i ≡ j
 
 -- 1 to 256 bytes, each from 0x21 to 0x7E: they can stand in the head of a message, and are UTF-8
@@ -36,12 +36,12 @@ IsSendable text = (0 < length text) × (length text ≤ CREDENTIAL_MAX) × All (
 
 -- what every inventory keeps: a forest, one credential and one set of terms for each entry, of one kind no credential
 -- twice, and each can be sent; a step is a duration, and step and ceiling are those of the terms
-pub record IsStock (s : Stock) : Type 0 where
-  pub forest : IsForest s.grove
-  pub credentials : length s.credentials ≡ length s.grove.entries
-  pub terms : length s.terms ≡ length s.grove.entries
+pub record IsInventory (s : Inventory) : Type 0 where
+  pub forest : IsForest s.forest
+  pub credentials : length s.credentials ≡ length s.forest.entries
+  pub terms : length s.terms ≡ length s.forest.entries
   pub apart : AreApart s
   pub sendable : All IsSendable s.credentials
-  pub steps : (i : ℕ) → i < length s.grove.entries → (entry_at s.grove.entries i).step ≤ SPAN_MAX
-  pub step_is : (i : ℕ) → i < length s.grove.entries → (entry_at s.grove.entries i).step ≡ step_of (terms_at s.terms i)
-  pub ceiling_is : (i : ℕ) → i < length s.grove.entries → (entry_at s.grove.entries i).ceiling ≡ ceiling_of (terms_at s.terms i)
+  pub steps : (i : ℕ) → i < length s.forest.entries → (entry_at s.forest.entries i).step ≤ SPAN_MAX
+  pub step_is : (i : ℕ) → i < length s.forest.entries → (entry_at s.forest.entries i).step ≡ step_of (terms_at s.terms i)
+  pub ceiling_is : (i : ℕ) → i < length s.forest.entries → (entry_at s.forest.entries i).ceiling ≡ ceiling_of (terms_at s.terms i)

@@ -1,4 +1,4 @@
--- What is read at an index of a stock, and that a stock keeps one credential and one set of terms for each entry.
+-- What is read at an index of an inventory, and that an inventory keeps one credential and one set of terms for each entry.
 use Rattle.std.proofs.Common.{◌≡◌, ◌==◌, ℕ, false, unwrap_or, ◌∙◌, ◌+◌, ◌-◌, ◌<◌, ◌≤◌, List, [], ◌++◌, length, get_or, sym, arith, IsUtf8}
 use Rattle.std.specs.List.{All}
 use Rattle.std.proofs.lemmas.Bool.{cond-false}
@@ -10,7 +10,7 @@ use Rattle.std.proofs.Math.ListN.{length-append}
 use Rattle.std.proofs.Math.Seq.{get_or-append_right}
 use Rattle.keep_tree.specs.Forest.{entry_at}
 use Rattle.keep_inventory.specs.declared.terms.Terms.{Terms}
-use Rattle.keep_inventory.specs.Stock.{IsSendable, IsStock, Stock, no_terms, terms_at, credential_at}
+use Rattle.keep_inventory.specs.Inventories.{IsSendable, IsInventory, Inventory, no_terms, terms_at, credential_at}
 use Rattle.keep_inventory.specs.Laws.{TextLaw}
 
 pub terms_read : (ts : List Terms) (i : ℕ) (x : Terms) → i < length ts → x ≡ get_or ts i x → x ≡ terms_at ts i
@@ -40,13 +40,13 @@ text_law text sendable =
     IsUtf8-from_ascii text (IsAscii-from_all text (All-from_get_or (λ b. b < 128) text 0
     (λ i h. let fine = All-get_or (λ b. (0x21 ≤ b) × (b ≤ 0x7E)) text i 0 h sendable.2 in omega (arith, fine.1))))
 
--- and so is each credential of a stock
-pub credential_text : (s : Stock) → IsStock s → (i : ℕ) → i < length s.grove.entries → IsUtf8 (credential_at s.credentials i)
-credential_text s stock i h = text_law (credential_at s.credentials i) (sendable_at s.credentials i (omega (arith, h, stock.credentials)) stock.sendable)
+-- and so is each credential of an inventory
+pub credential_text : (s : Inventory) → IsInventory s → (i : ℕ) → i < length s.forest.entries → IsUtf8 (credential_at s.credentials i)
+credential_text s inventory i h = text_law (credential_at s.credentials i) (sendable_at s.credentials i (omega (arith, h, inventory.credentials)) inventory.sendable)
 
 -- a token that has a period has it as its step
-pub period_is : (s : Stock) → IsStock s → (i : ℕ) → i < length s.grove.entries → ((terms_at s.terms i).period == 0) ≡ false → (entry_at s.grove.entries i).step ≡ (terms_at s.terms i).period
-period_is s stock i h some = let t = terms_at s.terms i in stock.step_is i h ∙ cond-false (t.period == 0) (unwrap_or t.increment 0) t.period some
+pub period_is : (s : Inventory) → IsInventory s → (i : ℕ) → i < length s.forest.entries → ((terms_at s.terms i).period == 0) ≡ false → (entry_at s.forest.entries i).step ≡ (terms_at s.terms i).period
+period_is s inventory i h some = let t = terms_at s.terms i in inventory.step_is i h ∙ cond-false (t.period == 0) (unwrap_or t.increment 0) t.period some
 
 pub length_of_halves : (ss ls : List (List ℕ)) → length (ss ++ ls) ≡ length ss + length ls
 length_of_halves ss ls = length-append ss ls

@@ -3,7 +3,7 @@ use Rattle.std.specs.Prelude.{ℕ, List}
 use Rattle.mini_broker.specs.declared.row.Row.{Row}
 use Rattle.mini_broker.specs.declared.fault.NumberedFault.{NumberedFault}
 
-pub record Ledger : Type 0 where
+pub record Table : Type 0 where
   pub rows : List Row
   pub faults : List NumberedFault
   pub count : ℕ

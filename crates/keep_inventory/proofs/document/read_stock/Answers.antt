@@ -1,6 +1,0 @@
-use Rattle.toml.specs.View.{table_view}
-use Rattle.keep_inventory.proofs.Inventoried.{intake_is_stock}
-use Rattle.keep_inventory.proofs.document.read_stock.Goals as goal
-
-pub of-requires : goal.of-requires
-of-requires c = intake_is_stock (table_view c.args.table.now) c.in_ok-draft.draft c.in_ok-draft.ensures
