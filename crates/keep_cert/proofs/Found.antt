@@ -1,13 +1,10 @@
 -- What is read is written: each line that the definition of reading takes is the line that the grammar writes.
-use Rattle.std.proofs.Common.{◌≡◌, ℕ, suc, ◌<◌, ◌≤◌, Bool, true, false, not, ◌||◌, ◌==◌, if◌then◌else◌, List, [], ◌∷◌, ◌++◌, bytes_eq, decimal, length, get_or, nat_le, nat_lt, Option, Some, None, Result, Ok, Err, refl, sym, ap, ◌∙◌, subst, arith, inl, inr, ltb-true, ⊎_elim}
-use Rattle.std.proofs.lemmas.Bool.{and_parts, cases_Bool, cond-false, cond-true, eqb-true, leb-true, or_cases}
-use Rattle.std.proofs.lemmas.Fmt.{decimal-digits_value}
+use Rattle.std.proofs.Common.{◌≡◌, ℕ, suc, ◌<◌, ◌≤◌, true, List, [], ◌∷◌, ◌++◌, bytes_eq, decimal, length, Option, Some, None, Result, Ok, Err, refl, sym, ap, ◌∙◌, subst, arith, inl, inr}
+use Rattle.std.proofs.lemmas.Bool.{cases_Bool, cond-false, cond-true}
 use Rattle.std.proofs.lemmas.List.Splits.{join_with_byte-slice_split}
 use Rattle.std.specs.Cmp.Lexicographic.{bytes_decides}
-use Rattle.std.specs.List.{join_with_byte, list_all}
+use Rattle.std.specs.List.{join_with_byte}
 use Rattle.std.specs.Option.{ok_or, option_map}
-use Rattle.std.specs.Char.{is_ascii_digit}
-use Rattle.std.specs.Str.Parse.{digits_value}
 use Rattle.keep_moment.specs.declared.moment.TheConstants.{LAST}
 use Rattle.keep_tree.specs.declared.entry.Entry.{Entry}
 use Rattle.keep_tree.specs.Forest.{entry_at, index_named}
@@ -15,7 +12,7 @@ use Rattle.keep_tree.proofs.Entries.{index_named_within}
 use Rattle.keep_cert.specs.declared.fault.CertFault.{CertFault}
 use Rattle.keep_cert.specs.Answers.{◌>>=◌}
 use Rattle.keep_cert.specs.CertificateText.{line_text, name_of}
-use Rattle.keep_cert.specs.Lines.{cut_off, four_words, line_at, number_at, six_words, three_words, two_words}
+use Rattle.keep_cert.specs.Lines.{number_at}
 use Rattle.keep_words.specs.Numbers.{number_up_to}
 use Rattle.keep_words.proofs.Numbers as numbers
 use Rattle.keep_words.specs.Pieces.{keyword, pieces, two, three, four, six}

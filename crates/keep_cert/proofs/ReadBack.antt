@@ -1,13 +1,10 @@
 -- What is written is read: numbers, names, and the lines of runs and wake-ups.
-use Rattle.std.proofs.Common.{◌≡◌, ℕ, ◌+◌, ◌-◌, ◌*◌, ◌^◌, ◌<◌, ◌≤◌, ◌↔◌, Bool, true, false, not, ◌||◌, ◌==◌, List, [], ◌∷◌, bytes_eq, codes, decimal, get_or, length, nat_le, nat_lt, Ok, Some, refl, sym, ap, ◌∙◌, subst, arith, inl, inr, lt-ltb}
+use Rattle.std.proofs.Common.{◌≡◌, ℕ, ◌+◌, ◌-◌, ◌*◌, ◌<◌, ◌≤◌, ◌↔◌, Bool, true, false, ◌==◌, List, [], ◌∷◌, bytes_eq, codes, decimal, length, Ok, refl, sym, ap, ◌∙◌, arith, inl, inr, lt-ltb}
 use Rattle.std.proofs.Math.Nat.{mul-le-mul_right}
-use Rattle.std.proofs.lemmas.Bool.{and_from, cases_eq, cond-true, eq-eqb, eqb-true, le-leb, ne_eqb, not_from_false, or_left, or_right}
-use Rattle.std.proofs.lemmas.Fmt.{decimal_digit, decimal_nonempty, digits_decimal, digits_value-decimal, first_decimal}
+use Rattle.std.proofs.lemmas.Bool.{and_from, cases_eq, eq-eqb, eqb-true, le-leb}
 use Rattle.std.specs.Bool.{beq}
-use Rattle.std.specs.Char.{is_ascii_digit}
-use Rattle.std.specs.List.{join_with_byte, list_all}
+use Rattle.std.specs.List.{join_with_byte}
 use Rattle.std.specs.Option.{ok_or}
-use Rattle.std.specs.Str.Parse.{digits_value}
 use Rattle.keep_moment.specs.declared.moment.TheConstants.{LAST}
 use Rattle.keep_tree.specs.declared.entry.Entry.{Entry}
 use Rattle.keep_tree.specs.Forest.{Forest}

@@ -1,22 +1,16 @@
 -- No plan at some moments leads an end past that of the entry asked by itself at each of them.
-use Rattle.std.proofs.Common.{◌≡◌, ℕ, ◌+◌, ◌<◌, ◌≤◌, true, false, cond, List, [], ◌∷◌, Option, filter, max, nat_le, refl, sym, ap, ◌∙◌, subst, arith, inl, inr}
+use Rattle.std.proofs.Common.{◌≡◌, ℕ, ◌+◌, ◌<◌, ◌≤◌, true, List, [], ◌∷◌, Option, max, sym, ap, ◌∙◌, subst, arith, inl, inr}
 use Rattle.std.proofs.lemmas.Bool.{cases_Bool, cases_lt, cond-false}
-use Rattle.std.proofs.lemmas.Bool.Decides.{nat_tests}
 use Rattle.keep_tree.specs.declared.entry.Entry.{Entry}
 use Rattle.keep_tree.specs.Forest.{entry_at}
 use Rattle.keep_tree.specs.Over.{Over}
-use Rattle.keep_tree.specs.Renewal.{all_last, is_granted, renewal, renewed}
-use Rattle.keep_tree.proofs.Carrying.{and_left, and_right}
-use Rattle.keep_tree.proofs.Chains.{all_last_head}
-use Rattle.keep_rule.specs.declared.wake.Wake.{Wake}
+use Rattle.keep_tree.specs.Renewal.{is_granted, renewal, renewed}
 use Rattle.keep_rule.specs.Asks.{asking, first_of, is_wanted, with_asks}
 use Rattle.keep_rule.specs.Ends.{after, ends_after}
 use Rattle.keep_rule.specs.Keeps.{ends_at}
-use Rattle.keep_rule.specs.Plans.{moments}
 use Rattle.keep_rule.proofs.Asking.{asked_end}
 use Rattle.keep_rule.proofs.Keeping.{IsRising}
 use Rattle.keep_rule.proofs.Stuck.{IsStuck, granted_parts}
-use Rattle.keep_rule.proofs.Tail.{moments_with_asks}
 use Rattle.keep_rule.proofs.Covering.{after_unwanted, after_wanted}
 use Rattle.keep_rule.proofs.Timely.{asks_rise}
 use Rattle.keep_rule.proofs.Walk.{ends_from, ends_unchanged}

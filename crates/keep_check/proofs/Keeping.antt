@@ -1,28 +1,18 @@
 -- The law of keeping entry by entry: an entry is kept with the Asks exactly where each entry over it, asked by itself,
 -- lasts until its need.
-use Rattle.std.proofs.Common.{◌≡◌, ℕ, ◌+◌, ◌<◌, ◌≤◌, ◌⊎◌, ◌&&◌, Bool, true, false, cond, List, [], ◌∷◌, Option, Some, None, max, nat_lt, refl, sym, ap, ◌∙◌, subst, arith, inl, inr}
-use Rattle.std.proofs.lemmas.Bool.{cases_Bool, cases_lt, cond-true, cond-false}
-use Rattle.std.proofs.lemmas.Bool.Decides.{nat_tests}
+use Rattle.std.proofs.Common.{ℕ, ◌+◌, ◌<◌, ◌≤◌, List, arith}
 use Rattle.keep_tree.specs.declared.entry.Entry.{Entry}
-use Rattle.keep_tree.specs.Carried.{carried}
 use Rattle.keep_tree.specs.Forest.{Forest, entry_at}
 use Rattle.keep_tree.specs.Over.{Over}
 use Rattle.keep_tree.specs.Push.{IsForest}
-use Rattle.keep_tree.specs.Renewal.{all_last, is_granted, renewal, renewed}
 use Rattle.keep_tree.proofs.Carrying.{carried_at_least, over_up}
 use Rattle.keep_tree.proofs.Chains.{ParentsFirst}
 use Rattle.keep_tree.proofs.Placed.{parents_first}
-use Rattle.keep_rule.specs.Asks.{asking, first_of, is_due, is_wanted, with_asks}
-use Rattle.keep_rule.specs.Ends.{after, ends_after}
-use Rattle.keep_rule.specs.Forced.{bound, latest_end}
-use Rattle.keep_rule.specs.Keeps.{ends_at}
-use Rattle.keep_rule.specs.Schedule.{RisesStrictly}
-use Rattle.keep_rule.proofs.Asking.{Covers}
+use Rattle.keep_rule.specs.Asks.{with_asks}
 use Rattle.keep_rule.proofs.Keeping.{IsRising}
 use Rattle.keep_rule.proofs.Covering.{IsNeeded}
 use Rattle.keep_rule.proofs.Schedule.{rising_strictly}
 use Rattle.keep_rule.proofs.Timely.{timely_lasts}
-use Rattle.keep_rule.proofs.Walk.{ends_from}
 use Rattle.keep_check.specs.Kept.{KeptTo, own, own_end}
 use Rattle.keep_check.specs.Laws.{KeptLaw}
 use Rattle.keep_check.proofs.OwnEnds.{own_timely_first}

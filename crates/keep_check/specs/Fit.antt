@@ -1,6 +1,6 @@
 -- Fit: which certificates can be judged over a forest, as each that was read from a text can.
 -- Source: this project's own.
-use Rattle.std.specs.Prelude.{ℕ, List, length}
+use Rattle.std.specs.Prelude.{ℕ, length}
 use Rattle.keep_tree.specs.Forest.{Forest}
 use Rattle.keep_rule.specs.declared.run.Run.{Run}
 use Rattle.keep_cert.specs.declared.cert.Body.{Body}

@@ -1,5 +1,5 @@
 -- Delivered: from what is made before the first write to the run, for every command.
-use Rattle.std.proofs.Common.{◌≡◌, ℕ, List, Result, Ok, Err, inl, inr, refl, subst, sym}
+use Rattle.std.proofs.Common.{ℕ, List, Result, Ok, Err, inl, inr, refl, subst, sym}
 use Rattle.keep_tree.specs.Forest.{Forest}
 use Rattle.keep_plan.specs.declared.decision.Decision.{Decision}
 use Rattle.keep_plan.specs.declared.decision.Decision.TheVariants as decision

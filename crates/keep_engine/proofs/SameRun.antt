@@ -1,6 +1,6 @@
 -- Same run: of two inventories that differ in credentials alone each run that comes to its end has one exit and one text,
 -- for every command whose text and whose reason to have none are told by the forest.
-use Rattle.std.proofs.Common.{◌≡◌, ◌∙◌, ℕ, Bool, suc, ◌<◌, ◌≤◌, List, [], ◌∷◌, Option, Some, None, Ok, Err, length, refl, sym, ap, subst, arith, inl, inr, ◌⊎◌}
+use Rattle.std.proofs.Common.{◌≡◌, ◌∙◌, ℕ, Bool, suc, List, [], ◌∷◌, Option, Some, None, Ok, Err, length, refl, sym, ap, subst, arith, inl, inr, ◌⊎◌}
 use Rattle.std.specs.Io.KnownBytes.{Appends, Keeps}
 use Rattle.std.proofs.lemmas.List.{append-nil, length-map}
 use Rattle.std.proofs.KnownBytes.{Keeps-refl}

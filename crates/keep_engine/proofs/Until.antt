@@ -7,14 +7,13 @@ use Rattle.std.specs.List.{list_any}
 use Rattle.keep_tree.specs.declared.entry.Entry.{Entry}
 use Rattle.keep_tree.specs.Forest.{Forest, end_of, entry_at}
 use Rattle.keep_tree.specs.Over.{Over, chain, is_over}
-use Rattle.keep_tree.specs.Push.{IsForest}
 use Rattle.keep_tree.proofs.Chains.{cases_Option, chain_same}
 use Rattle.keep_tree.proofs.Placed.{parents_first}
 use Rattle.keep_rule.specs.Reach.{reach, reach_of}
-use Rattle.keep_plan.specs.Decides.{NoneKeeps, SomeKeeps}
+use Rattle.keep_plan.specs.Decides.{NoneKeeps}
 use Rattle.keep_plan.proofs.Deciding.{none_keeps, some_keeps}
 use Rattle.keep_engine.specs.declared.bound.Bound.{Bound}
-use Rattle.keep_engine.specs.ReachLaws.{DifferInNeeds, IsNeededAlone, IsWithin, UntilLaw, WhateverIsNeeded}
+use Rattle.keep_engine.specs.ReachLaws.{DifferInNeeds, IsWithin, UntilLaw, WhateverIsNeeded}
 use Rattle.keep_engine.specs.ReachText.{binding, bound, nearer}
 
 -- ---- of two reaches

@@ -1,6 +1,6 @@
 -- Obeys: what each command of the program does with its files.
 -- Source: this project's own.
-use Rattle.std.specs.Prelude.{ℕ, string_bytes}
+use Rattle.std.specs.Prelude.{string_bytes}
 use Rattle.keep_report.specs.declared.exit.Exit.{Exit}
 use Rattle.keep_report.specs.Sent.{Sent}
 use Rattle.keep_engine.specs.declared.command.Command.{Command}

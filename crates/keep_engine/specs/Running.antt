@@ -1,6 +1,6 @@
 -- Running: how a run of a command over the bytes of an inventory ends, for any command that writes one text about a forest.
 -- Source: this project's own.
-use Rattle.std.specs.Prelude.{◌≡◌, ◌⊎◌, ℕ, List, Result, Ok, Err, codes}
+use Rattle.std.specs.Prelude.{◌≡◌, ◌⊎◌, ℕ, List, Ok, Err, codes}
 use Rattle.keep_tree.specs.Forest.{Forest}
 use Rattle.keep_inventory.specs.Inventories.{Inventory}
 use Rattle.keep_inventory.specs.Inventory.{read_inventory}
@@ -11,7 +11,6 @@ use Rattle.keep_report.specs.Exits.{exit_of}
 use Rattle.keep_report.specs.FaultLine.{fault_line}
 use Rattle.keep_report.specs.Sent.{IsAll, IsUntouched, Sends, Sent}
 use Rattle.keep_report.specs.Told.{Reports}
-use Rattle.keep_engine.specs.declared.outcome.Outcome.{Outcome}
 
 -- the texts that a command may write about a forest, each with its exit
 abbrev pub Texts : Type 1

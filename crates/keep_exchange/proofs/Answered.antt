@@ -1,17 +1,16 @@
 -- Of which row an answer of the broker speaks: so no reply to a renewal is longer than is read.
-use Rattle.std.proofs.Common.{◌≡◌, ℕ, ◌<◌, ◌≤◌, ◌^◌, ◌⊎◌, inl, inr, min, ◌-◌, Bool, true, false, cond, List, [], ◌∷◌, length, codes, bytes_eq, ◌&&◌, refl, sym, subst, ap, ◌∙◌, arith, Option, Some, None, Result, Ok, Err, if◌then◌else◌, IsUtf8}
+use Rattle.std.proofs.Common.{◌≡◌, ℕ, ◌<◌, ◌≤◌, ◌^◌, ◌⊎◌, inl, inr, ◌-◌, Bool, true, false, cond, List, [], ◌∷◌, length, bytes_eq, ◌&&◌, refl, sym, subst, ap, ◌∙◌, arith, Option, Some, None, Result, Ok, Err, if◌then◌else◌, IsUtf8}
 use Rattle.std.specs.Cmp.Lexicographic.{bytes_decides}
 use Rattle.std.specs.List.{find}
 use Rattle.keep_tree.specs.Push.{is_lease}
 use Rattle.keep_tree.proofs.Carrying.{and_right}
 use Rattle.keep_exchange.specs.Requests.{Fits, lease_renewal, token_renewal}
 use Rattle.keep_exchange.proofs.Lengths.{errors_short, ok_short, refusal_short, refused_short, renewed_lease_short, renewed_self_short, reply_short, status_short}
-use Rattle.mini_broker.specs.declared.asked.Asked.{Asked}
 use Rattle.mini_broker.specs.declared.call.Call.{Call}
 use Rattle.mini_broker.specs.declared.call.Call.TheVariants.{RenewSelf, RenewLease, LookupSelf, LookupLease}
 use Rattle.mini_broker.specs.declared.fault.Fault.{Fault}
 use Rattle.mini_broker.specs.declared.refusal.Refusal.{Refusal}
-use Rattle.mini_broker.specs.declared.refusal.Refusal.TheVariants.{NotRenewable, PermissionDenied, UnsupportedMethod}
+use Rattle.mini_broker.specs.declared.refusal.Refusal.TheVariants.{NotRenewable, PermissionDenied}
 use Rattle.mini_broker.specs.declared.row.Row.{Row}
 use Rattle.mini_broker.specs.declared.served.Served.{Served}
 use Rattle.mini_broker.specs.declared.served.Served.TheVariants as served
@@ -19,7 +18,7 @@ use Rattle.mini_broker.specs.Table.{Table}
 use Rattle.mini_broker.specs.Faults.{fault_at, next_number}
 use Rattle.mini_broker.specs.Renewing.{granted, is_deny, new_end, renewal}
 use Rattle.mini_broker.specs.Request.{a_text, allows, answered, asked, call_of, increment_in, is_renewal, lease_id_in, of_lease}
-use Rattle.mini_broker.specs.Step.{Answer, IsBody, Outcome, Says, after_sweep, by_call, counted, drops, is_drop, looked, refuses, renewed, renews, seconds_to, step, tells}
+use Rattle.mini_broker.specs.Step.{Answer, IsBody, Outcome, Says, after_sweep, by_call, drops, is_drop, looked, refuses, renewed, renews, seconds_to, step, tells}
 use Rattle.mini_broker.specs.Subject.{Subject, bearer, belongs, is_lease_with, lease_with, owned, subject, with_asked, with_bearer}
 use Rattle.std.proofs.lemmas.Bool.{cond-true}
 use Rattle.std.proofs.lemmas.Str.{is_utf8-from_IsUtf8}

@@ -1,5 +1,5 @@
 -- One exchange of messages over the broker's table: for `MemoryExchange`.
-use Rattle.std.proofs.Common.{◌≡◌, ℕ, ◌⊎◌, inl, inr, Bool, true, false, List, [], ◌++◌, length, refl, sym, subst, ap, ◌∙◌, nat_le, if◌then◌else◌, Option, Some, None, Result, Ok, Err, IsErr, IsErrAnd}
+use Rattle.std.proofs.Common.{◌≡◌, ℕ, inr, Bool, true, false, List, [], ◌++◌, length, refl, sym, subst, ap, ◌∙◌, nat_le, if◌then◌else◌, Option, Some, Result, Ok, Err, IsErr, IsErrAnd}
 use Rattle.keep_exchange.specs.declared.exchange.TheConstants.{MOST_REPLY}
 use Rattle.keep_exchange.specs.declared.fault.ExchangeFault.{ExchangeFault}
 use Rattle.keep_exchange.specs.declared.fault.ExchangeFault.TheVariants.{ConnectFailed, WriteFailed, Http, OutOfMemory}
@@ -8,8 +8,8 @@ use Rattle.mini_broker.specs.declared.served.Served.{Served}
 use Rattle.mini_broker.specs.declared.served.Served.TheVariants as served
 use Rattle.mini_broker.specs.Table.{Table}
 use Rattle.mini_broker.specs.Renewing.{renewal}
-use Rattle.mini_broker.specs.Step.{Says, after_sweep, renews, step}
-use Rattle.mini_broker.specs.Stream.{Handles, MaySend, sent_of}
+use Rattle.mini_broker.specs.Step.{Says, renews, step}
+use Rattle.mini_broker.specs.Stream.{MaySend, sent_of}
 use Rattle.mini_broker.specs.Subject.{subject}
 use Rattle.mini_broker.proofs.Streamed.{handled_sent}
 use Rattle.vault_http.specs.declared.http_fault.HttpFault.TheVariants as https

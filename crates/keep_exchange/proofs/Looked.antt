@@ -1,7 +1,6 @@
 -- What a lookup comes to, by what the exchange answers: for `look_up` and `apply`.
-use Rattle.std.proofs.Common.{◌≡◌, ℕ, length, ◌⊎◌, inl, inr, Bool, refl, sym, subst, ap, ◌∙◌, Option, Some, None, IfSome, IfOk, Result, Ok, Err}
+use Rattle.std.proofs.Common.{◌≡◌, ℕ, length, inr, Bool, refl, sym, subst, ap, ◌∙◌, Option, Some, None, IfSome, IfOk, Result, Ok, Err}
 use Rattle.std.proofs.lemmas.List.{length-set}
-use Rattle.keep_exchange.specs.declared.fault.ExchangeFault.{ExchangeFault}
 use Rattle.keep_exchange.specs.Exchanges.{Behind, IsExchanged}
 use Rattle.keep_exchange.specs.Lookups.{LooksUp, behind_if, looked}
 use Rattle.keep_exchange.specs.Requests.{lookup_of}

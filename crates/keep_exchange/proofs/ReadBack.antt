@@ -1,5 +1,5 @@
 -- What reading a text from a source in memory that never fails answers, where the text has one answer: for both texts.
-use Rattle.std.proofs.Common.{◌≡◌, ℕ, ◌+◌, ◌/◌, ◌≤◌, inl, inr, arith, List, [], length, ◌++◌, ◌<◌, ◌^◌, IsTrue, codes, refl, ap, sym, subst, length-append, append-nil, ◌∙◌, Option, Some, Result, Ok, Err, IsErrAnd, IsOkUnless, le_refl}
+use Rattle.std.proofs.Common.{◌≡◌, ℕ, ◌+◌, ◌/◌, ◌≤◌, inl, inr, arith, List, [], length, ◌++◌, ◌<◌, ◌^◌, IsTrue, refl, ap, sym, subst, length-append, append-nil, ◌∙◌, Option, Some, Result, Ok, Err, IsErrAnd, IsOkUnless, le_refl}
 use Rattle.keep_exchange.specs.declared.fault.ExchangeFault.{ExchangeFault}
 use Rattle.keep_exchange.specs.declared.fault.ExchangeFault.TheVariants.{OutOfMemory}
 use Rattle.keep_exchange.specs.Exchanges.{exchange_fault}
@@ -13,7 +13,7 @@ use Rattle.vault_http.specs.declared.request.Request.{Request}
 use Rattle.vault_http.specs.Messages.{IsReply, IsRequest}
 use Rattle.vault_http.specs.RoundTrip.{ReadsBackReply, is_sent}
 use Rattle.vault_http.specs.RoundTripRequest.{IsSendable, IsWritable, ReadsBackRequest, without_port}
-use Rattle.vault_http.specs.Written.{body_lines, host_lines, last_lines, length_lines, reply_text, request_text, status_line, token_line}
+use Rattle.vault_http.specs.Written.{reply_text, request_text}
 
 -- the message, or want of memory
 abbrev pub Reads : {A : Type 0} → A → Result A HttpFault → Type 0

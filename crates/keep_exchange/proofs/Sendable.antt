@@ -1,5 +1,5 @@
 -- The requests for entries can be sent and answered.
-use Rattle.std.proofs.Common.{◌≡◌, ℕ, ◌<◌, ◌≤◌, ◌^◌, ◌&&◌, true, List, [], length, codes, refl, arith, IsTrue, nat_le, Option, Some, None, IfSome}
+use Rattle.std.proofs.Common.{◌≡◌, ℕ, ◌<◌, ◌≤◌, ◌^◌, ◌&&◌, true, List, length, codes, refl, arith, IsTrue, nat_le, Option, Some, None, IfSome}
 use Rattle.std.specs.List.{All, list_all}
 use Rattle.std.proofs.lemmas.List.Elements.{All-from_get_or, All-get_or}
 use Rattle.std.proofs.lemmas.List.Sums.{AllPass-from_list_all}
@@ -10,8 +10,7 @@ use Rattle.keep_exchange.proofs.Answered.{lease_fits, token_fits}
 use Rattle.keep_exchange.proofs.Lengths.{lease_short, lookup_short, renew_short, request_short}
 use Rattle.vault_http.specs.declared.request.Request.{Request}
 use Rattle.vault_http.specs.RoundTripRequest.{IsSentToken, IsWritable, is_path_byte, is_token_value_byte}
-use Rattle.vault_http.specs.Written.{is_get, request_text}
-use Rattle.vault_json.specs.Written.{lease_text, lookup_text, renew_text}
+use Rattle.vault_http.specs.Written.{request_text}
 
 both_bounds : (b : ℕ) → 33 ≤ b → b ≤ 126 → IsTrue (nat_le 33 b && nat_le b 126)
 both_bounds b low high = grind (arith, low, high)

@@ -1,10 +1,9 @@
 -- A register's look-up: the set has what the list of texts holds, also after one text more.
 use Rattle.std.proofs.Common.{◌≡◌, ℕ, Bool, true, false, cond, ◌||◌, List, ◌++◌, ◌∷◌, [], bytes_eq, refl, sym, ap, ◌∙◌, subst, ⊎_elim, Vec, Global}
 use Rattle.std.proofs.lemmas.Bool.{cases_Bool, cond-true, cond-false}
-use Rattle.std.proofs.lemmas.Map.Text.{is_eq-slice_cmp}
 use Rattle.std.specs.BTreeSet.{BTreeSet, IsEmpty, Updates}
 use Rattle.std.specs.Cmp.{eq_by_cmp_equiv}
-use Rattle.std.specs.Cmp.Lexicographic.{slice_cmp, nat_list_eq_equiv, nat_list_cmp_total, bytes_decides}
+use Rattle.std.specs.Cmp.Lexicographic.{slice_cmp, nat_list_cmp_total, bytes_decides}
 use Rattle.std.specs.List.{list_any}
 use Rattle.std.specs.Map.{IsKeyTest, AreApart}
 use Rattle.std.specs.Ordering.{nat_cmp, is_eq}

@@ -1,6 +1,6 @@
 -- Loads that are handed up: the own ones to begin with, one index less a turn, and in the end the carried needs.
-use Rattle.std.proofs.Common.{◌≡◌, ◌≢◌, ◌==◌, ◌||◌, ℕ, zero, suc, ◌+◌, ◌<◌, ◌≤◌, Bool, true, false, cond, List, length, length-set, map, max, set, nat_lt, Option, Some, None, refl, sym, ap, ◌∙◌, subst, arith, inl, inr}
-use Rattle.std.proofs.lemmas.Bool.{cases_Bool, cases_eq, cases_lt}
+use Rattle.std.proofs.Common.{◌≡◌, ◌≢◌, ◌==◌, ℕ, zero, suc, ◌+◌, ◌<◌, ◌≤◌, true, false, cond, List, length, length-set, map, set, Some, None, sym, ap, ◌∙◌, subst, arith, inl, inr}
+use Rattle.std.proofs.lemmas.Bool.{cases_eq, cases_lt}
 use Rattle.std.proofs.lemmas.Bool.Decides.{nat_tests}
 use Rattle.std.proofs.lemmas.List.{length-map}
 use Rattle.keep_tree.specs.declared.entry.Entry.{Entry}
@@ -11,7 +11,7 @@ use Rattle.keep_tree.proofs.Carrying.{carried_at_least, carried_is_of, or_parts,
 use Rattle.keep_tree.proofs.Chains.{ParentsFirst, cases_Option, over_child, over_root, over_self}
 use Rattle.keep_tree.proofs.Entries.{entry_at_past}
 use Rattle.keep_needs.specs.declared.load.Load.{Load}
-use Rattle.keep_needs.specs.Carried.{IsCarried, NamesFrom, load_at}
+use Rattle.keep_needs.specs.Carried.{IsCarried, NamesFrom}
 use Rattle.keep_needs.specs.code.Loads.{AllOwn, IsAtMost, IsHandedUp, IsHeavier, need_after, nth, own_load, seen}
 use Rattle.keep_needs.proofs.Loads.{at_most_self, at_most_trans, load_seen, nth_set_other, nth_set_same}
 

@@ -1,5 +1,5 @@
 -- Loads: what is read at an index, as callers see it and after a load was set, and the order of weights.
-use Rattle.std.proofs.Common.{◌≡◌, ◌≢◌, ℕ, ◌<◌, ◌≤◌, List, get_or, length, map, set, ap, sym, subst, ◌∙◌, arith}
+use Rattle.std.proofs.Common.{◌≡◌, ◌≢◌, ℕ, ◌<◌, List, get_or, length, map, set, ap, sym, subst, ◌∙◌, arith}
 use Rattle.std.proofs.lemmas.List.{get_or_read, get_or-map, get_or-set_other, get_or-set_same, length-map}
 use Rattle.keep_needs.specs.declared.load.Load.{Load}
 use Rattle.keep_needs.specs.Carried.{CarriedNeed, load_at}

@@ -10,7 +10,7 @@ use Rattle.keep_tree.specs.Forest.{Forest, end_of, entry_at}
 use Rattle.keep_tree.specs.Over.{chain}
 use Rattle.keep_tree.specs.Renewal.{all_last, is_granted, renewal, renewed}
 use Rattle.keep_rule.specs.Asks.{asks, is_due, is_wanted}
-use Rattle.keep_needs.specs.Carried.{CarriedNeed, IsCarried, load_at}
+use Rattle.keep_needs.specs.Carried.{CarriedNeed, IsCarried}
 use Rattle.keep_plan.specs.code.Wanted.{is_test, waits_until}
 
 -- what all last until m, they last until each earlier moment

@@ -3,7 +3,7 @@ use Rattle.std.proofs.Common.{◌≡◌, ℕ, IsTrue, List, Option, Result, Ok, 
 use Rattle.std.specs.Prelude.{OnErr, IsErrOf}
 use Rattle.std.specs.Io.KnownBytes.{Appends, Keeps}
 use Rattle.std.proofs.KnownBytes.{Appends-kept}
-use Rattle.keep_device.specs.Failures.{Counts, HasFailed, one_more}
+use Rattle.keep_device.specs.Failures.{Counts}
 use Rattle.keep_device.specs.Front.{AppendsFront}
 use Rattle.keep_device.specs.declared.fault.SinkFault.{SinkFault}
 use Rattle.keep_device.specs.declared.fault.SinkFault.TheVariants as sink

@@ -7,7 +7,6 @@ use Rattle.keep_inventory.specs.Inventory.{read_inventory}
 use Rattle.keep_device.specs.Front.{AppendsFront}
 use Rattle.keep_report.specs.declared.exit.Exit.{Exit}
 use Rattle.keep_report.specs.declared.exit.Exit.TheVariants as exits
-use Rattle.keep_report.specs.declared.stop.Stop.{Stop}
 use Rattle.keep_report.specs.declared.stop.Stop.TheVariants as stops
 use Rattle.keep_report.specs.FaultLine.{fault_line}
 use Rattle.keep_report.specs.Sent.{GaveUp, IsUntouched, Sent}

@@ -1,5 +1,5 @@
 -- Fault words: one word more.
-use Rattle.std.proofs.Common.{◌≡◌, ◌∙◌, ℕ, ◌+◌, true, false, List, [], ◌∷◌, ◌++◌, Option, Some, None, Result, Ok, Err, is_none, refl, sym, ap, subst}
+use Rattle.std.proofs.Common.{◌≡◌, ◌∙◌, ℕ, ◌+◌, List, [], ◌∷◌, ◌++◌, Option, Some, None, Result, Ok, Err, is_none, refl, sym, ap, subst}
 use Rattle.std.specs.Prelude.{◌≢◌, IfSome, IsOkUnless}
 use Rattle.mini_broker.specs.declared.fault.SetFault.TheVariants.{BadNumber, Twice, OutOfMemory}
 use Rattle.std.proofs.lemmas.Bool.{cond-true, cond-false}

@@ -1,17 +1,15 @@
 -- Goes: a run goes on, by a wake-up and by another run.
-use Rattle.std.proofs.Common.{◌≡◌, ℕ, ◌+◌, ◌≤◌, true, cond, List, [], ◌∷◌, ◌++◌, Option, Some, None, Result, Ok, length, refl, sym, ap, ◌∙◌, subst, map, flat_map, arith}
+use Rattle.std.proofs.Common.{◌≡◌, ℕ, ◌+◌, List, [], ◌∷◌, ◌++◌, Option, Some, None, length, refl, sym, ap, ◌∙◌, subst, map, flat_map, arith}
 use Rattle.std.proofs.lemmas.Grind.{flat_map-append}
 use Rattle.std.proofs.lemmas.List.{append-nil, append_assoc, length-append, length-map}
 use Rattle.std.proofs.lemmas.List.Elements.{filter-append}
 use Rattle.std.proofs.lemmas.List.Sums.{sum_by-append}
-use Rattle.keep_tree.specs.Forest.{Forest}
 use Rattle.keep_inventory.specs.Inventories.{Inventory}
 use Rattle.keep_exchange.specs.Exchanges.{Behind}
 use Rattle.keep_core.specs.LawsOfSteps.{IsShaped}
-use Rattle.keep_core.specs.declared.event.Event.TheVariants.{Tick}
 use Rattle.keep_core.specs.declared.event.Output.TheVariants as out
 use Rattle.keep_core.specs.State.{State}
-use Rattle.keep_run.specs.Closed.{AreAnswered, Beat, Exchanged, IsBeat, Played, World, asks_some, closing, next_tick, requests_of, rounds, taken}
+use Rattle.keep_run.specs.Closed.{AreAnswered, Beat, Exchanged, IsBeat, Played, World, asks_some, next_tick, requests_of, rounds}
 use Rattle.keep_run.specs.Playing.{AnswersAll, Ends, Goes, Opens, inventory_with}
 use Rattle.keep_run.specs.Stops.{IsDue, both}
 use Rattle.keep_run.specs.Text.{answer_text, beat_text, short_lines, wake_line}

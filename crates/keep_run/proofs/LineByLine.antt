@@ -1,7 +1,7 @@
 -- LineByLine: lines behind lines, and a stop behind lines.
-use Rattle.std.proofs.Common.{◌≡◌, ℕ, ◌+◌, ◌<◌, ◌≤◌, ◌⊎◌, ◌-◌, inl, inr, List, [], ◌∷◌, ◌++◌, Option, Some, None, OnOk, Result, Ok, Err, IsTrue, drop, length, length-append, take, refl, sym, ap, ◌∙◌, subst, arith}
+use Rattle.std.proofs.Common.{◌≡◌, ℕ, ◌+◌, ◌<◌, ◌≤◌, ◌-◌, inl, inr, List, [], ◌∷◌, ◌++◌, Option, Some, OnOk, Result, Ok, Err, drop, length, length-append, take, refl, sym, ap, ◌∙◌, subst, arith}
 use Rattle.std.proofs.KnownBytes.{Appends-trans}
-use Rattle.std.specs.Result.{IfErr, IsErr, IsErrAnd}
+use Rattle.std.specs.Result.{IsErr, IsErrAnd}
 use Rattle.std.proofs.Math.Seq.{drop-append_seam}
 use Rattle.std.proofs.lemmas.List.{append-nil, append_assoc, drop-drop}
 use Rattle.std.specs.Io.KnownBytes.{Appends}
@@ -14,7 +14,7 @@ use Rattle.keep_report.specs.declared.stop.Stop.{Stop}
 use Rattle.keep_report.specs.declared.stop.Stop.TheVariants as stops
 use Rattle.keep_report.specs.Sent.{IsAll, Sends, Sent}
 use Rattle.keep_run.specs.LineByLine.{HaltsWithin, HearsLine, HearsUpTo, IsSent}
-use Rattle.keep_run.specs.Listening.{AreHeard, Halts, IsCutShort, IsHeardFirst, IsLineHeard, IsNoEvent}
+use Rattle.keep_run.specs.Listening.{AreHeard, Halts, IsCutShort, IsLineHeard, IsNoEvent}
 use Rattle.keep_run.specs.Live.{Between, IsHeard, Side, side}
 use Rattle.keep_run.specs.EventLines.{heard_in}
 use Rattle.keep_run.specs.Stops.{both}

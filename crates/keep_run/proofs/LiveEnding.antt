@@ -1,11 +1,11 @@
 -- LiveEnding: what a live run tells of its end: for `run_live`.
-use Rattle.std.proofs.Common.{◌≡◌, ℕ, Bool, List, Option, Some, None, codes, refl, sym, subst}
+use Rattle.std.proofs.Common.{◌≡◌, ℕ, List, codes, refl, sym, subst}
 use Rattle.keep_report.specs.declared.exit.Exit.{Exit}
 use Rattle.keep_report.specs.declared.stop.Stop.{Stop}
 use Rattle.keep_report.specs.declared.stop.Stop.TheVariants as stops
 use Rattle.keep_report.specs.Exits.{exit_of}
 use Rattle.keep_report.specs.FaultLine.{fault_line}
-use Rattle.keep_report.specs.Sent.{IsUntouched, Sent}
+use Rattle.keep_report.specs.Sent.{Sent}
 use Rattle.keep_report.specs.Told.{Reports}
 use Rattle.keep_run.specs.LiveRun.{IsLiveStop, LiveEnds}
 

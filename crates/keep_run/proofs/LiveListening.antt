@@ -22,8 +22,7 @@ use Rattle.keep_report.specs.Sent.{IsAll, Sent}
 use Rattle.keep_report.specs.Told.{Reports}
 use Rattle.keep_run.specs.Listening.{Fed, Halts, HaveEnded, IsCutShort, Listens, ListensTo}
 use Rattle.keep_run.specs.Live.{Side, side}
-use Rattle.keep_run.specs.LiveRun.{EndsEarly, HasListened, IsOpened, IsUnread, LiveRun, LivesTo, RunsTo}
-use Rattle.keep_run.specs.Looking.{Looked}
+use Rattle.keep_run.specs.LiveRun.{EndsEarly, HasListened, IsOpened, IsUnread, LiveRun, LivesTo}
 use Rattle.keep_run.specs.Stops.{both}
 use Rattle.keep_run.proofs.LookedUp.{sent_by, untouched}
 use Rattle.keep_run.proofs.Written.{appends_then}

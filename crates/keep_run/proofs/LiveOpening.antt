@@ -1,5 +1,5 @@
 -- LiveOpening: the opening of a live run, and how it ends early: for `begin`.
-use Rattle.std.proofs.Common.{◌≡◌, ℕ, ◌⊎◌, inl, inr, Bool, IsTrue, List, [], ◌++◌, Option, Some, None, IfSome, Result, Ok, Err, arith, length, refl, sym, ap, ◌∙◌, subst}
+use Rattle.std.proofs.Common.{◌≡◌, ℕ, ◌⊎◌, inl, inr, Bool, List, [], ◌++◌, Option, Some, None, IfSome, Result, Ok, Err, arith, length, refl, sym, ap, ◌∙◌, subst}
 use Rattle.std.specs.Io.KnownBytes.{Appends}
 use Rattle.std.specs.Result.{IfErr, IsErr, IsErrAnd}
 use Rattle.std.proofs.lemmas.List.{append-nil}
@@ -15,7 +15,7 @@ use Rattle.keep_report.specs.declared.stop.Stop.TheVariants as stops
 use Rattle.keep_report.specs.Sent.{IsAll, Sends, Sent}
 use Rattle.keep_run.specs.Closed.{taken}
 use Rattle.keep_run.specs.LiveRun.{EndsEarly, IsLiveOpening, IsOpened}
-use Rattle.keep_run.specs.Looking.{AreLookedUp, IsCut, Looked, LooksAll, LooksAllUp, first, looked_text}
+use Rattle.keep_run.specs.Looking.{Looked, LooksAll, LooksAllUp, first, looked_text}
 use Rattle.keep_run.specs.Stops.{both}
 use Rattle.keep_run.specs.Text.{short_lines}
 use Rattle.keep_run.proofs.LookedUp.{said_appends, same_credentials, sent_by}

@@ -25,7 +25,7 @@ use Rattle.keep_core.specs.State.{State}
 use Rattle.keep_core.proofs.Shaped.{shape}
 use Rattle.keep_run.specs.Closed.{World, event_in, taken}
 use Rattle.keep_run.specs.Live.{Between}
-use Rattle.keep_run.specs.Playing.{Answers, inventory_with}
+use Rattle.keep_run.specs.Playing.{Answers}
 use Rattle.keep_run.specs.Renewing.{IsAnswerOf, event_for, event_of, of_lease, of_token, told_by}
 use Rattle.keep_run.specs.Stops.{both}
 use Rattle.keep_run.specs.Text.{answer_line, answer_text, short_lines}

@@ -1,5 +1,5 @@
 -- Opens: from ticks to an opened wake-up.
-use Rattle.std.proofs.Common.{◌≡◌, ℕ, false, cond, List, [], ◌∷◌, ◌++◌, Option, Some, None, Result, Ok, refl, sym, ap, ◌∙◌, subst, map, flat_map}
+use Rattle.std.proofs.Common.{◌≡◌, ℕ, false, cond, List, [], ◌∷◌, ◌++◌, Option, Some, None, Ok, refl, sym, ap, ◌∙◌, subst, flat_map}
 use Rattle.std.proofs.lemmas.List.{append-nil}
 use Rattle.keep_exchange.specs.Exchanges.{Behind}
 use Rattle.keep_rule.specs.Asks.{first_of}
@@ -12,10 +12,10 @@ use Rattle.keep_core.specs.State.{State}
 use Rattle.keep_core.proofs.Once.{next_asks}
 use Rattle.keep_core.proofs.Shaped.{shape}
 use Rattle.keep_core.proofs.Turns.{replan_force}
-use Rattle.keep_run.specs.Closed.{Beat, Exchanged, IsBeat, Played, World, asked_in, asks_some, next_by, rounds, requests_of, taken}
+use Rattle.keep_run.specs.Closed.{Beat, IsBeat, asked_in, asks_some, next_by, rounds, requests_of}
 use Rattle.keep_run.specs.Playing.{Ends, IsQuietTo, Opens, Ticks, inventory_with}
 use Rattle.keep_run.specs.Stops.{both}
-use Rattle.keep_run.specs.Text.{answer_text, beat_text, short_lines, wake_line}
+use Rattle.keep_run.specs.Text.{beat_text, short_lines, wake_line}
 use Rattle.keep_run.proofs.Texts.{same_shorts, same_wake}
 
 pub ticks_shaped : (t : ℕ) (old new : State) (output : Output) (before after : List ℕ) → Ticks t old output new before after → IsShaped old.forest new.forest

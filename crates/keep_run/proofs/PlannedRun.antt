@@ -1,6 +1,6 @@
 -- The planned rehearsal: it comes to its end, and makes the plan's wake-ups.
-use Rattle.std.proofs.Common.{◌≡◌, ◌∙◌, ℕ, ◌+◌, ◌<◌, ◌≤◌, List, [], ◌++◌, Some, None, Result, Ok, Err, ap, arith, inl, inr, length, refl, subst, sym, ◌⊎◌}
-use Rattle.std.proofs.lemmas.List.{append-nil, length-append, length-map}
+use Rattle.std.proofs.Common.{◌≡◌, ◌∙◌, ℕ, ◌+◌, ◌<◌, ◌≤◌, List, [], ◌++◌, Some, Result, Ok, Err, ap, arith, inl, inr, length, subst, sym}
+use Rattle.std.proofs.lemmas.List.{length-map}
 use Rattle.std.specs.Io.KnownBytes.{Appends}
 use Rattle.keep_moment.specs.declared.moment.TheConstants.{LAST}
 use Rattle.keep_rule.specs.declared.force.Force.{Force}
@@ -8,7 +8,7 @@ use Rattle.keep_rule.specs.Runs.{moments_of}
 use Rattle.keep_plan.specs.declared.decision.Decision.TheVariants.{Keep}
 use Rattle.keep_plan.specs.Decides.{Decides}
 use Rattle.keep_plan.specs.Planned.{Planned, to_come}
-use Rattle.keep_core.specs.Replan.{IsPlanOf, ReplanTooLong}
+use Rattle.keep_core.specs.Replan.{IsPlanOf}
 use Rattle.keep_inventory.specs.Inventory.{read_inventory}
 use Rattle.keep_inventory.specs.Inventories.{Inventory}
 use Rattle.keep_inventory.proofs.Inventoried.{inventory_law}
@@ -19,8 +19,7 @@ use Rattle.keep_report.specs.Sent.{IsAll, Sent}
 use Rattle.keep_run.specs.Closed.{Course, IsClosedRun, World, rounds}
 use Rattle.keep_run.specs.FaultWords.{faults_from, faults_of}
 use Rattle.keep_run.specs.PlannedRehearsal.{IsPlannedRun, PlannedRehearsalLaw}
-use Rattle.keep_run.specs.Rehearse.{IsCalled, RehearseRun, RunsLong}
-use Rattle.keep_run.specs.Stops.{IsStopped}
+use Rattle.keep_run.specs.Rehearse.{RunsLong}
 use Rattle.keep_run.specs.Text.{course_text}
 use Rattle.keep_run.proofs.Goes.{joins, wakes_join}
 use Rattle.keep_run.proofs.Whole.{more_to_come, opening_fits, planned_run, rehearsal}

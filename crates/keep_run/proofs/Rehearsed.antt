@@ -1,11 +1,10 @@
 -- Rehearsed: from playing a run to the rehearsal.
-use Rattle.std.proofs.Common.{◌≡◌, ◌∙◌, ℕ, ◌≤◌, Bool, List, [], ◌++◌, Option, Some, None, Result, Ok, Err, ap, arith, codes, flat_map, inl, inr, length, refl, subst, sym, ◌⊎◌}
+use Rattle.std.proofs.Common.{◌≡◌, ◌∙◌, ℕ, ◌≤◌, Bool, List, ◌++◌, Option, Some, None, Result, Ok, Err, ap, arith, codes, inl, inr, length, refl, subst, sym, ◌⊎◌}
 use Rattle.std.proofs.lemmas.List.{append_assoc}
 use Rattle.std.proofs.KnownBytes.{Keeps-refl}
 use Rattle.std.specs.Result.{IsErr, IsErrAnd}
 use Rattle.std.specs.Io.KnownBytes.{Appends}
 use Rattle.keep_device.specs.Front.{AppendsFront}
-use Rattle.keep_inventory.specs.declared.fault.InvFault.{InvFault}
 use Rattle.keep_inventory.specs.Inventory.{read_inventory}
 use Rattle.keep_inventory.specs.Inventories.{IsInventory, Inventory}
 use Rattle.keep_moment.specs.declared.moment.TheConstants.{LAST}
@@ -13,7 +12,6 @@ use Rattle.keep_tree.specs.Forest.{Forest}
 use Rattle.mini_broker.specs.Table.{Table}
 use Rattle.mini_broker.specs.declared.fault.NumberedFault.{NumberedFault}
 use Rattle.keep_core.specs.LawsOfSteps.{IsShaped}
-use Rattle.keep_core.specs.declared.shortened.ShortNeed.{ShortNeed}
 use Rattle.keep_core.specs.Replan.{Replan, ReplanTooLong}
 use Rattle.keep_core.specs.State.{State, unplanned}
 use Rattle.keep_core.proofs.Shaped.{replanned, same}
@@ -29,8 +27,8 @@ use Rattle.keep_run.specs.FaultWords.{SetsFaults, faults_of}
 use Rattle.keep_run.specs.Live.{IsReady}
 use Rattle.keep_run.specs.Playing.{Comes, Goes, IsText, Plays, PlaysFront, inventory_with}
 use Rattle.keep_run.specs.Rehearse.{IsCalled, IsRunText, Rehearses, RehearseRun, RehearseTold, WritesFront, fresh}
-use Rattle.keep_run.specs.Stops.{IsStopped, SoFar, both}
-use Rattle.keep_run.specs.Text.{beat_text, course_text, done_text, short_lines}
+use Rattle.keep_run.specs.Stops.{SoFar, both}
+use Rattle.keep_run.specs.Text.{done_text, short_lines}
 use Rattle.keep_run.proofs.Loops.{at_end}
 use Rattle.keep_run.proofs.Texts.{same_beat_texts, same_shorts}
 

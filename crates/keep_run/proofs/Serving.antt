@@ -1,5 +1,5 @@
 -- What the Asks ask for is granted by the broker, to exactly the renewal rule's end.
-use Rattle.std.proofs.Common.{◌≡◌, ℕ, ◌+◌, ◌<◌, ◌≤◌, ◌&&◌, Bool, true, List, [], Option, Some, None, IsUtf8, length, refl, sym, ap, ◌∙◌, arith}
+use Rattle.std.proofs.Common.{◌≡◌, ℕ, ◌+◌, ◌<◌, ◌≤◌, true, List, [], Some, None, IsUtf8, length, refl, sym, ap, ◌∙◌, arith}
 use Rattle.std.proofs.lemmas.Bool.{and_from, cond-true}
 use Rattle.std.proofs.lemmas.Str.{is_utf8-from_IsUtf8}
 use Rattle.std.specs.Str.{is_utf8}
@@ -20,7 +20,7 @@ use Rattle.mini_broker.specs.Granted.{AsksRenewal, asked_for, bearer_for, call_f
 use Rattle.mini_broker.specs.Table.{Table}
 use Rattle.mini_broker.specs.Listed.{is_alive, listed}
 use Rattle.mini_broker.specs.Renewing.{with_row}
-use Rattle.mini_broker.specs.Request.{a_text, answered, asked, call_of, increment_in, is_write, lease_id_in, of_lease as lease_asked, of_token as token_asked}
+use Rattle.mini_broker.specs.Request.{a_text, answered, asked, call_of, increment_in, is_write, lease_id_in}
 use Rattle.mini_broker.specs.Rows.{row_of}
 use Rattle.mini_broker.specs.Step.{step, tells}
 use Rattle.mini_broker.specs.Sweep.{swept}

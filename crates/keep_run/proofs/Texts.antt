@@ -1,7 +1,7 @@
 -- Texts: the lines of a run are those of its inventory's names, also by a forest as it was told.
-use Rattle.std.proofs.Common.{◌≡◌, ℕ, List, [], ◌∷◌, ◌++◌, Option, codes, decimal, flat_map, refl, sym, ap, ◌∙◌, subst}
+use Rattle.std.proofs.Common.{◌≡◌, ℕ, List, [], ◌∷◌, ◌++◌, Option, codes, decimal, flat_map, refl, ap, ◌∙◌}
 use Rattle.keep_tree.specs.declared.entry.Entry.{Entry}
-use Rattle.keep_tree.specs.Forest.{Forest, entry_at}
+use Rattle.keep_tree.specs.Forest.{Forest}
 use Rattle.keep_inventory.specs.Inventories.{Inventory, credential_at}
 use Rattle.vault_http.specs.declared.reply.Reply.{Reply}
 use Rattle.keep_core.specs.LawsOfSteps.{IsShaped}

@@ -1,5 +1,5 @@
 -- Within: who is asked, and whose need is shortened, is an entry of the forest.
-use Rattle.std.proofs.Common.{◌≡◌, ℕ, zero, suc, ◌+◌, ◌<◌, ◌≤◌, Bool, List, [], ◌∷◌, ◌++◌, Option, Some, None, Result, Ok, filter, length, nat_lt, inl, inr, refl, sym, ap, ◌∙◌, subst, arith}
+use Rattle.std.proofs.Common.{◌≡◌, ℕ, zero, suc, ◌+◌, ◌<◌, ◌≤◌, Bool, List, [], ◌∷◌, ◌++◌, Option, Some, None, Ok, filter, length, nat_lt, inl, inr, sym, ap, ◌∙◌, subst, arith}
 use Rattle.std.proofs.lemmas.List.Elements.{All-cons, All-nil, All-filter, All-map}
 use Rattle.std.proofs.lemmas.Bool.{cases_Bool, cond-true, cond-false}
 use Rattle.std.proofs.lemmas.Bool.Decides.{nat_tests}
@@ -10,18 +10,16 @@ use Rattle.keep_core.specs.declared.fault.StepFault.TheVariants.{OutOfRange}
 use Rattle.keep_core.specs.Refusal.{refusal}
 use Rattle.keep_tree.specs.Forest.{Forest, end_of}
 use Rattle.keep_rule.specs.Asks.{asks, first_of, is_wanted}
-use Rattle.keep_core.specs.LawsOfSteps.{IsShaped}
 use Rattle.keep_core.specs.declared.event.Event.{Event}
 use Rattle.keep_core.specs.declared.event.Event.TheVariants.{Tick, Told, Refused, Lost, Need}
 use Rattle.keep_core.specs.declared.event.Output.{Output}
 use Rattle.keep_core.specs.declared.event.Output.TheVariants as out
 use Rattle.keep_core.specs.declared.shortened.ShortNeed.{ShortNeed}
-use Rattle.keep_core.specs.Replan.{Replan, planned}
+use Rattle.keep_core.specs.Replan.{Replan}
 use Rattle.keep_core.specs.History.{Turn}
-use Rattle.keep_core.specs.Shorten.{is_short, pair_of, pairs, shorten}
+use Rattle.keep_core.specs.Shorten.{is_short, pair_of, pairs}
 use Rattle.keep_core.specs.State.{State}
-use Rattle.keep_core.specs.Step.{StepAnswer, StepNeed, StepTick, heard, needed, of_entry}
-use Rattle.keep_core.proofs.Shaped.{shape}
+use Rattle.keep_core.specs.Step.{StepAnswer, StepNeed, StepTick, heard, needed}
 use Rattle.keep_core.proofs.Shortening.{shorten_count}
 use Rattle.keep_run.specs.Closed.{asked_in}
 

@@ -18,7 +18,7 @@ use Rattle.keep_report.specs.declared.stop.Stop.{Stop}
 use Rattle.keep_report.specs.declared.stop.Stop.TheVariants as stops
 use Rattle.keep_report.specs.Exits.{stop_of_sink}
 use Rattle.keep_report.proofs.Counting.{failed_once}
-use Rattle.keep_report.specs.Sent.{IsAll, Sent}
+use Rattle.keep_report.specs.Sent.{Sent}
 use Rattle.keep_run.specs.Closed.{World}
 use Rattle.keep_run.specs.Live.{IsReady}
 use Rattle.keep_run.specs.Playing.{Comes, Ends, Finishes, Goes, IsText, LastFront, LastPlays, Plays, PlaysFront, inventory_with}

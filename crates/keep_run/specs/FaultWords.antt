@@ -1,7 +1,7 @@
 -- Fault words: `K=short:SECONDS`, `K=drop` and `K=deny` tell what is to go wrong at the renewal request number K, which is from
 -- 1 to 1,000,000. Numbers are spelled in decimal, in their one spelling, and SECONDS is a duration.
 -- Source: this project's own.
-use Rattle.std.specs.Prelude.{◌≡◌, ℕ, ◌+◌, Bool, true, false, if◌then◌else◌, List, [], ◌∷◌, ◌++◌, Option, Some, None, Result, Ok, Err, bytes_eq, codes, is_none, option_map}
+use Rattle.std.specs.Prelude.{◌≡◌, ℕ, ◌+◌, Bool, false, if◌then◌else◌, List, [], ◌∷◌, ◌++◌, Option, Some, None, Result, Ok, Err, bytes_eq, codes, is_none, option_map}
 use Rattle.mini_broker.specs.declared.fault.Fault.{Fault}
 use Rattle.mini_broker.specs.declared.fault.Fault.TheVariants.{Short, Drop, Deny}
 use Rattle.mini_broker.specs.declared.fault.NumberedFault.{NumberedFault}

@@ -1,5 +1,5 @@
 -- Laws of the rehearsal without faults. Each is the contract of a public function without a body.
-use Rattle.std.specs.Prelude.{◌≡◌, ℕ, ◌+◌, ◌≤◌, ◌<◌, ◌++◌, true, List, [], ◌∷◌, Option, Some, None, IfSome, Result, Ok, Err, is_some, length, map}
+use Rattle.std.specs.Prelude.{◌≡◌, ℕ, ◌+◌, ◌≤◌, ◌<◌, ◌++◌, true, List, [], ◌∷◌, Option, Some, None, IfSome, Result, Ok, is_some, length, map}
 use Rattle.std.specs.List.{All, flat_map}
 use Rattle.keep_moment.specs.declared.moment.TheConstants.{LAST}
 use Rattle.keep_tree.specs.Forest.{end_of, entry_at}

@@ -1,6 +1,6 @@
 -- LineByLine: words for the parts of listening. No public clause cites them.
 -- Source: this project's own.
-use Rattle.std.specs.Prelude.{◌≡◌, ℕ, ◌+◌, ◌<◌, ◌≤◌, List, [], ◌∷◌, Option, Some, Result, Ok, Err, length}
+use Rattle.std.specs.Prelude.{◌≡◌, ℕ, ◌+◌, ◌<◌, ◌≤◌, List, [], ◌∷◌, Result, Ok, Err, length}
 use Rattle.std.specs.Io.KnownBytes.{Consumes}
 use Rattle.keep_device.specs.Whole.{MakesAtMost}
 use Rattle.keep_report.specs.declared.stop.Stop.{Stop}

@@ -1,7 +1,6 @@
 -- Live: what an event line comes to: what the keeper puts out, whom it asks, and the lines that say so.
 -- Source: this project's own.
-use Rattle.std.specs.Prelude.{◌≡◌, ℕ, ◌<◌, ◌⊎◌, List, [], ◌∷◌, ◌++◌, Option, Some, None, Ok, Err, IfSome, codes, decimal, length, map}
-use Rattle.std.specs.List.{flat_map}
+use Rattle.std.specs.Prelude.{◌≡◌, ℕ, ◌<◌, ◌⊎◌, List, [], ◌∷◌, ◌++◌, Option, Some, None, Ok, Err, IfSome, codes, decimal, length}
 use Rattle.keep_core.specs.declared.event.Event.TheVariants as events
 use Rattle.keep_core.specs.declared.event.Output.{Output}
 use Rattle.keep_core.specs.declared.event.Output.TheVariants as out
@@ -15,7 +14,7 @@ use Rattle.keep_report.specs.declared.stop.Stop.TheVariants as stops
 use Rattle.keep_run.specs.Closed.{Beat, Exchanged, IsBeat, World, closing, taken}
 use Rattle.keep_run.specs.declared.event_line.Heard.{Heard}
 use Rattle.keep_run.specs.declared.event_line.Heard.TheVariants.{Tick, Need, Unknown}
-use Rattle.keep_run.specs.Playing.{Answers, AnswersAll, inventory_with}
+use Rattle.keep_run.specs.Playing.{inventory_with}
 use Rattle.keep_run.specs.Stops.{both}
 use Rattle.keep_run.specs.Text.{beat_text, line, short_lines}
 

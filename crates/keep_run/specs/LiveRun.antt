@@ -9,7 +9,6 @@ use Rattle.keep_device.specs.Failures.{HasFailed}
 use Rattle.keep_device.specs.Front.{AppendsFront}
 use Rattle.keep_device.specs.Whole.{MakesAtMost}
 use Rattle.keep_exchange.specs.Exchanges.{Behind}
-use Rattle.keep_inventory.specs.declared.fault.InvFault.{InvFault}
 use Rattle.keep_inventory.specs.Inventory.{read_inventory}
 use Rattle.keep_inventory.specs.Inventories.{Inventory}
 use Rattle.keep_report.specs.declared.exit.Exit.{Exit}

@@ -4,9 +4,7 @@ use Rattle.std.specs.Prelude.{◌≡◌, ℕ, ◌≤◌, List, [], ◌∷◌, �
 use Rattle.std.specs.List.{flat_map}
 use Rattle.keep_inventory.specs.Inventories.{Inventory}
 use Rattle.mini_broker.specs.declared.fault.NumberedFault.{NumberedFault}
-use Rattle.mini_broker.specs.declared.served.Served.{Served}
 use Rattle.keep_exchange.specs.Exchanges.{Behind}
-use Rattle.mini_broker.specs.Step.{Says, step}
 use Rattle.keep_moment.specs.declared.moment.TheConstants.{LAST}
 use Rattle.keep_core.specs.declared.event.Event.{Event}
 use Rattle.keep_core.specs.declared.event.Event.TheVariants.{Tick}
@@ -20,7 +18,7 @@ use Rattle.keep_core.specs.Refusal.{TellsSpan}
 use Rattle.keep_core.specs.State.{State}
 use Rattle.keep_run.specs.Renewing.{IsAnswerOf}
 use Rattle.keep_run.specs.Closed.{AreAnswered, Beat, Course, Exchanged, IsAnswered, IsBeat, IsClosedRun, IsOpening, Played, World, closing, next_tick, requests_of, rounds, taken, told_next}
-use Rattle.keep_run.specs.Text.{answer_line, answer_text, beat_text, course_text, done_text, short_lines, wake_line}
+use Rattle.keep_run.specs.Text.{beat_text, course_text, done_text, short_lines}
 
 -- ---- what the loops keep
 

@@ -1,6 +1,6 @@
 -- What holds of every forest holds of the empty one, of one with an entry more that was not refused, and of one with a
 -- field of an entry changed within its range: for `with_margin`, `push` and the setters.
-use Rattle.std.proofs.Common.{◌≡◌, ℕ, ◌+◌, ◌<◌, ◌≤◌, Bool, true, false, cond, not, ◌&&◌, ◌||◌, List, [], ◌∷◌, ◌++◌, Option, Some, None, length, set, nat_lt, nat_le, bytes_eq, is_some, is_none, IfSome, refl, sym, ap, ◌∙◌, arith, subst, inl, inr}
+use Rattle.std.proofs.Common.{◌≡◌, ℕ, ◌+◌, ◌<◌, ◌≤◌, Bool, true, false, cond, ◌&&◌, ◌||◌, List, [], ◌∷◌, ◌++◌, Option, Some, None, length, set, nat_lt, nat_le, bytes_eq, is_some, is_none, IfSome, refl, sym, ap, ◌∙◌, arith, subst, inl, inr}
 use Rattle.std.proofs.lemmas.Bool.Decides.{nat_tests}
 use Rattle.std.proofs.lemmas.List.{length_push, length-set}
 use Rattle.std.proofs.lemmas.Bool.{cases_lt, cases_eq, not-false}

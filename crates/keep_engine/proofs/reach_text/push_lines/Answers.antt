@@ -1,5 +1,4 @@
-use Rattle.std.proofs.Common.{◌≡◌, ◌∙◌, ◌++◌, ap, arith, length, subst}
-use Rattle.keep_engine.specs.ReachText.{AreReachLines}
+use Rattle.std.proofs.Common.{◌∙◌, ◌++◌, ap}
 use Rattle.keep_engine.proofs.Reaching.{lines_more}
 use Rattle.keep_engine.proofs.reach_text.push_lines.Goals as goal
 

@@ -1,4 +1,4 @@
-use Rattle.std.proofs.Common.{◌≤◌, ℕ, length, subst, sym}
+use Rattle.std.proofs.Common.{◌≤◌, length, subst, sym}
 use Rattle.keep_exchange.proofs.Sendable.{token_look, token_look_short}
 use Rattle.vault_http.specs.declared.request.Request.{Request}
 use Rattle.vault_http.specs.RoundTripRequest.{IsWritable}

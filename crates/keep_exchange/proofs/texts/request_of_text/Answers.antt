@@ -1,5 +1,4 @@
-use Rattle.std.proofs.Common.{◌≡◌, ◌≤◌, ◌<◌, ◌^◌, arith, rules, length, ◌∙◌, ap, Ok, Err, Result, IsOkUnless, subst}
-use Rattle.keep_exchange.specs.Exchanges.{exchange_fault}
+use Rattle.std.proofs.Common.{◌≡◌, ◌∙◌, Ok, Err}
 use Rattle.vault_http.specs.declared.http_fault.HttpFault.TheVariants as https
 use Rattle.keep_exchange.proofs.ReadBack.{request_read, memory_of}
 use Rattle.keep_exchange.proofs.texts.request_of_text.Goals as goal

@@ -1,4 +1,4 @@
-use Rattle.std.proofs.Common.{◌≡◌, ◌++◌, ◌∙◌, List, drop, length, map, ap, arith, subst, sym, take}
+use Rattle.std.proofs.Common.{◌≡◌, ◌++◌, List, drop, length, map, ap, arith, subst, sym, take}
 use Rattle.std.proofs.lemmas.List.{take_at}
 use Rattle.keep_tree.proofs.Placed.{parents_first}
 use Rattle.keep_needs.specs.declared.load.Load.{Load}

@@ -1,8 +1,7 @@
-use Rattle.std.proofs.Common.{◌≡◌, ◌<◌, ◌+◌, ◌-◌, ◌∙◌, ℕ, Some, None, length, length-set, ap, arith, subst, sym}
+use Rattle.std.proofs.Common.{◌≡◌, ◌<◌, ◌+◌, ◌-◌, ◌∙◌, length, length-set, ap, arith, subst, sym}
 use Rattle.keep_tree.specs.declared.entry.Entry.{Entry}
-use Rattle.keep_tree.specs.Forest.{entry_at}
 use Rattle.keep_tree.proofs.Placed.{parents_first}
-use Rattle.keep_needs.specs.code.Loads.{AllOwn, IsHandedUp, nth}
+use Rattle.keep_needs.specs.code.Loads.{IsHandedUp, nth}
 use Rattle.keep_needs.proofs.HandedUp.{handed_child, handed_first, handed_root}
 use Rattle.keep_needs.proofs.carried.hand_up.Goals as goal
 

@@ -1,9 +1,9 @@
-use Rattle.std.proofs.Common.{◌≡◌, ◌∙◌, ◌+◌, ◌∷◌, ◌++◌, List, [], None, Some, Ok, Err, ap, arith, drop, length, refl, sym, subst}
+use Rattle.std.proofs.Common.{◌≡◌, ◌∙◌, ◌+◌, ◌∷◌, ◌++◌, [], None, Some, Err, ap, arith, drop, refl, sym, subst}
 use Rattle.std.proofs.Math.ListN.{drop_of_length-le}
 use Rattle.std.proofs.lemmas.List.{drop_more}
 use Rattle.mini_broker.specs.Faults.{fault_refusal}
 use Rattle.mini_broker.specs.Table.{Table}
-use Rattle.keep_run.specs.FaultWords.{SetsFaults, fault_word, faults_from, faults_of}
+use Rattle.keep_run.specs.FaultWords.{SetsFaults, fault_word, faults_from}
 use Rattle.keep_report.specs.declared.stop.Stop.{Stop}
 use Rattle.keep_run.proofs.FaultWord.{free, no_more, set_stopped, word_bad, word_refused, word_taken}
 use Rattle.keep_run.proofs.fault_words.set_faults.Goals as goal

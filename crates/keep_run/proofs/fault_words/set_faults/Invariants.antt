@@ -1,4 +1,4 @@
-use Rattle.std.proofs.Common.{◌≡◌, ◌+◌, [], drop}
+use Rattle.std.proofs.Common.{◌≡◌, ◌+◌, drop}
 use Rattle.keep_run.specs.FaultWords.{faults_from, faults_of}
 use Rattle.keep_run.proofs.fault_words.set_faults.Given as goal
 

@@ -1,9 +1,3 @@
-use Rattle.std.proofs.Common.{◌≡◌, ℕ, List, ◌++◌, Some, subst}
-use Rattle.keep_exchange.specs.Exchanges.{Behind}
-use Rattle.keep_run.specs.Live.{Between, IsHeard, IsNeeded}
-use Rattle.keep_run.specs.Stops.{both}
-use Rattle.keep_run.specs.declared.event_line.Heard.{Heard}
-use Rattle.keep_run.specs.declared.event_line.Heard.TheVariants.{Need}
 use Rattle.keep_run.proofs.LiveTicks.{need_lines}
 use Rattle.keep_run.proofs.hearing.hear.Goals as goal
 

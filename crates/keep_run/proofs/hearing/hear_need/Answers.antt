@@ -1,9 +1,8 @@
-use Rattle.std.proofs.Common.{◌≡◌, ◌≤◌, ap, ◌∙◌, Ok, length, sym, subst}
+use Rattle.std.proofs.Common.{◌≤◌, ap, ◌∙◌, length, sym, subst}
 use Rattle.keep_moment.specs.declared.moment.TheConstants.{LAST}
 use Rattle.keep_tree.specs.Forest.{Forest}
 use Rattle.keep_core.specs.declared.event.Event.TheVariants.{Need}
 use Rattle.keep_core.specs.State.{State}
-use Rattle.keep_core.proofs.Shaped.{shape}
 use Rattle.keep_run.proofs.LiveTicks.{need_stops, ready_on}
 use Rattle.keep_run.proofs.Refusing.{need_fault, needed_closed}
 use Rattle.keep_run.proofs.Within.{AreOf, short_within}

@@ -1,12 +1,8 @@
 use Rattle.std.specs.Prelude.{◌≢◌}
-use Rattle.std.proofs.Common.{◌≡◌, ℕ, List, [], ◌++◌, ◌∙◌, ap, sym, subst, refl}
-use Rattle.keep_core.specs.declared.event.Output.{Output}
+use Rattle.std.proofs.Common.{[], ◌∙◌, ap, sym, subst, refl}
 use Rattle.keep_core.specs.declared.event.Output.TheVariants as out
-use Rattle.keep_run.specs.Closed.{asked_in}
-use Rattle.keep_run.specs.Live.{last_line}
 use Rattle.keep_core.specs.State.{State}
-use Rattle.keep_run.specs.Playing.{AnswersAll, Ticks, Waits}
-use Rattle.keep_run.specs.Stops.{both}
+use Rattle.keep_run.specs.Playing.{Waits}
 use Rattle.keep_run.proofs.LiveTicks.{only_idle, quiet_lines, round_of, round_lines, ticks_as, ticks_ready}
 use Rattle.keep_run.proofs.Opens.{ticks_shaped}
 use Rattle.keep_run.proofs.Refusing.{leaves_asked, leaves_closed, leaves_sleeping, told_comes}

@@ -1,5 +1,5 @@
 -- What each read brings goes on from what was heard before it.
-use Rattle.std.proofs.Common.{◌≡◌, ℕ, ◌+◌, ◌-◌, ◌<◌, ◌≤◌, ◌∷◌, ◌++◌, [], List, Result, Ok, Err, OnOk, ap, arith, length, min, refl, subst, sym, take, ◌∙◌}
+use Rattle.std.proofs.Common.{◌≡◌, ℕ, ◌+◌, ◌-◌, ◌<◌, ◌≤◌, ◌∷◌, ◌++◌, [], List, Result, OnOk, ap, arith, length, min, refl, subst, sym, take, ◌∙◌}
 use Rattle.std.proofs.KnownBytes.{Appends-nil, Keeps-refl, Keeps-trans}
 use Rattle.std.specs.Result.{IfErr}
 use Rattle.keep_report.specs.declared.stop.Stop.{Stop}

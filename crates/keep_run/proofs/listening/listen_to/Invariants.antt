@@ -1,5 +1,4 @@
 -- What was read so far is heard line by line.
-use Rattle.std.proofs.Common.{◌≡◌}
 use Rattle.std.specs.Io.KnownBytes.{Keeps}
 use Rattle.keep_run.specs.LineByLine.{IsListening}
 use Rattle.keep_run.specs.Live.{IsReady, side}

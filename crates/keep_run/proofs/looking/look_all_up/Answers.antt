@@ -1,6 +1,6 @@
 use Rattle.std.proofs.Common.{◌<◌, ap, arith, length}
 use Rattle.keep_tree.specs.Forest.{Forest}
-use Rattle.keep_run.proofs.LookedUp.{looking_done, looking_first, looking_more, looking_stops}
+use Rattle.keep_run.proofs.LookedUp.{looking_first, looking_more, looking_stops}
 use Rattle.keep_run.proofs.looking.look_all_up.Goals as goal
 
 pub loop-i-init : goal.loop-i-init

@@ -1,4 +1,4 @@
-use Rattle.std.proofs.Common.{ap, ◌∙◌, arith, sym, subst}
+use Rattle.std.proofs.Common.{ap, arith, subst}
 use Rattle.keep_core.specs.declared.event.Output.TheVariants as out
 use Rattle.keep_core.specs.State.{State}
 use Rattle.keep_core.proofs.Shaped.{both_shaped}

@@ -1,4 +1,4 @@
-use Rattle.std.proofs.Common.{◌≡◌, ap, ◌∙◌, List, ℕ, None, Some, sym, subst}
+use Rattle.std.proofs.Common.{subst}
 use Rattle.keep_run.specs.Playing.{OpensOrEnds}
 use Rattle.keep_run.proofs.Goes.{due_of}
 use Rattle.keep_run.proofs.Written.{keeps_appends, last_ends}

@@ -1,9 +1,9 @@
-use Rattle.std.proofs.Common.{◌≡◌, ap, ◌∙◌, ◌+◌, ◌<◌, ◌≤◌, List, ℕ, None, Some, arith, refl, sym, subst}
+use Rattle.std.proofs.Common.{◌≡◌, ◌∙◌, ◌≤◌, None, Some, arith, refl, subst}
 use Rattle.std.specs.Io.KnownBytes.{Appends}
 use Rattle.keep_device.specs.Front.{AppendsFront}
 use Rattle.keep_report.specs.declared.stop.Stop.TheVariants as stops
 use Rattle.keep_report.specs.Sent.{Sent}
-use Rattle.keep_run.specs.Playing.{Comes, Goes, Plays, Wakes, next_in, requests_in, inventory_with}
+use Rattle.keep_run.specs.Playing.{Comes, Goes, Wakes, next_in, requests_in, inventory_with}
 use Rattle.keep_run.specs.Stops.{both}
 use Rattle.keep_run.proofs.Written.{Going, for_memory, going_done, going_first, going_more, going_stops, going_to_end, going_unwritten, last_played, piece_goes, unwritten_before}
 use Rattle.keep_run.proofs.playing.play.Goals as goal

@@ -3,7 +3,6 @@ use Rattle.keep_moment.specs.declared.moment.TheConstants.{LAST}
 use Rattle.keep_tree.specs.Forest.{Forest}
 use Rattle.keep_core.specs.State.{State}
 use Rattle.mini_broker.specs.Table.{Table}
-use Rattle.keep_exchange.specs.Exchanges.{Behind}
 use Rattle.keep_run.specs.Stops.{both}
 use Rattle.keep_run.specs.Text.{short_lines}
 use Rattle.keep_run.proofs.Rehearsed.{comes_first, ready_opened, memory_stopped, opening_stopped, plays_on, words_stopped}

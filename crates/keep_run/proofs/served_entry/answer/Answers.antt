@@ -1,4 +1,4 @@
-use Rattle.std.proofs.Common.{◌≡◌, ap, ◌∙◌, ◌++◌, Err, IfSome, Ok, length, sym, subst}
+use Rattle.std.proofs.Common.{◌≡◌, ap, ◌∙◌, ◌++◌, Err, IfSome, length, sym, subst}
 use Rattle.keep_tree.specs.declared.entry.Entry.{Entry}
 use Rattle.keep_tree.specs.Forest.{Forest, entry_at}
 use Rattle.keep_core.specs.State.{State}

@@ -1,4 +1,4 @@
-use Rattle.std.proofs.Common.{◌≡◌, ap, ◌∙◌, ◌+◌, ◌++◌, ◌∷◌, [], drop, length, sym, subst, take, get_or, arith}
+use Rattle.std.proofs.Common.{ap, ◌∙◌, ◌+◌, ◌++◌, ◌∷◌, [], drop, sym, subst, take, get_or, arith}
 use Rattle.std.proofs.lemmas.List.{take_all, take_more}
 use Rattle.keep_core.proofs.Shaped.{both_shaped, same}
 use Rattle.keep_run.specs.Live.{Between}

@@ -1,5 +1,5 @@
 use Rattle.std.specs.Prelude.{◌≢◌}
-use Rattle.std.proofs.Common.{◌≡◌, ap, ◌∙◌, ◌++◌, List, [], ℕ, None, Some, length, sym, subst, true, false}
+use Rattle.std.proofs.Common.{◌≡◌, ap, ◌∙◌, ◌++◌, List, [], ℕ, Some, length, sym, subst, true, false}
 use Rattle.keep_run.specs.Playing.{AnswersAll, Goes, LeavesOpen, OpensOrEnds, Waits, inventory_with}
 use Rattle.keep_core.specs.declared.event.Output.TheVariants as out
 use Rattle.keep_run.specs.Stops.{both}

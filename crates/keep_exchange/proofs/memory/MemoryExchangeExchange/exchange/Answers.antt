@@ -1,4 +1,4 @@
-use Rattle.std.proofs.Common.{Some, ◌≡◌, [], ◌++◌, ◌∙◌, ap, refl, subst}
+use Rattle.std.proofs.Common.{Some, ◌++◌, ◌∙◌, ap, refl, subst}
 use Rattle.mini_broker.specs.Table.{Table}
 use Rattle.keep_exchange.specs.Exchanges.{Exchanges}
 use Rattle.keep_exchange.specs.declared.fault.ExchangeFault.TheVariants.{OutOfMemory}
