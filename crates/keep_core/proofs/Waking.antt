@@ -32,6 +32,7 @@ use Rattle.keep_core.specs.code.Waking.{AreFlags, IsOpening, Wakes, is_late}
 use Rattle.keep_core.proofs.ByRule.{next_is, opens_by_rule, rises_strictly}
 use Rattle.keep_core.proofs.Forces.{still_forced}
 use Rattle.keep_core.proofs.Made.{count_moments}
+use Rattle.keep_core.proofs.Opened.{opens as opens_whole}
 use Rattle.keep_core.proofs.Standing.{best_first, tick}
 use Rattle.keep_core.proofs.Waiting.{kept_test, kept_there}
 

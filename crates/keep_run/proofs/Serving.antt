@@ -20,7 +20,7 @@ use Rattle.mini_broker.specs.Granted.{AsksRenewal, asked_for, bearer_for, call_f
 use Rattle.mini_broker.specs.Table.{Table}
 use Rattle.mini_broker.specs.Listed.{is_alive, listed}
 use Rattle.mini_broker.specs.Renewing.{with_row}
-use Rattle.mini_broker.specs.Request.{a_text, answered, asked, call_of, increment_in, is_write, lease_id_in}
+use Rattle.mini_broker.specs.Request.{a_text, answered, asked, call_of, increment_in, is_write, lease_id_in, of_lease as lease_asked, of_token as token_asked}
 use Rattle.mini_broker.specs.Rows.{row_of}
 use Rattle.mini_broker.specs.Step.{step, tells}
 use Rattle.mini_broker.specs.Sweep.{swept}

@@ -24,10 +24,10 @@ use Rattle.mini_broker.specs.Granted.{AsksRenewal, asked_for, bearer_for, call_f
 use Rattle.mini_broker.specs.Laws.{RenewalIsByTheRule, UngrantedIsRefused}
 use Rattle.mini_broker.specs.Table.{Table}
 use Rattle.mini_broker.specs.Listed.{is_alive, listed}
-use Rattle.mini_broker.specs.Renewing.{granted, new_end, step_of}
+use Rattle.mini_broker.specs.Renewing.{granted, new_end, renewal as renewal_served, step_of}
 use Rattle.mini_broker.specs.Request.{asked, is_write}
 use Rattle.mini_broker.specs.Rows.{row_of}
-use Rattle.mini_broker.specs.Step.{after_sweep, by_call, counted, renews, step}
+use Rattle.mini_broker.specs.Step.{after_sweep, by_call, counted, refuses as refused, renews, step}
 use Rattle.mini_broker.specs.Subject.{bearer, is_lease_with, is_token_with, lease_with, belongs, owned, subject, token_with, with_asked, with_bearer}
 use Rattle.mini_broker.specs.Sweep.{swept}
 use Rattle.mini_broker.proofs.Ranges.{found_lone, found_none}

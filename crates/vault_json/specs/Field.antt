@@ -9,7 +9,7 @@ use Rattle.serde_json.specs.Data.{Num, unsigned, negative, float, Data, null, bo
 use Rattle.serde_json.specs.Find.{get}
 use Rattle.vault_json.specs.Answer.{or_bad}
 use Rattle.vault_json.specs.declared.field.Field.{Field}
-use Rattle.vault_json.specs.declared.field.Field.TheVariants.{Auth, CreationTime, ExplicitMaxTtl, Id, Increment, IssueTime, LeaseDuration, LeaseId, Orphan, Period, Renewable, Ttl}
+use Rattle.vault_json.specs.declared.field.Field.TheVariants.{Auth, CreationTime, Data as DataField, ExplicitMaxTtl, Id, Increment, IssueTime, LeaseDuration, LeaseId, Orphan, Period, Renewable, Ttl}
 use Rattle.vault_json.specs.declared.fault.ReplyFault.{ReplyFault}
 use Rattle.vault_json.specs.declared.fault.ReplyFault.TheVariants.{Missing}
 

@@ -7,7 +7,7 @@ use Rattle.vault_json.specs.Answer.{◌>>=◌}
 use Rattle.vault_json.specs.Body.{reply_of}
 use Rattle.vault_json.specs.Duration.{duration_of}
 use Rattle.vault_json.specs.Field.{required, optional, object_of, timestamp_of, date_of}
-use Rattle.vault_json.specs.declared.field.Field.TheVariants.{CreationTime, ExplicitMaxTtl, Id, IssueTime, Orphan, Period, Renewable, Ttl}
+use Rattle.vault_json.specs.declared.field.Field.TheVariants.{CreationTime, Data as DataField, ExplicitMaxTtl, Id, IssueTime, Orphan, Period, Renewable, Ttl}
 use Rattle.vault_json.specs.declared.fault.ReplyFault.{ReplyFault}
 use Rattle.vault_json.specs.declared.lookup.Lookup.{Lookup}
 use Rattle.vault_json.specs.declared.lookup.Lookup.TheVariants.{Token, Lease}
