@@ -1,6 +1,5 @@
 ghost use Rattle.std.specs.Prelude.{◌≡◌, ◌++◌, ◌<◌, None, true, length, nat_lt, IfErr, IfOk, IfSome, OnErr};
 ghost use Rattle.keep_tree.specs.Forest.{entry_at};
-ghost use Rattle.keep_tree.specs.Renewal.{renewal};
 ghost use Rattle.keep_rule.specs.Asks.{first_of};
 ghost use Rattle.keep_plan.specs.Decides.{IsKept};
 ghost use Rattle.keep_core.specs.declared.fault.StepFault.TheVariants.{OutOfMemory};
@@ -19,7 +18,7 @@ use crate::replan::replan;
 use crate::shortened::ShortNeed;
 use keep_moment::Moment;
 use keep_plan::Plan;
-use keep_tree::{Entry, Forest};
+use keep_tree::{Forest, renewal};
 use std::alloc::Global;
 
 impl Keeper {
@@ -131,20 +130,8 @@ fn is_rules(forest: &Forest, i: u32, event: Event, at: Moment) -> bool
             seconds,
             renewable,
             ..
-        } => renewable && at.get() + seconds == ruled_end(forest.get(i), at),
+        } => renewable && at.get() + seconds == renewal(forest.get(i), at.get()),
         _ => false,
-    }
-}
-
-/// The end that a renewal at `at` gives by the rule, in seconds since 1970-01-01T00:00:00Z.
-#[tactic(auto, unfolding(keep_tree::specs::Renewal::renewal, keep_tree::specs::Renewal::capped))]
-fn ruled_end(entry: &Entry, at: Moment) -> u64
-    ensures { result ≡ renewal entry.now at }
-{
-    let end = at.plus(entry.step);
-    match entry.ceiling {
-        None => end,
-        Some(ceiling) => end.min(ceiling),
     }
 }
 

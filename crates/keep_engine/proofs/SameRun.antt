@@ -135,12 +135,12 @@ module _ (Text : Texts) (Halt : Halts) where
   pub runs_alike : (bytes other : List ℕ) (exit exit' : Exit) (out out' errors errors' : Sent) → IsOne Text Halt → DifferInSecrets bytes other →
       RunOf Text Halt bytes exit out errors → RunOf Text Halt other exit' out' errors' → RunAlike exit exit' out out' errors errors'
   runs_alike bytes other exit exit' out out' errors errors' one d a b =
-      let forest = sym (one_forest bytes other d) in
+      let same = sym (one_forest bytes other d) in
       let g = d.inventory.forest in
       let forest = (inventory_law bytes d.inventory d.reads).forest in (
-        two_fronts g out out' one forest (fronts_in bytes d.inventory exit out errors d.reads a) (subst (λ g. Fronts g out') forest (fronts_in other d.other_inventory exit' out' errors' d.other_reads b)),
+        two_fronts g out out' one forest (fronts_in bytes d.inventory exit out errors d.reads a) (subst (λ g. Fronts g out') same (fronts_in other d.other_inventory exit' out' errors' d.other_reads b)),
         λ whole whole'. both_end g exit exit' out out' errors errors' one forest (ends_in bytes d.inventory exit out errors d.reads whole a)
-            (subst (λ g. EndsIn g exit' out' errors') forest (ends_in other d.other_inventory exit' out' errors' d.other_reads whole' b)),
+            (subst (λ g. EndsIn g exit' out' errors') same (ends_in other d.other_inventory exit' out' errors' d.other_reads whole' b)),
       )
 
 -- ---- each command

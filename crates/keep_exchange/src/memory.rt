@@ -6,13 +6,14 @@ use crate::texts::{Delivery, deliver, request_of_text, text_of_request};
 use keep_moment::Moment;
 use mini_broker::Table;
 use std::alloc::Global;
+use std::fmt;
 use std::marker::Model;
 use vault_http::{Device, Reply, Request};
 
 /// An exchange with a broker's table in memory: each message is written as text and read of that text.
 ///
 /// To contracts it is the table and the bytes that its last exchange has carried.
-#[derive(Debug, Drop)]
+#[derive(Drop)]
 pub struct MemoryExchange {
     table: Table,
     wire: Vec<u8>,
@@ -24,6 +25,17 @@ impl Model for MemoryExchange {
     ghost Value = { Behind };
 
     ghost view = { λ e. record { table = e.table; wire = e.wire.items } };
+}
+
+impl fmt::Debug for MemoryExchange {
+    /// Shows the table, and how many bytes the last exchange carried, but none of them: tokens and ids of leases stand in
+    /// them, and they are secret.
+    fn fmt<W: fmt::Write>(&self, f: &mut fmt::Formatter<W>) -> fmt::Result {
+        f.debug_struct("MemoryExchange")
+            .field("table", &self.table)
+            .field("wire", &self.wire.len())
+            .finish()
+    }
 }
 
 impl MemoryExchange {

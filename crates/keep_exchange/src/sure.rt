@@ -7,7 +7,7 @@ use std::marker::Model;
 use vault_http::{Device, Failed, MemorySink, MemorySource, Sink, SinkFault, Source};
 
 /// A sink that collects what it is given.
-#[derive(Debug, Drop)]
+#[derive(Drop)]
 pub(crate) struct SureSink {
     sink: MemorySink,
 }
@@ -66,7 +66,7 @@ impl Sink for SureSink {
 }
 
 /// A source of given bytes.
-#[derive(Debug, Drop)]
+#[derive(Drop)]
 pub(crate) struct SureSource {
     source: MemorySource,
 }

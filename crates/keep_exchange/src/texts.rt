@@ -14,6 +14,7 @@ use crate::fault::ExchangeFault;
 use crate::sure::{SureSink, SureSource};
 use mini_broker::{MOST_REQUEST, Served};
 use std::alloc::Global;
+use std::fmt;
 use vault_http::{
     HttpFault, Reply, Request, read_reply, read_request, reply_reads_back, request_reads_back,
     write_reply, write_request,
@@ -56,10 +57,20 @@ pub(crate) fn is_port(port: u16)
 }
 
 /// What was sent, and what is received of it.
-#[derive(Debug, Drop)]
+#[derive(Drop)]
 pub(crate) struct Delivery {
     pub(crate) text: Vec<u8>,
     pub(crate) reply: Result<Reply, ExchangeFault>,
+}
+
+impl fmt::Debug for Delivery {
+    /// Shows how long the text is, and none of it: ids of leases stand in it, and they are secret.
+    fn fmt<W: fmt::Write>(&self, f: &mut fmt::Formatter<W>) -> fmt::Result {
+        f.debug_struct("Delivery")
+            .field("text", &self.text.len())
+            .field("reply", &self.reply)
+            .finish()
+    }
 }
 
 /// Sends what the broker has for a request, and reads it.

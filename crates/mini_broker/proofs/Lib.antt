@@ -3,6 +3,7 @@ pub mod Indexed
 pub mod Living
 pub mod Loaded
 pub mod Replaced
+pub mod Keeping
 pub mod Texts
 pub mod Streamed
 pub mod Swept

@@ -10,7 +10,7 @@ use Rattle.mini_broker.specs.Slots.{AreSlots, IsTied, is_listed, listed_rows, no
 use Rattle.mini_broker.proofs.Listed.{listed_passing, named_listed}
 
 -- the slot over another, where there is one, is listed and its row passes
-over_passes : (Row → Bool) → List Slot → Option ℕ → Bool
+unfoldable pub over_passes : (Row → Bool) → List Slot → Option ℕ → Bool
 over_passes test slots None = true
 over_passes test slots (Some p) = (slot_at slots p).listed && test (slot_at slots p).row
 
@@ -66,7 +66,7 @@ step_of slots sound t n i h less =
     ∙ ap (λ b. nat_lt t s.row.end && b) (by_place (lives_of n rows t) slots sound i h s.over s.row.parent (sound.tied i h))
 
 -- a slot lives where its end is after t, and the slot over it, if there is one, is listed and lives
-lives_step :
+pub lives_step :
     (slots : List Slot) → AreSlots slots → (t i : ℕ) → i < length slots →
     lives (listed_rows slots) t (slot_at slots i).row ≡ nat_lt t (slot_at slots i).row.end && over_passes (lives (listed_rows slots) t) slots (slot_at slots i).over
 unfolding lives
@@ -81,7 +81,7 @@ passing slots t = relisted (lives (listed_rows slots) t)
 abbrev pub Judged : List Slot → ℕ → ℕ → List Slot → Type 0
 Judged slots t k now = now ≡ map (relisted (lives (listed_rows slots) t)) (take k slots) ++ drop k slots
 
-judged_length : (slots : List Slot) (t k : ℕ) (now : List Slot) → k ≤ length slots → Judged slots t k now → length now ≡ length slots
+pub judged_length : (slots : List Slot) (t k : ℕ) (now : List Slot) → k ≤ length slots → Judged slots t k now → length now ≡ length slots
 judged_length slots t k now h is =
     ap length is ∙ length-append (map (passing slots t) (take k slots)) (drop k slots)
     ∙ (let a = length-map (take k slots) (passing slots t) in let b = length-take-le k slots h in let c = length-drop k slots in omega arith)

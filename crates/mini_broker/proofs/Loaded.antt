@@ -12,11 +12,11 @@ use Rattle.mini_broker.specs.Index.{AreUnlike}
 use Rattle.mini_broker.specs.Rows.{row_of, rows_of}
 use Rattle.mini_broker.specs.Slots.{AreSlots, IsTied, listed_rows, no_slot, slot_at, slot_of, slots_of}
 
-slot_of_place : (s : Inventory) (i : ℕ) → i < length s.forest.entries → slot_at (slots_of s) i ≡ slot_of s i
+pub slot_of_place : (s : Inventory) (i : ℕ) → i < length s.forest.entries → slot_at (slots_of s) i ≡ slot_of s i
 unfolding slot_at slots_of
 slot_of_place s i h = get_or-map-range_with_len (slot_of s) 0 (length s.forest.entries) i i no_slot h (omega arith)
 
-count_of_slots : (s : Inventory) → length (slots_of s) ≡ length s.forest.entries
+pub count_of_slots : (s : Inventory) → length (slots_of s) ≡ length s.forest.entries
 unfolding slots_of
 count_of_slots s = length-map-range_with_len (slot_of s) 0 (length s.forest.entries)
 

@@ -55,7 +55,7 @@ ended_rows slots sound p end h =
     replaced (λ r. bytes_eq r.name name) (record (slot_at slots p).row { end = end }) slots p h ((bytes_decides name name).1 refl)
     (λ i within same. sound.apart i p within h ((bytes_decides (slot_at slots i).row.name name).0 same))
 
-kept_field : {X : Type 0} (field : Slot → X) (slots : List Slot) (p end i : ℕ) → p < length slots → ((s : Slot) (e : ℕ) → field (record s { row = record s.row { end = e } }) ≡ field s) → field (slot_at (ended slots p end) i) ≡ field (slot_at slots i)
+pub kept_field : {X : Type 0} (field : Slot → X) (slots : List Slot) (p end i : ℕ) → p < length slots → ((s : Slot) (e : ℕ) → field (record s { row = record s.row { end = e } }) ≡ field s) → field (slot_at (ended slots p end) i) ≡ field (slot_at slots i)
 unfolding slot_at
 kept_field field slots p end i h keeps =
     let new : Slot = record (slot_at slots p) { row = record (slot_at slots p).row { end = end } } in

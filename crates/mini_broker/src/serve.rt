@@ -5,7 +5,7 @@ ghost use Rattle.mini_broker.specs.Index.{IsIndexed, credentials_of};
 ghost use Rattle.mini_broker.specs.Table.{Table};
 ghost use Rattle.mini_broker.specs.Renewing.{renewal, rows_after};
 ghost use Rattle.mini_broker.specs.Request.{call_of};
-ghost use Rattle.mini_broker.specs.Slots.{AreSlots, listed_rows};
+ghost use Rattle.mini_broker.specs.Slots.{AreKept, listed_rows};
 ghost use Rattle.mini_broker.specs.Step.{Refuses, Says, by_call, is_drop, looked, renewed, renews};
 ghost use Rattle.mini_broker.specs.Subject.{subject};
 ghost use Rattle.mini_broker.specs.declared.served.Served.TheVariants as served;
@@ -24,23 +24,25 @@ use std::alloc::{AllocError, Global};
 use vault_http::{Reply, Request};
 use vault_json::errors;
 
-/// Answers a request by what was swept before. Where memory is wanting nothing is changed.
+/// Answers a request by what was swept before. Where memory is wanting nothing is changed. No listed row ends before
+/// `soonest`.
 pub(crate) fn answer(
     alloc: Global,
     slots: &mut [Slot],
+    soonest: &mut u64,
     index: &Index,
     faults: &mut Vec<NumberedFault>,
     count: &mut u64,
     t: Moment,
     request: &Request,
 ) -> Result<Served, AllocError>
-    requires sound { AreSlots slots.old }
+    requires kept { AreKept soonest.old slots.old }
     requires indexed { IsIndexed index.now slots.old }
     ensures says { IfOk result (λ served. Says t (by_call (record { rows = listed_rows slots.old; faults = faults.old.items; count = count.old }) t request.now (call_of request.now.path)).answer served) }
     ensures table { OnOk result (◌≡◌ {A = Table} (record { rows = listed_rows slots.new; faults = faults.new.items; count = count.new })
         (by_call (record { rows = listed_rows slots.old; faults = faults.old.items; count = count.old }) t request.now (call_of request.now.path)).table) }
     ensures unchanged { OnErr result ((slots.new ≡ slots.old) × (faults.new.items ≡ faults.old.items) × (count.new ≡ count.old)) }
-    ensures sound { AreSlots slots.new }
+    ensures kept { AreKept soonest.new slots.new }
     ensures credentials { credentials_of slots.new ≡ credentials_of slots.old }
 {
     let Some(call) = call_of(request.path.list()) else {
@@ -50,7 +52,9 @@ pub(crate) fn answer(
         return refuse(alloc, Refusal::UnsupportedMethod);
     }
     if call.is_renewal() {
-        renew(alloc, slots, index, faults, count, t, call, request)
+        renew(
+            alloc, slots, soonest, index, faults, count, t, call, request,
+        )
     } else {
         look_up(alloc, slots, index, t, call, request)
     }
@@ -92,6 +96,7 @@ fn look_up(
 fn renew(
     alloc: Global,
     slots: &mut [Slot],
+    soonest: &mut u64,
     index: &Index,
     faults: &mut Vec<NumberedFault>,
     count: &mut u64,
@@ -99,13 +104,13 @@ fn renew(
     call: Call,
     request: &Request,
 ) -> Result<Served, AllocError>
-    requires sound { AreSlots slots.old }
+    requires kept { AreKept soonest.old slots.old }
     requires indexed { IsIndexed index.now slots.old }
     ensures says { IfOk result (λ served. Says t (renews (record { rows = listed_rows slots.old; faults = faults.old.items; count = count.old }) t call request.now).answer served) }
     ensures table { OnOk result (◌≡◌ {A = Table} (record { rows = listed_rows slots.new; faults = faults.new.items; count = count.new })
         (renews (record { rows = listed_rows slots.old; faults = faults.old.items; count = count.old }) t call request.now).table) }
     ensures unchanged { OnErr result ((slots.new ≡ slots.old) × (faults.new.items ≡ faults.old.items) × (count.new ≡ count.old)) }
-    ensures sound { AreSlots slots.new }
+    ensures kept { AreKept soonest.new slots.new }
     ensures credentials { credentials_of slots.new ≡ credentials_of slots.old }
 {
     let number = next_number(*count);
@@ -115,7 +120,7 @@ fn renew(
     // Nothing wants memory from here on, so a request that is refused for want of it was not counted.
     *count = number;
     take_fault(faults, number);
-    settle(slots, grant);
+    settle(slots, soonest, grant);
     Ok(served)
 }
 
@@ -160,14 +165,14 @@ fn is_drop(fault: Option<Fault>) -> bool
 }
 
 /// Gives a row that is renewed its new end.
-fn settle(slots: &mut [Slot], grant: Result<Grant, Refusal>)
-    requires sound { AreSlots slots.old }
+fn settle(slots: &mut [Slot], soonest: &mut u64, grant: Result<Grant, Refusal>)
+    requires kept { AreKept soonest.old slots.old }
     requires within { IsGrantWithin slots.old grant }
     ensures rows { listed_rows slots.new ≡ rows_after (listed_rows slots.old) (row_granted slots.old grant) }
-    ensures sound { AreSlots slots.new }
+    ensures kept { AreKept soonest.new slots.new }
     ensures credentials { credentials_of slots.new ≡ credentials_of slots.old }
 {
     if let Ok(grant) = grant {
-        set_end(slots, grant.place, grant.end);
+        set_end(slots, soonest, grant.place, grant.end);
     }
 }

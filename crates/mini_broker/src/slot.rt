@@ -5,7 +5,7 @@ ghost use Rattle.keep_tree.specs.Push.{lacks_parent};
 ghost use Rattle.mini_broker.specs.Rows.{row_of, row_named};
 ghost use Rattle.mini_broker.specs.Renewing.{with_row};
 ghost use Rattle.mini_broker.specs.Sweep.{swept};
-ghost use Rattle.mini_broker.specs.Slots.{AreSlots, listed_rows, slot_of, slots_of, slot_at, is_listed, stands, swept_slots};
+ghost use Rattle.mini_broker.specs.Slots.{AreKept, AreSlots, EndFrom, end_in, listed_rows, slot_of, slots_of, slot_at, is_listed, stands, swept_slots};
 ghost use Rattle.mini_broker.specs.Index.{AreUnlike, credentials_of, if_listed};
 
 use crate::row::Row;
@@ -79,18 +79,33 @@ fn parent_of(
     }
 }
 
-/// Lists no more each row that has ended at `t`, and each that stands under such a row. It is one pass: a row stands
-/// behind the one over it.
-pub(crate) fn sweep(slots: &mut [Slot], t: Moment)
-    requires { AreSlots slots.old }
+/// Lists no more each row that has ended at `t`, and each that stands under such a row. No listed row ends before `soonest`,
+/// so before that there is nothing to do.
+pub(crate) fn sweep(slots: &mut [Slot], soonest: &mut u64, t: Moment)
+    requires { AreKept soonest.old slots.old }
     ensures swept { slots.new ≡ swept_slots t slots.old }
     ensures rows { listed_rows slots.new ≡ swept t (listed_rows slots.old) }
-    ensures sound { AreSlots slots.new }
+    ensures kept { AreKept soonest.new slots.new }
     ensures credentials { credentials_of slots.new ≡ credentials_of slots.old }
 {
+    if *soonest <= t.get() {
+        *soonest = sweep_all(slots, t);
+    }
+}
+
+/// Judges each slot in one pass, since a row stands behind the one over it. Gives the least end of those that stay listed,
+/// the greatest `u64` where none does.
+fn sweep_all(slots: &mut [Slot], t: Moment) -> u64
+    requires { AreSlots slots.old }
+    ensures swept { slots.new ≡ swept_slots t slots.old }
+    ensures ends { EndFrom result (length slots.new) slots.new }
+{
+    let mut soonest = u64::MAX;
     for at in 0..slots.len() {
         relist(slots, at, t);
+        soonest = soonest.min(end_in(slots, at));
     }
+    soonest
 }
 
 /// Judges one slot, where those before it were judged.
@@ -101,6 +116,16 @@ fn relist(slots: &mut [Slot], at: usize, t: Moment)
 {
     let listed = stands(slots, at, t);
     slots[at].listed = listed;
+}
+
+/// The end of a listed slot's row; of one that is not listed the greatest `u64`.
+#[tactic(auto, unfolding(crate::specs::Slots::end_in))]
+fn end_in(slots: &[Slot], at: usize) -> u64
+    requires { at < length slots.now }
+    ensures { result ≡ end_in (slot_at slots.now at) }
+{
+    let slot = slot_in(slots, at);
+    if slot.listed { slot.row.end } else { u64::MAX }
 }
 
 /// Whether a slot stays listed, where those before it were judged.
@@ -174,14 +199,15 @@ pub(crate) fn end_named(slots: &[Slot], name: &[u8]) -> Option<u64>
     Some(slot_in(slots, place).row.end)
 }
 
-/// Gives the row in that place another end.
-pub(crate) fn set_end(slots: &mut [Slot], place: usize, end: u64)
-    requires sound { AreSlots slots.old }
+/// Gives the row in that place another end, to which `soonest` is lowered where that is sooner.
+pub(crate) fn set_end(slots: &mut [Slot], soonest: &mut u64, place: usize, end: u64)
+    requires kept { AreKept soonest.old slots.old }
     requires within { place < length slots.old }
     ensures rows { listed_rows slots.new ≡ with_row (listed_rows slots.old) (record (slot_at slots.old place).row { end = end }) }
-    ensures sound { AreSlots slots.new }
+    ensures kept { AreKept soonest.new slots.new }
     ensures credentials { credentials_of slots.new ≡ credentials_of slots.old }
 {
+    *soonest = (*soonest).min(end);
     write_end(slots, place, end);
 }
 

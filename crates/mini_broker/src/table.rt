@@ -28,6 +28,8 @@ use vault_http::{HttpFault, Request, Sink, Source, read_request};
 #[derive(Debug, Drop)]
 pub struct Table {
     slots: Vec<Slot>,
+    /// No listed row ends before this moment, so before it a sweep has nothing to do.
+    soonest: u64,
     index: Index,
     faults: Vec<NumberedFault>,
     count: u64,
@@ -36,13 +38,13 @@ pub struct Table {
 impl Model for Table {
     ghost use Rattle.mini_broker.specs.Index.{IsIndexed};
     ghost use Rattle.mini_broker.specs.Table.{Table};
-    ghost use Rattle.mini_broker.specs.Slots.{AreSlots, listed_rows};
+    ghost use Rattle.mini_broker.specs.Slots.{AreKept, listed_rows};
 
     ghost Value = { Table };
 
     ghost view = { λ t. record { rows = listed_rows t.slots.items; faults = t.faults.items; count = t.count } };
 
-    ghost invariant = { λ t. AreSlots t.slots.items × IsIndexed t.index t.slots.items };
+    ghost invariant = { λ t. AreKept t.soonest t.slots.items × IsIndexed t.index t.slots.items };
 }
 
 impl Table {
@@ -54,6 +56,7 @@ impl Table {
         let index = index_of(alloc, &slots)?;
         Ok(Table {
             slots,
+            soonest: 0,
             index,
             faults: Vec::new(alloc),
             count: 0,
@@ -64,7 +67,7 @@ impl Table {
     pub fn sweep(&mut self, t: Moment)
         ensures { self.new ≡ record self.old { rows = swept t self.old.rows } }
     {
-        sweep(&mut self.slots, t);
+        sweep(&mut self.slots, &mut self.soonest, t);
     }
 
     /// Whether a row of that name is listed.
@@ -112,6 +115,7 @@ impl Table {
         let served = answer(
             alloc,
             &mut self.slots,
+            &mut self.soonest,
             &self.index,
             &mut self.faults,
             &mut self.count,

@@ -5,12 +5,19 @@ use keep_device::MemorySink;
 use std::alloc::Global;
 use std::test::Fail;
 
-// A token with a lease and a child token, with these secrets.
-fn family(alloc: Global, token: &str, lease: &str, child: &str) -> Result<String, Fail> {
+// A token with a lease, with these secrets.
+fn pair(alloc: Global, token: &str, lease: &str) -> Result<String, Fail> {
     Ok(format!(in alloc;
         "[[token]]\nname = \"T\"\nsecret = \"{token}\"\nissued = 1000\nend = 1100\nincrement = 100\nmax_ttl = 9000\n\n\
-        [[lease]]\nname = \"L\"\ntoken = \"T\"\nlease_id = \"{lease}\"\nissued = 1000\nend = 1060\nincrement = 60\nmax_ttl = 9000\nneed = 1200\n\n\
-        [[token]]\nname = \"C\"\nparent = \"T\"\nsecret = \"{child}\"\nissued = 1000\nend = 1090\nincrement = 90\nmax_ttl = 9000\nneed = 1300\n"
+        [[lease]]\nname = \"L\"\ntoken = \"T\"\nlease_id = \"{lease}\"\nissued = 1000\nend = 1060\nincrement = 60\nmax_ttl = 9000\nneed = 1200\n"
+    )?)
+}
+
+// These, and a child of the token, with these secrets.
+fn family(alloc: Global, token: &str, lease: &str, child: &str) -> Result<String, Fail> {
+    let parents = pair(alloc, token, lease)?;
+    Ok(format!(in alloc;
+        "{parents}\n[[token]]\nname = \"C\"\nparent = \"T\"\nsecret = \"{child}\"\nissued = 1000\nend = 1090\nincrement = 90\nmax_ttl = 9000\nneed = 1300\n"
     )?)
 }
 
@@ -71,6 +78,46 @@ fn a_rehearsal_shows_no_secret(rt: HostRuntime) -> Result<(), Fail> {
             } else {
                 assert!(rt; out.bytes() == first.bytes(), "{words} {at}");
             }
+        }
+    }
+    Ok(())
+}
+
+// Secrets that the last messages of a rehearsal carry, and the numbers of their first bytes.
+const CARRIED: [(&str, &str); 2] = [
+    ("s.0123456789abcdef", "115, 46, 48"),
+    ("database/creds/app/u4Zr", "100, 97, 116"),
+];
+
+// FAULT words after which the lease is the last that is asked for: it is told, refused, or its answer is lost.
+const LEASE_LAST: [&str; 3] = ["", "5=deny", "5=drop"];
+
+// What an exchange shows of itself holds no secret that it carried, neither as a text nor as the numbers of its bytes.
+#[test]
+fn an_exchange_shows_no_secret(rt: HostRuntime) -> Result<(), Fail> {
+    let alloc = rt.alloc();
+    let inventory = pair(alloc, CARRIED[0].0, CARRIED[1].0)?;
+    for words in LEASE_LAST {
+        let mut exchange = nobody(alloc)?;
+        let got = run_rehearse(
+            alloc,
+            inventory.as_bytes(),
+            start()?,
+            &words_of(alloc, words)?,
+            &mut MemorySink::new(alloc, None),
+            &mut MemorySink::new(alloc, None),
+            &mut exchange,
+        );
+        assert_eq!(rt; got, Exit::Done, "{words}");
+        let carried = str::from_utf8(exchange.wire())?;
+        let shown = format!(in alloc; "{exchange:?}")?;
+        assert!(rt; shown.contains("MemoryExchange"), "{shown}");
+        for (secret, numbers) in CARRIED {
+            assert!(rt; carried.contains(secret), "{words}: {carried}");
+            assert!(rt;
+                !shown.contains(secret) && !shown.contains(numbers),
+                "{shown}"
+            );
         }
     }
     Ok(())
