@@ -1,15 +1,13 @@
 -- An index finds what a walk over the slots finds: when a slot more is entered, in the look-ups, and after a change that
 -- leaves each slot its kind and its credential.
 use Rattle.std.proofs.Common.{◌≡◌, ℕ, ◌+◌, ◌<◌, Bool, true, false, cond, not, ◌&&◌, List, ◌∷◌, ◌++◌, [], take, drop, Option, Some, None, Result, Ok, Err, OnOk, IfSome, Vec, Global, length, get_or, map, option_map, bytes_eq, refl, sym, ap, ◌∙◌, subst, arith, ⊎_elim}
-use Rattle.std.proofs.lemmas.Bool.{cases_Bool, cases_lt, cond-true, cond-false, false_from_ne_true}
+use Rattle.std.proofs.lemmas.Bool.{cases_lt, cond-true, cond-false, false_from_ne_true}
 use Rattle.std.proofs.lemmas.List.{append-nil, drop_all, get_or-map, length-map, take_all}
-use Rattle.std.proofs.lemmas.Map.Text.{is_eq-slice_cmp}
 use Rattle.std.proofs.Math.Seq.{map-set_same}
-use Rattle.std.specs.BTreeMap.{BTreeMap, IsEmpty, Updates}
-use Rattle.std.specs.Cmp.{eq_by_cmp_equiv}
-use Rattle.std.specs.Cmp.Lexicographic.{slice_cmp, nat_list_eq_equiv, nat_list_cmp_total, bytes_decides}
+use Rattle.std.specs.BTreeMap.{BTreeMap, IsEmpty}
+use Rattle.std.specs.Cmp.Lexicographic.{slice_cmp, bytes_decides}
 use Rattle.std.specs.List.{find}
-use Rattle.std.specs.Map.{KeepsOthers, IsKeyTest, AreApart, lookup}
+use Rattle.std.specs.Map.{lookup}
 use Rattle.std.specs.Ordering.{nat_cmp, is_eq}
 use Rattle.keep_tree.specs.declared.entry.Kind.{Kind}
 use Rattle.keep_tree.specs.declared.entry.Kind.TheVariants.{Token, Lease}
@@ -28,23 +26,6 @@ use Rattle.mini_broker.proofs.Replaced.{ended}
 
 none_in : (m : BTreeMap (Vec ℕ Global) ℕ) → IsEmpty m → (q : List ℕ) → place_in m q ≡ None
 none_in m empty q = ap (lookup (λ k. is_eq (slice_cmp nat_cmp q k.items))) empty
-
-apart : (bs cs ks : List ℕ) → bytes_eq bs cs ≡ false → is_eq (slice_cmp nat_cmp bs ks) ≡ true → is_eq (slice_cmp nat_cmp cs ks) ≡ false
-apart bs cs ks n y =
-    is_eq-slice_cmp cs ks ∙ nat_list_eq_equiv.symm cs ks ∙ sym (nat_list_eq_equiv.congr bs ks cs (sym (is_eq-slice_cmp bs ks) ∙ y)) ∙ n
-
-module _ {K : Type 0} (eq : K → K → Bool) (test : K → Bool) where
-  other_entries : {X : Type 0} (old new : List (K × X)) → KeepsOthers eq test old new → (other : K → Bool) → IsKeyTest eq other → AreApart test other → lookup other new ≡ lookup other old
-  unfolding KeepsOthers
-  other_entries old new h = h
-
-pub place_entered : (m n : BTreeMap (Vec ℕ Global) ℕ) (key : Vec ℕ Global) (w : Option ℕ) → Updates (λ x y. slice_cmp nat_cmp x.items y.items) m n key w → (q : List ℕ) → place_in n q ≡ cond (bytes_eq key.items q) w (place_in m q)
-place_entered m n key w h q =
-    ⊎_elim
-    (λ y. subst (λ l. place_in n l ≡ w) ((bytes_decides key.items q).0 y) h.1 ∙ sym (cond-true (bytes_eq key.items q) w (place_in m q) y))
-    (λ e. other_entries _ _ _ _ h.3 _ (λ x y. (eq_by_cmp_equiv nat_list_cmp_total).congr q x.items y.items) (λ k. apart key.items q k.items e)
-    ∙ sym (cond-false (bytes_eq key.items q) w (place_in m q) e))
-    (cases_Bool (bytes_eq key.items q))
 
 -- ---- a slot more in the index
 
