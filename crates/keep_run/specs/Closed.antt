@@ -20,6 +20,7 @@ use Rattle.keep_core.specs.declared.shortened.ShortNeed.{ShortNeed}
 use Rattle.keep_core.specs.Replan.{Replan}
 use Rattle.keep_core.specs.History.{Turn}
 use Rattle.keep_core.specs.State.{State, unplanned}
+use Rattle.keep_run.specs.declared.playing.TheConstants.{MOST_WAKES}
 use Rattle.keep_run.specs.Renewing.{event_for}
 
 -- both sides: the keeper, whose shortened needs were taken, and what stands behind the exchange: the broker's table, and the
@@ -144,4 +145,4 @@ pub record IsClosedRun (inventory : Inventory) (faults : List NumberedFault) (st
   pub opening : World
   pub opened : IsOpening inventory faults start course.short opening
   pub played : Played 8200 inventory.credentials opening (Some start) course.beats final None
-  pub few : length (rounds course.beats) ≤ 100000
+  pub few : length (rounds course.beats) ≤ MOST_WAKES

@@ -11,13 +11,15 @@ use Rattle.mini_broker.specs.Faults.{fault_refusal}
 use Rattle.mini_broker.specs.Table.{Table}
 use Rattle.keep_report.specs.declared.stop.Stop.{Stop}
 use Rattle.keep_report.specs.declared.stop.Stop.TheVariants as stops
+use Rattle.keep_inventory.specs.declared.limits.TheConstants.{SPAN_MAX}
+use Rattle.keep_run.specs.declared.fault_words.TheConstants.{MOST_NUMBER}
 use Rattle.keep_words.specs.Numbers.{number_up_to}
 use Rattle.keep_words.specs.Pieces.{pieces, two}
 
 -- `short` and its seconds
 abbrev pub short_of : Option (List ℕ × List ℕ) → Option Fault
 short_of None = None
-short_of (Some cut) = if bytes_eq cut.0 (codes "short") then option_map (λ n. Short n) (number_up_to 4294967295 cut.1) else None
+short_of (Some cut) = if bytes_eq cut.0 (codes "short") then option_map (λ n. Short n) (number_up_to SPAN_MAX cut.1) else None
 
 -- what goes wrong
 unfoldable pub kind_of : List ℕ → Option Fault
@@ -29,7 +31,7 @@ numbered n fault = None
 
 abbrev pub fault_of : Option (List ℕ × List ℕ) → Option NumberedFault
 fault_of None = None
-fault_of (Some cut) = numbered (number_up_to 1000000 cut.0) (kind_of cut.1)
+fault_of (Some cut) = numbered (number_up_to MOST_NUMBER cut.0) (kind_of cut.1)
 
 -- the fault that a word writes, None where it writes none: a number, `=`, and what goes wrong. The number 0 is refused where
 -- the broker's table is given the fault

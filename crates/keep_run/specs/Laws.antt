@@ -28,6 +28,7 @@ use Rattle.keep_core.specs.declared.shortened.ShortNeed.{ShortNeed}
 use Rattle.keep_core.specs.Replan.{IsPlanOf}
 use Rattle.keep_core.specs.History.{Turn}
 use Rattle.keep_core.specs.State.{State}
+use Rattle.keep_run.specs.declared.playing.TheConstants.{MOST_WAKES}
 use Rattle.keep_run.specs.Closed.{AreAnswered, Beat, Course, Exchanged, IsClosedRun, IsOpening, Played, World, event_in, requests_of, rounds, taken}
 use Rattle.keep_run.specs.Renewing.{event_for}
 use Rattle.keep_exchange.specs.Requests.{reply_in, request_of}
@@ -70,7 +71,7 @@ SoFarLaw =
 -- so the closed run has exactly as many rounds as the plan has wake-ups, at its moments, and as many requests as its Asks
 abbrev pub RehearsalLaw : Type 0
 RehearsalLaw =
-    (inventory : Inventory) (start : ℕ) (ts : List ℕ) → IsInventory inventory → start ≤ LAST → IsPlanOf inventory.forest start ts → length ts ≤ 100000 →
+    (inventory : Inventory) (start : ℕ) (ts : List ℕ) → IsInventory inventory → start ≤ LAST → IsPlanOf inventory.forest start ts → length ts ≤ MOST_WAKES →
     (course : Course) (final : World) → IsClosedRun inventory [] start course final →
     (map (λ b. b.at) (rounds course.beats) ≡ ts)
     × ((requests_of course.beats ≡ requests (with_asks inventory.forest.entries inventory.forest.margin start (end_of inventory.forest.entries) ts))
@@ -79,7 +80,7 @@ RehearsalLaw =
 -- and no plan that keeps has fewer wake-ups than the rehearsal made
 abbrev pub LeastLaw : Type 0
 LeastLaw =
-    (inventory : Inventory) (start : ℕ) (ts : List ℕ) → IsInventory inventory → start ≤ LAST → IsPlanOf inventory.forest start ts → length ts ≤ 100000 →
+    (inventory : Inventory) (start : ℕ) (ts : List ℕ) → IsInventory inventory → start ≤ LAST → IsPlanOf inventory.forest start ts → length ts ≤ MOST_WAKES →
     (course : Course) (final : World) → IsClosedRun inventory [] start course final →
     (plan : List Wake) → IsPlan start plan → Keeps inventory.forest.entries inventory.forest.margin start (end_of inventory.forest.entries) plan → length (rounds course.beats) ≤ length plan
 
@@ -99,7 +100,7 @@ AnswersTakenLaw =
 -- sum of the lengths of its Asks
 abbrev pub PlannedRunLaw : Type 0
 PlannedRunLaw =
-    (bytes : List ℕ) (inventory : Inventory) (start : ℕ) (p : Planned) → read_inventory bytes ≡ Ok inventory → start ≤ LAST → Decides inventory.forest start (Keep p) → length (to_come p) ≤ 100000 →
+    (bytes : List ℕ) (inventory : Inventory) (start : ℕ) (p : Planned) → read_inventory bytes ≡ Ok inventory → start ≤ LAST → Decides inventory.forest start (Keep p) → length (to_come p) ≤ MOST_WAKES →
     (course : Course) (final : World) → IsClosedRun inventory [] start course final →
     (map (λ b. b.at) (rounds course.beats) ≡ moments_of (to_come p))
     × (course_text inventory course ≡ flat_map (beat_text inventory) course.beats

@@ -15,6 +15,7 @@ use Rattle.keep_exchange.specs.Exchanges.{Behind}
 use Rattle.keep_report.specs.declared.exit.Exit.{Exit}
 use Rattle.keep_report.specs.declared.exit.Exit.TheVariants as exits
 use Rattle.keep_report.specs.Sent.{IsAll, Sent}
+use Rattle.keep_run.specs.declared.playing.TheConstants.{MOST_WAKES}
 use Rattle.keep_run.specs.Closed.{Course, IsClosedRun, World, rounds}
 use Rattle.keep_run.specs.Laws.{IsQuiet}
 use Rattle.keep_run.specs.Rehearse.{RehearseRun}
@@ -42,5 +43,5 @@ EndsAsPlanned inventory start p exit out new = ⊥
 -- where `plan` keeps with at most 100,000 wake-ups, the rehearsal without FAULT words makes just these
 abbrev pub PlannedRehearsalLaw : Type 0
 PlannedRehearsalLaw =
-    (bytes : List ℕ) (inventory : Inventory) (start : ℕ) (p : Planned) (exit : Exit) (out : Sent) (old new : Behind) → read_inventory bytes ≡ Ok inventory → start ≤ LAST → Decides inventory.forest start (Keep p) → length (to_come p) ≤ 100000 →
+    (bytes : List ℕ) (inventory : Inventory) (start : ℕ) (p : Planned) (exit : Exit) (out : Sent) (old new : Behind) → read_inventory bytes ≡ Ok inventory → start ≤ LAST → Decides inventory.forest start (Keep p) → length (to_come p) ≤ MOST_WAKES →
     RehearseRun bytes start [] exit out old new → EndsAsPlanned inventory start p exit out new

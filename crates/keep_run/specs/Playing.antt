@@ -16,6 +16,7 @@ use Rattle.keep_core.specs.declared.fault.StepFault.{StepFault}
 use Rattle.keep_core.specs.declared.fault.StepFault.TheVariants.{TooLong, OutOfMemory}
 use Rattle.keep_core.specs.History.{Turn}
 use Rattle.keep_core.specs.State.{State}
+use Rattle.keep_run.specs.declared.playing.TheConstants.{MOST_WAKES}
 use Rattle.keep_run.specs.declared.opening.Opened.{Opened}
 use Rattle.keep_run.specs.declared.waking.Woken.{Woken}
 use Rattle.keep_run.specs.Closed.{AreAnswered, Beat, Exchanged, IsAnswered, Played, World, closing, requests_of, rounds, taken}
@@ -164,10 +165,10 @@ Finishes text (Err stop) out = ⊥
 -- behind 100,000 wake-ups: no more than a front of the last lines was written
 abbrev pub LastFront : List (List ℕ) → Behind → State → ℕ → ℕ → Sent → Type 0
 LastFront cs behind old due asked out =
-    Keeps out.old out.new ⊎ ((new : World) × (text : List ℕ) × Goes (inventory_with cs old.forest) (both old behind) (Some due) new None 0 0 text × AppendsFront out.old out.new (text ++ done_text 100000 asked))
+    Keeps out.old out.new ⊎ ((new : World) × (text : List ℕ) × Goes (inventory_with cs old.forest) (both old behind) (Some due) new None 0 0 text × AppendsFront out.old out.new (text ++ done_text MOST_WAKES asked))
 
 abbrev pub LastPlays : List (List ℕ) → Behind → State → ℕ → ℕ → Result (Unit {0}) Stop → State → Sent → Type 0
-LastPlays cs behind old due asked (Ok u) new out = (text : List ℕ) × Goes (inventory_with cs old.forest) (both old behind) (Some due) (both new behind) None 0 0 text × IsAll (text ++ done_text 100000 asked) out
+LastPlays cs behind old due asked (Ok u) new out = (text : List ℕ) × Goes (inventory_with cs old.forest) (both old behind) (Some due) (both new behind) None 0 0 text × IsAll (text ++ done_text MOST_WAKES asked) out
 LastPlays cs behind old due asked (Err stops.TooLong) new out = IsDue cs (both old behind) due × IsAll [] out
 LastPlays cs behind old due asked (Err stops.Write) new out = HasFailed out.failed_before out.failed_after × LastFront cs behind old due asked out
 LastPlays cs behind old due asked (Err stops.Memory) new out = LastFront cs behind old due asked out
@@ -188,7 +189,7 @@ pub record PlaysWhole (s : Inventory) (old : World) (start : ℕ) (before : List
   pub asked : ℕ
   pub lines : List ℕ
   pub goes : Goes s old (Some start) new None wakes asked lines
-  pub few : wakes ≤ 100000
+  pub few : wakes ≤ MOST_WAKES
   pub sent : IsAll (before ++ (lines ++ done_text wakes asked)) out
 
 pub record PlaysLong (s : Inventory) (old : World) (start : ℕ) (before : List ℕ) (behind : Behind) (out : Sent) : Type 0 where
@@ -196,7 +197,7 @@ pub record PlaysLong (s : Inventory) (old : World) (start : ℕ) (before : List 
   pub due : ℕ
   pub asked : ℕ
   pub lines : List ℕ
-  pub goes : Goes s old (Some start) (both keeper behind) (Some due) 100000 asked lines
+  pub goes : Goes s old (Some start) (both keeper behind) (Some due) MOST_WAKES asked lines
   pub more : IsDue s.credentials (both keeper behind) due
   pub sent : IsAll (before ++ lines) out
 

@@ -16,6 +16,7 @@ use Rattle.keep_core.specs.declared.shortened.ShortNeed.{ShortNeed}
 use Rattle.keep_core.specs.History.{Turn}
 use Rattle.keep_core.specs.Refusal.{TellsSpan}
 use Rattle.keep_core.specs.State.{State}
+use Rattle.keep_run.specs.declared.playing.TheConstants.{MOST_WAKES}
 use Rattle.keep_run.specs.Renewing.{IsAnswerOf}
 use Rattle.keep_run.specs.Closed.{AreAnswered, Beat, Course, Exchanged, IsAnswered, IsBeat, IsClosedRun, IsOpening, Played, World, closing, next_tick, requests_of, rounds, taken, told_next}
 use Rattle.keep_run.specs.Text.{beat_text, course_text, done_text, short_lines}
@@ -50,7 +51,7 @@ pub record IsDue (cs : List (List ℕ)) (old : World) (t : ℕ) : Type 0 where
 pub record IsStopped (inventory : Inventory) (faults : List NumberedFault) (start : ℕ) (final : World) (text : List ℕ) : Type 0 where
   pub due : ℕ
   pub asked : ℕ
-  pub so_far : SoFar inventory faults start final (Some due) 100000 asked text
+  pub so_far : SoFar inventory faults start final (Some due) MOST_WAKES asked text
   pub more : IsDue inventory.credentials final due
 
 -- ---- laws of the loops
@@ -70,7 +71,7 @@ AnswerMoreLaw =
 -- the outer loop at its end: the closed run, and its whole text
 abbrev pub EndLaw : Type 0
 EndLaw =
-    (inventory : Inventory) (faults : List NumberedFault) (start : ℕ) (final : World) (wakes asked : ℕ) (text : List ℕ) → SoFar inventory faults start final None wakes asked text → wakes ≤ 100000 →
+    (inventory : Inventory) (faults : List NumberedFault) (start : ℕ) (final : World) (wakes asked : ℕ) (text : List ℕ) → SoFar inventory faults start final None wakes asked text → wakes ≤ MOST_WAKES →
     (course : Course) × (IsClosedRun inventory faults start course final × (text ++ done_text wakes asked ≡ course_text inventory course))
 
 -- ---- no refusals

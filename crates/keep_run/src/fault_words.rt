@@ -3,10 +3,14 @@ ghost use Rattle.std.specs.Prelude.{◌≡◌, [], option_map};
 ghost use Rattle.keep_words.specs.Pieces.{pieces, two};
 ghost use Rattle.keep_run.specs.FaultWords.{SetsFaults, fault_word, kind_of, stop_at};
 
+use keep_inventory::SPAN_MAX;
 use keep_moment::Text;
 use keep_report::Stop;
 use keep_words::{cut, number_up_to};
 use mini_broker::{Fault, NumberedFault, SetFault, Table};
+
+/// The greatest number of a renewal request that a FAULT word names.
+pub const MOST_NUMBER: u64 = 1_000_000;
 
 /// Gives a table the faults that these words write. `FaultWord`: the place of the first, from 1 on, that writes none or one
 /// whose number an earlier one has.
@@ -45,7 +49,7 @@ fn fault_of(word: &[u8]) -> Option<NumberedFault>
     ensures { result ≡ fault_word word.now }
 {
     let (number, kind) = two_pieces(word, b'=')?;
-    let number = number_up_to(number, 1000000)?;
+    let number = number_up_to(number, MOST_NUMBER)?;
     let fault = kind_of(kind)?;
     Some(NumberedFault { number, fault })
 }
@@ -65,7 +69,7 @@ fn kind_of(text: &[u8]) -> Option<Fault>
     if kind != b"short".as_slice() {
         return None;
     }
-    let seconds = number_up_to(seconds, 4294967295)?;
+    let seconds = number_up_to(seconds, SPAN_MAX as u64)?;
     Some(Fault::Short(seconds as u32))
 }
 

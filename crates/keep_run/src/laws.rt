@@ -1,4 +1,7 @@
 //! Laws of the Closed run without faults.
+ghost use Rattle.std.specs.Prelude.{◌≡◌};
+ghost use Rattle.keep_run.specs.declared.fault_words.TheConstants.{MOST_NUMBER};
+ghost use Rattle.keep_run.specs.declared.playing.TheConstants.{MOST_WAKES};
 ghost use Rattle.keep_run.specs.Laws.{AnswersTakenLaw, LeastLaw, PlannedRunLaw, RehearsalLaw, SoFarLaw, StandsLaw};
 ghost use Rattle.keep_run.specs.PlannedRehearsal.{PlannedRehearsalLaw};
 ghost use Rattle.keep_run.specs.Stops.{AnswerMoreLaw, EndLaw, NeverRefusedLaw, SplitLaw, TickMoreLaw};
@@ -64,4 +67,10 @@ pub fn stands_law()
 /// FAULT words comes to its end but for a writer that fails and want of memory, and makes exactly these wake-ups.
 pub fn planned_rehearsal_law()
     ensures { PlannedRehearsalLaw }
+{}
+
+/// The limits of rehearsals as numbers: the most wake-ups, and the greatest number that a FAULT word names. It does nothing.
+pub fn limits_of_rehearsals()
+    ensures wakes { MOST_WAKES ≡ 100000 }
+    ensures number { MOST_NUMBER ≡ 1000000 }
 {}
