@@ -11,7 +11,7 @@ use Rattle.keep_inventory.specs.declared.key.Key.{Key}
 use Rattle.keep_inventory.specs.declared.key.Key.TheVariants.{Secret, LeaseId}
 use Rattle.keep_inventory.specs.declared.row.Row.{Row}
 use Rattle.keep_inventory.specs.declared.terms.Terms.{Terms}
-use Rattle.keep_inventory.specs.Answers.{Fails}
+use Rattle.keep_inventory.specs.Answers.{◌>>=◌, Fails}
 use Rattle.keep_inventory.specs.Inventories.{Inventory}
 
 -- the forest so far, the secrets of its tokens, the ids of its leases, and the terms of both
