@@ -2,6 +2,7 @@
 -- Source: Vault, "Tokens"; Vault, "Lease, renew, and revoke"; Vault, HTTP API `auth/token` and `sys/leases`. Faults by
 -- number and the texts of errors are this project's own.
 use Rattle.std.specs.Prelude.{◌≡◌, ℕ, ◌-◌, min, Bool, true, false, List, Option, Some, None, Result, Ok, Err, is_none, if◌then◌else◌}
+use Rattle.keep_inventory.specs.declared.limits.TheConstants.{SPAN_MAX}
 use Rattle.vault_http.specs.declared.request.Request.{Request}
 use Rattle.vault_json.specs.Written.{renewed_self_text, renewed_lease_text, looked_self_text, errors_text, IsLookedLease}
 use Rattle.mini_broker.specs.declared.row.Row.{Row}
@@ -75,7 +76,7 @@ step l t r = by_call (after_sweep l t) t r (call_of r.path)
 
 -- the seconds to an end, at most the greatest duration; a grant has never more
 abbrev pub seconds_to : ℕ → ℕ → ℕ
-seconds_to end t = min (end - t) 4294967295
+seconds_to end t = min (end - t) SPAN_MAX
 
 -- the body of a reply that speaks of a row
 unfoldable pub IsBody : Call → Row → ℕ → List ℕ → Type 0

@@ -4,6 +4,7 @@ ghost use Rattle.mini_broker.specs.Step.{IsBody, seconds_to};
 
 use crate::call::Call;
 use crate::row::Row;
+use keep_inventory::SPAN_MAX;
 use keep_moment::{Moment, Span, Text};
 use std::alloc::{AllocError, Global};
 use vault_json::{looked_lease, looked_self, renewed_lease, renewed_self};
@@ -47,5 +48,5 @@ pub(crate) fn body_of(
 fn seconds_to(end: u64, t: Moment) -> Span
     ensures { result ≡ seconds_to end t }
 {
-    end.saturating_sub(t.get()).min(4294967295) as u32
+    end.saturating_sub(t.get()).min(SPAN_MAX as u64) as u32
 }

@@ -3,7 +3,6 @@ ghost use Rattle.mini_broker.specs.Found.{subject_at, row_granted, IsFoundWithin
 ghost use Rattle.mini_broker.specs.Index.{IsIndexed};
 ghost use Rattle.mini_broker.specs.Renewing.{asked_or, granted, is_deny, new_end, renewal, shortened, step_of};
 ghost use Rattle.mini_broker.specs.Slots.{listed_rows, slot_at};
-ghost use Rattle.keep_tree.specs.Renewal.{capped};
 
 use crate::call::Call;
 use crate::fault::Fault;
@@ -13,6 +12,7 @@ use crate::row::Row;
 use crate::slot::{Slot, slot_in};
 use crate::subject::{Found, subject};
 use keep_moment::{Moment, Span};
+use keep_tree::capped;
 use std::alloc::{AllocError, Global};
 use vault_http::Request;
 
@@ -108,16 +108,6 @@ fn asked_or(step: Span, increment: Option<Span>) -> Span
     match increment {
         None => step,
         Some(increment) => { if increment == 0 { step } else { increment } }
-    }
-}
-
-#[tactic(auto, unfolding(keep_tree::specs::Renewal::capped))]
-fn capped(ceiling: Option<u64>, end: u64) -> u64
-    ensures { result ≡ capped ceiling end }
-{
-    match ceiling {
-        None => end,
-        Some(ceiling) => end.min(ceiling),
     }
 }
 
