@@ -1,6 +1,7 @@
 -- What was sent behind what was read: for `serve_stream`.
-use Rattle.std.proofs.Common.{◌≡◌, ℕ, List, ◌++◌, IsTrue, refl, sym, subst, Option, Some, None, Result, Ok, Err, IfErr, IfSome, OnOk, inl, inr, ap, ◌∙◌}
+use Rattle.std.proofs.Common.{◌≡◌, ℕ, List, ◌++◌, IsTrue, refl, sym, subst, Option, Some, None, Result, Ok, Err, IfErr, IfSome, OnOk, OnErr, take, inl, inr, ap, ◌∙◌}
 use Rattle.std.specs.Io.KnownBytes.{Appends, Keeps}
+use Rattle.keep_device.specs.Front.{AppendsFront}
 use Rattle.mini_broker.specs.declared.stream.StreamFault.{StreamFault}
 use Rattle.mini_broker.specs.declared.stream.StreamFault.TheVariants as streams
 use Rattle.mini_broker.specs.Table.{Table}
@@ -16,13 +17,18 @@ use Rattle.mini_broker.specs.declared.served.Served.{Served}
 use Rattle.mini_broker.specs.declared.served.Served.TheVariants as served
 use Rattle.mini_broker.specs.Request.{status_of}
 use Rattle.mini_broker.specs.Step.{Answer, refuses, tells, drops, Refuses, Says, step}
-use Rattle.mini_broker.specs.Stream.{CountsSending, Ends, Fails, Handles, IsHandled, IsUnserved, Leaves, MaySend, WantsMemory}
+use Rattle.mini_broker.specs.Stream.{CountsSending, Ends, Fails, Handles, IsHandled, IsUnserved, Leaves, MaySend, WantsMemory, sent_of}
 
 pub kept_appends : (a b c : Option (List ℕ)) (bs : List ℕ) → Keeps a b → Appends b c bs → Appends a c bs
 kept_appends None b c bs kept more = tt
 kept_appends (Some xs) None c bs kept more = elim kept [ ]
 kept_appends (Some xs) (Some ys) None bs kept more = more
 kept_appends (Some xs) (Some ys) (Some zs) bs kept more = more ∙ ap (λ us. us ++ bs) kept
+
+-- what a failed sending appended stands behind what was there before the reading
+pub kept_front : {X E : Type 0} (a b c : Option (List ℕ)) (bs : List ℕ) (r : Result X E) → Keeps a b → OnErr r (AppendsFront b c bs) → OnErr r (AppendsFront a c bs)
+kept_front a b c bs (Ok x) kept front = tt
+kept_front a b c bs (Err e) kept front = (front.0, kept_appends a b c (take front.0 bs) kept front.1)
 
 pub of_both : {X E : Type 0} (P Q R : Type 0) (r : Result X E) → (P → Q → R) → OnOk r P → OnOk r Q → OnOk r R
 of_both P Q R (Ok x) f p q = f p q
@@ -31,11 +37,11 @@ of_both P Q R (Err e) f p q = tt
 -- a failed sending leaves what handling the message has left
 pub left_by_sending :
     {X : Type 0} (ends : Ends) (l after : Table) (t : ℕ) (r : Result X StreamFault) (before now : ℕ) → CountsSending r before now →
-    IsHandled ends l t after → IfErr r (λ fault. Leaves ends l t fault after)
-left_by_sending ends l after t (Ok x) before now count done = tt
-left_by_sending ends l after t (Err streams.ReadFailed) before now count done = elim count [ ]
-left_by_sending ends l after t (Err streams.WriteFailed) before now count done = done
-left_by_sending ends l after t (Err streams.OutOfMemory) before now count done = inr done
+    (done : IsHandled ends l t after) → OnErr r (AppendsFront ends.old ends.new (sent_of done.done)) → IfErr r (λ fault. Leaves ends l t fault after)
+left_by_sending ends l after t (Ok x) before now count done front = tt
+left_by_sending ends l after t (Err streams.ReadFailed) before now count done front = elim count [ ]
+left_by_sending ends l after t (Err streams.WriteFailed) before now count done front = record { done = done; front = front }
+left_by_sending ends l after t (Err streams.OutOfMemory) before now count done front = inr (record { done = done; front = front })
 
 keeps_same : (o : Option (List ℕ)) → Keeps o o
 keeps_same None = tt

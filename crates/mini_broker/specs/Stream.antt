@@ -9,6 +9,7 @@ use Rattle.vault_http.specs.declared.request.Request.{Request}
 use Rattle.vault_http.specs.declared.writing.SendFault.{SendFault}
 use Rattle.vault_http.specs.declared.writing.SendFault.TheVariants as sends
 use Rattle.keep_device.specs.Failures.{one_more}
+use Rattle.keep_device.specs.Front.{AppendsFront}
 use Rattle.vault_http.specs.Reading.{SettlesRequest}
 use Rattle.vault_http.specs.RoundTrip.{is_sent}
 use Rattle.vault_http.specs.Written.{reply_text}
@@ -98,12 +99,18 @@ pub record IsUnserved (ends : Ends) (l : Table) (t : ℕ) (after : Table) : Type
   pub unwritten : Keeps ends.old ends.new
   pub wants : WantsMemory l t message after
 
--- what a fault leaves of the table: what it was where a read failed, and what handling the message has left where a write
--- failed. Memory may be wanting while a message is read, while a request is served, and while the reply is sent
+-- one message is handled, and of what is sent for it no more than a front is appended
+pub record IsCut (ends : Ends) (l : Table) (t : ℕ) (after : Table) : Type 0 where
+  pub done : IsHandled ends l t after
+  pub front : AppendsFront ends.old ends.new (sent_of done.done)
+
+-- what a fault leaves: the table as it was where a read failed, and where a write failed what handling the message has left,
+-- with a front of what is sent. Memory may be wanting while a message is read, while a request is served, and while the reply
+-- is sent
 abbrev pub Leaves : Ends → Table → ℕ → StreamFault → Table → Type 0
 Leaves ends l t streams.ReadFailed after = after ≡ l
-Leaves ends l t streams.WriteFailed after = IsHandled ends l t after
-Leaves ends l t streams.OutOfMemory after = IsUnserved ends l t after ⊎ IsHandled ends l t after
+Leaves ends l t streams.WriteFailed after = IsCut ends l t after
+Leaves ends l t streams.OutOfMemory after = IsUnserved ends l t after ⊎ IsCut ends l t after
 
 -- one failure more where a read or a write failed, and else none
 abbrev pub CountsStream : {X : Type 0} → Result X StreamFault → ℕ → ℕ → Type 0

@@ -1,5 +1,6 @@
-ghost use Rattle.std.specs.Prelude.{◌≡◌, OnOk};
+ghost use Rattle.std.specs.Prelude.{◌≡◌, OnErr, OnOk};
 ghost use Rattle.std.specs.Io.KnownBytes.{Appends, Keeps};
+ghost use Rattle.keep_device.specs.Front.{AppendsFront};
 ghost use Rattle.mini_broker.specs.Stream.{CountsSending, IsFlushed, MaySend, sent_of, stream_fault};
 ghost use Rattle.mini_broker.specs.declared.stream.StreamFault.TheVariants as streams;
 
@@ -60,6 +61,7 @@ pub(crate) fn send<S: Sink>(
 ) -> Result<(), StreamFault>
     requires status { MaySend served.now }
     ensures written { OnOk result (Appends (S.written stream.old) (S.written stream.new) (sent_of served.now)) }
+    ensures front { OnErr result (AppendsFront (S.written stream.old) (S.written stream.new) (sent_of served.now)) }
     ensures flushed { OnOk result (IsFlushed served.now (S.is_flushed stream.new)) }
     ensures remaining { Keeps (S.remaining stream.old) (S.remaining stream.new) }
     ensures made { S.reads_made stream.new ≡ S.reads_made stream.old }

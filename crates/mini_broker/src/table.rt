@@ -129,9 +129,9 @@ impl Table {
     /// be read is refused with status 400, and is not counted; one that ends too soon gets no reply.
     ///
     /// `ReadFailed`: a read failed before the bytes held a whole request; the table is as it was, and nothing was written.
-    /// `WriteFailed`: a write failed; the table is as serving the request has left it. `OutOfMemory`: where the message was
-    /// not read or is refused, the table is as it was; where it is a request, as after `sweep`; where the reply was made and
-    /// not sent, as serving the request has left it.
+    /// `WriteFailed`: a write failed; the table is as serving the request has left it, and no more than a front of the reply
+    /// went out. `OutOfMemory`: where the message was not read or is refused, the table is as it was; where it is a request,
+    /// as after `sweep`; where the reply was made and not sent whole, as for `WriteFailed`.
     pub fn serve_stream<S: Source + Sink>(
         &mut self,
         t: Moment,

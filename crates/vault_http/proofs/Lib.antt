@@ -15,3 +15,4 @@ pub mod WholeChunks
 pub mod Waiting
 pub mod ReplyLaws
 pub mod RequestLaws
+pub mod Sends

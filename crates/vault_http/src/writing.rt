@@ -1,5 +1,6 @@
-ghost use Rattle.std.specs.Prelude.{◌≡◌, ◌++◌, OnOk, IfOk, IsErrOf, IsTrue, length, string_bytes};
+ghost use Rattle.std.specs.Prelude.{◌≡◌, ◌++◌, OnErr, OnOk, IfOk, IsErrOf, IsTrue, length, string_bytes};
 ghost use Rattle.std.specs.Io.KnownBytes.{Keeps, Appends};
+ghost use Rattle.keep_device.specs.Front.{AppendsFront};
 ghost use Rattle.vault_http.specs.declared.writing.SendFault.TheVariants.{OutOfMemory};
 ghost use Rattle.vault_http.specs.RoundTrip.{is_sent};
 ghost use Rattle.vault_http.specs.RoundTripRequest.{IsWritable};
@@ -46,7 +47,7 @@ impl From<AllocError> for SendFault {
 /// `-`, `_` and `.` and begins with `/`, whose token has 1 to 256 visible characters of ASCII, and that has no body with
 /// `GET`. So no byte of it is taken for the end of a line.
 ///
-/// `WriteFailed`: a write or the flush failed; how much went out before is not said.
+/// `WriteFailed`: a write or the flush failed. After either error no more than a front of the text went out.
 pub fn write_request<W: Sink>(
     alloc: Global,
     sink: &mut W,
@@ -54,6 +55,7 @@ pub fn write_request<W: Sink>(
 ) -> Result<(), SendFault>
     requires writable { IsWritable request.now }
     ensures written { OnOk result (Appends (W.written sink.old) (W.written sink.new) (request_text request.now)) }
+    ensures front { OnErr result (AppendsFront (W.written sink.old) (W.written sink.new) (request_text request.now)) }
     ensures flushed { OnOk result (IsTrue (W.is_flushed sink.new)) }
     ensures remaining { Keeps (W.remaining sink.old) (W.remaining sink.new) }
     ensures made { W.reads_made sink.new ≡ W.reads_made sink.old }
@@ -65,10 +67,11 @@ pub fn write_request<W: Sink>(
 
 /// Writes a reply and flushes the sink. Its status is 200, 400, 403, 404, 405, 429, 500 or 503.
 ///
-/// `WriteFailed`: a write or the flush failed; how much went out before is not said.
+/// `WriteFailed`: a write or the flush failed. After either error no more than a front of the text went out.
 pub fn write_reply<W: Sink>(alloc: Global, sink: &mut W, reply: &Reply) -> Result<(), SendFault>
     requires status { IsTrue (is_sent reply.now.status) }
     ensures written { OnOk result (Appends (W.written sink.old) (W.written sink.new) (reply_text reply.now)) }
+    ensures front { OnErr result (AppendsFront (W.written sink.old) (W.written sink.new) (reply_text reply.now)) }
     ensures flushed { OnOk result (IsTrue (W.is_flushed sink.new)) }
     ensures remaining { Keeps (W.remaining sink.old) (W.remaining sink.new) }
     ensures made { W.reads_made sink.new ≡ W.reads_made sink.old }
@@ -81,6 +84,7 @@ pub fn write_reply<W: Sink>(alloc: Global, sink: &mut W, reply: &Reply) -> Resul
 /// Writes all of a text and flushes the sink.
 fn send<W: Sink>(sink: &mut W, text: &[u8]) -> Result<(), SendFault>
     ensures written { OnOk result (Appends (W.written sink.old) (W.written sink.new) text.now) }
+    ensures front { OnErr result (AppendsFront (W.written sink.old) (W.written sink.new) text.now) }
     ensures flushed { OnOk result (IsTrue (W.is_flushed sink.new)) }
     ensures remaining { Keeps (W.remaining sink.old) (W.remaining sink.new) }
     ensures made { W.reads_made sink.new ≡ W.reads_made sink.old }

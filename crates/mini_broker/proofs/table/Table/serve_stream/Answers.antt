@@ -4,7 +4,7 @@ use Rattle.std.specs.Io.KnownBytes.{Appends}
 use Rattle.keep_device.specs.declared.limits.TheConstants.{MOST_READS}
 use Rattle.keep_device.specs.Whole.{MakesAtMost}
 use Rattle.mini_broker.specs.Stream.{Ends, IsFlushed, IsHandled, sent_of}
-use Rattle.mini_broker.proofs.Streamed.{kept_appends, handled_sent, left_by_sending, left_unserved, of_both}
+use Rattle.mini_broker.proofs.Streamed.{kept_appends, kept_front, handled_sent, left_by_sending, left_unserved, of_both}
 use Rattle.mini_broker.proofs.table.Table.serve_stream.Goals as goal
 
 pub returns-clause-streamed : goal.returns-clause-streamed
@@ -39,6 +39,8 @@ returns-clause-left g c =
       handled = c.in_ok-served.ensures.handled;
     } in
     left_by_sending ends c.args.self.now c.handle.new.self c.args.t c.send.result _ _ c.send.ensures.count done
+    (kept_front (g.S.Device.written before) (g.S.Device.written c.read_request-message.new.reader) (g.S.Device.written c.send.new.stream) (sent_of c.in_ok-served.served) c.send.result
+    c.read_request-message.ensures.written c.send.ensures.front)
 
 pub returns-in_err-served-clause-left : goal.returns-in_err-served-clause-left
 returns-in_err-served-clause-left g c =
