@@ -5,7 +5,7 @@ use Rattle.keep_inventory.specs.Bare.{AreAlike}
 use Rattle.keep_inventory.specs.Inventories.{IsSendable, IsInventory, Inventory}
 use Rattle.keep_inventory.specs.Inventory.{read_inventory}
 
--- the inventory of every text is an inventory: a forest with what else an inventory always keeps
+-- what is read of a text is an inventory: a forest with what else an inventory always keeps
 abbrev pub InventoryLaw : Type 0
 InventoryLaw = (bytes : List ℕ) (inventory : Inventory) → read_inventory bytes ≡ Ok inventory → IsInventory inventory
 
