@@ -11,6 +11,7 @@ use Rattle.keep_exchange.proofs.Lengths.{lease_short, lookup_short, renew_short,
 use Rattle.vault_http.specs.declared.request.Request.{Request}
 use Rattle.vault_http.specs.RoundTripRequest.{IsSentToken, IsWritable, is_path_byte, is_token_value_byte}
 use Rattle.vault_http.specs.Written.{request_text}
+use Rattle.vault_http.proofs.Writable.{method_short}
 
 both_bounds : (b : ℕ) → 33 ≤ b → b ≤ 126 → IsTrue (nat_le 33 b && nat_le b 126)
 both_bounds b low high = grind (arith, low, high)
@@ -70,5 +71,5 @@ sent_short : (token : Option (List ℕ)) → IsSentToken token → IfSome token 
 sent_short None sent = tt
 sent_short (Some t) sent = sent.1
 
-pub carried : (r : Request) → IsWritable r → length r.method ≤ 4 → r.port < 2 ^ 16 → length r.body ≤ 2000 → length (request_text r) ≤ 1048576
-carried r writable method port body = request_short r method writable.path.1 (sent_short r.token writable.token) port body
+pub carried : (r : Request) → IsWritable r → r.port < 2 ^ 16 → length r.body ≤ 2000 → length (request_text r) ≤ 1048576
+carried r writable port body = request_short r (method_short r.method writable.method) writable.path.1 (sent_short r.token writable.token) port body

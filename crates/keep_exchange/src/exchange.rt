@@ -55,7 +55,8 @@ pub trait Exchange: Device {
 pub fn can_carry(request: &Request) -> bool
     ensures writable { IsTrue result → IsWritable request.now }
     ensures short { IsTrue result → length (request_text request.now) ≤ MOST_REQUEST }
+    ensures each { IsWritable request.now → length request.now.body ≤ 2000 → IsTrue result }
 {
     is_port(request.port);
-    request.is_writable() && request.method.as_str().len() <= 4 && request.body.list().len() <= 2000
+    request.is_writable() && request.body.list().len() <= 2000
 }

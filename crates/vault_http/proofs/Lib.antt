@@ -16,3 +16,4 @@ pub mod Waiting
 pub mod ReplyLaws
 pub mod RequestLaws
 pub mod Sends
+pub mod Writable

@@ -34,8 +34,10 @@ impl fmt::Debug for Request {
 
 impl Request {
     /// Whether [`crate::write_request`] may be asked to write it.
+    #[tactic(auto, using(crate::proofs::Writable::path_passes))]
     pub fn is_writable(&self) -> bool
-        ensures { IsTrue result → IsWritable self.now }
+        ensures only { IsTrue result → IsWritable self.now }
+        ensures each { IsWritable self.now → IsTrue result }
     {
         is_method(self.method.as_str())
             && is_path(self.path.list())
@@ -46,7 +48,7 @@ impl Request {
 
 /// Whether requests are written with this method.
 fn is_method(method: &str) -> bool
-    ensures { IsTrue result → IsTrue (is_sent_method method.now) }
+    ensures { result ≡ is_sent_method method.now }
 {
     method == "GET" || method == "POST" || method == "PUT"
 }
@@ -56,6 +58,7 @@ fn is_path(path: &[u8]) -> bool
     ensures slash { IsTrue result → (rest : List ℕ) × (path.now ≡ 47 ∷ rest) }
     ensures short { IsTrue result → length path.now ≤ 256 }
     ensures bytes { IsTrue result → IsTrue (list_all is_path_byte path.now) }
+    ensures each { (rest : List ℕ) → path.now ≡ 47 ∷ rest → length path.now ≤ 256 → IsTrue (list_all is_path_byte path.now) → IsTrue result }
 {
     match path {
         [b'/', ..] => path.len() <= 256 && are_path_bytes(path),
@@ -75,8 +78,10 @@ fn are_path_bytes(path: &[u8]) -> bool
 }
 
 /// Whether requests are written with this token, if there is one.
+#[tactic(auto, using(crate::proofs::Writable::token_passes))]
 fn is_token(token: &Option<Text>) -> bool
-    ensures { IsTrue result → IsSentToken token.now }
+    ensures only { IsTrue result → IsSentToken token.now }
+    ensures each { IsSentToken token.now → IsTrue result }
 {
     match token {
         None => true,
