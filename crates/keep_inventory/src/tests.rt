@@ -126,69 +126,82 @@ fn a_token_and_its_lease(rt: HostRuntime) -> Result<(), Fail> {
     Ok(())
 }
 
+// The keys of a token, and the step and ceiling that they come to.
+const STEPS: [(&str, u32, Option<u64>); 10] = [
+    (
+        "issued = 900\nend = 1060\nperiod = 60\nexplicit_max_ttl = 200",
+        60,
+        Some(1100),
+    ),
+    (
+        "issued = 900\nend = 1060\nperiod = 60\nincrement = 30\nexplicit_max_ttl = 200",
+        60,
+        Some(1100),
+    ),
+    (
+        "issued = 900\nend = 1060\nperiod = 60\nmax_ttl = 100",
+        60,
+        None,
+    ),
+    (
+        "issued = 900\nend = 1060\nincrement = 30\nmax_ttl = 100\nexplicit_max_ttl = 200",
+        30,
+        Some(1000),
+    ),
+    (
+        "issued = 900\nend = 1060\nincrement = 30\nmax_ttl = 300\nexplicit_max_ttl = 200",
+        30,
+        Some(1100),
+    ),
+    (
+        "issued = 900\nend = 1060\nincrement = 30\nmax_ttl = 300\nexplicit_max_ttl = 0",
+        30,
+        Some(1200),
+    ),
+    (
+        "issued = 900\nend = 1060\nincrement = 30\nmax_ttl = 0",
+        30,
+        Some(1400),
+    ),
+    ("issued = 900\nend = 1060\nincrement = 30", 30, Some(1400)),
+    (
+        "issued = 900\nend = 1060\nincrement = 30\nmax_ttl = 501",
+        30,
+        Some(1401),
+    ),
+    (
+        "issued = 0x384\nend = 1_060\nincrement = +30\nperiod = -0\nneed = 0",
+        30,
+        Some(1400),
+    ),
+];
+
+fn has_step<R: AllocGlobal + Abort>(
+    rt: &R,
+    keys: &str,
+    step: u32,
+    ceiling: Option<u64>,
+) -> Result<(), Fail> {
+    let alloc = rt.alloc();
+    let text = format!(in alloc;
+        "system_max = 500\nmargin = 10\n[[token]]\nname = \"pay\"\nrenewable = false\n{keys}"
+    )?;
+    let inventory = read(alloc, text.as_bytes())?;
+    assert!(rt; inventory.forest().len() == 1);
+    assert_eq!(rt; inventory.forest().margin(), 10);
+    assert_eq!(rt; inventory.forest().get(0).step, step, "{keys}");
+    assert_eq!(rt; inventory.forest().get(0).ceiling, ceiling, "{keys}");
+    assert_eq!(rt; inventory.forest().get(0).renewable, false);
+    Ok(())
+}
+
 // Step and ceiling by increment, period, maximum TTLs and the system's maximum; the margin of the top level.
 #[test]
 fn steps_and_ceilings(rt: HostRuntime) -> Result<(), Fail> {
-    let rows: [(&str, u32, Option<u64>); 10] = [
-        (
-            "issued = 900\nend = 1060\nperiod = 60\nexplicit_max_ttl = 200",
-            60,
-            Some(1100),
-        ),
-        (
-            "issued = 900\nend = 1060\nperiod = 60\nincrement = 30\nexplicit_max_ttl = 200",
-            60,
-            Some(1100),
-        ),
-        (
-            "issued = 900\nend = 1060\nperiod = 60\nmax_ttl = 100",
-            60,
-            None,
-        ),
-        (
-            "issued = 900\nend = 1060\nincrement = 30\nmax_ttl = 100\nexplicit_max_ttl = 200",
-            30,
-            Some(1000),
-        ),
-        (
-            "issued = 900\nend = 1060\nincrement = 30\nmax_ttl = 300\nexplicit_max_ttl = 200",
-            30,
-            Some(1100),
-        ),
-        (
-            "issued = 900\nend = 1060\nincrement = 30\nmax_ttl = 300\nexplicit_max_ttl = 0",
-            30,
-            Some(1200),
-        ),
-        (
-            "issued = 900\nend = 1060\nincrement = 30\nmax_ttl = 0",
-            30,
-            Some(1400),
-        ),
-        ("issued = 900\nend = 1060\nincrement = 30", 30, Some(1400)),
-        (
-            "issued = 900\nend = 1060\nincrement = 30\nmax_ttl = 501",
-            30,
-            Some(1401),
-        ),
-        (
-            "issued = 0x384\nend = 1_060\nincrement = +30\nperiod = -0\nneed = 0",
-            30,
-            Some(1400),
-        ),
-    ];
-    let alloc = rt.alloc();
-    for (keys, step, ceiling) in rows {
-        let text = format!(in alloc;
-            "system_max = 500\nmargin = 10\n[[token]]\nname = \"pay\"\nrenewable = false\n{keys}"
-        )?;
-        let inventory = read(alloc, text.as_bytes())?;
-        assert!(rt; inventory.forest().len() == 1);
-        assert_eq!(rt; inventory.forest().margin(), 10);
-        assert_eq!(rt; inventory.forest().get(0).step, step, "{keys}");
-        assert_eq!(rt; inventory.forest().get(0).ceiling, ceiling, "{keys}");
-        assert_eq!(rt; inventory.forest().get(0).renewable, false);
+    for (keys, step, ceiling) in STEPS {
+        has_step(&rt, keys, step, ceiling)?;
     }
+    let alloc = rt.alloc();
     let absent = read(
         alloc,
         b"token = [{name = \"a\", issued = 1000, end = 1060, increment = 60}]",
