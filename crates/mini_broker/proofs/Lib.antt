@@ -1,4 +1,5 @@
 pub mod Listed
+pub mod Pending
 pub mod Indexed
 pub mod Living
 pub mod Loaded

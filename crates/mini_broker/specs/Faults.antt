@@ -6,6 +6,15 @@ use Rattle.mini_broker.specs.declared.fault.NumberedFault.{NumberedFault}
 use Rattle.mini_broker.specs.declared.fault.SetFault.{SetFault}
 use Rattle.mini_broker.specs.declared.fault.SetFault.TheVariants.{BadNumber, Twice}
 
+-- the faults of the renewal requests to come, in the order in which they were given, and how many requests came
+pub record Faults : Type 0 where
+  pub faults : List NumberedFault
+  pub count : ℕ
+
+-- of the faults those whose request is not counted
+unfoldable pub pending : List NumberedFault → ℕ → List NumberedFault
+pending faults count = filter (λ f. nat_lt count f.number) faults
+
 -- the number of the next request: the count stays at the greatest u64
 unfoldable pub next_number : ℕ → ℕ
 next_number count = if nat_lt count (2 ^ 64 - 1) then count + 1 else count

@@ -1,6 +1,3 @@
-ghost use Rattle.std.specs.Prelude.{◌≡◌};
-ghost use Rattle.mini_broker.specs.Faults.{fault_at, fault_refusal, next_number, without};
-
 use keep_moment::Span;
 use std::alloc::{AllocError, AllocFailed};
 use thiserror::Error;
@@ -57,45 +54,4 @@ impl<T: Drop> From<AllocFailed<T>> for SetFault {
     fn from(_e: AllocFailed<T>) -> SetFault {
         SetFault::OutOfMemory
     }
-}
-
-/// Why a fault is not taken: the first refusal that applies, `None` where none does.
-#[tactic(auto, unfolding(crate::specs::Faults::fault_refusal))]
-pub(crate) fn fault_refusal(faults: &[NumberedFault], count: u64, number: u64) -> Option<SetFault>
-    ensures { result ≡ fault_refusal faults.now count number }
-{
-    if number <= count {
-        return Some(SetFault::BadNumber);
-    }
-    if fault_at(faults, number).is_some() {
-        return Some(SetFault::Twice);
-    }
-    None
-}
-
-/// The fault of the request with that number.
-#[tactic(auto, unfolding(crate::specs::Faults::fault_at))]
-pub(crate) fn fault_at(faults: &[NumberedFault], number: u64) -> Option<Fault>
-    ensures { result ≡ fault_at faults.now number }
-{
-    faults
-        .iter()
-        .find(|fault| fault.number == number)
-        .map(|fault| fault.fault)
-}
-
-/// The number of the request that comes next. It stays at the greatest `u64`.
-#[tactic(auto, unfolding(crate::specs::Faults::next_number))]
-pub(crate) fn next_number(count: u64) -> u64
-    ensures { result ≡ next_number count }
-{
-    count.saturating_add(1)
-}
-
-/// Takes away the fault of the request with that number.
-#[tactic(auto, unfolding(crate::specs::Faults::without))]
-pub(crate) fn take_fault(faults: &mut Vec<NumberedFault>, number: u64)
-    ensures { faults.new.items ≡ without faults.old.items number }
-{
-    faults.retain(|fault| fault.number != number);
 }

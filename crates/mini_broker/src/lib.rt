@@ -10,6 +10,7 @@ mod asked;
 mod body;
 mod call;
 mod fault;
+mod faults;
 mod grant;
 mod index;
 pub mod laws;

@@ -1,5 +1,4 @@
 ghost use Rattle.std.specs.Prelude.{◌≡◌, IfOk, OnOk, OnErr, Ok};
-ghost use Rattle.mini_broker.specs.Faults.{fault_at, next_number};
 ghost use Rattle.mini_broker.specs.Found.{row_granted, IsGrantWithin, GrantNamesText};
 ghost use Rattle.mini_broker.specs.Index.{IsIndexed, credentials_of};
 ghost use Rattle.mini_broker.specs.Table.{Table};
@@ -12,7 +11,8 @@ ghost use Rattle.mini_broker.specs.declared.served.Served.TheVariants as served;
 
 use crate::body::body_of;
 use crate::call::{Call, call_of};
-use crate::fault::{Fault, NumberedFault, fault_at, next_number, take_fault};
+use crate::fault::Fault;
+use crate::faults::Faults;
 use crate::grant::{Grant, renewal};
 use crate::index::Index;
 use crate::refusal::Refusal;
@@ -31,17 +31,16 @@ pub(crate) fn answer(
     slots: &mut [Slot],
     soonest: &mut u64,
     index: &Index,
-    faults: &mut Vec<NumberedFault>,
-    count: &mut u64,
+    faults: &mut Faults,
     t: Moment,
     request: &Request,
 ) -> Result<Served, AllocError>
     requires kept { AreKept soonest.old slots.old }
     requires indexed { IsIndexed index.now slots.old }
-    ensures says { IfOk result (λ served. Says t (by_call (record { rows = listed_rows slots.old; faults = faults.old.items; count = count.old }) t request.now (call_of request.now.path)).answer served) }
-    ensures table { OnOk result (◌≡◌ {A = Table} (record { rows = listed_rows slots.new; faults = faults.new.items; count = count.new })
-        (by_call (record { rows = listed_rows slots.old; faults = faults.old.items; count = count.old }) t request.now (call_of request.now.path)).table) }
-    ensures unchanged { OnErr result ((slots.new ≡ slots.old) × (faults.new.items ≡ faults.old.items) × (count.new ≡ count.old)) }
+    ensures says { IfOk result (λ served. Says t (by_call (record { rows = listed_rows slots.old; faults = faults.old.faults; count = faults.old.count }) t request.now (call_of request.now.path)).answer served) }
+    ensures table { OnOk result (◌≡◌ {A = Table} (record { rows = listed_rows slots.new; faults = faults.new.faults; count = faults.new.count })
+        (by_call (record { rows = listed_rows slots.old; faults = faults.old.faults; count = faults.old.count }) t request.now (call_of request.now.path)).table) }
+    ensures unchanged { OnErr result ((slots.new ≡ slots.old) × (faults.new ≡ faults.old)) }
     ensures kept { AreKept soonest.new slots.new }
     ensures credentials { credentials_of slots.new ≡ credentials_of slots.old }
 {
@@ -52,9 +51,7 @@ pub(crate) fn answer(
         return refuse(alloc, Refusal::UnsupportedMethod);
     }
     if call.is_renewal() {
-        renew(
-            alloc, slots, soonest, index, faults, count, t, call, request,
-        )
+        renew(alloc, slots, soonest, index, faults, t, call, request)
     } else {
         look_up(alloc, slots, index, t, call, request)
     }
@@ -98,28 +95,25 @@ fn renew(
     slots: &mut [Slot],
     soonest: &mut u64,
     index: &Index,
-    faults: &mut Vec<NumberedFault>,
-    count: &mut u64,
+    faults: &mut Faults,
     t: Moment,
     call: Call,
     request: &Request,
 ) -> Result<Served, AllocError>
     requires kept { AreKept soonest.old slots.old }
     requires indexed { IsIndexed index.now slots.old }
-    ensures says { IfOk result (λ served. Says t (renews (record { rows = listed_rows slots.old; faults = faults.old.items; count = count.old }) t call request.now).answer served) }
-    ensures table { OnOk result (◌≡◌ {A = Table} (record { rows = listed_rows slots.new; faults = faults.new.items; count = count.new })
-        (renews (record { rows = listed_rows slots.old; faults = faults.old.items; count = count.old }) t call request.now).table) }
-    ensures unchanged { OnErr result ((slots.new ≡ slots.old) × (faults.new.items ≡ faults.old.items) × (count.new ≡ count.old)) }
+    ensures says { IfOk result (λ served. Says t (renews (record { rows = listed_rows slots.old; faults = faults.old.faults; count = faults.old.count }) t call request.now).answer served) }
+    ensures table { OnOk result (◌≡◌ {A = Table} (record { rows = listed_rows slots.new; faults = faults.new.faults; count = faults.new.count })
+        (renews (record { rows = listed_rows slots.old; faults = faults.old.faults; count = faults.old.count }) t call request.now).table) }
+    ensures unchanged { OnErr result ((slots.new ≡ slots.old) × (faults.new ≡ faults.old)) }
     ensures kept { AreKept soonest.new slots.new }
     ensures credentials { credentials_of slots.new ≡ credentials_of slots.old }
 {
-    let number = next_number(*count);
-    let fault = fault_at(faults, number);
+    let fault = faults.next();
     let grant = renewal(alloc, slots, index, t, call, request, fault)?;
     let served = renewed(alloc, slots, t, call, fault, grant)?;
     // Nothing wants memory from here on, so a request that is refused for want of it was not counted.
-    *count = number;
-    take_fault(faults, number);
+    faults.count_next();
     settle(slots, soonest, grant);
     Ok(served)
 }

@@ -9,7 +9,8 @@ ghost use Rattle.mini_broker.specs.Faults.{fault_refusal};
 ghost use Rattle.mini_broker.specs.Step.{Says, after_sweep, step};
 ghost use Rattle.mini_broker.specs.Stream.{CountsStream, Fails, Handles, IsStreamed, Leaves};
 
-use crate::fault::{Fault, NumberedFault, SetFault, fault_refusal};
+use crate::fault::{Fault, SetFault};
+use crate::faults::Faults;
 use crate::index::{Index, index_of};
 use crate::refusal::Refusal;
 use crate::serve::{answer, refuse};
@@ -31,8 +32,7 @@ pub struct Table {
     /// No listed row ends before this moment, so before it a sweep has nothing to do.
     soonest: u64,
     index: Index,
-    faults: Vec<NumberedFault>,
-    count: u64,
+    faults: Faults,
 }
 
 impl Model for Table {
@@ -42,7 +42,7 @@ impl Model for Table {
 
     ghost Value = { Table };
 
-    ghost view = { λ t. record { rows = listed_rows t.slots.items; faults = t.faults.items; count = t.count } };
+    ghost view = { λ t. record { rows = listed_rows t.slots.items; faults = t.faults.faults; count = t.faults.count } };
 
     ghost invariant = { λ t. AreKept t.soonest t.slots.items × IsIndexed t.index t.slots.items };
 }
@@ -58,8 +58,7 @@ impl Table {
             slots,
             soonest: 0,
             index,
-            faults: Vec::new(alloc),
-            count: 0,
+            faults: Faults::new(alloc),
         })
     }
 
@@ -93,11 +92,7 @@ impl Table {
         ensures memory { fault_refusal self.old.faults self.old.count number ≡ None → IsOkUnless result SetFault.OutOfMemory }
         ensures unchanged { OnErr result (self.new ≡ self.old) }
     {
-        if let Some(fault) = fault_refusal(&self.faults, self.count, number) {
-            return Err(fault);
-        }
-        self.faults.push(NumberedFault { number, fault })?;
-        Ok(())
+        self.faults.set(number, fault)
     }
 
     /// Serves a request at `t`: sweeps, then takes the first case of the Broker step that applies. A renewal request is
@@ -118,7 +113,6 @@ impl Table {
             &mut self.soonest,
             &self.index,
             &mut self.faults,
-            &mut self.count,
             t,
             request,
         )?;

@@ -111,6 +111,24 @@ fn takes_each_fault_once(rt: HostRuntime) -> Result<(), Fail> {
     Ok(())
 }
 
+// Ten faults, given from the last to the first: each is that of its own request, and the eleventh has none.
+#[test]
+fn uses_each_fault_at_its_number(rt: HostRuntime) -> Result<(), Fail> {
+    let alloc = rt.alloc();
+    let mut table = table(alloc, WEB)?;
+    for number in [10u32, 9, 8, 7, 6, 5, 4, 3, 2, 1] {
+        assert_eq!(rt; table.set_fault(number as u64, Fault::Short(number)), Ok(()));
+    }
+    let renewal = request(alloc, "POST", RENEW_SELF, "web", "")?;
+    for end in [
+        1001u64, 1002, 1003, 1004, 1005, 1006, 1007, 1008, 1009, 1010, 1060,
+    ] {
+        assert_eq!(rt; reply(&mut table, 1000, &renewal)?.status, 200);
+        assert_eq!(rt; table.end_of(b"web"), Some(end));
+    }
+    Ok(())
+}
+
 // Token and lease at 1059, each row on a fresh table: the method, path, token and body, then the status and the reply's body.
 #[test]
 fn serves_a_token_and_its_lease(rt: HostRuntime) -> Result<(), Fail> {

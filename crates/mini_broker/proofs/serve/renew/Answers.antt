@@ -7,4 +7,4 @@ use Rattle.mini_broker.proofs.serve.renew.Goals as goal
 pub renewed-requires-clause-text : goal.renewed-requires-clause-text
 renewed-requires-clause-text c =
     subst (GrantNamesText c.args.call) (sym c.in_ok-grant.ensures.granted)
-    (grant_names_text (listed_rows c.args.slots.now) c.args.t c.args.call c.args.request.now c.fault_at-fault.result)
+    (grant_names_text (listed_rows c.args.slots.now) c.args.t c.args.call c.args.request.now c.next-fault.result)

@@ -1,0 +1,5 @@
+use Rattle.mini_broker.proofs.Pending.{counted_faults}
+use Rattle.mini_broker.proofs.faults.Faults.count_next.Goals as goal
+
+pub returns : goal.returns
+returns c = counted_faults c.self.inside.given.items c.self.inside.count c.args.self.now c.next_number-self-inside.result c.self.view_is c.next_number-self-inside.ensures
