@@ -14,7 +14,8 @@ use Rattle.keep_core.specs.declared.event.Output.TheVariants as out
 use Rattle.keep_core.specs.declared.fault.StepFault.{StepFault}
 use Rattle.keep_core.specs.declared.fault.StepFault.TheVariants.{ClockBack, RoundOpen, NotAsked, BadIndex, OutOfRange, TooLong, OutOfMemory}
 use Rattle.keep_core.specs.LawsOfHistories.{AllTaken, AnswerEach, ClosesLaw, IsAnswer, NoneWants, OrderLaw, left_by}
-use Rattle.keep_core.specs.Refusal.{LONGEST, TellsSpan, refusal, waits_for}
+use Rattle.keep_core.specs.declared.refusal.TheConstants.{LONGEST}
+use Rattle.keep_core.specs.Refusal.{TellsSpan, refusal, waits_for}
 use Rattle.keep_core.specs.History.{History, Turn}
 use Rattle.keep_core.specs.State.{Round, State}
 use Rattle.keep_core.specs.States.{IsOpened, IsState}

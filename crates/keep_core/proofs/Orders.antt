@@ -17,7 +17,8 @@ use Rattle.keep_core.specs.declared.event.Output.TheVariants as out
 use Rattle.keep_core.specs.declared.fault.StepFault.{StepFault}
 use Rattle.keep_core.specs.declared.fault.StepFault.TheVariants.{OutOfRange}
 use Rattle.keep_core.specs.LawsOfHistories.{AllTaken, IsAnswer, answer_for}
-use Rattle.keep_core.specs.Refusal.{LONGEST, refusal, unless_asked, waits_for}
+use Rattle.keep_core.specs.declared.refusal.TheConstants.{LONGEST}
+use Rattle.keep_core.specs.Refusal.{refusal, unless_asked, waits_for}
 use Rattle.keep_core.specs.Replan.{ReplanTooLong, Replan, planned}
 use Rattle.keep_core.specs.History.{History}
 use Rattle.keep_core.specs.Shorten.{shorten}

@@ -6,7 +6,8 @@ use Rattle.keep_core.specs.declared.event.Event.{Event}
 use Rattle.keep_core.specs.declared.event.Event.TheVariants.{Tick, Told, Refused, Lost, Need}
 use Rattle.keep_core.specs.declared.fault.StepFault.TheVariants.{BadIndex, ClockBack, NotAsked, OutOfRange, RoundOpen}
 use Rattle.keep_core.specs.LawsOfHistories.{IsAnswer}
-use Rattle.keep_core.specs.Refusal.{LONGEST, TellsSpan, refusal, unless_asked, unless_closed, waits_for}
+use Rattle.keep_core.specs.declared.refusal.TheConstants.{LONGEST}
+use Rattle.keep_core.specs.Refusal.{TellsSpan, refusal, unless_asked, unless_closed, waits_for}
 use Rattle.keep_core.specs.State.{Round, State}
 use Rattle.keep_core.specs.Step.{of_entry}
 

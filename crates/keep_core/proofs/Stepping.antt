@@ -6,7 +6,8 @@ use Rattle.keep_core.specs.declared.event.Event.TheVariants.{Tick, Told, Refused
 use Rattle.keep_core.specs.declared.event.Output.{Output}
 use Rattle.keep_core.specs.declared.fault.StepFault.{StepFault}
 use Rattle.keep_core.specs.declared.fault.StepFault.TheVariants.{ClockBack, RoundOpen, NotAsked, BadIndex, OutOfRange, TooLong, OutOfMemory}
-use Rattle.keep_core.specs.Refusal.{LONGEST, refusal, waits_for}
+use Rattle.keep_core.specs.declared.refusal.TheConstants.{LONGEST}
+use Rattle.keep_core.specs.Refusal.{refusal, waits_for}
 use Rattle.keep_core.specs.History.{History, Turn}
 use Rattle.keep_core.specs.State.{Round, State}
 

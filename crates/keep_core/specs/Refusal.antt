@@ -6,12 +6,9 @@ use Rattle.keep_moment.specs.declared.moment.TheConstants.{LAST}
 use Rattle.keep_core.specs.declared.event.Event.{Event}
 use Rattle.keep_core.specs.declared.event.Event.TheVariants.{Tick, Told, Refused, Lost, Need}
 use Rattle.keep_core.specs.declared.fault.StepFault.{StepFault}
+use Rattle.keep_core.specs.declared.refusal.TheConstants.{LONGEST}
 use Rattle.keep_core.specs.declared.fault.StepFault.TheVariants.{ClockBack, RoundOpen, NotAsked, BadIndex, OutOfRange}
 use Rattle.keep_core.specs.State.{Round, State}
-
--- the greatest duration, in seconds
-abbrev pub LONGEST : ℕ
-LONGEST = 4294967295
 
 -- the seconds that are told, if any are, are a duration
 abbrev pub TellsSpan : Event → Type 0

@@ -1,4 +1,11 @@
+ghost use Rattle.std.specs.Prelude.{◌≡◌};
+ghost use Rattle.keep_core.specs.declared.refusal.TheConstants.{LONGEST};
 ghost use Rattle.keep_core.specs.LawsOfSteps.{AddsLaw, AskLaw, NextAsksLaw, OnceLaw, ShapeLaw, StateLaw};
+
+/// The limit of events as a number: no more seconds are told. It does nothing.
+pub fn limits_of_events()
+    ensures seconds { LONGEST ≡ 4294967295 }
+{}
 
 /// The law of states: whatever events come after the opening, and whatever of them is refused, the forest stays one; a round
 /// is open since the last moment, waits for someone, and has its moment and the moments to come from the plan that was in

@@ -59,5 +59,7 @@ pub use laws_of_needs::{keepable_law, plannable_law, shortened_law, unchanged_la
 pub use laws_of_plans::{
     kept_plan_law, no_longer_law, someone_law, still_forced_law, tail_kept_law, tick_law,
 };
-pub use laws_of_steps::{adds_law, ask_law, next_asks_law, once_law, shape_law, state_law};
+pub use laws_of_steps::{
+    adds_law, ask_law, limits_of_events, next_asks_law, once_law, shape_law, state_law,
+};
 pub use shortened::{ShortNeed, Shortened};

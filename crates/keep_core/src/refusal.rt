@@ -7,7 +7,7 @@ use crate::keeper::Keeper;
 use keep_moment::LAST;
 
 /// The greatest duration, in seconds.
-const LONGEST: u64 = 4294967295;
+pub const LONGEST: u64 = 4294967295;
 
 impl Keeper {
     /// Why the event is refused, whatever the plan made anew would be; `None` where it is not.

@@ -1,6 +1,6 @@
 -- One exchange of messages over the broker's table: for `MemoryExchange`.
 use Rattle.std.proofs.Common.{◌≡◌, ℕ, inr, Bool, true, false, List, [], ◌++◌, length, refl, sym, subst, ap, ◌∙◌, nat_le, if◌then◌else◌, Option, Some, Result, Ok, Err, IsErr, IsErrAnd}
-use Rattle.keep_exchange.specs.declared.exchange.TheConstants.{MOST_REPLY}
+use Rattle.vault_http.specs.declared.known.TheConstants.{MOST_MESSAGE}
 use Rattle.keep_exchange.specs.declared.fault.ExchangeFault.{ExchangeFault}
 use Rattle.keep_exchange.specs.declared.fault.ExchangeFault.TheVariants.{ConnectFailed, WriteFailed, Http, OutOfMemory}
 use Rattle.keep_exchange.specs.Exchanges.{Behind, Exchanges, IsExchanged, IsGivenUp, received}
@@ -33,7 +33,7 @@ may_send l t r done says = handled_sent l t (Ok r) (step l t r).table done (says
 -- what is received is no want of memory
 received_some : (sent : Served) → ◌≡◌ {A = Result Reply ExchangeFault} (Err OutOfMemory) (received sent) → ⊥
 received_some served.Dropped e = cc
-received_some (served.Reply reply) e = by_length (nat_le (length (reply_text reply)) MOST_REPLY) reply e
+received_some (served.Reply reply) e = by_length (nat_le (length (reply_text reply)) MOST_MESSAGE) reply e
   where
     by_length : (b : Bool) (reply : Reply) → ◌≡◌ {A = Result Reply ExchangeFault} (Err OutOfMemory) (if b then Ok reply else Err (Http https.TooLong)) → ⊥
     by_length true reply e = cc

@@ -1,7 +1,7 @@
 -- Exchange in memory: the Broker step's reply, through the texts of the request and of the reply.
 -- Source: RFC 9112 (the texts); this project's own (the Broker step, and which fault is which).
 use Rattle.std.specs.Prelude.{◌≡◌, ℕ, ◌⊎◌, List, [], ◌++◌, Option, Some, Result, Ok, Err, length, nat_le, if◌then◌else◌}
-use Rattle.keep_exchange.specs.declared.exchange.TheConstants.{MOST_REPLY}
+use Rattle.vault_http.specs.declared.known.TheConstants.{MOST_MESSAGE}
 use Rattle.keep_exchange.specs.declared.fault.ExchangeFault.{ExchangeFault}
 use Rattle.keep_exchange.specs.declared.fault.ExchangeFault.TheVariants.{ConnectFailed, WriteFailed, Http, OutOfMemory}
 use Rattle.mini_broker.specs.declared.served.Served.{Served}
@@ -26,7 +26,7 @@ pub record Behind : Type 0 where
 -- what is received of what a broker sends: a reply that is not sent ends before it begins, and one of more bytes than are
 -- read is too long
 abbrev pub received : Served → Result Reply ExchangeFault
-received (served.Reply reply) = if nat_le (length (reply_text reply)) MOST_REPLY then Ok reply else Err (Http https.TooLong)
+received (served.Reply reply) = if nat_le (length (reply_text reply)) MOST_MESSAGE then Ok reply else Err (Http https.TooLong)
 received served.Dropped = Err (Http https.Truncated)
 
 -- the request is served at t by the Broker step, and the messages of both are carried

@@ -2,7 +2,6 @@
 -- Source: Vault, HTTP API: `auth/token`, "Renew a token (self)" and "Lookup a token (self)"; `sys/leases`, "Renew lease" and
 -- "Read lease".
 use Rattle.std.specs.Prelude.{◌≡◌, ℕ, ◌≤◌, ◌⊎◌, List, [], ◌++◌, Option, Some, None, Result, Ok, Err, codes, length, option_map}
-use Rattle.keep_exchange.specs.declared.exchange.TheConstants.{MOST_REPLY}
 use Rattle.keep_exchange.specs.Exchanges.{Behind, IsGivenUp}
 use Rattle.keep_inventory.specs.Inventories.{credential_at}
 use Rattle.keep_tree.specs.declared.entry.Entry.{Entry}
@@ -11,7 +10,7 @@ use Rattle.keep_tree.specs.declared.entry.Kind.TheVariants.{Token, Lease}
 use Rattle.keep_tree.specs.Forest.{Forest, entry_at}
 use Rattle.mini_broker.specs.declared.served.Served.{Served}
 use Rattle.mini_broker.specs.declared.served.Served.TheVariants as served
-use Rattle.mini_broker.specs.declared.stream.TheConstants.{MOST_REQUEST}
+use Rattle.vault_http.specs.declared.known.TheConstants.{MOST_MESSAGE}
 use Rattle.mini_broker.specs.Table.{Table}
 use Rattle.mini_broker.specs.Step.{Says, step}
 use Rattle.mini_broker.specs.Stream.{sent_of}
@@ -64,13 +63,13 @@ reply_in served.Dropped = None
 
 -- a reply, if it is one, that is not longer than is read
 abbrev pub Fits : Served → Type 0
-Fits (served.Reply reply) = length (reply_text reply) ≤ MOST_REPLY
+Fits (served.Reply reply) = length (reply_text reply) ≤ MOST_MESSAGE
 Fits served.Dropped = Unit {0}
 
 -- a request that can be written and read, and whose replies can be read
 pub record IsFit (r : Request) : Type 0 where
   pub writable : IsWritable r
-  pub short : length (request_text r) ≤ MOST_REQUEST
+  pub short : length (request_text r) ≤ MOST_MESSAGE
   pub answered : (l : Table) (t : ℕ) (sent : Served) → Says t (step l t r).answer sent → Fits sent
 
 -- the request was served at t, and its reply read, if there was one

@@ -1,5 +1,5 @@
 ghost use Rattle.std.specs.Prelude.{◌≡◌, ◌≤◌, ℕ, Option, IfSome, IsTrue, length};
-ghost use Rattle.mini_broker.specs.declared.stream.TheConstants.{MOST_REQUEST};
+ghost use Rattle.vault_http.specs.declared.known.TheConstants.{MOST_MESSAGE};
 ghost use Rattle.vault_http.specs.RoundTripRequest.{IsWritable};
 ghost use Rattle.vault_http.specs.Written.{request_text};
 ghost use Rattle.keep_exchange.specs.Exchanges.{Behind, Exchanges, CountsExchange};
@@ -9,9 +9,6 @@ use crate::texts::is_port;
 use keep_moment::Moment;
 use std::alloc::Global;
 use vault_http::{Device, Reply, Request};
-
-/// The most bytes of a reply, its head included.
-pub const MOST_REPLY: usize = 1048576;
 
 /// What carries a request to a broker and its reply back.
 ///
@@ -44,7 +41,7 @@ pub trait Exchange: Device {
         request: &Request,
     ) -> Result<Reply, ExchangeFault>
         requires writable { IsWritable request.now }
-        requires short { length (request_text request.now) ≤ MOST_REQUEST }
+        requires short { length (request_text request.now) ≤ MOST_MESSAGE }
         ensures exchanged { IfSome (Self.behind self.old) (λ old. Exchanges old.table t request.now result (Self.behind self.new)) }
         ensures count { CountsExchange result (Self.failed_calls self.old) (Self.failed_calls self.new) };
 }
@@ -54,7 +51,7 @@ pub trait Exchange: Device {
 #[tactic(auto, using(crate::proofs::Sendable::carried))]
 pub fn can_carry(request: &Request) -> bool
     ensures writable { IsTrue result → IsWritable request.now }
-    ensures short { IsTrue result → length (request_text request.now) ≤ MOST_REQUEST }
+    ensures short { IsTrue result → length (request_text request.now) ≤ MOST_MESSAGE }
     ensures each { IsWritable request.now → length request.now.body ≤ 2000 → IsTrue result }
 {
     is_port(request.port);

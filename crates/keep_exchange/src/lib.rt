@@ -22,7 +22,7 @@ mod texts;
 mod unix;
 
 pub use asking::ask;
-pub use exchange::{Exchange, MOST_REPLY, can_carry};
+pub use exchange::{Exchange, can_carry};
 pub use fault::ExchangeFault;
 pub use looking::look_up;
 pub use memory::MemoryExchange;

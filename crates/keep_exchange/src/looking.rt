@@ -3,7 +3,7 @@ ghost use Rattle.keep_exchange.specs.Lookups.{LooksUp, lookup_in, looked, behind
 ghost use Rattle.keep_exchange.specs.Requests.{lease_looked, lookup_of, token_looked};
 ghost use Rattle.keep_inventory.specs.Inventories.{IsSendable};
 ghost use Rattle.keep_tree.specs.Forest.{entry_at};
-ghost use Rattle.mini_broker.specs.declared.stream.TheConstants.{MOST_REQUEST};
+ghost use Rattle.vault_http.specs.declared.known.TheConstants.{MOST_MESSAGE};
 ghost use Rattle.vault_http.specs.RoundTripRequest.{IsWritable};
 ghost use Rattle.vault_http.specs.Written.{request_text};
 ghost use Rattle.vault_json.specs.Answer.{Gives};
@@ -58,7 +58,7 @@ fn lookup_for(
     requires { i < length inventory.now.forest.entries }
     ensures is { IfOk result (λ r. r ≡ lookup_of port inventory.now.credentials inventory.now.forest i) }
     ensures writable { IfOk result IsWritable }
-    ensures short { IfOk result (λ r. length (request_text r) ≤ MOST_REQUEST) }
+    ensures short { IfOk result (λ r. length (request_text r) ≤ MOST_MESSAGE) }
 {
     let entry = inventory.forest().get(i);
     match entry.kind {
@@ -111,7 +111,7 @@ fn token_lookup(alloc: Global, port: u16, credential: &[u8]) -> Result<Request, 
     requires { IsSendable credential.now }
     ensures is { IfOk result (λ r. r ≡ token_looked port credential.now) }
     ensures writable { IfOk result IsWritable }
-    ensures short { IfOk result (λ r. length (request_text r) ≤ MOST_REQUEST) }
+    ensures short { IfOk result (λ r. length (request_text r) ≤ MOST_MESSAGE) }
 {
     is_port(port);
     let request = token_message(alloc, port, credential)?;
@@ -140,7 +140,7 @@ fn lease_lookup(
     requires id { IsSendable id.now }
     ensures is { IfOk result (λ r. r ≡ lease_looked port owner id.now) }
     ensures writable { IfOk result IsWritable }
-    ensures short { IfOk result (λ r. length (request_text r) ≤ MOST_REQUEST) }
+    ensures short { IfOk result (λ r. length (request_text r) ≤ MOST_MESSAGE) }
 {
     is_port(port);
     credentials_are_sendable();

@@ -2,12 +2,11 @@
 ghost use Rattle.keep_exchange.specs.Exchanges.{CountsExchange};
 ghost use Rattle.vault_http.specs.RoundTripRequest.{IsWritable};
 
-use crate::exchange::MOST_REPLY;
 use crate::fault::ExchangeFault;
 use crate::patience::{Patience, Watched};
 use std::alloc::Global;
 use std::io::{Read, Write};
-use vault_http::{Counted, HttpFault, Reply, Request, read_reply, write_request};
+use vault_http::{Counted, HttpFault, MOST_MESSAGE, Reply, Request, read_reply, write_request};
 
 /// Writes the request and reads the reply, and learns from it how long the next ones may take.
 pub(crate) fn exchange_over<S: Read + Write + Drop>(
@@ -36,7 +35,7 @@ fn carry<S: Read + Write>(
     requires { IsWritable request.now }
 {
     write_request(alloc, line, request)?;
-    Ok(read_reply(alloc, line, MOST_REPLY)?)
+    Ok(read_reply(alloc, line, MOST_MESSAGE)?)
 }
 
 /// The count of failures behind an exchange: one more where a connect, an accept, a write or a read failed.

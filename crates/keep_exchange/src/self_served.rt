@@ -1,14 +1,16 @@
 ghost use Rattle.std.specs.Prelude.{◌≡◌, None};
 ghost use Rattle.vault_http.specs.RoundTripRequest.{IsWritable};
 
-use crate::exchange::{Exchange, MOST_REPLY};
+use crate::exchange::Exchange;
 use crate::fault::ExchangeFault;
 use crate::over::count_after;
 use keep_moment::Moment;
 use mini_broker::{StreamFault, Table};
 use std::alloc::Global;
 use std::net::{IpAddr, Ipv4Addr, Net, OpenListener, SocketAddr, TcpListener, TcpStream};
-use vault_http::{Counted, Device, HttpFault, Reply, Request, read_reply, write_request};
+use vault_http::{
+    Counted, Device, HttpFault, MOST_MESSAGE, Reply, Request, read_reply, write_request,
+};
 
 /// An exchange over 127.0.0.1 with a broker's table that is served in the same thread: it connects, writes the request,
 /// accepts, serves it, and reads the reply.
@@ -61,7 +63,7 @@ impl<'a, R: Net> SelfServed<'a, R> {
         let mut client = Counted::new(client);
         write_request(alloc, &mut client, request)?;
         self.serve(t)?;
-        Ok(read_reply(alloc, &mut client, MOST_REPLY)?)
+        Ok(read_reply(alloc, &mut client, MOST_MESSAGE)?)
     }
 
     /// Accepts one connection and serves its request; the connection is closed behind it.

@@ -3,21 +3,20 @@ ghost use Rattle.std.specs.Prelude.{◌≡◌, ◌<◌, ◌≤◌, ◌^◌, IfOk
 ghost use Rattle.keep_exchange.specs.Exchanges.{received};
 ghost use Rattle.keep_exchange.specs.declared.fault.ExchangeFault.TheVariants.{OutOfMemory};
 ghost use Rattle.mini_broker.specs.Stream.{MaySend, sent_of};
-ghost use Rattle.mini_broker.specs.declared.stream.TheConstants.{MOST_REQUEST};
+ghost use Rattle.vault_http.specs.declared.known.TheConstants.{MOST_MESSAGE};
 ghost use Rattle.mini_broker.specs.declared.served.Served.TheVariants as served;
 ghost use Rattle.vault_http.specs.RoundTrip.{is_sent};
 ghost use Rattle.vault_http.specs.RoundTripRequest.{IsWritable, without_port};
 ghost use Rattle.vault_http.specs.Written.{reply_text, request_text};
 
-use crate::exchange::MOST_REPLY;
 use crate::fault::ExchangeFault;
 use crate::sure::{SureSink, SureSource};
-use mini_broker::{MOST_REQUEST, Served};
+use mini_broker::Served;
 use std::alloc::Global;
 use std::fmt;
 use vault_http::{
-    HttpFault, Reply, Request, read_reply, read_request, reply_reads_back, request_reads_back,
-    write_reply, write_request,
+    HttpFault, MOST_MESSAGE, Reply, Request, read_reply, read_request, reply_reads_back,
+    request_reads_back, write_reply, write_request,
 };
 
 /// The text of a request.
@@ -38,7 +37,7 @@ pub(crate) fn request_of_text(
     request: &Request,
 ) -> Result<Request, ExchangeFault>
     requires writable { IsWritable request.now }
-    requires short { length (request_text request.now) ≤ MOST_REQUEST }
+    requires short { length (request_text request.now) ≤ MOST_MESSAGE }
     requires text { text.now ≡ request_text request.now }
     ensures read { IfOk result (λ read. read ≡ without_port request.now) }
     ensures memory { IsOkUnless result OutOfMemory }
@@ -46,7 +45,7 @@ pub(crate) fn request_of_text(
     request_reads_back(request);
     is_port(request.port);
     let mut source = SureSource::of(alloc, text)?;
-    Ok(read_request(alloc, &mut source, MOST_REQUEST)?)
+    Ok(read_request(alloc, &mut source, MOST_MESSAGE)?)
 }
 
 /// The law that a port is one of 65,536 numbers.
@@ -96,7 +95,7 @@ fn deliver_reply(alloc: Global, reply: &Reply) -> Result<Delivery, ExchangeFault
     ensures memory { IsOkUnless result OutOfMemory }
 {
     let text = text_of_reply(alloc, reply)?;
-    if text.len() > MOST_REPLY {
+    if text.len() > MOST_MESSAGE {
         return Ok(Delivery {
             text,
             reply: Err(ExchangeFault::Http(HttpFault::TooLong)),
@@ -123,12 +122,12 @@ fn text_of_reply(alloc: Global, reply: &Reply) -> Result<Vec<u8>, ExchangeFault>
 /// The reply as it is read of its text: the same.
 fn reply_of_text(alloc: Global, text: &[u8], reply: &Reply) -> Result<Reply, ExchangeFault>
     requires status { IsTrue (is_sent reply.now.status) }
-    requires short { length (reply_text reply.now) ≤ MOST_REPLY }
+    requires short { length (reply_text reply.now) ≤ MOST_MESSAGE }
     requires text { text.now ≡ reply_text reply.now }
     ensures read { IfOk result (λ read. read ≡ reply.now) }
     ensures memory { IsOkUnless result OutOfMemory }
 {
     reply_reads_back(reply);
     let mut source = SureSource::of(alloc, text)?;
-    Ok(read_reply(alloc, &mut source, MOST_REPLY)?)
+    Ok(read_reply(alloc, &mut source, MOST_MESSAGE)?)
 }

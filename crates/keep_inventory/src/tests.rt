@@ -43,9 +43,12 @@ fn holds<R: Abort>(
     terms: Terms,
 ) {
     assert!(rt; index < inventory.forest().len());
-    assert_eq!(rt; inventory.forest().get(index), entry);
-    assert!(rt; inventory.credential(index) == credential.as_bytes());
-    assert_eq!(rt; inventory.terms(index), terms);
+    assert!(rt; inventory.forest().get(index) == entry, "the entry");
+    assert!(rt;
+        inventory.credential(index) == credential.as_bytes(),
+        "the credential"
+    );
+    assert!(rt; inventory.terms(index) == terms, "the terms");
 }
 
 #[test]
@@ -189,18 +192,28 @@ fn has_step<R: AllocGlobal + Abort>(
     let inventory = read(alloc, text.as_bytes())?;
     assert!(rt; inventory.forest().len() == 1);
     assert_eq!(rt; inventory.forest().margin(), 10);
-    assert_eq!(rt; inventory.forest().get(0).step, step, "{keys}");
-    assert_eq!(rt; inventory.forest().get(0).ceiling, ceiling, "{keys}");
-    assert_eq!(rt; inventory.forest().get(0).renewable, false);
+    let entry = inventory.forest().get(0);
+    assert!(rt;
+        entry.step == step && entry.ceiling == ceiling && !entry.renewable,
+        "{keys}"
+    );
+    Ok(())
+}
+
+fn have_steps<R: AllocGlobal + Abort>(
+    rt: &R,
+    rows: &[(&str, u32, Option<u64>)],
+) -> Result<(), Fail> {
+    for (keys, step, ceiling) in rows {
+        has_step(rt, keys, *step, *ceiling)?;
+    }
     Ok(())
 }
 
 // Step and ceiling by increment, period, maximum TTLs and the system's maximum; the margin of the top level.
 #[test]
 fn steps_and_ceilings(rt: HostRuntime) -> Result<(), Fail> {
-    for (keys, step, ceiling) in STEPS {
-        has_step(&rt, keys, step, ceiling)?;
-    }
+    have_steps(&rt, &STEPS)?;
     let alloc = rt.alloc();
     let absent = read(
         alloc,
@@ -260,13 +273,11 @@ fn reads_front<R: AllocGlobal + Abort>(
 ) -> Result<(), Fail> {
     let inventory = read(rt.alloc(), WEB.as_bytes().get(..length).ok_or("a front")?)?;
     assert!(rt; inventory.forest().len() == 1);
-    assert_eq!(rt; inventory.forest().get(0).step, step, "{length}");
-    assert_eq!(rt;
-        inventory.forest().get(0).ceiling,
-        Some(ceiling),
+    let entry = inventory.forest().get(0);
+    assert!(rt;
+        entry.step == step && entry.ceiling == Some(ceiling) && entry.need == need,
         "{length}"
     );
-    assert_eq!(rt; inventory.forest().get(0).need, need, "{length}");
     Ok(())
 }
 
@@ -288,6 +299,15 @@ fn fronts_of_the_web_example(rt: HostRuntime) -> Result<(), Fail> {
     Ok(())
 }
 
+// Fronts of the two credentials, as texts and as the numbers of their bytes.
+const SECRETS: [&str; 4] = ["s.1234", "115, 46, 49, 50", "db/creds", "100, 98, 47, 99"];
+
+fn hides<R: Abort>(rt: &R, shown: &str, secrets: &[&str]) {
+    for secret in secrets {
+        assert!(rt; !shown.contains(secret), "{secret}");
+    }
+}
+
 // What an inventory shows of itself holds no credential, neither as a text nor as the numbers of its bytes.
 #[test]
 fn no_credential_is_shown(rt: HostRuntime) -> Result<(), Fail> {
@@ -295,14 +315,10 @@ fn no_credential_is_shown(rt: HostRuntime) -> Result<(), Fail> {
     let inventory = read(alloc, TOKEN_AND_LEASE.as_bytes())?;
     let shown = format!(in alloc; "{inventory:?}")?;
     assert!(rt; shown.contains("1150"));
-    for secret in ["s.1234", "115, 46, 49, 50", "db/creds", "100, 98, 47, 99"] {
-        assert!(rt; !shown.contains(secret), "{secret}");
-    }
+    hides(&rt, &shown, &SECRETS);
     let (_forest, credentials) = inventory.into_parts();
     let shown = format!(in alloc; "{credentials:?}")?;
     assert!(rt; shown.contains("Credentials"));
-    for secret in ["s.1234", "115, 46, 49, 50", "db/creds", "100, 98, 47, 99"] {
-        assert!(rt; !shown.contains(secret), "{secret}");
-    }
+    hides(&rt, &shown, &SECRETS);
     Ok(())
 }

@@ -10,7 +10,7 @@ use Rattle.vault_http.specs.declared.http_fault.HttpFault.TheVariants as https
 use Rattle.vault_http.specs.declared.request.Request.{Request}
 use Rattle.vault_http.specs.Reading.{SettlesRequest}
 use Rattle.vault_http.specs.RoundTrip.{is_sent}
-use Rattle.mini_broker.specs.declared.stream.TheConstants.{MOST_REQUEST}
+use Rattle.vault_http.specs.declared.known.TheConstants.{MOST_MESSAGE}
 use Rattle.mini_broker.specs.declared.refusal.Refusal.{Refusal}
 use Rattle.mini_broker.specs.declared.refusal.Refusal.TheVariants as refusals
 use Rattle.mini_broker.specs.declared.served.Served.{Served}
@@ -55,7 +55,7 @@ leaves_unserved ends l after t message wants streams.OutOfMemory fails = inl (wa
 -- a message that was not handled leaves what handling it says
 pub left_unserved :
     {X : Type 0} (ends : Ends) (l after : Table) (t : ℕ) (message : Result Request HttpFault) (left : ℕ) (unread : Option (List ℕ)) →
-    IfSome ends.remaining (λ bytes. SettlesRequest MOST_REQUEST bytes unread ends.reads_left left message) → unread ≡ ends.rest → Keeps ends.old ends.new →
+    IfSome ends.remaining (λ bytes. SettlesRequest MOST_MESSAGE bytes unread ends.reads_left left message) → unread ≡ ends.rest → Keeps ends.old ends.new →
     (fault : StreamFault) → Fails l t message fault after → (r : Result X StreamFault) → (y : StreamFault) → r ≡ Err y → y ≡ fault → IfErr r (λ f. Leaves ends l t f after)
 left_unserved ends l after t message left unread read rest unwritten fault fails r y is same =
     subst (λ x. IfErr x (λ f. Leaves ends l t f after)) (sym is)

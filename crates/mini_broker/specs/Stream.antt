@@ -18,7 +18,7 @@ use Rattle.mini_broker.specs.declared.served.Served.{Served}
 use Rattle.mini_broker.specs.declared.served.Served.TheVariants as served
 use Rattle.mini_broker.specs.declared.stream.StreamFault.{StreamFault}
 use Rattle.mini_broker.specs.declared.stream.StreamFault.TheVariants as streams
-use Rattle.mini_broker.specs.declared.stream.TheConstants.{MOST_REQUEST}
+use Rattle.vault_http.specs.declared.known.TheConstants.{MOST_MESSAGE}
 use Rattle.mini_broker.specs.Table.{Table}
 use Rattle.mini_broker.specs.Step.{Refuses, Says, after_sweep, step}
 
@@ -55,7 +55,7 @@ pub record IsHandled (ends : Ends) (l : Table) (t : ℕ) (after : Table) : Type 
   pub message : Result Request HttpFault
   pub left : ℕ
   pub unread : Option (List ℕ)
-  pub read : IfSome ends.remaining (λ bytes. SettlesRequest MOST_REQUEST bytes unread ends.reads_left left message)
+  pub read : IfSome ends.remaining (λ bytes. SettlesRequest MOST_MESSAGE bytes unread ends.reads_left left message)
   pub kept : Keeps unread ends.rest
   pub done : Served
   pub handled : Handles l t message after done
@@ -94,7 +94,7 @@ pub record IsUnserved (ends : Ends) (l : Table) (t : ℕ) (after : Table) : Type
   pub message : Result Request HttpFault
   pub left : ℕ
   pub unread : Option (List ℕ)
-  pub read : IfSome ends.remaining (λ bytes. SettlesRequest MOST_REQUEST bytes unread ends.reads_left left message)
+  pub read : IfSome ends.remaining (λ bytes. SettlesRequest MOST_MESSAGE bytes unread ends.reads_left left message)
   pub kept : Keeps unread ends.rest
   pub unwritten : Keeps ends.old ends.new
   pub wants : WantsMemory l t message after

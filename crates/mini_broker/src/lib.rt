@@ -30,5 +30,5 @@ pub use fault::{Fault, NumberedFault, SetFault};
 pub use moment_line::{LineFault, MOST_LINE, Moments, next_moment};
 pub use row::Row;
 pub use served::{ServeFault, Served};
-pub use stream::{MOST_REQUEST, StreamFault};
+pub use stream::StreamFault;
 pub use table::Table;

@@ -9,9 +9,6 @@ use std::alloc::{AllocError, Global};
 use thiserror::Error;
 use vault_http::{SendFault, Sink, write_reply};
 
-/// The most bytes of a request, its head included.
-pub const MOST_REQUEST: usize = 1048576;
-
 /// Why a request was not read, served and answered.
 #[derive(Clone, Copy, Debug, PartialEq, Eq, Error)]
 pub enum StreamFault {

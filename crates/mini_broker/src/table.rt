@@ -1,5 +1,6 @@
 ghost use Rattle.std.specs.Prelude.{◌≡◌, ◌++◌, ◌∷◌, [], None, Err, IfErr, IfOk, IfSome, IsErrOf, OnErr, OnOk, IsOkUnless, is_some, option_map};
 ghost use Rattle.std.specs.Io.KnownBytes.{Keeps};
+ghost use Rattle.vault_http.specs.declared.known.TheConstants.{MOST_MESSAGE};
 ghost use Rattle.vault_http.specs.Reading.{HandedNoRequest};
 ghost use Rattle.keep_device.specs.declared.limits.TheConstants.{MOST_READS};
 ghost use Rattle.keep_device.specs.Whole.{MakesAtMost};
@@ -16,12 +17,12 @@ use crate::refusal::Refusal;
 use crate::serve::{answer, refuse};
 use crate::served::{ServeFault, Served};
 use crate::slot::{Slot, end_named, place_named, slots_of, sweep};
-use crate::stream::{MOST_REQUEST, StreamFault, send};
+use crate::stream::{StreamFault, send};
 use keep_inventory::Inventory;
 use keep_moment::Moment;
 use std::alloc::{AllocError, Global};
 use std::marker::Model;
-use vault_http::{HttpFault, Request, Sink, Source, read_request};
+use vault_http::{HttpFault, MOST_MESSAGE, Request, Sink, Source, read_request};
 
 /// The tokens and leases of a broker, with the faults to come and the count of renewal requests.
 ///
@@ -135,11 +136,11 @@ impl Table {
         ensures left { IfErr result (λ fault. Leaves (record { remaining = S.remaining stream.old; rest = S.remaining stream.new; reads_left = S.reads_left stream.old; old = S.written stream.old; new = S.written stream.new; flushed = S.is_flushed stream.new }) self.old t fault self.new) }
         ensures reads { MakesAtMost MOST_READS (S.remaining stream.old) (S.reads_made stream.old) (S.reads_made stream.new) }
         ensures count { CountsStream result (S.failed_calls stream.old) (S.failed_calls stream.new) }
-        ensures unread { IsErrOf result StreamFault.ReadFailed → HandedNoRequest MOST_REQUEST (S.remaining stream.old) (S.remaining stream.new) }
+        ensures unread { IsErrOf result StreamFault.ReadFailed → HandedNoRequest MOST_MESSAGE (S.remaining stream.old) (S.remaining stream.new) }
         ensures unwritten { IsErrOf result StreamFault.ReadFailed → Keeps (S.written stream.old) (S.written stream.new) }
     {
         let alloc = *self.slots.allocator();
-        let message = read_request(alloc, stream, MOST_REQUEST);
+        let message = read_request(alloc, stream, MOST_MESSAGE);
         let served = self.handle(t, message)?;
         send(alloc, stream, &served)
     }

@@ -18,6 +18,9 @@ use std::alloc::Global;
 /// their number doubles, so that the work stays in proportion to the bytes.
 pub const SMALL_HEAD: usize = 4096;
 
+/// The most bytes of a message, its head included, that a broker or an agent reads.
+pub const MOST_MESSAGE: usize = 1048576;
+
 /// What is known of a message of which not all bytes have come.
 #[derive(Drop)]
 pub(crate) enum Known<M> {

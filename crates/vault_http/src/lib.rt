@@ -31,7 +31,7 @@ pub use keep_device::{
     Counted, Device, Failed, InputFault, MemoryPair, MemorySink, MemorySource, Sink, SinkFault,
     Source, read_all, write_all,
 };
-pub use known::SMALL_HEAD;
+pub use known::{MOST_MESSAGE, SMALL_HEAD};
 pub use receive::{read_reply, read_request};
 pub use reply::Reply;
 pub use request::Request;

@@ -1,6 +1,6 @@
 ghost use Rattle.std.specs.Prelude.{◌≡◌};
 ghost use Rattle.vault_http.specs.declared.found_head.TheConstants.{MOST_FIELDS};
-ghost use Rattle.vault_http.specs.declared.known.TheConstants.{SMALL_HEAD};
+ghost use Rattle.vault_http.specs.declared.known.TheConstants.{MOST_MESSAGE, SMALL_HEAD};
 ghost use Rattle.httparse.specs.Grammar.{HasNoRequest, HasNoResponse};
 ghost use Rattle.vault_http.specs.Messages.{IsReply, IsRequest};
 ghost use Rattle.vault_http.specs.Reading.{HeldIsRead};
@@ -42,4 +42,5 @@ pub fn held_is_read(max: usize)
 pub fn http_limits_law()
     ensures fields { MOST_FIELDS ≡ 64 }
     ensures small { SMALL_HEAD ≡ 4096 }
+    ensures message { MOST_MESSAGE ≡ 1048576 }
 {}

@@ -18,8 +18,17 @@ const TWICE_RENEWED: &str =
 
 const ONCE_RENEWED: &str = "entry web 1060\nwake 1059 web\ntold web 60\nnext 1118\n";
 
-// Inventories, event lines, how many reads go well, and the exit, the lines and the fault line of the run from 1000 on.
-const HEARD: [(&str, &str, Option<u64>, Exit, &str, &str); 11] = [
+// An inventory, event lines, how many reads go well, and the exit, the lines and the fault line of the run from 1000 on.
+type Heard = (
+    &'static str,
+    &'static str,
+    Option<u64>,
+    Exit,
+    &'static str,
+    &'static str,
+);
+
+const HEARD: [Heard; 11] = [
     (WEB, TWO_TICKS, None, Exit::Done, TWICE_RENEWED, ""),
     (
         TOKEN_AND_LEASE,
@@ -106,6 +115,21 @@ const HEARD: [(&str, &str, Option<u64>, Exit, &str, &str); 11] = [
     ),
 ];
 
+fn table_of<R: AllocGlobal + Abort>(
+    rt: &R,
+    inventory: &str,
+    fault: Option<Fault>,
+) -> Result<Table, Fail> {
+    let entries = read(rt.alloc(), inventory.as_bytes())
+        .ok()
+        .ok_or("an inventory")?;
+    let mut table = Table::load(rt.alloc(), &entries)?;
+    if let Some(fault) = fault {
+        assert!(rt; table.set_fault(1, fault).is_ok(), "a fault");
+    }
+    Ok(table)
+}
+
 // A run from 1000 on over the inventory's own table, with a fault at the first renewal, if there is one.
 fn runs<R: AllocGlobal + Abort>(
     rt: &R,
@@ -114,14 +138,7 @@ fn runs<R: AllocGlobal + Abort>(
     events: MemorySource,
 ) -> Result<(Exit, MemorySink, MemorySink, u64), Fail> {
     let alloc = rt.alloc();
-    let entries = read(alloc, inventory.as_bytes())
-        .ok()
-        .ok_or("an inventory")?;
-    let mut table = Table::load(alloc, &entries)?;
-    if let Some(fault) = fault {
-        assert!(rt; table.set_fault(1, fault).is_ok(), "a fault");
-    }
-    let mut exchange = MemoryExchange::new(alloc, table);
+    let mut exchange = MemoryExchange::new(alloc, table_of(rt, inventory, fault)?);
     let mut out = MemorySink::new(alloc, None);
     let mut errors = MemorySink::new(alloc, None);
     let mut events = events;
@@ -151,14 +168,20 @@ fn source(
     ))
 }
 
+fn is_written<R: AllocGlobal + Abort>(rt: &R, row: &Heard) -> Result<(), Fail> {
+    let (inventory, lines, before_failure, exit, text, fault) = *row;
+    let events = source(rt.alloc(), lines.as_bytes(), &[], before_failure)?;
+    let (got, out, errors, _) = runs(rt, inventory, None, events)?;
+    assert!(rt; got == exit, "{lines}");
+    assert!(rt; out.bytes() == text.as_bytes(), "{lines}");
+    assert!(rt; errors.bytes() == fault.as_bytes(), "{lines}");
+    Ok(())
+}
+
 #[test]
 fn live_runs_are_written(rt: HostRuntime) -> Result<(), Fail> {
-    for (inventory, lines, before_failure, exit, text, fault) in HEARD {
-        let events = source(rt.alloc(), lines.as_bytes(), &[], before_failure)?;
-        let (got, out, errors, _) = runs(&rt, inventory, None, events)?;
-        assert_eq!(rt; got, exit, "{lines}");
-        assert!(rt; out.bytes() == text.as_bytes(), "{lines}");
-        assert!(rt; errors.bytes() == fault.as_bytes(), "{lines}");
+    for row in &HEARD {
+        is_written(&rt, row)?;
     }
     Ok(())
 }

@@ -7,6 +7,7 @@ use crate::{Command, Exit, Inputs, obey};
 use keep_device::{InputFault, MemorySink};
 use keep_moment::Text;
 use std::alloc::Global;
+use std::process::Abort;
 use std::test::Fail;
 
 // Two files: the inventory of the web example, and its certificate.
@@ -42,7 +43,16 @@ enum Asked {
 
 // What is asked of which files, from 1000 on: the exit, the output and the fault line. The files are read in order, and
 // nothing is written where one is not read.
-const OBEYED: [(Asked, &str, &str, Exit, &str, &str); 11] = [
+type Obeyed = (
+    Asked,
+    &'static str,
+    &'static str,
+    Exit,
+    &'static str,
+    &'static str,
+);
+
+const OBEYED: [Obeyed; 11] = [
     (
         Asked::Ends,
         "web.toml",
@@ -153,24 +163,24 @@ fn command_of(alloc: Global, asked: Asked, file: &str, certificate: &str) -> Res
     })
 }
 
+fn is_obeyed<R: AllocGlobal + Abort>(rt: &R, row: &Obeyed) -> Result<(), Fail> {
+    let alloc = rt.alloc();
+    let (asked, file, certificate, exit, text, fault) = *row;
+    let command = command_of(alloc, asked, file, certificate)?;
+    let mut inputs = Folder;
+    let mut out = MemorySink::new(alloc, None);
+    let mut errors = MemorySink::new(alloc, None);
+    let got = obey(alloc, &command, &mut inputs, &mut out, &mut errors);
+    assert!(rt; got == exit, "{file} {certificate}");
+    assert!(rt; out.bytes() == text.as_bytes(), "{file} {certificate}");
+    assert!(rt; errors.bytes() == fault.as_bytes(), "{file} {certificate}");
+    Ok(())
+}
+
 #[test]
 fn commands_are_obeyed_over_files(rt: HostRuntime) -> Result<(), Fail> {
-    let alloc = rt.alloc();
-    for (asked, file, certificate, exit, text, fault) in OBEYED {
-        let command = command_of(alloc, asked, file, certificate)?;
-        let mut inputs = Folder;
-        let mut out = MemorySink::new(alloc, None);
-        let mut errors = MemorySink::new(alloc, None);
-        let got = obey(alloc, &command, &mut inputs, &mut out, &mut errors);
-        assert_eq!(rt; got, exit, "{file} {certificate} {text}");
-        assert!(rt;
-            out.bytes() == text.as_bytes(),
-            "{file} {certificate} {text}"
-        );
-        assert!(rt;
-            errors.bytes() == fault.as_bytes(),
-            "{file} {certificate} {text}"
-        );
+    for row in &OBEYED {
+        is_obeyed(&rt, row)?;
     }
     Ok(())
 }

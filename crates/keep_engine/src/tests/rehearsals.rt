@@ -210,12 +210,16 @@ fn rehearses<R: AllocGlobal + Abort>(
     Ok(())
 }
 
-#[test]
-fn rehearsals_are_written(rt: HostRuntime) -> Result<(), Fail> {
-    for (inventory, words, text) in REHEARSED {
-        rehearses(&rt, inventory, words, Exit::Done, text, "")?;
+fn rehearse_all<R: AllocGlobal + Abort>(rt: &R, rows: &[(&str, &str, &str)]) -> Result<(), Fail> {
+    for (inventory, words, text) in rows {
+        rehearses(rt, inventory, words, Exit::Done, text, "")?;
     }
     Ok(())
+}
+
+#[test]
+fn rehearsals_are_written(rt: HostRuntime) -> Result<(), Fail> {
+    rehearse_all(&rt, &REHEARSED)
 }
 
 #[test]
@@ -269,7 +273,14 @@ fn the_wire_of_a_rehearsal_is_its_last_exchange(rt: HostRuntime) -> Result<(), F
     let wire = exchange.wire();
     assert!(rt; wire.get(..REQUEST.len()) == Some(REQUEST), "the request");
     assert!(rt; wire.get(REQUEST.len()..) == Some(REPLY), "the reply");
-    let mut source = source_of(alloc, REQUEST)?;
+    is_asked(&rt, REQUEST)?;
+    is_answered(&rt, REPLY)
+}
+
+// The request of these bytes is the renewal of `web`.
+fn is_asked<R: AllocGlobal + Abort>(rt: &R, bytes: &[u8]) -> Result<(), Fail> {
+    let alloc = rt.alloc();
+    let mut source = source_of(alloc, bytes)?;
     let request = read_request(alloc, &mut source, 1048576)
         .ok()
         .ok_or("a request")?;
@@ -283,7 +294,13 @@ fn the_wire_of_a_rehearsal_is_its_last_exchange(rt: HostRuntime) -> Result<(), F
             .is_some_and(|token| token.list() == b"web".as_slice())
     );
     assert!(rt; request.body.list() == b"{\"increment\":60}".as_slice());
-    let mut source = source_of(alloc, REPLY)?;
+    Ok(())
+}
+
+// The reply of these bytes is the answer to it.
+fn is_answered<R: AllocGlobal + Abort>(rt: &R, bytes: &[u8]) -> Result<(), Fail> {
+    let alloc = rt.alloc();
+    let mut source = source_of(alloc, bytes)?;
     let reply = read_reply(alloc, &mut source, 1048576)
         .ok()
         .ok_or("a reply")?;

@@ -3,6 +3,7 @@ use super::rehearsals::{nobody, start, words_of};
 use crate::{Exit, run_rehearse};
 use keep_device::MemorySink;
 use std::alloc::Global;
+use std::process::Abort;
 use std::test::Fail;
 
 // A token with a lease, with these secrets.
@@ -92,6 +93,18 @@ const CARRIED: [(&str, &str); 2] = [
 // FAULT words after which the lease is the last that is asked for: it is told, refused, or its answer is lost.
 const LEASE_LAST: [&str; 3] = ["", "5=deny", "5=drop"];
 
+// Each of these secrets is carried, and none is shown.
+fn hides<R: Abort>(rt: &R, carried: &str, shown: &str, secrets: &[(&str, &str)]) {
+    assert!(rt; shown.contains("MemoryExchange"), "{shown}");
+    for (secret, numbers) in secrets {
+        assert!(rt; carried.contains(secret), "{carried}");
+        assert!(rt;
+            !shown.contains(secret) && !shown.contains(numbers),
+            "{shown}"
+        );
+    }
+}
+
 // What an exchange shows of itself holds no secret that it carried, neither as a text nor as the numbers of its bytes.
 #[test]
 fn an_exchange_shows_no_secret(rt: HostRuntime) -> Result<(), Fail> {
@@ -109,16 +122,13 @@ fn an_exchange_shows_no_secret(rt: HostRuntime) -> Result<(), Fail> {
             &mut exchange,
         );
         assert_eq!(rt; got, Exit::Done, "{words}");
-        let carried = str::from_utf8(exchange.wire())?;
         let shown = format!(in alloc; "{exchange:?}")?;
-        assert!(rt; shown.contains("MemoryExchange"), "{shown}");
-        for (secret, numbers) in CARRIED {
-            assert!(rt; carried.contains(secret), "{words}: {carried}");
-            assert!(rt;
-                !shown.contains(secret) && !shown.contains(numbers),
-                "{shown}"
-            );
-        }
+        hides(
+            &rt,
+            str::from_utf8(exchange.wire())?,
+            shown.as_str(),
+            &CARRIED,
+        );
     }
     Ok(())
 }

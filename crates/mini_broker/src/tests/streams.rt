@@ -1,9 +1,9 @@
 use super::{RENEW_SELF, WEB, moment, request, table};
-use crate::{MOST_REQUEST, StreamFault};
+use crate::StreamFault;
 use std::net::{IpAddr, Ipv4Addr, OpenListener, SocketAddr, TcpListener, TcpStream};
 use std::test::Fail;
 use vault_http::{
-    Counted, Device, MemoryPair, MemorySink, MemorySource, read_reply, write_request,
+    Counted, Device, MOST_MESSAGE, MemoryPair, MemorySink, MemorySource, read_reply, write_request,
 };
 
 const RENEWAL: &[u8] =
@@ -98,7 +98,7 @@ fn serves_over_a_socket(rt: HostRuntime) -> Result<(), Fail> {
     let mut stream = Counted::new(stream);
     assert_eq!(rt; table.serve_stream(moment(1059)?, &mut stream), Ok(()));
     drop(stream);
-    let got = read_reply(alloc, &mut client, MOST_REQUEST)
+    let got = read_reply(alloc, &mut client, MOST_MESSAGE)
         .ok()
         .ok_or("a reply")?;
     assert_eq!(rt; got.status, 200);
