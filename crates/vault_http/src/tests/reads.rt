@@ -1,6 +1,7 @@
 use super::source;
 use crate::{HttpFault, MemorySource, read_reply, read_request};
 use std::alloc::Global;
+use std::process::Abort;
 use std::test::Fail;
 
 /// A message of `n` bytes with this first line of 15, one byte a piece.
@@ -39,39 +40,50 @@ fn makes_4096_reads_for_a_request(rt: HostRuntime) -> Result<(), Fail> {
     Ok(())
 }
 
+// What refuses a message whatever follows, and its fault.
+const AT_ONCE: [(&[u8], HttpFault); 8] = [
+    (b"HTTP/2", HttpFault::BadHead),
+    (b"HTTP/1.1 2x", HttpFault::BadHead),
+    (b"HTTP/1.1 200 OK\r\nname\r", HttpFault::BadHead),
+    (b"HTTP/1.1 100 Continue\r\n\r\n", HttpFault::BadHead),
+    (
+        b"HTTP/1.1 200 OK\r\nContent-Length: 1x\r\n\r\n",
+        HttpFault::BadLength,
+    ),
+    (
+        b"HTTP/1.1 200 OK\r\nContent-Length: 0\r\nTransfer-Encoding: chunked\r\n\r\n",
+        HttpFault::TwoLengths,
+    ),
+    (
+        b"HTTP/1.1 200 OK\r\nTransfer-Encoding: chunked\r\n\r\n1\r\nab",
+        HttpFault::BadChunk,
+    ),
+    (
+        b"HTTP/1.1 200 OK\r\nContent-Length: 1048576\r\n\r\n",
+        HttpFault::TooLong,
+    ),
+];
+
 // The second read would fail, so none is made: what came refuses the message, whatever follows.
+fn refuses_at_once<R: AllocGlobal + Abort>(
+    rt: &R,
+    bytes: &[u8],
+    fault: HttpFault,
+) -> Result<(), Fail> {
+    let alloc = rt.alloc();
+    let mut source = source(alloc, bytes, &[], Some(1))?;
+    assert_eq!(rt;
+        read_reply(alloc, &mut source, 1048576).map(|_| ()),
+        Err(fault)
+    );
+    assert_eq!(rt; source.reads(), 1);
+    Ok(())
+}
+
 #[test]
 fn answers_a_fault_without_another_read(rt: HostRuntime) -> Result<(), Fail> {
-    let alloc = rt.alloc();
-    let cases: [(&[u8], HttpFault); 8] = [
-        (b"HTTP/2", HttpFault::BadHead),
-        (b"HTTP/1.1 2x", HttpFault::BadHead),
-        (b"HTTP/1.1 200 OK\r\nname\r", HttpFault::BadHead),
-        (b"HTTP/1.1 100 Continue\r\n\r\n", HttpFault::BadHead),
-        (
-            b"HTTP/1.1 200 OK\r\nContent-Length: 1x\r\n\r\n",
-            HttpFault::BadLength,
-        ),
-        (
-            b"HTTP/1.1 200 OK\r\nContent-Length: 0\r\nTransfer-Encoding: chunked\r\n\r\n",
-            HttpFault::TwoLengths,
-        ),
-        (
-            b"HTTP/1.1 200 OK\r\nTransfer-Encoding: chunked\r\n\r\n1\r\nab",
-            HttpFault::BadChunk,
-        ),
-        (
-            b"HTTP/1.1 200 OK\r\nContent-Length: 1048576\r\n\r\n",
-            HttpFault::TooLong,
-        ),
-    ];
-    for (bytes, fault) in cases {
-        let mut source = source(alloc, bytes, &[], Some(1))?;
-        assert_eq!(rt;
-            read_reply(alloc, &mut source, 1048576).map(|_| ()),
-            Err(fault)
-        );
-        assert_eq!(rt; source.reads(), 1);
+    for (bytes, fault) in AT_ONCE {
+        refuses_at_once(&rt, bytes, fault)?;
     }
     Ok(())
 }

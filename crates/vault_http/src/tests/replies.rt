@@ -1,5 +1,6 @@
 use super::{GRANT, reply_of, source};
 use crate::{Device, HttpFault, read_reply};
+use std::process::Abort;
 use std::test::Fail;
 
 const COUNTED: &[u8] = b"HTTP/1.1 200 OK\r\nContent-Length: 47\r\n\r\n\
@@ -29,126 +30,156 @@ fn reads_one_reply_however_it_is_framed_and_cut(rt: HostRuntime) -> Result<(), F
     Ok(())
 }
 
+// Replies that are refused, the greatest length and the fault.
+const REFUSED: [(&[u8], usize, HttpFault); 14] = [
+    (b"", 1048576, HttpFault::Truncated),
+    (
+        b"HTTP/1.1 200 OK\r\nContent-Length: 4x\r\n\r\nbody",
+        1048576,
+        HttpFault::BadLength,
+    ),
+    (
+        b"HTTP/1.1 200 OK\r\nContent-Length: 1000000000000000\r\n\r\n",
+        1048576,
+        HttpFault::BadLength,
+    ),
+    (
+        b"HTTP/1.1 200 OK\r\nContent-Length: 2\r\nContent-Length: 2\r\n\r\nok",
+        1048576,
+        HttpFault::BadLength,
+    ),
+    (
+        b"HTTP/1.1 200 OK\r\nContent-Length: 999999999999999\r\n\r\n",
+        1048576,
+        HttpFault::TooLong,
+    ),
+    (
+        b"HTTP/1.1 200 OK\r\nTransfer-Encoding: chunked\r\n\r\nzz\r\n",
+        1048576,
+        HttpFault::BadChunk,
+    ),
+    (
+        b"HTTP/1.1 200 OK\r\nTransfer-Encoding: chunked\r\n\r\nfffffffff\r\n",
+        1048576,
+        HttpFault::BadChunk,
+    ),
+    (
+        b"HTTP/1.1 200 OK\r\nTransfer-Encoding: chunked\r\n\r\n2\r\nokx\r\n",
+        1048576,
+        HttpFault::BadChunk,
+    ),
+    (
+        b"HTTP/1.1 200 OK\r\nTransfer-Encoding: chunked\r\n\r\n0\r\nTrailer: x\r\n\r\n",
+        1048576,
+        HttpFault::BadChunk,
+    ),
+    (
+        b"HTTP/1.1 200 OK\r\nTransfer-Encoding: chunked\r\nContent-Length: 2\r\n\r\n",
+        1048576,
+        HttpFault::TwoLengths,
+    ),
+    (
+        b"HTTP/1.1 200 OK\r\nTransfer-Encoding: gzip\r\n\r\n",
+        1048576,
+        HttpFault::BadLength,
+    ),
+    (
+        b"HTTP/1.1 100 Continue\r\n\r\n",
+        1048576,
+        HttpFault::BadHead,
+    ),
+    (b"HTTP/1.1 99 x\r\n\r\n", 1048576, HttpFault::BadHead),
+    (b"hello", 1048576, HttpFault::BadHead),
+];
+
+// Refused at once, and in small pieces.
+fn refuses<R: AllocGlobal + Abort>(
+    rt: &R,
+    text: &[u8],
+    max: usize,
+    fault: HttpFault,
+) -> Result<(), Fail> {
+    let alloc = rt.alloc();
+    assert_eq!(rt; reply_of(alloc, text, &[], max)?.err(), Some(fault));
+    assert_eq!(rt;
+        reply_of(alloc, text, &[1, 1, 1, 7, 2], max)?.err(),
+        Some(fault)
+    );
+    Ok(())
+}
+
 #[test]
 fn refuses_replies(rt: HostRuntime) -> Result<(), Fail> {
-    let alloc = rt.alloc();
-    let cases: [(&[u8], usize, HttpFault); 22] = [
-        (&COUNTED[..COUNTED.len() - 1], 1048576, HttpFault::Truncated),
-        (&CHUNKED[..CHUNKED.len() - 1], 1048576, HttpFault::Truncated),
-        (b"", 1048576, HttpFault::Truncated),
-        (COUNTED, 20, HttpFault::TooLong),
-        (CHUNKED, 20, HttpFault::TooLong),
-        (TO_END, 20, HttpFault::TooLong),
-        (COUNTED, COUNTED.len() - 1, HttpFault::TooLong),
-        (CHUNKED, CHUNKED.len() - 1, HttpFault::TooLong),
-        (TO_END, TO_END.len() - 1, HttpFault::TooLong),
-        (
-            b"HTTP/1.1 200 OK\r\nContent-Length: 4x\r\n\r\nbody",
-            1048576,
-            HttpFault::BadLength,
-        ),
-        (
-            b"HTTP/1.1 200 OK\r\nContent-Length: 1000000000000000\r\n\r\n",
-            1048576,
-            HttpFault::BadLength,
-        ),
-        (
-            b"HTTP/1.1 200 OK\r\nContent-Length: 2\r\nContent-Length: 2\r\n\r\nok",
-            1048576,
-            HttpFault::BadLength,
-        ),
-        (
-            b"HTTP/1.1 200 OK\r\nContent-Length: 999999999999999\r\n\r\n",
-            1048576,
-            HttpFault::TooLong,
-        ),
-        (
-            b"HTTP/1.1 200 OK\r\nTransfer-Encoding: chunked\r\n\r\nzz\r\n",
-            1048576,
-            HttpFault::BadChunk,
-        ),
-        (
-            b"HTTP/1.1 200 OK\r\nTransfer-Encoding: chunked\r\n\r\nfffffffff\r\n",
-            1048576,
-            HttpFault::BadChunk,
-        ),
-        (
-            b"HTTP/1.1 200 OK\r\nTransfer-Encoding: chunked\r\n\r\n2\r\nokx\r\n",
-            1048576,
-            HttpFault::BadChunk,
-        ),
-        (
-            b"HTTP/1.1 200 OK\r\nTransfer-Encoding: chunked\r\n\r\n0\r\nTrailer: x\r\n\r\n",
-            1048576,
-            HttpFault::BadChunk,
-        ),
-        (
-            b"HTTP/1.1 200 OK\r\nTransfer-Encoding: chunked\r\nContent-Length: 2\r\n\r\n",
-            1048576,
-            HttpFault::TwoLengths,
-        ),
-        (
-            b"HTTP/1.1 200 OK\r\nTransfer-Encoding: gzip\r\n\r\n",
-            1048576,
-            HttpFault::BadLength,
-        ),
-        (
-            b"HTTP/1.1 100 Continue\r\n\r\n",
-            1048576,
-            HttpFault::BadHead,
-        ),
-        (b"HTTP/1.1 99 x\r\n\r\n", 1048576, HttpFault::BadHead),
-        (b"hello", 1048576, HttpFault::BadHead),
-    ];
-    for (text, max, fault) in cases {
-        assert_eq!(rt; reply_of(alloc, text, &[], max)?.err(), Some(fault));
-        assert_eq!(rt;
-            reply_of(alloc, text, &[1, 1, 1, 7, 2], max)?.err(),
-            Some(fault)
-        );
+    for (text, max, fault) in REFUSED {
+        refuses(&rt, text, max, fault)?;
     }
     Ok(())
 }
 
 #[test]
-fn reads_other_replies(rt: HostRuntime) -> Result<(), Fail> {
-    let alloc = rt.alloc();
-    let cases: [(&[u8], u16, &[u8]); 6] = [
-        (
-            b"HTTP/1.1 204 No Content\r\nContent-Length: 5\r\n\r\n",
-            204,
-            b"",
-        ),
-        (b"HTTP/1.1 200 OK\r\n\r\n{}", 200, b"{}"),
-        (
-            b"HTTP/1.1 200 OK\r\ntransfer-encoding: Chunked\r\n\r\n1\r\n{\r\n1\r\n}\r\n0\r\n\r\nleft over",
-            200,
-            b"{}",
-        ),
-        (
-            b"HTTP/1.1 403 Forbidden\r\nContent-Length: 2\r\n\r\nno, and more",
-            403,
-            b"no",
-        ),
-        // As Vault sends a refusal and an answer without a body.
-        (
-            b"HTTP/1.1 403 Forbidden\r\nCache-Control: no-store\r\nContent-Type: application/json\r\n\
+fn refuses_replies_that_are_cut_or_too_long(rt: HostRuntime) -> Result<(), Fail> {
+    let cut = HttpFault::Truncated;
+    refuses(&rt, &COUNTED[..COUNTED.len() - 1], 1048576, cut)?;
+    refuses(&rt, &CHUNKED[..CHUNKED.len() - 1], 1048576, cut)?;
+    for text in [COUNTED, CHUNKED, TO_END] {
+        refuses(&rt, text, 20, HttpFault::TooLong)?;
+        refuses(&rt, text, text.len().saturating_sub(1), HttpFault::TooLong)?;
+    }
+    Ok(())
+}
+
+// Other replies, with their statuses and bodies.
+const OTHERS: [(&[u8], u16, &[u8]); 6] = [
+    (
+        b"HTTP/1.1 204 No Content\r\nContent-Length: 5\r\n\r\n",
+        204,
+        b"",
+    ),
+    (b"HTTP/1.1 200 OK\r\n\r\n{}", 200, b"{}"),
+    (
+        b"HTTP/1.1 200 OK\r\ntransfer-encoding: Chunked\r\n\r\n1\r\n{\r\n1\r\n}\r\n0\r\n\r\nleft over",
+        200,
+        b"{}",
+    ),
+    (
+        b"HTTP/1.1 403 Forbidden\r\nContent-Length: 2\r\n\r\nno, and more",
+        403,
+        b"no",
+    ),
+    // As Vault sends a refusal and an answer without a body.
+    (
+        b"HTTP/1.1 403 Forbidden\r\nCache-Control: no-store\r\nContent-Type: application/json\r\n\
 Strict-Transport-Security: max-age=31536000; includeSubDomains\r\nDate: Sun, 22 Nov 2026 09:00:00 GMT\r\n\
 Content-Length: 33\r\nConnection: close\r\n\r\n{\"errors\":[\"permission denied\"]}\n",
-            403,
-            b"{\"errors\":[\"permission denied\"]}\n",
-        ),
-        (
-            b"HTTP/1.1 204 No Content\r\nCache-Control: no-store\r\nContent-Type: application/json\r\n\
+        403,
+        b"{\"errors\":[\"permission denied\"]}\n",
+    ),
+    (
+        b"HTTP/1.1 204 No Content\r\nCache-Control: no-store\r\nContent-Type: application/json\r\n\
 Date: Sun, 22 Nov 2026 09:00:00 GMT\r\n\r\n",
-            204,
-            b"",
-        ),
-    ];
-    for (text, status, body) in cases {
-        let reply = reply_of(alloc, text, &[], 1048576)?.ok().ok_or("read")?;
-        assert_eq!(rt; reply.status, status);
-        assert_eq!(rt; reply.body.list(), body);
+        204,
+        b"",
+    ),
+];
+
+fn reads<R: AllocGlobal + Abort>(
+    rt: &R,
+    text: &[u8],
+    status: u16,
+    body: &[u8],
+) -> Result<(), Fail> {
+    let reply = reply_of(rt.alloc(), text, &[], 1048576)?
+        .ok()
+        .ok_or("read")?;
+    assert_eq!(rt; reply.status, status);
+    assert_eq!(rt; reply.body.list(), body);
+    Ok(())
+}
+
+#[test]
+fn reads_other_replies(rt: HostRuntime) -> Result<(), Fail> {
+    for (text, status, body) in OTHERS {
+        reads(&rt, text, status, body)?;
     }
     Ok(())
 }
