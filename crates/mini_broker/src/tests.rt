@@ -117,7 +117,10 @@ fn uses_each_fault_at_its_number(rt: HostRuntime) -> Result<(), Fail> {
     let alloc = rt.alloc();
     let mut table = table(alloc, WEB)?;
     for number in [10u32, 9, 8, 7, 6, 5, 4, 3, 2, 1] {
-        assert_eq!(rt; table.set_fault(number as u64, Fault::Short(number)), Ok(()));
+        assert_eq!(rt;
+            table.set_fault(number as u64, Fault::Short(number)),
+            Ok(())
+        );
     }
     let renewal = request(alloc, "POST", RENEW_SELF, "web", "")?;
     for end in [
