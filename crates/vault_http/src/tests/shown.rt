@@ -1,5 +1,21 @@
 use super::{RENEWAL, reply_of, request_of};
+use std::process::Abort;
 use std::test::Fail;
+
+// Fronts of the token, of the request's body and of the lease id, as texts and as the numbers of their bytes.
+const SECRETS: [&str; 5] = [
+    "s.web1",
+    "115, 46, 119",
+    "increment",
+    "db/creds",
+    "100, 98, 47",
+];
+
+fn hides<R: Abort>(rt: &R, shown: &str, secrets: &[&str]) {
+    for secret in secrets {
+        assert!(rt; !shown.contains(secret), "{shown}");
+    }
+}
 
 // Tokens and ids of leases are secret: neither a request nor a reply shows its own, as a text or as the numbers of its bytes.
 #[test]
@@ -12,15 +28,7 @@ fn no_secret_is_shown(rt: HostRuntime) -> Result<(), Fail> {
     let said = format!(in alloc; "{reply:?}")?;
     assert!(rt; asked.contains("POST"), "{asked}");
     assert!(rt; said.contains("200"), "{said}");
-    for secret in [
-        "s.web1",
-        "115, 46, 119",
-        "increment",
-        "db/creds",
-        "100, 98, 47",
-    ] {
-        assert!(rt; !asked.contains(secret), "{asked}");
-        assert!(rt; !said.contains(secret), "{said}");
-    }
+    hides(&rt, asked.as_str(), &SECRETS);
+    hides(&rt, said.as_str(), &SECRETS);
     Ok(())
 }

@@ -1,8 +1,13 @@
+ghost use Rattle.std.specs.Prelude.{◌≡◌, IfOk};
+ghost use Rattle.vault_http.specs.RoundTripRequest.{IsWritable};
+
 use super::{LOOKUP, RENEWAL, request};
-use crate::{Counted, Device, MemorySink, Reply, SendFault, write_reply, write_request};
+use crate::{Counted, Device, MemorySink, Reply, Request, SendFault, write_reply, write_request};
 use http::Method;
 use keep_moment::Text;
+use std::alloc::Global;
 use std::io::BufWriter;
+use std::process::Abort;
 use std::test::Fail;
 
 const DENIAL: &[u8] = b"HTTP/1.1 403 Forbidden\r\n\
@@ -11,6 +16,28 @@ Content-Length: 32\r\n\
 Connection: close\r\n\
 \r\n\
 {\"errors\":[\"permission denied\"]}";
+
+// The request is written as this text and flushed, and where its write or its flush fails, that is told.
+fn is_written<R: AllocGlobal + Abort>(rt: &R, request: &Request, text: &[u8]) -> Result<(), Fail> {
+    if !request.is_writable() {
+        return Err("a request".into());
+    }
+    let mut sink = MemorySink::new(rt.alloc(), None);
+    assert!(rt; write_request(rt.alloc(), &mut sink, request) == Ok(()));
+    assert!(rt; sink.bytes() == text && sink.is_flushed());
+    fails(rt, request, 0);
+    fails(rt, request, 1);
+    Ok(())
+}
+
+// The request is not written whole where this call of the sink fails.
+fn fails<R: AllocGlobal + Abort>(rt: &R, request: &Request, call: u64)
+    requires { IsWritable request.now }
+{
+    let mut sink = MemorySink::new(rt.alloc(), Some(call));
+    assert!(rt; write_request(rt.alloc(), &mut sink, request) == Err(SendFault::WriteFailed));
+    assert!(rt; sink.failures() == 1);
+}
 
 #[test]
 fn writes_requests(rt: HostRuntime) -> Result<(), Fail> {
@@ -22,6 +49,7 @@ fn writes_requests(rt: HostRuntime) -> Result<(), Fail> {
         b"s.web1",
         b"{\"increment\":60}",
     )?;
+    is_written(&rt, &renewal, RENEWAL)?;
     let lookup = request(
         alloc,
         Method::GET,
@@ -29,43 +57,29 @@ fn writes_requests(rt: HostRuntime) -> Result<(), Fail> {
         b"s.web1",
         b"",
     )?;
-    for (request, text) in [(&renewal, RENEWAL), (&lookup, LOOKUP)] {
-        if !request.is_writable() {
-            return Err("a request".into());
-        }
-        let mut sink = MemorySink::new(alloc, None);
-        assert_eq!(rt; write_request(alloc, &mut sink, request), Ok(()));
-        assert_eq!(rt; sink.bytes(), text);
-        assert!(rt; sink.is_flushed());
-        for call in 0..2 {
-            let mut sink = MemorySink::new(alloc, Some(call));
-            assert_eq!(rt;
-                write_request(alloc, &mut sink, request),
-                Err(SendFault::WriteFailed)
-            );
-            assert_eq!(rt; sink.failures(), 1);
-        }
-    }
-    Ok(())
+    is_written(&rt, &lookup, LOOKUP)
+}
+
+fn denial(alloc: Global) -> Result<Reply, Fail>
+    ensures { IfOk result (λ reply. reply.status ≡ 403) }
+{
+    Ok(Reply {
+        status: 403,
+        body: Text::of(alloc, b"{\"errors\":[\"permission denied\"]}")?,
+    })
 }
 
 #[test]
 fn writes_replies(rt: HostRuntime) -> Result<(), Fail> {
     let alloc = rt.alloc();
-    let reply = Reply {
-        status: 403,
-        body: Text::of(alloc, b"{\"errors\":[\"permission denied\"]}")?,
-    };
+    let reply = denial(alloc)?;
     let mut sink = MemorySink::new(alloc, None);
-    assert_eq!(rt; write_reply(alloc, &mut sink, &reply), Ok(()));
-    assert_eq!(rt; sink.bytes(), DENIAL);
+    assert!(rt; write_reply(alloc, &mut sink, &reply) == Ok(()));
+    assert!(rt; sink.bytes() == DENIAL);
     for call in 0..2 {
         let mut sink = MemorySink::new(alloc, Some(call));
-        assert_eq!(rt;
-            write_reply(alloc, &mut sink, &reply),
-            Err(SendFault::WriteFailed)
-        );
-        assert_eq!(rt; sink.failures(), 1);
+        assert!(rt; write_reply(alloc, &mut sink, &reply) == Err(SendFault::WriteFailed));
+        assert!(rt; sink.failures() == 1);
     }
     Ok(())
 }
@@ -74,16 +88,13 @@ fn writes_replies(rt: HostRuntime) -> Result<(), Fail> {
 #[test]
 fn flushes_what_is_kept_back(rt: HostRuntime) -> Result<(), Fail> {
     let alloc = rt.alloc();
-    let reply = Reply {
-        status: 403,
-        body: Text::of(alloc, b"{\"errors\":[\"permission denied\"]}")?,
-    };
+    let reply = denial(alloc)?;
     let held = BufWriter::new(alloc, Vec::new(alloc))
         .ok()
         .ok_or("a buffer")?;
     let mut out = Counted::new(held);
-    assert_eq!(rt; write_reply(alloc, &mut out, &reply), Ok(()));
+    assert!(rt; write_reply(alloc, &mut out, &reply) == Ok(()));
     let held = out.into_inner();
-    assert_eq!(rt; held.get_ref().as_slice(), DENIAL);
+    assert!(rt; held.get_ref().as_slice() == DENIAL);
     Ok(())
 }
