@@ -6,6 +6,7 @@ use http::Method;
 use keep_inventory::read;
 use keep_moment::{Moment, Text};
 use std::alloc::Global;
+use std::process::Abort;
 use std::test::Fail;
 use vault_http::{Reply, Request};
 
@@ -111,25 +112,30 @@ fn takes_each_fault_once(rt: HostRuntime) -> Result<(), Fail> {
     Ok(())
 }
 
+// The ends of `web` that ten short grants at 1000 come to, and at last one by the rule.
+const ENDS: [u64; 11] = [
+    1001, 1002, 1003, 1004, 1005, 1006, 1007, 1008, 1009, 1010, 1060,
+];
+
+// Each renewal of `web` at 1000 comes to the next of these ends.
+fn come_to<R: AllocGlobal + Abort>(rt: &R, table: &mut Table, ends: &[u64]) -> Result<(), Fail> {
+    let renewal = request(rt.alloc(), "POST", RENEW_SELF, "web", "")?;
+    for end in ends {
+        assert!(rt; reply(table, 1000, &renewal)?.status == 200);
+        assert!(rt; table.end_of(b"web") == Some(*end), "{end}");
+    }
+    Ok(())
+}
+
 // Ten faults, given from the last to the first: each is that of its own request, and the eleventh has none.
 #[test]
 fn uses_each_fault_at_its_number(rt: HostRuntime) -> Result<(), Fail> {
-    let alloc = rt.alloc();
-    let mut table = table(alloc, WEB)?;
-    for number in [10u32, 9, 8, 7, 6, 5, 4, 3, 2, 1] {
-        assert_eq!(rt;
-            table.set_fault(number as u64, Fault::Short(number)),
-            Ok(())
-        );
+    let mut table = table(rt.alloc(), WEB)?;
+    for before in 0..10u32 {
+        let number = 10 - before;
+        assert!(rt; table.set_fault(number as u64, Fault::Short(number)).is_ok());
     }
-    let renewal = request(alloc, "POST", RENEW_SELF, "web", "")?;
-    for end in [
-        1001u64, 1002, 1003, 1004, 1005, 1006, 1007, 1008, 1009, 1010, 1060,
-    ] {
-        assert_eq!(rt; reply(&mut table, 1000, &renewal)?.status, 200);
-        assert_eq!(rt; table.end_of(b"web"), Some(end));
-    }
-    Ok(())
+    come_to(&rt, &mut table, &ENDS)
 }
 
 // Token and lease at 1059, each row on a fresh table: the method, path, token and body, then the status and the reply's body.

@@ -1,9 +1,9 @@
 use super::{TOKEN_AND_LEASE, WEB};
 use crate::{Inventory, LookupFault, Terms, read};
-use keep_moment::Moment;
+use keep_moment::{Moment, Text};
 use std::process::Abort;
 use std::test::Fail;
-use vault_json::{Lookup, read_lookup_lease, read_lookup_self};
+use vault_json::Lookup;
 
 // A periodic token under an explicit max, with an increment beside its period.
 const PAY: &str =
@@ -13,29 +13,26 @@ const PAY: &str =
 const CHILD: &str =
     "[[token]]\nname = \"base\"\nissued = 1000\nend = 1100\nincrement = 100\n\n[[token]]\nname = \"child\"\nparent = \"base\"\nissued = 1000\nend = 1100\nincrement = 100\n";
 
-// What a token's lookup says: of an orphan with a period of a minute, of a second and with none, and of a child with none.
-const MINUTE: &str =
-    "{\"data\":{\"creation_time\":900,\"explicit_max_ttl\":200,\"orphan\":true,\"period\":60,\"renewable\":true,\"ttl\":60}}";
-
-const SECOND: &str =
-    "{\"data\":{\"creation_time\":900,\"explicit_max_ttl\":200,\"orphan\":true,\"period\":1,\"renewable\":true,\"ttl\":60}}";
-
-const APERIODIC: &str =
-    "{\"data\":{\"creation_time\":900,\"explicit_max_ttl\":200,\"orphan\":true,\"renewable\":true,\"ttl\":60}}";
-
-const APERIODIC_CHILD: &str =
-    "{\"data\":{\"creation_time\":900,\"explicit_max_ttl\":200,\"orphan\":false,\"renewable\":true,\"ttl\":60}}";
-
-fn token_lookup<R: AllocGlobal>(rt: &R, body: &str) -> Result<Lookup, Fail> {
-    Ok(read_lookup_self(rt.alloc(), body.as_bytes())?)
+// What a token's lookup says: it is under an explicit max of 200, and has a minute left.
+fn token_lookup(created: Moment, orphan: bool, period: u32) -> Lookup {
+    Lookup::Token {
+        ttl: 60,
+        created,
+        explicit_max: 200,
+        orphan,
+        renewable: true,
+        period,
+    }
 }
 
-fn lease_lookup<R: AllocGlobal>(rt: &R, id: &str) -> Result<Lookup, Fail> {
-    let alloc = rt.alloc();
-    let body = format!(in alloc;
-        "{{\"data\":{{\"id\":\"{id}\",\"issue_time\":\"1970-01-01T00:18:20Z\",\"renewable\":false,\"ttl\":30}}}}"
-    )?;
-    Ok(read_lookup_lease(alloc, body.as_bytes())?)
+// What the lookup of the lease with this id says: it has half a minute left.
+fn lease_lookup(id: Text, issued: Moment) -> Lookup {
+    Lookup::Lease {
+        id,
+        issued,
+        renewable: false,
+        ttl: 30,
+    }
 }
 
 // End, step, ceiling and issue of an entry.
@@ -65,22 +62,50 @@ fn apply<R: AllocGlobal>(
     Ok((answer, inventory))
 }
 
+// The lookup applied to an entry, after which it has this shape, and the first entry that one.
+fn is_told<R: AllocGlobal + Abort>(
+    rt: &R,
+    text: &str,
+    index: u32,
+    lookup: &Lookup,
+    now: u64,
+    shapes: [(u64, u32, Option<u64>, u64); 2],
+) -> Result<(), Fail> {
+    let (answer, inventory) = apply(rt, text, index, lookup, now)?;
+    assert!(rt; answer == Ok(()));
+    assert!(rt; shape(&inventory, index) == shapes[0]);
+    assert!(rt; shape(&inventory, 0) == shapes[1]);
+    Ok(())
+}
+
 #[test]
 fn a_lookup_applied(rt: HostRuntime) -> Result<(), Fail> {
-    let lookup = token_lookup(&rt, MINUTE)?;
-    let (answer, inventory) = apply(&rt, WEB, 0, &lookup, 1000)?;
-    assert_eq!(rt; answer, Ok(()));
-    assert_eq!(rt; shape(&inventory, 0), (1060, 60, Some(1100), 900));
-    let lease = lease_lookup(&rt, "db/creds/app/1")?;
-    let (answer, inventory) = apply(&rt, TOKEN_AND_LEASE, 1, &lease, 1100)?;
-    assert_eq!(rt; answer, Ok(()));
-    assert_eq!(rt; shape(&inventory, 1), (1130, 60, Some(10100), 1100));
-    assert_eq!(rt; shape(&inventory, 0), (1100, 100, Some(1150), 1000));
-    let child = token_lookup(&rt, APERIODIC_CHILD)?;
-    let (answer, inventory) = apply(&rt, CHILD, 1, &child, 1000)?;
-    assert_eq!(rt; answer, Ok(()));
-    assert_eq!(rt; shape(&inventory, 1), (1060, 100, Some(1100), 900));
-    Ok(())
+    let created = Moment::new(900).ok_or("a moment")?;
+    let web = (1060, 60, Some(1100), 900);
+    is_told(
+        &rt,
+        WEB,
+        0,
+        &token_lookup(created, true, 60),
+        1000,
+        [web, web],
+    )?;
+    let issued = Moment::new(1100).ok_or("a moment")?;
+    let lease = lease_lookup(Text::of(rt.alloc(), b"db/creds/app/1")?, issued);
+    let shapes = [(1130, 60, Some(10100), 1100), (1100, 100, Some(1150), 1000)];
+    is_told(&rt, TOKEN_AND_LEASE, 1, &lease, 1100, shapes)?;
+    let shapes = [
+        (1060, 100, Some(1100), 900),
+        (1100, 100, Some(2765800), 1000),
+    ];
+    is_told(
+        &rt,
+        CHILD,
+        1,
+        &token_lookup(created, false, 0),
+        1000,
+        shapes,
+    )
 }
 
 // An inventory, the index of the entry, why the lookup is refused, and what the entry stays.
@@ -138,10 +163,13 @@ fn leave<R: AllocGlobal + Abort>(rt: &R, lookup: &Lookup, rows: &[Refused]) -> R
 
 #[test]
 fn a_lookup_refused(rt: HostRuntime) -> Result<(), Fail> {
-    let token = token_lookup(&rt, MINUTE)?;
-    let short = token_lookup(&rt, SECOND)?;
-    let aperiodic = token_lookup(&rt, APERIODIC)?;
-    let lease = lease_lookup(&rt, "db/creds/app/2")?;
+    let token = token_lookup(Moment::new(900).ok_or("a moment")?, true, 60);
+    let short = token_lookup(Moment::new(900).ok_or("a moment")?, true, 1);
+    let aperiodic = token_lookup(Moment::new(900).ok_or("a moment")?, true, 0);
+    let lease = lease_lookup(
+        Text::of(rt.alloc(), b"db/creds/app/2")?,
+        Moment::new(1100).ok_or("a moment")?,
+    );
     leave(&rt, &token, &BY_A_MINUTE)?;
     leave(&rt, &short, &BY_A_SECOND)?;
     leave(&rt, &aperiodic, &WITHOUT_A_PERIOD)?;
