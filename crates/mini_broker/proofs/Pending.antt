@@ -6,7 +6,7 @@ use Rattle.std.proofs.lemmas.Bool.Decides.{nat_tests}
 use Rattle.std.proofs.lemmas.Cmp.{ranked}
 use Rattle.std.proofs.lemmas.List.Elements.{filter-append, filter_agree}
 use Rattle.std.proofs.lemmas.List.Folds.{find-append}
-use Rattle.std.specs.BTreeMap.{BTreeMap, IsEmpty, Updates, get, is_at}
+use Rattle.std.specs.BTreeMap.{BTreeMap, IsEmpty, Updates, get}
 use Rattle.std.specs.List.{filter, find}
 use Rattle.std.specs.Map.{lookup}
 use Rattle.std.specs.Option.{is_some, option_or}

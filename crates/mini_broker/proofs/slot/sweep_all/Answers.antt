@@ -1,5 +1,5 @@
 use Rattle.std.proofs.Common.{◌≡◌, ◌∙◌, ◌+◌, ◌-◌, ◌^◌, ap, arith, length, min, subst, sym}
-use Rattle.mini_broker.specs.Slots.{EndFrom, end_in, slot_at, stands}
+use Rattle.mini_broker.specs.Slots.{EndFrom, slot_at, stands}
 use Rattle.mini_broker.proofs.Keeping.{ends_first, ends_more}
 use Rattle.mini_broker.proofs.Living.{judged_all, judged_first, judged_length, judged_more, over_within}
 use Rattle.mini_broker.proofs.slot.sweep_all.Goals as goal

@@ -1,4 +1,4 @@
-use Rattle.std.proofs.Common.{◌≡◌, ◌∙◌, ◌<◌, ◌≤◌, ap, sym}
+use Rattle.std.proofs.Common.{◌∙◌, ◌<◌, ◌≤◌, ap, sym}
 use Rattle.mini_broker.specs.Faults.{Faults, fault_at}
 use Rattle.mini_broker.proofs.Pending.{fault_counted, fault_pending}
 use Rattle.mini_broker.proofs.faults.Faults.at.Goals as goal
