@@ -1,5 +1,5 @@
 -- The laws of replies as messages, and what the head of one says of it.
-use Rattle.std.proofs.Common.{◌≡◌, ℕ, ◌+◌, ◌-◌, ◌<◌, ◌≤◌, ◌⊎◌, inl, inr, Bool, true, false, nat_le, nat_lt, ◌&&◌, List, ◌++◌, ◌∷◌, [], length, take, drop, IsTrue, refl, sym, ap, ◌∙◌, arith, subst, Result, Ok, Err}
+use Rattle.std.proofs.Common.{◌≡◌, ℕ, ◌-◌, ◌<◌, ◌≤◌, ◌⊎◌, inl, inr, Bool, true, false, nat_le, nat_lt, ◌&&◌, List, ◌++◌, ◌∷◌, [], length, take, drop, IsTrue, refl, sym, ap, ◌∙◌, arith, subst, Result, Ok, Err}
 use Rattle.std.proofs.lemmas.Bool.{cases_lt, and_from, lt-ltb, le-ltb, le-leb, lt-leb}
 use Rattle.std.specs.List.{list_all}
 use Rattle.httparse.specs.Grammar.{print_response, print_blank, print_version, print_reason, print_end, print_section, HasNoResponse}

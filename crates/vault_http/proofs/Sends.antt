@@ -1,5 +1,5 @@
 -- Sends: a text all of which was written, and whose flush failed, for `send`.
-use Rattle.std.proofs.Common.{◌≡◌, ℕ, List, Option, Result, Ok, Err, OnErr, arith, length, subst, sym}
+use Rattle.std.proofs.Common.{ℕ, List, Option, Result, Ok, Err, OnErr, arith, length, subst, sym}
 use Rattle.std.proofs.KnownBytes.{Appends-kept}
 use Rattle.std.proofs.lemmas.List.{take_all}
 use Rattle.std.specs.Io.KnownBytes.{Appends, Keeps}

@@ -1,6 +1,6 @@
 -- What is known of a message of which not all bytes have come. The words are the code's own: no contract of the crate that is
 -- public names them.
-use Rattle.std.specs.Prelude.{◌≡◌, ℕ, ◌+◌, ◌-◌, ◌*◌, ◌<◌, ◌≤◌, ◌⊎◌, List, ◌++◌, length, take, drop, IsTrue, Result, Ok, Err}
+use Rattle.std.specs.Prelude.{◌≡◌, ℕ, ◌-◌, ◌*◌, ◌<◌, ◌≤◌, ◌⊎◌, List, ◌++◌, length, take, drop, IsTrue, Result, Ok, Err}
 use Rattle.std.specs.List.{list_all}
 use Rattle.vault_http.specs.declared.body.BodyFault.{BodyFault}
 use Rattle.vault_http.specs.declared.framing.Framing.{Framing}

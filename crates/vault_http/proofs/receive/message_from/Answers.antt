@@ -1,6 +1,6 @@
 -- An answer that stands for every input that goes on is that of the whole input; and where there is none, more is rightly
 -- waited for.
-use Rattle.std.proofs.Common.{◌≡◌, ℕ, ◌+◌, List, [], ◌++◌, arith, IsTrue, not, refl, sym, ◌∙◌, subst, rules}
+use Rattle.std.proofs.Common.{◌≡◌, ℕ, List, [], ◌++◌, arith, IsTrue, not, refl, sym, ◌∙◌, subst, rules}
 use Rattle.std.proofs.lemmas.Bool.{not-true}
 use Rattle.std.specs.Io.KnownBytes.{Keeps}
 use Rattle.vault_http.specs.Holding.{HandedNone}

@@ -1,5 +1,5 @@
 -- What the head of a request says of it.
-use Rattle.std.proofs.Common.{◌≡◌, ◌++◌, ◌-◌, ◌∙◌, ap, Err, refl, sym, subst, take}
+use Rattle.std.proofs.Common.{◌≡◌, ◌++◌, ◌∙◌, ap, Err, refl, sym, subst, take}
 use Rattle.vault_http.specs.declared.request.Request.{Request}
 use Rattle.vault_http.specs.Heads.{FoundRequest}
 use Rattle.vault_http.specs.Known.{IsHeaded}
