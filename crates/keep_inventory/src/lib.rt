@@ -18,8 +18,6 @@ mod lookup;
 mod register;
 mod row;
 mod terms;
-#[cfg(test)]
-mod tests;
 mod value;
 
 pub use document::read;

@@ -180,90 +180,89 @@ fn gives_runs(
     Ok(runs_of(alloc, &mut queue, most)?.as_slice() == runs)
 }
 
-// The web example, also with other needs and beside a base token and its big lease; a token with its lease; two tokens in
-// turn; increment two; and others. Of two that are alike the lower index forces.
+const WEB_AT_1000: [Forced; 3] = [(1059, 0, 0), (1118, 0, 0), (1177, 0, 0)];
+
+// Entries, and the wake-ups of both schedules: the web example, also with other needs and beside a base token and its big
+// lease; a token with its lease; two tokens in turn; increment two; and others. Of two that are alike the lower index forces.
+const FORCES: [(&[Row], &[Forced]); 10] = [
+    (&[WEB], &WEB_AT_1000),
+    (&[Row(None, 1060, 60, 1060)], &[]),
+    (&[Row(None, 1060, 60, 1061)], &[(1059, 0, 0)]),
+    (&[], &[]),
+    (&[Row(None, 1002, 2, 1010)], &INCREMENT_TWO),
+    (&[WEB, BASE, BIG], &WEB_AT_1000),
+    (&[TOKEN, LEASE], &[(1059, 1, 1), (1118, 1, 1), (1177, 1, 1)]),
+    (
+        &[A, B],
+        &[(1059, 0, 0), (1158, 1, 1), (1257, 1, 1), (1356, 1, 1)],
+    ),
+    (&[WEB, WEB], &WEB_AT_1000),
+    (&[SLOW, Row(None, 1500, 500, 1600)], &SLOW_AND_LATE),
+];
+
 #[test]
 fn both_schedules_give_the_forces(rt: HostRuntime) -> Result<(), Fail> {
-    let alloc = rt.alloc();
-    let web = [(1059, 0, 0), (1118, 0, 0), (1177, 0, 0)];
-    let cases: [(&[Row], &[Forced]); 10] = [
-        (&[WEB], &web),
-        (&[Row(None, 1060, 60, 1060)], &[]),
-        (&[Row(None, 1060, 60, 1061)], &[(1059, 0, 0)]),
-        (&[], &[]),
-        (&[Row(None, 1002, 2, 1010)], &INCREMENT_TWO),
-        (&[WEB, BASE, BIG], &web),
-        (&[TOKEN, LEASE], &[(1059, 1, 1), (1118, 1, 1), (1177, 1, 1)]),
-        (
-            &[A, B],
-            &[(1059, 0, 0), (1158, 1, 1), (1257, 1, 1), (1356, 1, 1)],
-        ),
-        (&[WEB, WEB], &web),
-        (&[SLOW, Row(None, 1500, 500, 1600)], &SLOW_AND_LATE),
-    ];
-    for (i, case) in cases.iter().enumerate() {
-        let (rows, forces) = *case;
-        assert!(rt; both_give(alloc, 1, rows, forces)?, "case {i}");
+    for (rows, forces) in &FORCES {
+        assert!(rt; both_give(rt.alloc(), 1, rows, forces)?, "{}", forces.len());
     }
-    assert!(rt;
-        both_give(
-            alloc,
-            10,
-            &[WEB],
-            &[(1050, 0, 0), (1100, 0, 0), (1150, 0, 0)]
-        )?
-    );
     Ok(())
 }
 
-// The web example, two tokens in turn, a token with its lease, ten million wake-ups, and an entry that joins: where it has
-// reached its need by then, the run goes on.
+const WITH_MARGIN_TEN: [Forced; 3] = [(1050, 0, 0), (1100, 0, 0), (1150, 0, 0)];
+
 #[test]
-fn the_queue_gives_the_longest_runs(rt: HostRuntime) -> Result<(), Fail> {
-    let alloc = rt.alloc();
-    let cases: [(&[Row], &[Grouped]); 6] = [
-        (&[WEB], &[(1059, 59, 3, 0, 0)]),
-        (&[A, B], &[(1059, 0, 1, 0, 0), (1158, 99, 3, 1, 1)]),
-        (&[TOKEN, LEASE], &[(1059, 59, 3, 1, 1)]),
-        (
-            &[Row(None, 1002, 2, 10001002)],
-            &[(1001, 1, 10000000, 0, 0)],
-        ),
-        (&[SLOW, Row(None, 1500, 500, 1590)], &[(99, 999, 10, 0, 0)]),
-        (
-            &[SLOW, Row(None, 1500, 500, 1600)],
-            &[(99, 999, 2, 0, 0), (1597, 0, 1, 1, 1), (2596, 999, 8, 0, 0)],
-        ),
-    ];
-    for (i, case) in cases.iter().enumerate() {
-        let (rows, runs) = *case;
-        assert!(rt; gives_runs(alloc, 1, rows, 10000001, runs)?, "case {i}");
-    }
-    assert!(rt;
-        gives_runs(
-            alloc,
-            10,
-            &[Row(None, 1060, 11, 1070)],
-            1000,
-            &[(1050, 1, 10, 0, 0)]
-        )?
-    );
+fn both_schedules_keep_the_margin(rt: HostRuntime) -> Result<(), Fail> {
+    assert!(rt; both_give(rt.alloc(), 10, &[WEB], &WITH_MARGIN_TEN)?);
     Ok(())
 }
+
+// Entries, and the runs of the queue: the web example, two tokens in turn, a token with its lease, ten million wake-ups, and
+// an entry that joins: where it has reached its need by then, the run goes on.
+const RUNS: [(&[Row], &[Grouped]); 6] = [
+    (&[WEB], &[(1059, 59, 3, 0, 0)]),
+    (&[A, B], &[(1059, 0, 1, 0, 0), (1158, 99, 3, 1, 1)]),
+    (&[TOKEN, LEASE], &[(1059, 59, 3, 1, 1)]),
+    (
+        &[Row(None, 1002, 2, 10001002)],
+        &[(1001, 1, 10000000, 0, 0)],
+    ),
+    (&[SLOW, Row(None, 1500, 500, 1590)], &[(99, 999, 10, 0, 0)]),
+    (
+        &[SLOW, Row(None, 1500, 500, 1600)],
+        &[(99, 999, 2, 0, 0), (1597, 0, 1, 1, 1), (2596, 999, 8, 0, 0)],
+    ),
+];
+
+#[test]
+fn the_queue_gives_the_longest_runs(rt: HostRuntime) -> Result<(), Fail> {
+    for (rows, runs) in &RUNS {
+        assert!(rt;
+            gives_runs(rt.alloc(), 1, rows, 10000001, runs)?,
+            "{}",
+            runs.len()
+        );
+    }
+    Ok(())
+}
+
+const TEN_SECONDS_EARLY: [Grouped; 1] = [(1050, 1, 10, 0, 0)];
+
+#[test]
+fn the_queue_keeps_the_margin(rt: HostRuntime) -> Result<(), Fail> {
+    let rows = [Row(None, 1060, 11, 1070)];
+    assert!(rt; gives_runs(rt.alloc(), 10, &rows, 1000, &TEN_SECONDS_EARLY)?);
+    Ok(())
+}
+
+// The web example in runs of at most two wake-ups, and of three.
+const CUT: [Grouped; 2] = [(1059, 59, 2, 0, 0), (1177, 0, 1, 0, 0)];
+
+const WHOLE: [Grouped; 1] = [(1059, 59, 3, 0, 0)];
 
 // A run is cut after the most wake-ups that are asked for.
 #[test]
 fn the_queue_cuts_a_run(rt: HostRuntime) -> Result<(), Fail> {
-    let alloc = rt.alloc();
-    assert!(rt;
-        gives_runs(
-            alloc,
-            1,
-            &[WEB],
-            2,
-            &[(1059, 59, 2, 0, 0), (1177, 0, 1, 0, 0)]
-        )?
-    );
-    assert!(rt; gives_runs(alloc, 1, &[WEB], 3, &[(1059, 59, 3, 0, 0)])?);
+    assert!(rt; gives_runs(rt.alloc(), 1, &[WEB], 2, &CUT)?);
+    assert!(rt; gives_runs(rt.alloc(), 1, &[WEB], 3, &WHOLE)?);
     Ok(())
 }

@@ -23,8 +23,6 @@ mod slot;
 mod stream;
 mod subject;
 mod table;
-#[cfg(test)]
-mod tests;
 
 pub use fault::{Fault, NumberedFault, SetFault};
 pub use moment_line::{LineFault, MOST_LINE, Moments, next_moment};

@@ -37,6 +37,3 @@ pub use reply::Reply;
 pub use request::Request;
 pub use round_trip::{held_is_read, http_limits_law, reply_reads_back, request_reads_back};
 pub use writing::{SendFault, write_reply, write_request};
-
-#[cfg(test)]
-mod tests;

@@ -71,20 +71,20 @@ fn both_count(alloc: Global, rows: &[Orphan]) -> Result<Option<u64>, Fail> {
     Err("a million wake-ups")?
 }
 
+// Tokens, and how many wake-ups both schedules give of them.
+const COUNTS: [(&[Orphan], u64); 5] = [
+    (&[PAY], 1),
+    (&[ENDED], 0),
+    (&[FIXED, LONG], 0),
+    (&[HUNDRED_THOUSAND], 100000),
+    (&[ONE_MORE], 100001),
+];
+
 // Both schedules give one list of these examples, as long as it has to be.
 #[test]
 fn both_schedules_give_as_many(rt: HostRuntime) -> Result<(), Fail> {
-    let alloc = rt.alloc();
-    let cases: [(&[Orphan], u64); 5] = [
-        (&[PAY], 1),
-        (&[ENDED], 0),
-        (&[FIXED, LONG], 0),
-        (&[HUNDRED_THOUSAND], 100000),
-        (&[ONE_MORE], 100001),
-    ];
-    for (i, case) in cases.iter().enumerate() {
-        let (rows, want) = *case;
-        assert_eq!(rt; both_count(alloc, rows)?, Some(want), "case {i}");
+    for (rows, want) in &COUNTS {
+        assert!(rt; both_count(rt.alloc(), rows)? == Some(*want), "{want}");
     }
     Ok(())
 }

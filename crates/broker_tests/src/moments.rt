@@ -1,0 +1,78 @@
+use crate::requests::{THREE_TOKENS, moment, table};
+use keep_device::{Device, MemorySource};
+use mini_broker::{LineFault, Moments, next_moment};
+use std::alloc::Global;
+use std::test::Fail;
+
+// Texts of lines, and the moments that they are read as, until one is none.
+const ROWS: [(&[u8], &[u64]); 12] = [
+    (b"", &[]),
+    (b"1059", &[]),
+    (b"\n", &[]),
+    (b"0\n", &[0]),
+    (b"1059\n1060\n", &[1059, 1060]),
+    (b"1059\n\n1060\n", &[1059]),
+    (b"1059\n01060\n", &[1059]),
+    (b"253402300799\n253402300800\n", &[253402300799]),
+    (b"+1\n", &[]),
+    (b"-1\n", &[]),
+    (b" 1\n", &[]),
+    (b"1\r\n", &[]),
+];
+
+fn source(
+    alloc: Global,
+    text: &[u8],
+    piece: usize,
+    fails_at: Option<u64>,
+) -> Result<MemorySource, Fail> {
+    Ok(MemorySource::new(
+        Vec::from_slice(alloc, text)?,
+        Vec::from_slice(alloc, &[piece])?,
+        fails_at,
+    ))
+}
+
+// What stands behind a line is left for the next; where one moment is for all, nothing is read.
+fn are_read(alloc: Global, text: &[u8], moments: &[u64]) -> Result<bool, Fail> {
+    let mut source = source(alloc, text, 3, None)?;
+    for seconds in moments {
+        if next_moment(alloc, Moments::Lines, &mut source) != Ok(moment(*seconds)?) {
+            return Ok(false);
+        }
+    }
+    let is_end = next_moment(alloc, Moments::Lines, &mut source) == Err(LineFault::NoMoment);
+    let seven = moment(7)?;
+    Ok(is_end && next_moment(alloc, Moments::All(seven), &mut source) == Ok(seven))
+}
+
+#[test]
+fn reads_the_moments_of_lines(rt: HostRuntime) -> Result<(), Fail> {
+    for (text, moments) in &ROWS {
+        assert!(rt; are_read(rt.alloc(), text, moments)?);
+    }
+    Ok(())
+}
+
+#[test]
+fn a_failed_read_is_no_moment(rt: HostRuntime) -> Result<(), Fail> {
+    let alloc = rt.alloc();
+    let mut source = source(alloc, b"1059\n1060\n", 1, Some(2))?;
+    let next = next_moment(alloc, Moments::Lines, &mut source);
+    assert!(rt; next == Err(LineFault::ReadFailed));
+    assert!(rt; source.failures() == 1);
+    Ok(())
+}
+
+// What a table shows of itself holds names, and no credential, neither as a text nor as the numbers of its bytes.
+#[test]
+fn no_credential_is_shown(rt: HostRuntime) -> Result<(), Fail> {
+    let alloc = rt.alloc();
+    let table = table(alloc, THREE_TOKENS)?;
+    let shown = format!(in alloc; "{table:?}")?;
+    assert!(rt; shown.contains("1100"));
+    for secret in ["s.T", "115, 46, 84", "db/creds", "100, 98, 47, 99"] {
+        assert!(rt; !shown.contains(secret), "{secret}");
+    }
+    Ok(())
+}

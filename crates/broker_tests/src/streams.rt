@@ -1,0 +1,149 @@
+use crate::requests::{RENEW_SELF, WEB, moment, request, table};
+use mini_broker::StreamFault;
+use std::alloc::Global;
+use std::net::{IpAddr, Ipv4Addr, OpenListener, SocketAddr, TcpListener, TcpStream};
+use std::test::Fail;
+use vault_http::{
+    Counted, Device, MOST_MESSAGE, MemoryPair, MemorySink, MemorySource, read_reply, write_request,
+};
+
+const RENEWAL: &[u8] =
+    b"POST /v1/auth/token/renew-self HTTP/1.1\r\nX-Vault-Token: web\r\nContent-Length: 0\r\n\r\n";
+
+const RENEWED: &[u8] =
+    b"HTTP/1.1 200 OK\r\nContent-Type: application/json\r\nContent-Length: 47\r\nConnection: close\r\n\r\n\
+{\"auth\":{\"lease_duration\":60,\"renewable\":true}}";
+
+const GRANT: &[u8] = b"{\"auth\":{\"lease_duration\":60,\"renewable\":true}}";
+
+const BAD_REQUEST: &[u8] =
+    b"HTTP/1.1 400 Bad Request\r\nContent-Type: application/json\r\nContent-Length: 26\r\nConnection: close\r\n\r\n\
+{\"errors\":[\"bad request\"]}";
+
+/// The renewal over a source in pieces of 1 and 30 bytes, and a sink.
+fn stream(
+    alloc: Global,
+    input: &[u8],
+    read: Option<u64>,
+    write: Option<u64>,
+) -> Result<MemoryPair, Fail> {
+    let source = MemorySource::new(
+        Vec::from_slice(alloc, input)?,
+        Vec::from_slice(alloc, &[1, 30])?,
+        read,
+    );
+    Ok(MemoryPair::new(source, MemorySink::new(alloc, write)))
+}
+
+// What a stream says, what it is answered, and the end of `web` behind it.
+const SERVED: [(&[u8], &[u8], u64); 5] = [
+    (RENEWAL, RENEWED, 1119),
+    (b"hello\r\n\r\n", BAD_REQUEST, 1060),
+    (
+        b"POST / HTTP/1.1\r\nContent-Length: x\r\n\r\n",
+        BAD_REQUEST,
+        1060,
+    ),
+    (
+        b"POST / HTTP/1.1\r\nContent-Length: 1048576\r\n\r\n",
+        BAD_REQUEST,
+        1060,
+    ),
+    (b"POST /v1/auth/token/renew-self HTTP/1.1\r\n", b"", 1060),
+];
+
+fn is_served(alloc: Global, input: &[u8], output: &[u8], end: u64) -> Result<bool, Fail> {
+    let mut table = table(alloc, WEB)?;
+    let mut stream = stream(alloc, input, None, None)?;
+    let is_well = table.serve_stream(moment(1059)?, &mut stream).is_ok();
+    Ok(is_well && stream.sink() == output && table.end_of(b"web") == Some(end))
+}
+
+#[test]
+fn serves_a_stream(rt: HostRuntime) -> Result<(), Fail> {
+    for (input, output, end) in &SERVED {
+        assert!(rt; is_served(rt.alloc(), input, output, *end)?, "{end}");
+    }
+    Ok(())
+}
+
+// Whether the renewal over this stream comes to that answer and that end, and each fault of the stream is counted.
+fn comes_to(
+    alloc: Global,
+    stream: &mut MemoryPair,
+    answer: Result<(), StreamFault>,
+    end: u64,
+) -> Result<bool, Fail> {
+    let mut table = table(alloc, WEB)?;
+    let is_answer = table.serve_stream(moment(1059)?, stream) == answer;
+    let failures = if answer.is_ok() { 0 } else { 1 };
+    Ok(is_answer && stream.failures() == failures && table.end_of(b"web") == Some(end))
+}
+
+// Each read fails in turn, and leaves the table.
+#[test]
+fn fails_where_a_read_fails(rt: HostRuntime) -> Result<(), Fail> {
+    for at in 0..2 {
+        let mut stream = stream(rt.alloc(), RENEWAL, Some(at), None)?;
+        assert!(rt;
+            comes_to(rt.alloc(), &mut stream, Err(StreamFault::ReadFailed), 1060)?,
+            "{at}"
+        );
+    }
+    Ok(())
+}
+
+// Each write fails in turn, and leaves the table as it was served; there are two.
+#[test]
+fn fails_where_a_write_fails(rt: HostRuntime) -> Result<(), Fail> {
+    for at in 0..2 {
+        let mut stream = stream(rt.alloc(), RENEWAL, None, Some(at))?;
+        assert!(rt;
+            comes_to(rt.alloc(), &mut stream, Err(StreamFault::WriteFailed), 1119)?,
+            "{at}"
+        );
+    }
+    let mut stream = stream(rt.alloc(), RENEWAL, None, Some(2))?;
+    assert!(rt; comes_to(rt.alloc(), &mut stream, Ok(()), 1119)?);
+    Ok(())
+}
+
+/// Both ends of a connection of this machine with itself.
+fn connection(rt: &HostRuntime) -> Result<(TcpStream, TcpStream), Fail> {
+    let any = SocketAddr::new(IpAddr::V4(Ipv4Addr::LOCALHOST), 0);
+    let listener = TcpListener::bind(rt, any).ok().ok_or("bind")?;
+    let port = listener.local_addr().ok().ok_or("address")?.port();
+    let local = SocketAddr::new(IpAddr::V4(Ipv4Addr::LOCALHOST), port);
+    let client = TcpStream::connect(rt, local).ok().ok_or("connect")?;
+    let (server, _) = listener.accept().ok().ok_or("accept")?;
+    Ok((client, server))
+}
+
+/// Sends the renewal of `web`.
+fn ask(alloc: Global, client: &mut Counted<TcpStream>) -> Result<(), Fail> {
+    let renewal = request(alloc, "POST", RENEW_SELF, "web", "{\"increment\":60}")?;
+    if !renewal.is_writable() {
+        return Err("a request".into());
+    }
+    Ok(
+        write_request(alloc, client, &renewal)
+            .ok()
+            .ok_or("a write")?,
+    )
+}
+
+#[test]
+fn serves_over_a_socket(rt: HostRuntime) -> Result<(), Fail> {
+    let (client, server) = connection(&rt)?;
+    let mut client = Counted::new(client);
+    let mut server = Counted::new(server);
+    ask(rt.alloc(), &mut client)?;
+    let mut table = table(rt.alloc(), WEB)?;
+    assert!(&rt; table.serve_stream(moment(1059)?, &mut server).is_ok());
+    drop(server);
+    let got = read_reply(rt.alloc(), &mut client, MOST_MESSAGE);
+    let got = got.ok().ok_or("a reply")?;
+    assert!(&rt; got.status == 200);
+    assert!(&rt; got.body.list() == GRANT);
+    Ok(())
+}

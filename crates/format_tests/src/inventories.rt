@@ -1,0 +1,324 @@
+mod faulty;
+mod lookups;
+
+use faulty::FAULTY;
+use keep_inventory::{InvFault, Inventory, Key, Terms, read};
+use keep_moment::{Moment, Name};
+use keep_tree::{Entry, Kind};
+use std::process::Abort;
+use std::test::Fail;
+
+// The inventory with one token that is due: `web`, end 1060, increment 60, needed to 1200.
+const WEB: &str =
+    "[[token]]\nname = \"web\"\nissued = 1000\nend = 1060\nincrement = 60\nmax_ttl = 9000\nneed = 1200\n";
+
+// A token and its lease, each with a credential of its own, and the lease written first.
+const TOKEN_AND_LEASE: &str =
+    "[[lease]]\nname = \"L\"\ntoken = \"T\"\nissued = \"1970-01-01T00:16:40Z\"\nend = \"1970-01-01T01:17:40+01:00\"\nincrement = 60\nmax_ttl = 9000\nneed = \"1970-01-01t00:20:00.9z\"\nlease_id = \"db/creds/app/1\"\n\n[[token]]\nname = \"T\"\nissued = 1000\nend = 1100\nincrement = 100\nmax_ttl = 150\nsecret = \"s.1234\"\n";
+
+// Each text is refused with the fault beside it.
+fn refuses<R: AllocGlobal + Abort>(rt: &R, rows: &[(&str, InvFault)]) {
+    for (text, fault) in rows {
+        assert_eq!(rt;
+            read(rt.alloc(), text.as_bytes()).err(),
+            Some(*fault),
+            "{text}"
+        );
+    }
+}
+
+#[test]
+fn faults_in_order(rt: HostRuntime) {
+    refuses(&rt, &FAULTY);
+    assert_eq!(rt; read(rt.alloc(), b"# \xff").err(), Some(InvFault::NotToml));
+}
+
+// The entry at an index, its credential and its terms.
+fn holds<R: Abort>(
+    rt: &R,
+    inventory: &Inventory,
+    index: u32,
+    entry: &Entry,
+    credential: &str,
+    terms: Terms,
+) {
+    assert!(rt; index < inventory.forest().len());
+    assert!(rt; inventory.forest().get(index) == entry, "the entry");
+    assert!(rt;
+        inventory.credential(index) == credential.as_bytes(),
+        "the credential"
+    );
+    assert!(rt; inventory.terms(index) == terms, "the terms");
+}
+
+#[test]
+fn the_web_example(rt: HostRuntime) -> Result<(), Fail> {
+    let alloc = rt.alloc();
+    let inventory = read(alloc, WEB.as_bytes())?;
+    assert!(rt; inventory.forest().len() == 1);
+    assert_eq!(rt; inventory.forest().margin(), 1);
+    let web = Entry {
+        name: Name::of(alloc, b"web")?,
+        kind: Kind::Token,
+        parent: None,
+        end: 1060,
+        renewable: true,
+        step: 60,
+        ceiling: Some(10000),
+        need: 1200,
+    };
+    let terms = Terms {
+        issued: Moment::new(1000).ok_or("a moment")?,
+        increment: Some(60),
+        period: 0,
+        max_ttl: 9000,
+        explicit_max: 0,
+    };
+    holds(&rt, &inventory, 0, &web, "web", terms);
+    let (forest, credentials) = inventory.into_parts();
+    assert!(rt; forest.len() == 1);
+    assert!(rt; credentials.get(0) == b"web".as_slice());
+    Ok(())
+}
+
+#[test]
+fn a_token_and_its_lease(rt: HostRuntime) -> Result<(), Fail> {
+    let alloc = rt.alloc();
+    let inventory = read(alloc, TOKEN_AND_LEASE.as_bytes())?;
+    assert!(rt; inventory.forest().len() == 2);
+    let issued = Moment::new(1000).ok_or("a moment")?;
+    let token = Entry {
+        name: Name::of(alloc, b"T")?,
+        kind: Kind::Token,
+        parent: None,
+        end: 1100,
+        renewable: true,
+        step: 100,
+        ceiling: Some(1150),
+        need: 0,
+    };
+    let terms = Terms {
+        issued,
+        increment: Some(100),
+        period: 0,
+        max_ttl: 150,
+        explicit_max: 0,
+    };
+    holds(&rt, &inventory, 0, &token, "s.1234", terms);
+    let lease = Entry {
+        name: Name::of(alloc, b"L")?,
+        kind: Kind::Lease,
+        parent: Some(0),
+        end: 1060,
+        renewable: true,
+        step: 60,
+        ceiling: Some(10000),
+        need: 1200,
+    };
+    let terms = Terms {
+        issued,
+        increment: Some(60),
+        period: 0,
+        max_ttl: 9000,
+        explicit_max: 0,
+    };
+    holds(&rt, &inventory, 1, &lease, "db/creds/app/1", terms);
+    let (forest, credentials) = inventory.into_parts();
+    assert!(rt; forest.len() == 2);
+    assert!(rt; credentials.get(1) == b"db/creds/app/1".as_slice());
+    Ok(())
+}
+
+// The keys of a token, and the step and ceiling that they come to.
+const STEPS: [(&str, u32, Option<u64>); 10] = [
+    (
+        "issued = 900\nend = 1060\nperiod = 60\nexplicit_max_ttl = 200",
+        60,
+        Some(1100),
+    ),
+    (
+        "issued = 900\nend = 1060\nperiod = 60\nincrement = 30\nexplicit_max_ttl = 200",
+        60,
+        Some(1100),
+    ),
+    (
+        "issued = 900\nend = 1060\nperiod = 60\nmax_ttl = 100",
+        60,
+        None,
+    ),
+    (
+        "issued = 900\nend = 1060\nincrement = 30\nmax_ttl = 100\nexplicit_max_ttl = 200",
+        30,
+        Some(1000),
+    ),
+    (
+        "issued = 900\nend = 1060\nincrement = 30\nmax_ttl = 300\nexplicit_max_ttl = 200",
+        30,
+        Some(1100),
+    ),
+    (
+        "issued = 900\nend = 1060\nincrement = 30\nmax_ttl = 300\nexplicit_max_ttl = 0",
+        30,
+        Some(1200),
+    ),
+    (
+        "issued = 900\nend = 1060\nincrement = 30\nmax_ttl = 0",
+        30,
+        Some(1400),
+    ),
+    ("issued = 900\nend = 1060\nincrement = 30", 30, Some(1400)),
+    (
+        "issued = 900\nend = 1060\nincrement = 30\nmax_ttl = 501",
+        30,
+        Some(1401),
+    ),
+    (
+        "issued = 0x384\nend = 1_060\nincrement = +30\nperiod = -0\nneed = 0",
+        30,
+        Some(1400),
+    ),
+];
+
+fn has_step<R: AllocGlobal + Abort>(
+    rt: &R,
+    keys: &str,
+    step: u32,
+    ceiling: Option<u64>,
+) -> Result<(), Fail> {
+    let alloc = rt.alloc();
+    let text = format!(in alloc;
+        "system_max = 500\nmargin = 10\n[[token]]\nname = \"pay\"\nrenewable = false\n{keys}"
+    )?;
+    let inventory = read(alloc, text.as_bytes())?;
+    assert!(rt; inventory.forest().len() == 1);
+    assert_eq!(rt; inventory.forest().margin(), 10);
+    let entry = inventory.forest().get(0);
+    assert!(rt;
+        entry.step == step && entry.ceiling == ceiling && !entry.renewable,
+        "{keys}"
+    );
+    Ok(())
+}
+
+fn have_steps<R: AllocGlobal + Abort>(
+    rt: &R,
+    rows: &[(&str, u32, Option<u64>)],
+) -> Result<(), Fail> {
+    for (keys, step, ceiling) in rows {
+        has_step(rt, keys, *step, *ceiling)?;
+    }
+    Ok(())
+}
+
+// Step and ceiling by increment, period, maximum TTLs and the system's maximum; the margin of the top level.
+#[test]
+fn steps_and_ceilings(rt: HostRuntime) -> Result<(), Fail> {
+    have_steps(&rt, &STEPS)?;
+    let alloc = rt.alloc();
+    let absent = read(
+        alloc,
+        b"token = [{name = \"a\", issued = 1000, end = 1060, increment = 60}]",
+    )?;
+    assert!(rt; absent.forest().len() == 1);
+    assert_eq!(rt; absent.forest().get(0).ceiling, Some(2765800));
+    assert!(rt; read(alloc, b"")?.forest().is_empty());
+    Ok(())
+}
+
+// For which lengths a front of the web example is refused, both ends counted, and with which fault.
+const REFUSED_FRONTS: [(usize, usize, InvFault); 11] = [
+    (1, 8, InvFault::NotToml),
+    (9, 10, InvFault::MissingKey(0, Key::Name)),
+    (11, 21, InvFault::NotToml),
+    (22, 23, InvFault::MissingKey(0, Key::Issued)),
+    (24, 32, InvFault::NotToml),
+    (33, 37, InvFault::MissingKey(0, Key::End)),
+    (38, 43, InvFault::NotToml),
+    (44, 48, InvFault::MissingKey(0, Key::Increment)),
+    (49, 60, InvFault::NotToml),
+    (64, 73, InvFault::NotToml),
+    (79, 85, InvFault::NotToml),
+];
+
+// For which lengths a front of the web example is read, both ends counted, and the token's step, ceiling and need.
+const READ_FRONTS: [(usize, usize, u32, u64, u64); 10] = [
+    (61, 61, 6, 2765800, 0),
+    (62, 63, 60, 2765800, 0),
+    (74, 74, 60, 1009, 0),
+    (75, 75, 60, 1090, 0),
+    (76, 76, 60, 1900, 0),
+    (77, 78, 60, 10000, 0),
+    (86, 86, 60, 10000, 1),
+    (87, 87, 60, 10000, 12),
+    (88, 88, 60, 10000, 120),
+    (89, 90, 60, 10000, 1200),
+];
+
+fn refuses_front<R: AllocGlobal + Abort>(rt: &R, length: usize, fault: InvFault) {
+    let front = WEB.as_bytes().get(..length);
+    assert!(rt; front.is_some());
+    assert_eq!(rt;
+        read(rt.alloc(), front.unwrap_or_default()).err(),
+        Some(fault),
+        "{length}"
+    );
+}
+
+fn reads_front<R: AllocGlobal + Abort>(
+    rt: &R,
+    length: usize,
+    step: u32,
+    ceiling: u64,
+    need: u64,
+) -> Result<(), Fail> {
+    let inventory = read(rt.alloc(), WEB.as_bytes().get(..length).ok_or("a front")?)?;
+    assert!(rt; inventory.forest().len() == 1);
+    let entry = inventory.forest().get(0);
+    assert!(rt;
+        entry.step == step && entry.ceiling == Some(ceiling) && entry.need == need,
+        "{length}"
+    );
+    Ok(())
+}
+
+// Each front of the web example is refused by its fault, or read as the token that it holds.
+#[test]
+fn fronts_of_the_web_example(rt: HostRuntime) -> Result<(), Fail> {
+    assert!(rt; WEB.len() == 90);
+    assert!(rt; read(rt.alloc(), b"")?.forest().is_empty());
+    for (from, to, fault) in REFUSED_FRONTS {
+        for length in from..=to {
+            refuses_front(&rt, length, fault);
+        }
+    }
+    for (from, to, step, ceiling, need) in READ_FRONTS {
+        for length in from..=to {
+            reads_front(&rt, length, step, ceiling, need)?;
+        }
+    }
+    Ok(())
+}
+
+// Fronts of the two credentials, as texts and as the numbers of their bytes.
+const SECRETS: [&str; 4] = ["s.1234", "115, 46, 49, 50", "db/creds", "100, 98, 47, 99"];
+
+fn hides<R: Abort>(rt: &R, shown: &str, secrets: &[&str]) {
+    for secret in secrets {
+        assert!(rt; !shown.contains(secret), "{secret}");
+    }
+}
+
+// What an inventory shows of itself holds no credential, neither as a text nor as the numbers of its bytes.
+#[test]
+fn no_credential_is_shown(rt: HostRuntime) -> Result<(), Fail> {
+    let alloc = rt.alloc();
+    let inventory = read(alloc, TOKEN_AND_LEASE.as_bytes())?;
+    let shown = format!(in alloc; "{inventory:?}")?;
+    assert!(rt; shown.contains("1150"));
+    hides(&rt, &shown, &SECRETS);
+    let (_forest, credentials) = inventory.into_parts();
+    let shown = format!(in alloc; "{credentials:?}")?;
+    assert!(rt; shown.contains("Credentials"));
+    hides(&rt, &shown, &SECRETS);
+    Ok(())
+}

@@ -1,0 +1,100 @@
+use super::source;
+use std::alloc::Global;
+use std::process::Abort;
+use std::test::Fail;
+use vault_http::{HttpFault, MemorySource, read_reply, read_request};
+
+/// A message of `n` bytes with this first line of 15, one byte a piece.
+fn one_by_one(alloc: Global, line: &str, n: usize) -> Result<MemorySource, Fail> {
+    let rest = n.saturating_sub(41);
+    let head = format!(in alloc; "{line}\r\nContent-Length: {rest}\r\n\r\n")?;
+    let mut bytes = Vec::from_slice(alloc, head.as_bytes())?;
+    let body = vec![in alloc; b'x'; rest]?;
+    bytes.extend_from_slice(&body)?;
+    let pieces = vec![in alloc; 1usize; n]?;
+    Ok(MemorySource::new(bytes, pieces, None))
+}
+
+// What 4,096 reads hand out is judged, and no read more is made.
+#[test]
+fn makes_4096_reads_for_a_reply(rt: HostRuntime) -> Result<(), Fail> {
+    let alloc = rt.alloc();
+    for (n, want) in [(4096, Ok(200)), (4097, Err(HttpFault::TooLong))] {
+        let mut source = one_by_one(alloc, "HTTP/1.1 200 OK", n)?;
+        let got = read_reply(alloc, &mut source, 1048576);
+        assert_eq!(rt; got.map(|reply| reply.status), want);
+        assert_eq!(rt; source.reads(), 4096);
+    }
+    Ok(())
+}
+
+#[test]
+fn makes_4096_reads_for_a_request(rt: HostRuntime) -> Result<(), Fail> {
+    let alloc = rt.alloc();
+    for (n, want) in [(4096, Ok(4055)), (4097, Err(HttpFault::TooLong))] {
+        let mut source = one_by_one(alloc, "POST / HTTP/1.1", n)?;
+        let got = read_request(alloc, &mut source, 1048576);
+        assert_eq!(rt; got.map(|request| request.body.list().len()), want);
+        assert_eq!(rt; source.reads(), 4096);
+    }
+    Ok(())
+}
+
+// What refuses a message whatever follows, and its fault.
+const AT_ONCE: [(&[u8], HttpFault); 8] = [
+    (b"HTTP/2", HttpFault::BadHead),
+    (b"HTTP/1.1 2x", HttpFault::BadHead),
+    (b"HTTP/1.1 200 OK\r\nname\r", HttpFault::BadHead),
+    (b"HTTP/1.1 100 Continue\r\n\r\n", HttpFault::BadHead),
+    (
+        b"HTTP/1.1 200 OK\r\nContent-Length: 1x\r\n\r\n",
+        HttpFault::BadLength,
+    ),
+    (
+        b"HTTP/1.1 200 OK\r\nContent-Length: 0\r\nTransfer-Encoding: chunked\r\n\r\n",
+        HttpFault::TwoLengths,
+    ),
+    (
+        b"HTTP/1.1 200 OK\r\nTransfer-Encoding: chunked\r\n\r\n1\r\nab",
+        HttpFault::BadChunk,
+    ),
+    (
+        b"HTTP/1.1 200 OK\r\nContent-Length: 1048576\r\n\r\n",
+        HttpFault::TooLong,
+    ),
+];
+
+// The second read would fail, so none is made: what came refuses the message, whatever follows.
+fn refuses_at_once<R: AllocGlobal + Abort>(
+    rt: &R,
+    bytes: &[u8],
+    fault: HttpFault,
+) -> Result<(), Fail> {
+    let alloc = rt.alloc();
+    let mut source = source(alloc, bytes, &[], Some(1))?;
+    assert_eq!(rt;
+        read_reply(alloc, &mut source, 1048576).map(|_| ()),
+        Err(fault)
+    );
+    assert_eq!(rt; source.reads(), 1);
+    Ok(())
+}
+
+#[test]
+fn answers_a_fault_without_another_read(rt: HostRuntime) -> Result<(), Fail> {
+    for (bytes, fault) in AT_ONCE {
+        refuses_at_once(&rt, bytes, fault)?;
+    }
+    Ok(())
+}
+
+// No byte may be read, so none is.
+#[test]
+fn reads_nothing_where_nothing_fits(rt: HostRuntime) -> Result<(), Fail> {
+    let alloc = rt.alloc();
+    let mut source = source(alloc, b"GET / HTTP/1.1\r\n\r\n", &[], None)?;
+    let got = read_request(alloc, &mut source, 0);
+    assert_eq!(rt; got.map(|_| ()), Err(HttpFault::TooLong));
+    assert_eq!(rt; source.reads(), 0);
+    Ok(())
+}

@@ -1,0 +1,251 @@
+use super::{GRANT, reply_of, source};
+use std::process::Abort;
+use std::test::Fail;
+use vault_http::{Device, HttpFault, read_reply};
+
+const COUNTED: &[u8] = b"HTTP/1.1 200 OK\r\nContent-Length: 47\r\n\r\n\
+{\"auth\":{\"lease_duration\":60,\"renewable\":true}}";
+
+const CHUNKED: &[u8] = b"HTTP/1.1 200 OK\r\nTransfer-Encoding: chunked\r\n\r\n\
+2f\r\n{\"auth\":{\"lease_duration\":60,\"renewable\":true}}\r\n0\r\n\r\n";
+
+const TO_END: &[u8] = b"HTTP/1.1 200 OK\r\n\r\n\
+{\"auth\":{\"lease_duration\":60,\"renewable\":true}}";
+
+#[test]
+fn reads_one_reply_however_it_is_framed_and_cut(rt: HostRuntime) -> Result<(), Fail> {
+    let alloc = rt.alloc();
+    for text in [COUNTED, CHUNKED, TO_END] {
+        for cut in 0..text.len() {
+            let reply = reply_of(alloc, text, &[cut + 1], 1048576)?
+                .ok()
+                .ok_or("read")?;
+            assert_eq!(rt; reply.status, 200);
+            assert_eq!(rt; reply.body.list(), GRANT);
+        }
+        let ones = vec![in alloc; 1usize; 200]?;
+        let reply = reply_of(alloc, text, &ones, 1048576)?.ok().ok_or("read")?;
+        assert_eq!(rt; reply.body.list(), GRANT);
+    }
+    Ok(())
+}
+
+// Replies that are refused, the greatest length and the fault.
+const REFUSED: [(&[u8], usize, HttpFault); 14] = [
+    (b"", 1048576, HttpFault::Truncated),
+    (
+        b"HTTP/1.1 200 OK\r\nContent-Length: 4x\r\n\r\nbody",
+        1048576,
+        HttpFault::BadLength,
+    ),
+    (
+        b"HTTP/1.1 200 OK\r\nContent-Length: 1000000000000000\r\n\r\n",
+        1048576,
+        HttpFault::BadLength,
+    ),
+    (
+        b"HTTP/1.1 200 OK\r\nContent-Length: 2\r\nContent-Length: 2\r\n\r\nok",
+        1048576,
+        HttpFault::BadLength,
+    ),
+    (
+        b"HTTP/1.1 200 OK\r\nContent-Length: 999999999999999\r\n\r\n",
+        1048576,
+        HttpFault::TooLong,
+    ),
+    (
+        b"HTTP/1.1 200 OK\r\nTransfer-Encoding: chunked\r\n\r\nzz\r\n",
+        1048576,
+        HttpFault::BadChunk,
+    ),
+    (
+        b"HTTP/1.1 200 OK\r\nTransfer-Encoding: chunked\r\n\r\nfffffffff\r\n",
+        1048576,
+        HttpFault::BadChunk,
+    ),
+    (
+        b"HTTP/1.1 200 OK\r\nTransfer-Encoding: chunked\r\n\r\n2\r\nokx\r\n",
+        1048576,
+        HttpFault::BadChunk,
+    ),
+    (
+        b"HTTP/1.1 200 OK\r\nTransfer-Encoding: chunked\r\n\r\n0\r\nTrailer: x\r\n\r\n",
+        1048576,
+        HttpFault::BadChunk,
+    ),
+    (
+        b"HTTP/1.1 200 OK\r\nTransfer-Encoding: chunked\r\nContent-Length: 2\r\n\r\n",
+        1048576,
+        HttpFault::TwoLengths,
+    ),
+    (
+        b"HTTP/1.1 200 OK\r\nTransfer-Encoding: gzip\r\n\r\n",
+        1048576,
+        HttpFault::BadLength,
+    ),
+    (
+        b"HTTP/1.1 100 Continue\r\n\r\n",
+        1048576,
+        HttpFault::BadHead,
+    ),
+    (b"HTTP/1.1 99 x\r\n\r\n", 1048576, HttpFault::BadHead),
+    (b"hello", 1048576, HttpFault::BadHead),
+];
+
+// Refused at once, and in small pieces.
+fn refuses<R: AllocGlobal + Abort>(
+    rt: &R,
+    text: &[u8],
+    max: usize,
+    fault: HttpFault,
+) -> Result<(), Fail> {
+    let alloc = rt.alloc();
+    assert_eq!(rt; reply_of(alloc, text, &[], max)?.err(), Some(fault));
+    assert_eq!(rt;
+        reply_of(alloc, text, &[1, 1, 1, 7, 2], max)?.err(),
+        Some(fault)
+    );
+    Ok(())
+}
+
+#[test]
+fn refuses_replies(rt: HostRuntime) -> Result<(), Fail> {
+    for (text, max, fault) in REFUSED {
+        refuses(&rt, text, max, fault)?;
+    }
+    Ok(())
+}
+
+#[test]
+fn refuses_replies_that_are_cut_or_too_long(rt: HostRuntime) -> Result<(), Fail> {
+    let cut = HttpFault::Truncated;
+    refuses(&rt, &COUNTED[..COUNTED.len() - 1], 1048576, cut)?;
+    refuses(&rt, &CHUNKED[..CHUNKED.len() - 1], 1048576, cut)?;
+    for text in [COUNTED, CHUNKED, TO_END] {
+        refuses(&rt, text, 20, HttpFault::TooLong)?;
+        refuses(&rt, text, text.len().saturating_sub(1), HttpFault::TooLong)?;
+    }
+    Ok(())
+}
+
+// Other replies, with their statuses and bodies.
+const OTHERS: [(&[u8], u16, &[u8]); 6] = [
+    (
+        b"HTTP/1.1 204 No Content\r\nContent-Length: 5\r\n\r\n",
+        204,
+        b"",
+    ),
+    (b"HTTP/1.1 200 OK\r\n\r\n{}", 200, b"{}"),
+    (
+        b"HTTP/1.1 200 OK\r\ntransfer-encoding: Chunked\r\n\r\n1\r\n{\r\n1\r\n}\r\n0\r\n\r\nleft over",
+        200,
+        b"{}",
+    ),
+    (
+        b"HTTP/1.1 403 Forbidden\r\nContent-Length: 2\r\n\r\nno, and more",
+        403,
+        b"no",
+    ),
+    // As Vault sends a refusal and an answer without a body.
+    (
+        b"HTTP/1.1 403 Forbidden\r\nCache-Control: no-store\r\nContent-Type: application/json\r\n\
+Strict-Transport-Security: max-age=31536000; includeSubDomains\r\nDate: Sun, 22 Nov 2026 09:00:00 GMT\r\n\
+Content-Length: 33\r\nConnection: close\r\n\r\n{\"errors\":[\"permission denied\"]}\n",
+        403,
+        b"{\"errors\":[\"permission denied\"]}\n",
+    ),
+    (
+        b"HTTP/1.1 204 No Content\r\nCache-Control: no-store\r\nContent-Type: application/json\r\n\
+Date: Sun, 22 Nov 2026 09:00:00 GMT\r\n\r\n",
+        204,
+        b"",
+    ),
+];
+
+fn reads<R: AllocGlobal + Abort>(
+    rt: &R,
+    text: &[u8],
+    status: u16,
+    body: &[u8],
+) -> Result<(), Fail> {
+    let reply = reply_of(rt.alloc(), text, &[], 1048576)?
+        .ok()
+        .ok_or("read")?;
+    assert_eq!(rt; reply.status, status);
+    assert_eq!(rt; reply.body.list(), body);
+    Ok(())
+}
+
+#[test]
+fn reads_other_replies(rt: HostRuntime) -> Result<(), Fail> {
+    for (text, status, body) in OTHERS {
+        reads(&rt, text, status, body)?;
+    }
+    Ok(())
+}
+
+#[test]
+fn reads_every_front_of_a_reply(rt: HostRuntime) -> Result<(), Fail> {
+    let alloc = rt.alloc();
+    for text in [COUNTED, CHUNKED] {
+        for len in 0..text.len() {
+            assert_eq!(rt;
+                reply_of(alloc, &text[..len], &[], 1048576)?.err(),
+                Some(HttpFault::Truncated)
+            );
+        }
+    }
+    let head = TO_END.len() - GRANT.len();
+    for len in 0..head {
+        assert_eq!(rt;
+            reply_of(alloc, &TO_END[..len], &[], 1048576)?.err(),
+            Some(HttpFault::Truncated)
+        );
+    }
+    for len in head..TO_END.len() {
+        let reply = reply_of(alloc, &TO_END[..len], &[], 1048576)?
+            .ok()
+            .ok_or("read")?;
+        assert_eq!(rt; reply.body.list(), &TO_END[head..len]);
+    }
+    Ok(())
+}
+
+#[test]
+fn fails_where_a_read_of_a_reply_fails(rt: HostRuntime) -> Result<(), Fail> {
+    let alloc = rt.alloc();
+    for (text, reads) in [(COUNTED, 5), (CHUNKED, 5), (TO_END, 6)] {
+        for call in 0..8 {
+            let mut source = source(alloc, text, &[1, 20, 3, 30], Some(call))?;
+            let got = read_reply(alloc, &mut source, 1048576);
+            if call < reads {
+                assert_eq!(rt; got.err(), Some(HttpFault::ReadFailed));
+                assert_eq!(rt; source.failures(), 1);
+            } else {
+                // The whole message was there before: its end was not waited for, and no later read was made.
+                let reply = got.ok().ok_or("read")?;
+                assert_eq!(rt; reply.body.list(), GRANT);
+                assert_eq!(rt; source.failures(), 0);
+            }
+        }
+    }
+    Ok(())
+}
+
+#[test]
+fn refuses_heads_of_many_fields(rt: HostRuntime) -> Result<(), Fail> {
+    let alloc = rt.alloc();
+    for (fields, is_read) in [(64, true), (65, false)] {
+        let mut text = Vec::from_slice(alloc, b"HTTP/1.1 204 No Content\r\n")?;
+        for _ in 0..fields {
+            text.extend_from_slice(b"A: b\r\n")?;
+        }
+        text.extend_from_slice(b"\r\n")?;
+        let got = reply_of(alloc, &text, &[], 1048576)?;
+        assert_eq!(rt; got.is_ok(), is_read);
+        if !is_read {
+            assert_eq!(rt; got.err(), Some(HttpFault::BadHead));
+        }
+    }
+    Ok(())
+}

@@ -1,0 +1,160 @@
+use super::{LOOKUP, RENEWAL, request_of, source};
+use std::process::Abort;
+use std::test::Fail;
+use vault_http::{Device, HttpFault, read_request};
+
+// A head as curl, as the net/http of Go and as the http.client of Python send it, and two fields of the token.
+const OF_OTHERS: [(&[u8], &str, &[u8], &[u8], &[u8]); 5] = [
+    (
+        b"GET /v1/auth/token/lookup-self HTTP/1.1\r\nHost: 127.0.0.1:8200\r\nUser-Agent: curl/8.5.0\r\nAccept: */*\r\n\
+X-Vault-Token: s.web1\r\n\r\n",
+        "GET",
+        b"/v1/auth/token/lookup-self",
+        b"s.web1",
+        b"",
+    ),
+    (
+        b"PUT /v1/auth/token/renew-self HTTP/1.1\r\nHost: 127.0.0.1:8200\r\nUser-Agent: Go-http-client/1.1\r\n\
+Content-Length: 16\r\nX-Vault-Request: true\r\nX-Vault-Token: s.web1\r\nAccept-Encoding: gzip\r\n\r\n{\"increment\":60}",
+        "PUT",
+        b"/v1/auth/token/renew-self",
+        b"s.web1",
+        b"{\"increment\":60}",
+    ),
+    (
+        b"POST /v1/sys/leases/renew HTTP/1.1\r\nHost: 127.0.0.1:8200\r\nAccept-Encoding: identity\r\nContent-Length: 2\r\n\
+x-vault-token: s.app\r\n\r\n{}",
+        "POST",
+        b"/v1/sys/leases/renew",
+        b"s.app",
+        b"{}",
+    ),
+    (
+        b"POST /v1/sys/leases/renew HTTP/1.1\r\nTransfer-Encoding: chunked\r\nx-vault-token: a\r\nX-Vault-Token: b\r\n\r\n\
+2\r\n{}\r\n0\r\n\r\n",
+        "POST",
+        b"/v1/sys/leases/renew",
+        b"a",
+        b"{}",
+    ),
+    (
+        b"DELETE /v1/x HTTP/1.0\r\n\r\nnot looked at",
+        "DELETE",
+        b"/v1/x",
+        b"",
+        b"",
+    ),
+];
+
+// A request in these pieces, with its method, path, token and body.
+fn reads<R: AllocGlobal + Abort>(
+    rt: &R,
+    text: &[u8],
+    pieces: &[usize],
+    parts: (&str, &[u8], &[u8], &[u8]),
+) -> Result<(), Fail> {
+    let (method, path, token, body) = parts;
+    let request = request_of(rt.alloc(), text, pieces, 1048576)?
+        .ok()
+        .ok_or("read")?;
+    assert_eq!(rt; request.method.as_str(), method);
+    assert_eq!(rt; request.path.list(), path);
+    assert_eq!(rt;
+        request
+            .token
+            .as_ref()
+            .map_or(b"".as_slice(), |token| token.list()),
+        token
+    );
+    assert_eq!(rt; request.body.list(), body);
+    assert_eq!(rt; request.port, 0);
+    Ok(())
+}
+
+#[test]
+fn reads_requests_of_others(rt: HostRuntime) -> Result<(), Fail> {
+    for (text, method, path, token, body) in OF_OTHERS {
+        reads(&rt, text, &[], (method, path, token, body))?;
+        reads(&rt, text, &[1, 1, 40, 3], (method, path, token, body))?;
+    }
+    Ok(())
+}
+
+// Requests that are refused, the greatest length and the fault.
+const REFUSED: [(&[u8], usize, HttpFault); 7] = [
+    (b"GET /v1/abc", 1048576, HttpFault::Truncated),
+    (b"GET /v1/abc", 11, HttpFault::TooLong),
+    (b"GET  / HTTP/1.1\r\n\r\n", 1048576, HttpFault::BadHead),
+    (b"GET / HTTP/2.0\r\n\r\n", 1048576, HttpFault::BadHead),
+    (
+        b"POST / HTTP/1.1\r\nContent-Length: -1\r\n\r\n",
+        1048576,
+        HttpFault::BadLength,
+    ),
+    (
+        b"POST / HTTP/1.1\r\nContent-Length: 3\r\n\r\n{}",
+        1048576,
+        HttpFault::Truncated,
+    ),
+    (
+        b"POST / HTTP/1.1\r\nContent-Length: 0\r\nTransfer-Encoding: chunked\r\n\r\n",
+        1048576,
+        HttpFault::TwoLengths,
+    ),
+];
+
+// Refused at once, and in small pieces.
+fn refuses<R: AllocGlobal + Abort>(
+    rt: &R,
+    text: &[u8],
+    max: usize,
+    fault: HttpFault,
+) -> Result<(), Fail> {
+    let alloc = rt.alloc();
+    assert_eq!(rt; request_of(alloc, text, &[], max)?.err(), Some(fault));
+    assert_eq!(rt;
+        request_of(alloc, text, &[1, 1, 1, 7, 2], max)?.err(),
+        Some(fault)
+    );
+    Ok(())
+}
+
+#[test]
+fn refuses_requests(rt: HostRuntime) -> Result<(), Fail> {
+    for (text, max, fault) in REFUSED {
+        refuses(&rt, text, max, fault)?;
+    }
+    refuses(&rt, RENEWAL, RENEWAL.len() - 1, HttpFault::TooLong)
+}
+
+#[test]
+fn reads_every_front_of_a_request(rt: HostRuntime) -> Result<(), Fail> {
+    let alloc = rt.alloc();
+    for text in [RENEWAL, LOOKUP] {
+        for len in 0..text.len() {
+            assert_eq!(rt;
+                request_of(alloc, &text[..len], &[], 1048576)?.err(),
+                Some(HttpFault::Truncated)
+            );
+        }
+    }
+    Ok(())
+}
+
+#[test]
+fn fails_where_a_read_of_a_request_fails(rt: HostRuntime) -> Result<(), Fail> {
+    let alloc = rt.alloc();
+    for call in 0..7 {
+        let mut source = source(alloc, RENEWAL, &[1, 20, 3, 30], Some(call))?;
+        let got = read_request(alloc, &mut source, 1048576);
+        if call < 5 {
+            assert_eq!(rt; got.err(), Some(HttpFault::ReadFailed));
+            assert_eq!(rt; source.failures(), 1);
+        } else {
+            let request = got.ok().ok_or("read")?;
+            assert_eq!(rt; request.body.list(), b"{\"increment\":60}".as_slice());
+            assert_eq!(rt; source.failures(), 0);
+        }
+    }
+    Ok(())
+}
