@@ -1,18 +1,14 @@
 //! Each command over whole inventories: its exit, its output and its fault line.
 
 mod checks;
-mod cut_rehearsals;
 mod ends;
 mod exits;
 mod faulty;
 mod fronts;
 mod inventories;
-mod live;
 mod obeyed;
 mod plans;
 mod reaches;
-mod rehearsals;
-mod secrets;
 
 use keep_moment::Moment;
 use std::test::Fail;

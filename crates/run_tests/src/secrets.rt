@@ -1,7 +1,8 @@
 //! No secret shows: inventories that differ in secrets and lease ids alone are rehearsed alike, whatever goes wrong.
-use super::rehearsals::{nobody, start, words_of};
-use crate::{Exit, run_rehearse};
+use crate::rehearsals::{nobody, start, words_of};
 use keep_device::MemorySink;
+use keep_report::Exit;
+use keep_run::run_rehearse;
 use std::alloc::Global;
 use std::process::Abort;
 use std::test::Fail;

@@ -1,10 +1,11 @@
 //! Rehearsals over whole inventories: exit, output, fault line and wire.
-use super::inventories::{LOW_CEILING, PAY, TOKEN_AND_LEASE, WEB, WEB_BASE_AND_BIG};
-use crate::{Exit, run_rehearse};
+use crate::inventories::{LOW_CEILING, PAY, TOKEN_AND_LEASE, WEB, WEB_BASE_AND_BIG};
 use keep_device::{MemorySink, MemorySource};
 use keep_exchange::MemoryExchange;
 use keep_inventory::read;
 use keep_moment::{Moment, Text};
+use keep_report::Exit;
+use keep_run::run_rehearse;
 use mini_broker::Table;
 use std::alloc::Global;
 use std::process::Abort;

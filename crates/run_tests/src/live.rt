@@ -1,15 +1,19 @@
 //! Live runs in memory: exit, output and fault line, however the event lines come.
-use super::inventories::{TOKEN_AND_LEASE, WEB};
-use super::moment;
+use crate::inventories::{TOKEN_AND_LEASE, WEB};
 use keep_device::{MemorySink, MemorySource};
 use keep_exchange::MemoryExchange;
 use keep_inventory::read;
+use keep_moment::Moment;
 use keep_report::Exit;
 use keep_run::run_live;
 use mini_broker::{Fault, Table};
 use std::alloc::Global;
 use std::process::Abort;
 use std::test::Fail;
+
+fn moment(seconds: u64) -> Result<Moment, Fail> {
+    Ok(Moment::new(seconds).ok_or("a moment")?)
+}
 
 const TWO_TICKS: &str = "tick 1059\ntick 1118\n";
 

@@ -1,10 +1,11 @@
 //! Rehearsals whose writer fails, or wants memory: the exit, the fault line, and what `out` holds.
 ghost use Rattle.std.specs.Prelude.{true};
 
-use super::inventories::WEB;
-use super::rehearsals::{AS_PLANNED, nobody, start};
-use crate::{Exit, run_rehearse};
+use crate::inventories::WEB;
+use crate::rehearsals::{AS_PLANNED, nobody, start};
 use keep_device::{Device, MemorySink, Sink, SinkFault};
+use keep_report::Exit;
+use keep_run::run_rehearse;
 use std::test::Fail;
 
 // What `out` holds of the web example, where the call fails or wants memory that comes behind so many: three wake-ups, the
