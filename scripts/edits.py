@@ -1,8 +1,8 @@
 """What the scripts share that try wrong bodies: edits, and the function that an edit changes.
 
-An edit is a file of `crates/NAME/wrong-bodies/` or `crates/NAME/must-fail/` with a line `file: src/what.rt` and then pairs of lines
-`old: TEXT` and `new: TEXT`; each old text stands once in that file. One that changes anything outside functions, as a constant,
-says in a line `refuses: FUNCTION` which one cannot be proved with it.
+An edit is a file below `crates/NAME/wrong-bodies/` or in `crates/NAME/must-fail/` with a line `file: src/what.rt` and then pairs
+of lines `old: TEXT` and `new: TEXT`; each old text stands once in that file. One that changes anything outside functions, as a
+constant, says in a line `refuses: FUNCTION` which one cannot be proved with it.
 """
 
 from __future__ import annotations
@@ -13,6 +13,8 @@ from pathlib import Path
 
 TOP = Path(__file__).resolve().parent.parent
 FOLDERS = ("must-fail", "wrong-bodies")
+MORE = "wrong-bodies/more"
+"""Where those lie that break a clause for which another one stands already."""
 
 HEADER = re.compile(r"^( *)(?:pub(?:\([^)]*\))? )?(?:const )?fn (\w+)", re.M)
 OWNER = re.compile(r"^(?:pub )?impl(?:<[^>]*>)? (?:(?:\w+::)*(\w+)(?:<(\w+).*?>)? for )?(?:\w+::)*(\w+)", re.M)
@@ -42,10 +44,10 @@ class Edit:
     @property
     def crate(self) -> Path:
         """The crate's folder."""
-        return self.path.parent.parent
+        return TOP / "crates" / self.path.relative_to(TOP / "crates").parts[0]
 
     def __str__(self) -> str:
-        return f"{self.crate.name}/{self.path.parent.name}/{self.path.stem}"
+        return str(self.path.relative_to(TOP / "crates").with_suffix(""))
 
     def made(self, texts: dict[str, str]) -> dict[str, str]:
         """These files, by their paths, with the edit made too; the crate's own text stands for one that is not among them."""
@@ -101,9 +103,10 @@ def read_edit(path: Path) -> Edit:
     return Edit(path, tuple(changes), refuses)
 
 
-def edits_of(crate: Path) -> list[Path]:
-    """The files of a crate's edits, in order."""
-    return [path for folder in FOLDERS for path in sorted((crate / folder).glob("*.edit"))]
+def edits_of(crate: Path, more: bool = False) -> list[Path]:
+    """The files of a crate's edits, in order; with `more` also those of which the tests try another one."""
+    folders = [*FOLDERS, MORE] if more else FOLDERS
+    return [path for folder in folders for path in sorted((crate / folder).glob("*.edit"))]
 
 
 def function_at(text: str, place: int) -> str | None:

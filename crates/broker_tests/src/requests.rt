@@ -37,7 +37,7 @@ pub(crate) fn moment(seconds: u64) -> Result<Moment, Fail> {
 
 /// The table of an inventory.
 pub(crate) fn table(alloc: Global, text: &str) -> Result<Table, Fail> {
-    let inventory = read(alloc, text.as_bytes()).ok().ok_or("an inventory")?;
+    let inventory = read(alloc, text.as_bytes())?;
     Ok(Table::load(alloc, &inventory)?)
 }
 
@@ -50,9 +50,7 @@ pub(crate) fn request(
     body: &str,
 ) -> Result<Request, Fail> {
     Ok(Request {
-        method: Method::from_bytes(alloc, name.as_bytes())
-            .ok()
-            .ok_or("a method")?,
+        method: Method::from_bytes(alloc, name.as_bytes())?,
         path: Text::of(alloc, path.as_bytes())?,
         token: if token.is_empty() {
             None
@@ -99,12 +97,9 @@ fn takes_a_fault_for_each_number(rt: HostRuntime) -> Result<(), Fail> {
 /// The web example, whose first three requests have a fault.
 fn faulty(alloc: Global) -> Result<Table, Fail> {
     let mut table = table(alloc, WEB)?;
-    table.set_fault(1, Fault::Drop).ok().ok_or("a drop")?;
-    table.set_fault(2, Fault::Deny).ok().ok_or("a refusal")?;
-    table
-        .set_fault(3, Fault::Short(30))
-        .ok()
-        .ok_or("a short grant")?;
+    table.set_fault(1, Fault::Drop)?;
+    table.set_fault(2, Fault::Deny)?;
+    table.set_fault(3, Fault::Short(30))?;
     Ok(table)
 }
 

@@ -111,11 +111,11 @@ fn fails_where_a_write_fails(rt: HostRuntime) -> Result<(), Fail> {
 /// Both ends of a connection of this machine with itself.
 fn connection(rt: &HostRuntime) -> Result<(TcpStream, TcpStream), Fail> {
     let any = SocketAddr::new(IpAddr::V4(Ipv4Addr::LOCALHOST), 0);
-    let listener = TcpListener::bind(rt, any).ok().ok_or("bind")?;
-    let port = listener.local_addr().ok().ok_or("address")?.port();
+    let listener = TcpListener::bind(rt, any)?;
+    let port = listener.local_addr()?.port();
     let local = SocketAddr::new(IpAddr::V4(Ipv4Addr::LOCALHOST), port);
-    let client = TcpStream::connect(rt, local).ok().ok_or("connect")?;
-    let (server, _) = listener.accept().ok().ok_or("accept")?;
+    let client = TcpStream::connect(rt, local)?;
+    let (server, _) = listener.accept()?;
     Ok((client, server))
 }
 
@@ -125,11 +125,7 @@ fn ask(alloc: Global, client: &mut Counted<TcpStream>) -> Result<(), Fail> {
     if !renewal.is_writable() {
         return Err("a request".into());
     }
-    Ok(
-        write_request(alloc, client, &renewal)
-            .ok()
-            .ok_or("a write")?,
-    )
+    Ok(write_request(alloc, client, &renewal)?)
 }
 
 #[test]
@@ -142,7 +138,7 @@ fn serves_over_a_socket(rt: HostRuntime) -> Result<(), Fail> {
     assert!(&rt; table.serve_stream(moment(1059)?, &mut server).is_ok());
     drop(server);
     let got = read_reply(rt.alloc(), &mut client, MOST_MESSAGE);
-    let got = got.ok().ok_or("a reply")?;
+    let got = got?;
     assert!(&rt; got.status == 200);
     assert!(&rt; got.body.list() == GRANT);
     Ok(())

@@ -80,7 +80,7 @@ fn keeper_of(alloc: Global, rows: &[Row]) -> Result<Keeper, Fail> {
 
 fn opened(alloc: Global, forest: Forest) -> Result<Keeper, Fail> {
     let start = Moment::new(1000).ok_or("a moment")?;
-    Ok(Keeper::new(alloc, forest, start).ok().ok_or("a keeper")?)
+    Ok(Keeper::new(alloc, forest, start)?)
 }
 
 // What is answered to an event.

@@ -173,7 +173,7 @@ fn counts_no_failure_of_a_reader_that_goes_well(rt: HostRuntime) -> Result<(), F
     let alloc = rt.alloc();
     let bytes: &[u8] = b"text";
     let mut reader = Counted::new(bytes);
-    let text = read_all(alloc, &mut reader, 16).ok().ok_or("read")?;
+    let text = read_all(alloc, &mut reader, 16)?;
     assert_eq!(rt; text.list(), b"text".as_slice());
     assert_eq!(rt; reader.failures(), 0);
     Ok(())

@@ -30,19 +30,17 @@ HTTP/1.1 200 OK\r\nContent-Type: application/json\r\nContent-Length: 47\r\nConne
 {\"auth\":{\"lease_duration\":60,\"renewable\":true}}";
 
 fn table(alloc: Global) -> Result<Table, Fail> {
-    let inventory = read(alloc, WEB).ok().ok_or("an inventory")?;
-    Ok(Table::load(alloc, &inventory).ok().ok_or("a table")?)
+    let inventory = read(alloc, WEB)?;
+    Ok(Table::load(alloc, &inventory)?)
 }
 
 /// The first renewal of the web example, to a broker at port 8200.
 fn renewal(alloc: Global) -> Result<Request, Fail> {
     Ok(Request {
         method: Method::POST,
-        path: Text::of(alloc, b"/v1/auth/token/renew-self")
-            .ok()
-            .ok_or("a path")?,
-        token: Some(Text::of(alloc, b"web").ok().ok_or("a token")?),
-        body: Text::of(alloc, b"{\"increment\":60}").ok().ok_or("a body")?,
+        path: Text::of(alloc, b"/v1/auth/token/renew-self")?,
+        token: Some(Text::of(alloc, b"web")?),
+        body: Text::of(alloc, b"{\"increment\":60}")?,
         port: 8200,
     })
 }
@@ -101,9 +99,7 @@ fn drops_a_reply(rt: HostRuntime) -> Result<(), Fail> {
 
 #[test]
 fn serves_itself_over_a_socket(rt: HostRuntime) -> Result<(), Fail> {
-    let mut exchange = SelfServed::bind(&rt, rt.alloc(), table(rt.alloc())?)
-        .ok()
-        .ok_or("a socket")?;
+    let mut exchange = SelfServed::bind(&rt, rt.alloc(), table(rt.alloc())?)?;
     assert!(&rt; is_renewed(renew(&rt, &mut exchange)?));
     assert_eq!(&rt; exchange.table().end_of(b"web"), Some(1119));
     assert_eq!(&rt; exchange.failures(), 0);
@@ -115,8 +111,8 @@ fn serves_itself_over_a_socket(rt: HostRuntime) -> Result<(), Fail> {
 #[test]
 fn waits_for_no_silent_peer(rt: HostRuntime) -> Result<(), Fail> {
     let any = SocketAddr::new(IpAddr::V4(Ipv4Addr::LOCALHOST), 0);
-    let listener = TcpListener::bind(&rt, any).ok().ok_or("a socket")?;
-    let port = listener.local_addr().ok().ok_or("an address")?.port();
+    let listener = TcpListener::bind(&rt, any)?;
+    let port = listener.local_addr()?.port();
     let second = Duration::from_secs(1);
     let mut silent = TcpExchange::patient(&rt, port, second);
     let late = Some(ExchangeFault::Http(HttpFault::ReadFailed));
@@ -130,11 +126,11 @@ fn waits_for_no_silent_peer(rt: HostRuntime) -> Result<(), Fail> {
 
 /// What a peer answers that has said this much and then says no more, closed or not.
 fn said(rt: &HostRuntime, text: &[u8], closes: bool) -> Result<Option<ExchangeFault>, Fail> {
-    let (client, server) = UnixStream::pair(rt).ok().ok_or("a pair")?;
+    let (client, server) = UnixStream::pair(rt)?;
     let short = Some(Duration::from_millis(50));
-    client.set_read_timeout(short).ok().ok_or("a time-out")?;
+    client.set_read_timeout(short)?;
     let mut server = server;
-    server.write_all(text).ok().ok_or("a write")?;
+    server.write_all(text)?;
     let mut patience = Patience::new(Duration::from_secs(1));
     let request = renewal(rt.alloc())?;
     if !can_carry(&request) {
@@ -142,10 +138,7 @@ fn said(rt: &HostRuntime, text: &[u8], closes: bool) -> Result<Option<ExchangeFa
     }
     if closes {
         // What was written stays to be read.
-        server
-            .shutdown(std::net::Shutdown::Write)
-            .ok()
-            .ok_or("a close")?;
+        server.shutdown(std::net::Shutdown::Write)?;
     }
     let result = exchange_over(rt.alloc(), client, &request, &mut patience);
     Ok(result.err())
@@ -175,7 +168,7 @@ fn asks_over_a_unix_socket(rt: HostRuntime) -> Result<(), Fail> {
     let _ = fs::remove_file(&rt, path);
     let mut nobody = UnixExchange::patient(&rt, path, Duration::from_secs(1));
     assert!(&rt; fault_of(&rt, &mut nobody)? == (Some(ExchangeFault::ConnectFailed), 1));
-    let listener = UnixListener::bind(&rt, path).ok().ok_or("a socket")?;
+    let listener = UnixListener::bind(&rt, path)?;
     let mut silent = UnixExchange::patient(&rt, path, Duration::from_secs(1));
     let late = Some(ExchangeFault::Http(HttpFault::ReadFailed));
     assert!(&rt; fault_of(&rt, &mut silent)? == (late, 1));

@@ -23,15 +23,38 @@ fn moment(seconds: u64) -> Result<Moment, Fail> {
     Ok(Moment::new(seconds).ok_or("a moment")?)
 }
 
+// A token's table but for its number.
+const BEFORE_NUMBER: &str = "[[token]]\nname = \"e";
+
+const BEHIND_NUMBER: &str =
+    "\"\nissued = 1000\nend = 1060\nincrement = 60\nmax_ttl = 9000\nneed = 1200\n";
+
+// Appends a number between two texts.
+fn push_between(
+    alloc: Global,
+    text: &mut String,
+    before: &str,
+    number: u64,
+    behind: &str,
+) -> Result<(), Fail> {
+    let number = number.to_string(alloc)?;
+    text.push_str(before)?;
+    text.push_str(&number)?;
+    Ok(text.push_str(behind)?)
+}
+
 fn fleet(alloc: Global) -> Result<Inventory, Fail> {
     let mut text = String::new(alloc);
-    for i in 0..ENTRIES {
-        let token = format!(in alloc;
-            "[[token]]\nname = \"e{i}\"\nissued = 1000\nend = 1060\nincrement = 60\nmax_ttl = 9000\nneed = 1200\n"
+    for number in 0..ENTRIES {
+        push_between(
+            alloc,
+            &mut text,
+            BEFORE_NUMBER,
+            number as u64,
+            BEHIND_NUMBER,
         )?;
-        text.push_str(&token)?;
     }
-    Ok(read(alloc, text.as_bytes()).ok().ok_or("an inventory")?)
+    Ok(read(alloc, text.as_bytes())?)
 }
 
 // Whether these are the indices of all entries, in order.
@@ -50,21 +73,29 @@ fn every_entry_is_asked(rt: HostRuntime) -> Result<(), Fail> {
     let alloc = rt.alloc();
     let inventory = fleet(alloc)?;
     let forest = inventory.forest();
-    assert_eq!(rt; forest.len(), ENTRIES);
+    assert!(rt; forest.len() == ENTRIES);
     let start = moment(1000)?;
     let Ok(decision) = plan(alloc, forest, start) else {
         return Err("a decision".into());
     };
-    let text = keep_cert::print(alloc, forest, start, &decision)
-        .ok()
-        .ok_or("a text")?;
+    let text = keep_cert::print(alloc, forest, start, &decision)?;
     assert!(rt; text.list() == PLAN.as_bytes());
     let Decision::Keep(plan) = decision else {
         return Err("a plan".into());
     };
-    let asked = plan.asks(forest, moment(1059)?).ok().ok_or("asks")?;
+    let asked = plan.asks(forest, moment(1059)?)?;
     assert!(rt; are_all(&asked));
     Ok(())
+}
+
+// A wake-up that asks every entry.
+fn wake_of_all(alloc: Global, at: Moment) -> Result<Wake, Fail> {
+    let mut asked = Vec::new(alloc);
+    for index in 0..ENTRIES {
+        asked.push(index)?;
+    }
+    let asked = Indices::from_vec(asked);
+    Ok(Wake { at, asked })
 }
 
 // Every entry, asked at 1059, 1118 and 1177, ends 60 seconds after the last of them.
@@ -75,19 +106,10 @@ fn every_end_is_told(rt: HostRuntime) -> Result<(), Fail> {
     let forest = inventory.forest();
     let mut wakes = Vec::new(alloc);
     for at in [1059, 1118, 1177] {
-        let mut asked = Vec::new(alloc);
-        for index in 0..ENTRIES {
-            asked.push(index)?;
-        }
-        wakes.push(Wake {
-            at: moment(at)?,
-            asked: Indices::from_vec(asked),
-        })?;
+        wakes.push(wake_of_all(alloc, moment(at)?)?)?;
     }
-    let ends = ends_after(alloc, forest, moment(1000)?, &wakes)
-        .ok()
-        .ok_or("ends")?;
-    assert_eq!(rt; ends.list().len(), ENTRIES as usize);
+    let ends = ends_after(alloc, forest, moment(1000)?, &wakes)?;
+    assert!(rt; ends.list().len() == ENTRIES as usize);
     assert!(rt; ends.list().iter().all(|end| *end == 1237));
     Ok(())
 }
@@ -105,15 +127,23 @@ fn the_queue_takes_every_entry(rt: HostRuntime) -> Result<(), Fail> {
     if let Some(_) = shortfall(forest, &carried, start) {
         return Err("no shortfall".into());
     }
-    let mut schedule = QueueSchedule::new(alloc, forest, &carried, start)
-        .ok()
-        .ok_or("a schedule")?;
+    let mut schedule = QueueSchedule::new(alloc, forest, &carried, start)?;
     let run = schedule.next_run(1000).ok_or("a run")?;
-    assert_eq!(rt; run.first, 1059);
-    assert_eq!(rt; run.count, 3);
-    assert_eq!(rt; run.entry, 0);
+    assert!(rt; run.first == 1059);
+    assert!(rt; run.count == 3);
+    assert!(rt; run.entry == 0);
     assert!(rt; schedule.next_run(1000).is_none());
     Ok(())
+}
+
+fn renewal_of_the_last(alloc: Global) -> Result<Request, Fail> {
+    Ok(Request {
+        method: Method::POST,
+        path: Text::of(alloc, b"/v1/auth/token/renew-self")?,
+        token: Some(Text::of(alloc, b"e4095")?),
+        body: Text::of(alloc, b"{\"increment\":60}")?,
+        port: 0,
+    })
 }
 
 // The last of the tokens is renewed by its own value.
@@ -122,18 +152,12 @@ fn the_broker_serves_the_last(rt: HostRuntime) -> Result<(), Fail> {
     let alloc = rt.alloc();
     let inventory = fleet(alloc)?;
     let mut table = Table::load(alloc, &inventory)?;
-    let request = Request {
-        method: Method::POST,
-        path: Text::of(alloc, b"/v1/auth/token/renew-self")?,
-        token: Some(Text::of(alloc, b"e4095")?),
-        body: Text::of(alloc, b"{\"increment\":60}")?,
-        port: 0,
-    };
-    let served = table.serve(moment(1059)?, &request).ok().ok_or("served")?;
+    let request = renewal_of_the_last(alloc)?;
+    let served = table.serve(moment(1059)?, &request)?;
     let Served::Reply(reply) = served else {
         return Err("a reply".into());
     };
-    assert_eq!(rt; reply.status, 200);
+    assert!(rt; reply.status == 200);
     assert!(rt;
         reply.body.list() == b"{\"auth\":{\"lease_duration\":60,\"renewable\":true}}".as_slice()
     );
@@ -144,15 +168,22 @@ fn the_broker_serves_the_last(rt: HostRuntime) -> Result<(), Fail> {
 fn the_keeper_asks_every_entry(rt: HostRuntime) -> Result<(), Fail> {
     let alloc = rt.alloc();
     let (forest, _) = fleet(alloc)?.into_parts();
-    let mut keeper = Keeper::new(alloc, forest, moment(1000)?)
-        .ok()
-        .ok_or("a keeper")?;
-    let output = keeper.step(Event::Tick(1059)).ok().ok_or("an output")?;
+    let mut keeper = Keeper::new(alloc, forest, moment(1000)?)?;
+    let output = keeper.step(Event::Tick(1059))?;
     let Output::Ask(asked) = output else {
         return Err("asked".into());
     };
     assert!(rt; are_all(&asked));
     Ok(())
+}
+
+fn certificate_of_100000_lines(alloc: Global) -> Result<String, Fail> {
+    let mut text = String::from_str(alloc, "leasekeep-plan 1\nstart 1000\n")?;
+    for at in 1001..=100997u64 {
+        push_between(alloc, &mut text, "wake ", at, " web web\n")?;
+    }
+    text.push_str("end 99997\n")?;
+    Ok(text)
 }
 
 // A certificate of 100,000 lines, as many as there may be: a token of two seconds that is renewed each second, 99,997 times,
@@ -163,20 +194,15 @@ fn a_certificate_may_have_100000_lines(rt: HostRuntime) -> Result<(), Fail> {
     let alloc = rt.alloc();
     let inventory =
         b"[[token]]\nname = \"web\"\nissued = 1000\nend = 1002\nincrement = 2\nmax_ttl = 200000\nneed = 100999\n".as_slice();
-    let inventory = read(alloc, inventory).ok().ok_or("an inventory")?;
-    let mut text = String::from_str(alloc, "leasekeep-plan 1\nstart 1000\n")?;
-    for at in 1001..=100997u64 {
-        let wake = format!(in alloc; "wake {at} web web\n")?;
-        text.push_str(&wake)?;
-    }
-    text.push_str("end 99997\n")?;
+    let inventory = read(alloc, inventory)?;
+    let text = certificate_of_100000_lines(alloc)?;
     let forest = inventory.forest();
     // (the contract of `len` says that it is a forest, as that of `read` wants to know)
-    assert_eq!(rt; forest.len(), 1);
+    assert!(rt; forest.len() == 1);
     let Ok(certificate) = keep_cert::read(alloc, forest, text.as_bytes()) else {
         return Err("a certificate".into());
     };
-    let answer = check(alloc, forest, &certificate).ok().ok_or("an answer")?;
-    assert_eq!(rt; answer, Answer::Yes);
+    let answer = check(alloc, forest, &certificate)?;
+    assert!(rt; answer == Answer::Yes);
     Ok(())
 }

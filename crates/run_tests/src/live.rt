@@ -124,9 +124,7 @@ fn table_of<R: AllocGlobal + Abort>(
     inventory: &str,
     fault: Option<Fault>,
 ) -> Result<Table, Fail> {
-    let entries = read(rt.alloc(), inventory.as_bytes())
-        .ok()
-        .ok_or("an inventory")?;
+    let entries = read(rt.alloc(), inventory.as_bytes())?;
     let mut table = Table::load(rt.alloc(), &entries)?;
     if let Some(fault) = fault {
         assert!(rt; table.set_fault(1, fault).is_ok(), "a fault");

@@ -178,7 +178,7 @@ pub(super) fn words_of(alloc: Global, line: &str) -> Result<Vec<Text>, Fail> {
 
 // An exchange over the table of an empty inventory.
 pub(super) fn nobody(alloc: Global) -> Result<MemoryExchange, Fail> {
-    let inventory = read(alloc, b"").ok().ok_or("an inventory")?;
+    let inventory = read(alloc, b"")?;
     Ok(MemoryExchange::new(alloc, Table::load(alloc, &inventory)?))
 }
 
@@ -282,9 +282,7 @@ fn the_wire_of_a_rehearsal_is_its_last_exchange(rt: HostRuntime) -> Result<(), F
 fn is_asked<R: AllocGlobal + Abort>(rt: &R, bytes: &[u8]) -> Result<(), Fail> {
     let alloc = rt.alloc();
     let mut source = source_of(alloc, bytes)?;
-    let request = read_request(alloc, &mut source, 1048576)
-        .ok()
-        .ok_or("a request")?;
+    let request = read_request(alloc, &mut source, 1048576)?;
     assert!(rt;
         request.method.as_str() == "POST"
             && request.path.list() == b"/v1/auth/token/renew-self".as_slice()
@@ -302,9 +300,7 @@ fn is_asked<R: AllocGlobal + Abort>(rt: &R, bytes: &[u8]) -> Result<(), Fail> {
 fn is_answered<R: AllocGlobal + Abort>(rt: &R, bytes: &[u8]) -> Result<(), Fail> {
     let alloc = rt.alloc();
     let mut source = source_of(alloc, bytes)?;
-    let reply = read_reply(alloc, &mut source, 1048576)
-        .ok()
-        .ok_or("a reply")?;
+    let reply = read_reply(alloc, &mut source, 1048576)?;
     assert!(rt; reply.status == 200);
     assert!(rt;
         reply.body.list() == b"{\"auth\":{\"lease_duration\":60,\"renewable\":true}}".as_slice()

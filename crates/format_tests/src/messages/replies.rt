@@ -17,14 +17,12 @@ fn reads_one_reply_however_it_is_framed_and_cut(rt: HostRuntime) -> Result<(), F
     let alloc = rt.alloc();
     for text in [COUNTED, CHUNKED, TO_END] {
         for cut in 0..text.len() {
-            let reply = reply_of(alloc, text, &[cut + 1], 1048576)?
-                .ok()
-                .ok_or("read")?;
+            let reply = reply_of(alloc, text, &[cut + 1], 1048576)??;
             assert_eq!(rt; reply.status, 200);
             assert_eq!(rt; reply.body.list(), GRANT);
         }
         let ones = vec![in alloc; 1usize; 200]?;
-        let reply = reply_of(alloc, text, &ones, 1048576)?.ok().ok_or("read")?;
+        let reply = reply_of(alloc, text, &ones, 1048576)??;
         assert_eq!(rt; reply.body.list(), GRANT);
     }
     Ok(())
@@ -168,9 +166,7 @@ fn reads<R: AllocGlobal + Abort>(
     status: u16,
     body: &[u8],
 ) -> Result<(), Fail> {
-    let reply = reply_of(rt.alloc(), text, &[], 1048576)?
-        .ok()
-        .ok_or("read")?;
+    let reply = reply_of(rt.alloc(), text, &[], 1048576)??;
     assert_eq!(rt; reply.status, status);
     assert_eq!(rt; reply.body.list(), body);
     Ok(())
@@ -203,9 +199,7 @@ fn reads_every_front_of_a_reply(rt: HostRuntime) -> Result<(), Fail> {
         );
     }
     for len in head..TO_END.len() {
-        let reply = reply_of(alloc, &TO_END[..len], &[], 1048576)?
-            .ok()
-            .ok_or("read")?;
+        let reply = reply_of(alloc, &TO_END[..len], &[], 1048576)??;
         assert_eq!(rt; reply.body.list(), &TO_END[head..len]);
     }
     Ok(())
@@ -223,7 +217,7 @@ fn fails_where_a_read_of_a_reply_fails(rt: HostRuntime) -> Result<(), Fail> {
                 assert_eq!(rt; source.failures(), 1);
             } else {
                 // The whole message was there before: its end was not waited for, and no later read was made.
-                let reply = got.ok().ok_or("read")?;
+                let reply = got?;
                 assert_eq!(rt; reply.body.list(), GRANT);
                 assert_eq!(rt; source.failures(), 0);
             }

@@ -54,9 +54,7 @@ fn reads<R: AllocGlobal + Abort>(
     parts: (&str, &[u8], &[u8], &[u8]),
 ) -> Result<(), Fail> {
     let (method, path, token, body) = parts;
-    let request = request_of(rt.alloc(), text, pieces, 1048576)?
-        .ok()
-        .ok_or("read")?;
+    let request = request_of(rt.alloc(), text, pieces, 1048576)??;
     assert_eq!(rt; request.method.as_str(), method);
     assert_eq!(rt; request.path.list(), path);
     assert_eq!(rt;
@@ -151,7 +149,7 @@ fn fails_where_a_read_of_a_request_fails(rt: HostRuntime) -> Result<(), Fail> {
             assert_eq!(rt; got.err(), Some(HttpFault::ReadFailed));
             assert_eq!(rt; source.failures(), 1);
         } else {
-            let request = got.ok().ok_or("read")?;
+            let request = got?;
             assert_eq!(rt; request.body.list(), b"{\"increment\":60}".as_slice());
             assert_eq!(rt; source.failures(), 0);
         }

@@ -19,9 +19,7 @@ fn reads_back_a_request_that_was_written(rt: HostRuntime) -> Result<(), Fail> {
     }
     let mut sink = MemorySink::new(alloc, None);
     assert_eq!(rt; write_request(alloc, &mut sink, &sent), Ok(()));
-    let got = request_of(alloc, sink.bytes(), &[], sink.bytes().len())?
-        .ok()
-        .ok_or("read")?;
+    let got = request_of(alloc, sink.bytes(), &[], sink.bytes().len())??;
     assert_eq!(rt; got.method.as_str(), "POST");
     assert_eq!(rt; got.path.list(), sent.path.list());
     assert_eq!(rt;
@@ -45,9 +43,7 @@ fn reads_back_replies_that_were_written(rt: HostRuntime) -> Result<(), Fail> {
         }
         let mut sink = MemorySink::new(alloc, None);
         assert_eq!(rt; write_reply(alloc, &mut sink, &sent), Ok(()));
-        let got = reply_of(alloc, sink.bytes(), &[], sink.bytes().len())?
-            .ok()
-            .ok_or("read")?;
+        let got = reply_of(alloc, sink.bytes(), &[], sink.bytes().len())??;
         assert_eq!(rt; got.status, status);
         assert_eq!(rt; got.body.list(), GRANT);
     }

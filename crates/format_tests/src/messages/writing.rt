@@ -91,9 +91,7 @@ fn writes_replies(rt: HostRuntime) -> Result<(), Fail> {
 fn flushes_what_is_kept_back(rt: HostRuntime) -> Result<(), Fail> {
     let alloc = rt.alloc();
     let reply = denial(alloc)?;
-    let held = BufWriter::new(alloc, Vec::new(alloc))
-        .ok()
-        .ok_or("a buffer")?;
+    let held = BufWriter::new(alloc, Vec::new(alloc))?;
     let mut out = Counted::new(held);
     assert!(rt; write_reply(alloc, &mut out, &reply) == Ok(()));
     let held = out.into_inner();
