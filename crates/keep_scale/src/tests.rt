@@ -69,18 +69,24 @@ fn are_all(indices: &Indices) -> bool {
 
 #[test]
 #[tactic(auto, using(keep_cert::proofs::Printing::decided_is_of))]
-fn every_entry_is_asked(rt: HostRuntime) -> Result<(), Fail> {
+fn the_plan_of_every_entry_is_printed(rt: HostRuntime) -> Result<(), Fail> {
     let alloc = rt.alloc();
     let inventory = fleet(alloc)?;
     let forest = inventory.forest();
     assert!(rt; forest.len() == ENTRIES);
     let start = moment(1000)?;
-    let Ok(decision) = plan(alloc, forest, start) else {
-        return Err("a decision".into());
-    };
+    let decision = plan(alloc, forest, start)?;
     let text = keep_cert::print(alloc, forest, start, &decision)?;
     assert!(rt; text.list() == PLAN.as_bytes());
-    let Decision::Keep(plan) = decision else {
+    Ok(())
+}
+
+#[test]
+fn every_entry_is_asked(rt: HostRuntime) -> Result<(), Fail> {
+    let alloc = rt.alloc();
+    let inventory = fleet(alloc)?;
+    let forest = inventory.forest();
+    let Decision::Keep(plan) = plan(alloc, forest, moment(1000)?)? else {
         return Err("a plan".into());
     };
     let asked = plan.asks(forest, moment(1059)?)?;
