@@ -1,6 +1,6 @@
 """What the scripts share that try wrong bodies: edits, and the function that an edit changes.
 
-An edit is a file below `crates/NAME/wrong-bodies/` or in `crates/NAME/must-fail/` with a line `file: src/what.rt` and then pairs
+An edit is a file of `crates/NAME/must-fail/` or `crates/NAME/also-fail/` with a line `file: src/what.rt` and then pairs
 of lines `old: TEXT` and `new: TEXT`; each old text stands once in that file. One that changes anything outside functions, as a
 constant, says in a line `refuses: FUNCTION` which one cannot be proved with it.
 """
@@ -12,8 +12,8 @@ from dataclasses import dataclass
 from pathlib import Path
 
 TOP = Path(__file__).resolve().parent.parent
-FOLDERS = ("must-fail", "wrong-bodies")
-MORE = "wrong-bodies/more"
+FOLDERS = ("must-fail",)
+MORE = "also-fail"
 """Where those lie that break a clause for which another one stands already."""
 
 HEADER = re.compile(r"^( *)(?:pub(?:\([^)]*\))? )?(?:const )?fn (\w+)", re.M)
