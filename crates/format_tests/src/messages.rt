@@ -7,25 +7,12 @@ mod round_trips;
 mod shown;
 mod writing;
 
+use crate::devices::source;
 use http::Method;
 use keep_moment::Text;
 use std::alloc::Global;
 use std::test::Fail;
-use vault_http::{HttpFault, MemorySource, Reply, Request, read_reply, read_request};
-
-/// A source of these bytes, handed out in pieces of these lengths.
-pub(crate) fn source(
-    alloc: Global,
-    bytes: &[u8],
-    pieces: &[usize],
-    before_failure: Option<u64>,
-) -> Result<MemorySource, Fail> {
-    Ok(MemorySource::new(
-        Vec::from_slice(alloc, bytes)?,
-        Vec::from_slice(alloc, pieces)?,
-        before_failure,
-    ))
-}
+use vault_http::{HttpFault, Reply, Request, read_reply, read_request};
 
 /// Reads a reply from its bytes, handed out in pieces of these lengths.
 pub(crate) fn reply_of(
@@ -47,6 +34,25 @@ pub(crate) fn request_of(
 ) -> Result<Result<Request, HttpFault>, Fail> {
     let mut source = source(alloc, bytes, pieces, None)?;
     Ok(read_request(alloc, &mut source, max))
+}
+
+/// Whether these are a request's method, path, token, an empty one for none, and body. What is read has the port 0.
+pub(crate) fn is_request(
+    request: &Request,
+    method: &str,
+    path: &[u8],
+    token: &[u8],
+    body: &[u8],
+) -> bool {
+    let said = match &request.token {
+        Some(token) => token.list(),
+        None => b"".as_slice(),
+    };
+    request.method.as_str() == method
+        && request.path.list() == path
+        && said == token
+        && request.body.list() == body
+        && request.port == 0
 }
 
 /// The texts of a request. (Apart from its method, which no early end has to drop here.)

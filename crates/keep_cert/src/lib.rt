@@ -16,8 +16,6 @@ mod reader;
 mod run_line;
 mod run_lines;
 mod runs;
-#[cfg(test)]
-mod tests;
 mod writer;
 
 pub use cert::{Body, Cert, MAX_LINES, MOST_CERTIFICATE, Version};

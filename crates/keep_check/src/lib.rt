@@ -13,8 +13,6 @@ mod gap_tree;
 mod gaps;
 mod kept;
 mod laws;
-#[cfg(test)]
-mod tests;
 mod walk;
 
 pub use answer::{Answer, Cause, CheckFault};

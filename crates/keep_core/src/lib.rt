@@ -47,8 +47,6 @@ mod shorten;
 mod shortened;
 mod step;
 mod steps;
-#[cfg(test)]
-mod tests;
 mod tick;
 
 pub use event::{Event, Output};

@@ -29,6 +29,3 @@ pub use memory_source::MemorySource;
 pub use one_read::{MoreFault, read_more, zeros};
 pub use read_whole::read_all;
 pub use write_whole::write_all;
-
-#[cfg(test)]
-mod tests;

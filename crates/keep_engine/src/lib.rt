@@ -22,8 +22,6 @@ mod plan_text;
 mod reach;
 mod reach_text;
 mod rehearse;
-#[cfg(test)]
-mod tests;
 
 pub use check::run_check;
 pub use command::{Command, obey};

@@ -10,8 +10,6 @@ mod fault;
 mod moment;
 mod places;
 mod stamp;
-#[cfg(test)]
-mod tests;
 mod text;
 
 pub use date::{date_text, dates_are_read_back, read_rfc3339};

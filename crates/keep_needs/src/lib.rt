@@ -8,8 +8,6 @@
 mod carried;
 mod fault;
 mod load;
-#[cfg(test)]
-mod tests;
 
 pub use carried::{Carried, carry};
 pub use fault::NeedsFault;

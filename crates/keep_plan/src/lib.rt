@@ -15,8 +15,6 @@ mod pair;
 mod planning;
 mod plans;
 mod runs;
-#[cfg(test)]
-mod tests;
 mod wakes;
 
 pub use decision::Decision;

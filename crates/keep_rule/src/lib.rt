@@ -14,8 +14,6 @@ mod limit;
 mod replay;
 mod rule;
 mod run;
-#[cfg(test)]
-mod tests;
 mod wake;
 
 pub use force::Force;

@@ -6,12 +6,12 @@ use keep_moment::{Moment, Text};
 use keep_needs::carry;
 use keep_plan::{Decision, plan, shortfall};
 use keep_rule::{Wake, ends_after};
-use keep_schedule::QueueSchedule;
-use keep_tree::Indices;
+use keep_schedule::{QueueSchedule, Run};
+use keep_tree::{Forest, Indices};
 use mini_broker::{Served, Table};
 use std::alloc::Global;
 use std::test::Fail;
-use vault_http::Request;
+use vault_http::{Reply, Request};
 
 // As many entries as an inventory may have: tokens that all end at 1060, of which each is needed until 1200 and renewed by
 // 60 seconds. All are due at 1059, 1118 and 1177, as the one token of the web example is.
@@ -120,13 +120,8 @@ fn every_end_is_told(rt: HostRuntime) -> Result<(), Fail> {
     Ok(())
 }
 
-// The first run of wake-ups is forced by the first of the entries that are due together, for its own need.
-#[test]
-fn the_queue_takes_every_entry(rt: HostRuntime) -> Result<(), Fail> {
-    let alloc = rt.alloc();
-    let inventory = fleet(alloc)?;
-    let forest = inventory.forest();
-    let start = moment(1000)?;
+// The run of wake-ups that the queue gives, where it gives one alone.
+fn only_run(alloc: Global, forest: &Forest, start: Moment) -> Result<Run, Fail> {
     let Ok(carried) = carry(alloc, forest, start) else {
         return Err("needs".into());
     };
@@ -135,12 +130,24 @@ fn the_queue_takes_every_entry(rt: HostRuntime) -> Result<(), Fail> {
     }
     let mut schedule = QueueSchedule::new(alloc, forest, &carried, start)?;
     let run = schedule.next_run(1000).ok_or("a run")?;
+    if schedule.next_run(1000).is_some() {
+        return Err("one run".into());
+    }
+    Ok(run)
+}
+
+// It is forced by the first of the entries that are due together, for its own need.
+#[test]
+fn the_queue_takes_every_entry(rt: HostRuntime) -> Result<(), Fail> {
+    let inventory = fleet(rt.alloc())?;
+    let run = only_run(rt.alloc(), inventory.forest(), moment(1000)?)?;
     assert!(rt; run.first == 1059);
     assert!(rt; run.count == 3);
     assert!(rt; run.entry == 0);
-    assert!(rt; schedule.next_run(1000).is_none());
     Ok(())
 }
+
+const RENEWED: &[u8] = b"{\"auth\":{\"lease_duration\":60,\"renewable\":true}}";
 
 fn renewal_of_the_last(alloc: Global) -> Result<Request, Fail> {
     Ok(Request {
@@ -152,21 +159,22 @@ fn renewal_of_the_last(alloc: Global) -> Result<Request, Fail> {
     })
 }
 
+fn reply_to_the_last(alloc: Global, table: &mut Table) -> Result<Reply, Fail> {
+    let request = renewal_of_the_last(alloc)?;
+    match table.serve(moment(1059)?, &request)? {
+        Served::Reply(reply) => Ok(reply),
+        _ => Err("a reply".into()),
+    }
+}
+
 // The last of the tokens is renewed by its own value.
 #[test]
 fn the_broker_serves_the_last(rt: HostRuntime) -> Result<(), Fail> {
-    let alloc = rt.alloc();
-    let inventory = fleet(alloc)?;
-    let mut table = Table::load(alloc, &inventory)?;
-    let request = renewal_of_the_last(alloc)?;
-    let served = table.serve(moment(1059)?, &request)?;
-    let Served::Reply(reply) = served else {
-        return Err("a reply".into());
-    };
+    let inventory = fleet(rt.alloc())?;
+    let mut table = Table::load(rt.alloc(), &inventory)?;
+    let reply = reply_to_the_last(rt.alloc(), &mut table)?;
     assert!(rt; reply.status == 200);
-    assert!(rt;
-        reply.body.list() == b"{\"auth\":{\"lease_duration\":60,\"renewable\":true}}".as_slice()
-    );
+    assert!(rt; reply.body.list() == RENEWED);
     Ok(())
 }
 

@@ -15,8 +15,6 @@ mod queue;
 mod scan;
 mod schedule;
 mod stretch;
-#[cfg(test)]
-mod tests;
 
 pub use fault::ScheduleFault;
 pub use keep_rule::{Force, LIMIT, Run};

@@ -13,8 +13,6 @@ mod forest;
 mod indices;
 mod limits;
 mod renewing;
-#[cfg(test)]
-mod tests;
 
 pub use ends::Ends;
 pub use entry::{Entry, Kind};

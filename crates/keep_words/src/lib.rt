@@ -10,8 +10,6 @@
 mod laws;
 mod number;
 mod pieces;
-#[cfg(test)]
-mod tests;
 mod words;
 
 pub use laws::words_are_cut_back;

@@ -1,13 +1,32 @@
-//! Tests alone, of the runs against a broker: rehearsals, live runs, rehearsals whose writer fails, and secrets that nothing shows.
-//! They stand above the crate that they test, so that it is not proved a second time with its tests.
+//! Tests alone, of the runs of the program over whole inventories: the exit, the output and the fault line of each command,
+//! rehearsals, also cut off by their writer, live runs, and secrets that nothing shows. They stand above the crates that they
+//! test, so that none of these is proved a second time with its tests.
 #![tactic(auto)]
 
 #[cfg(test)]
+mod checks;
+#[cfg(test)]
 mod cut_rehearsals;
+#[cfg(test)]
+mod ends;
+#[cfg(test)]
+mod exits;
+#[cfg(test)]
+mod faulty;
+#[cfg(test)]
+mod fronts;
 #[cfg(test)]
 mod inventories;
 #[cfg(test)]
 mod live;
+#[cfg(test)]
+mod moments;
+#[cfg(test)]
+mod obeyed;
+#[cfg(test)]
+mod plans;
+#[cfg(test)]
+mod reaches;
 #[cfg(test)]
 mod rehearsals;
 #[cfg(test)]

@@ -1,4 +1,4 @@
-use super::source;
+use crate::devices::source;
 use std::alloc::Global;
 use std::process::Abort;
 use std::test::Fail;

@@ -1,4 +1,5 @@
-use super::{GRANT, reply_of, source};
+use super::{GRANT, reply_of};
+use crate::devices::source;
 use std::process::Abort;
 use std::test::Fail;
 use vault_http::{Device, HttpFault, read_reply};

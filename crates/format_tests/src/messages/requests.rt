@@ -1,4 +1,5 @@
-use super::{LOOKUP, RENEWAL, request_of, source};
+use super::{LOOKUP, RENEWAL, is_request, request_of};
+use crate::devices::source;
 use std::process::Abort;
 use std::test::Fail;
 use vault_http::{Device, HttpFault, read_request};
@@ -55,17 +56,7 @@ fn reads<R: AllocGlobal + Abort>(
 ) -> Result<(), Fail> {
     let (method, path, token, body) = parts;
     let request = request_of(rt.alloc(), text, pieces, 1048576)??;
-    assert_eq!(rt; request.method.as_str(), method);
-    assert_eq!(rt; request.path.list(), path);
-    assert_eq!(rt;
-        request
-            .token
-            .as_ref()
-            .map_or(b"".as_slice(), |token| token.list()),
-        token
-    );
-    assert_eq!(rt; request.body.list(), body);
-    assert_eq!(rt; request.port, 0);
+    assert!(rt; is_request(&request, method, path, token, body), "{method}");
     Ok(())
 }
 

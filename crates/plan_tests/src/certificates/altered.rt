@@ -1,0 +1,123 @@
+use super::refuses;
+use keep_cert::CertFault;
+use std::test::Fail;
+
+// Certificates of version 1, altered behind the second line.
+const BAD_WAKES: [(&str, CertFault); 17] = [
+    (
+        "wake 1059 web web\nwake 1118 web web\nwake 1177 web web\nend 3\nx",
+        CertFault::Trailing,
+    ),
+    (
+        "wake 1059 web web\nwake 1118 web web\nwake 1177 web web\nend 4\n",
+        CertFault::BadNumber(6),
+    ),
+    (
+        "wake 01059 web web\nwake 1118 web web\nwake 1177 web web\nend 3\n",
+        CertFault::BadNumber(3),
+    ),
+    (
+        "wake 1059 web web\nwake 1118 web web\nwake 1177 web web\nend 3",
+        CertFault::BadLine(6),
+    ),
+    (
+        "run 1059 0 1 web web\nwake 1118 web web\nwake 1177 web web\nend 3\n",
+        CertFault::BadLine(3),
+    ),
+    ("wake 1059 web web\nend 1\nx", CertFault::Trailing),
+    ("wake 1059 web web\nend 1\n\n", CertFault::Trailing),
+    ("wake 1059 web web\nend 2\n", CertFault::BadNumber(4)),
+    ("wake 01059 web web\nend 1\n", CertFault::BadNumber(3)),
+    ("run 1059 0 1 web web\nend 1\n", CertFault::BadLine(3)),
+    (
+        "wake 253402300800 web web\nend 1\n",
+        CertFault::BadNumber(3),
+    ),
+    ("wake 1059 web \nend 1\n", CertFault::UnknownName(3)),
+    ("wake 1059  web web\nend 1\n", CertFault::BadLine(3)),
+    ("wake x web nobody\nend 1\n", CertFault::BadNumber(3)),
+    ("unkeepable web nobody\n", CertFault::UnknownName(3)),
+    ("unkeepable web web\nend 0\n", CertFault::Trailing),
+    (
+        "wake 1059 web web\nunkeepable web web\n",
+        CertFault::BadLine(4),
+    ),
+];
+
+// Certificates of version 2, altered behind the second line.
+const BAD_RUNS: [(&str, CertFault); 14] = [
+    ("run 1059 59 3 web web\nend 3\nx", CertFault::Trailing),
+    ("run 1059 59 3 web web\nend 4\n", CertFault::BadNumber(4)),
+    ("run 01059 59 3 web web\nend 3\n", CertFault::BadNumber(3)),
+    ("run 1059 59 3 web web\nend 3", CertFault::BadLine(4)),
+    ("run 1059 0 3 web web\nend 3\n", CertFault::BadNumber(3)),
+    ("run 1059 59 1 web web\nend 1\n", CertFault::BadNumber(3)),
+    ("run 1059 0 0 web web\nend 0\n", CertFault::BadNumber(3)),
+    ("wake 1059 web web\nend 1\n", CertFault::BadLine(3)),
+    (
+        "run 253402300798 1 3 web web\nend 3\n",
+        CertFault::BadNumber(3),
+    ),
+    (
+        "run 1059 253402300799 253402300799 web web\nend 3\n",
+        CertFault::BadNumber(3),
+    ),
+    (
+        "run 1001 1 10000000 web web\nrun 20000000 0 1 web web\nend 10000001\n",
+        CertFault::BadNumber(4),
+    ),
+    (
+        "run 1059 59 3 web nobody\nend 3\n",
+        CertFault::UnknownName(3),
+    ),
+    ("run 1059 59 3 web\nend 3\n", CertFault::BadLine(3)),
+    ("end 00\n", CertFault::BadNumber(3)),
+];
+
+#[test]
+fn altered_wake_ups_are_refused(rt: HostRuntime) -> Result<(), Fail> {
+    for (lines, fault) in BAD_WAKES {
+        let text = format!(in rt.alloc(); "leasekeep-plan 1\nstart 1000\n{lines}")?;
+        refuses(&rt, text.as_bytes(), fault)?;
+    }
+    Ok(())
+}
+
+#[test]
+fn altered_runs_are_refused(rt: HostRuntime) -> Result<(), Fail> {
+    for (lines, fault) in BAD_RUNS {
+        let text = format!(in rt.alloc(); "leasekeep-plan 2\nstart 1000\n{lines}")?;
+        refuses(&rt, text.as_bytes(), fault)?;
+    }
+    Ok(())
+}
+
+#[test]
+fn altered_heads_are_refused(rt: HostRuntime) -> Result<(), Fail> {
+    refuses(
+        &rt,
+        b"leasekeep-plan 3\nstart 1000\nend 0\n",
+        CertFault::BadHeader,
+    )?;
+    refuses(
+        &rt,
+        b"leasekeep-plan 2 \nstart 1000\nend 0\n",
+        CertFault::BadHeader,
+    )?;
+    refuses(
+        &rt,
+        b"leasekeep-plan 2\nstart \nend 0\n",
+        CertFault::BadNumber(2),
+    )?;
+    refuses(
+        &rt,
+        b"leasekeep-plan 2\nstart\nend 0\n",
+        CertFault::BadLine(2),
+    )?;
+    refuses(
+        &rt,
+        b"leasekeep-plan 2\nbegin 1000\nend 0\n",
+        CertFault::BadLine(2),
+    )?;
+    refuses(&rt, b"leasekeep-plan 2\n\nend 0\n", CertFault::BadLine(2))
+}

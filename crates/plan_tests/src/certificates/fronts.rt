@@ -1,0 +1,51 @@
+use super::{IN_RUNS, IN_WAKES, refuses};
+use keep_cert::CertFault;
+use std::process::Abort;
+use std::test::Fail;
+
+// For which lengths, both ends counted, a front of the certificate in runs is refused, and with which fault.
+const FRONTS_OF_RUNS: [(usize, usize, CertFault); 7] = [
+    (0, 16, CertFault::BadHeader),
+    (17, 17, CertFault::Truncated),
+    (18, 27, CertFault::BadLine(2)),
+    (28, 28, CertFault::Truncated),
+    (29, 49, CertFault::BadLine(3)),
+    (50, 50, CertFault::Truncated),
+    (51, 55, CertFault::BadLine(4)),
+];
+
+// The same of the certificate in wake-ups.
+const FRONTS_OF_WAKES: [(usize, usize, CertFault); 11] = [
+    (0, 16, CertFault::BadHeader),
+    (17, 17, CertFault::Truncated),
+    (18, 27, CertFault::BadLine(2)),
+    (28, 28, CertFault::Truncated),
+    (29, 45, CertFault::BadLine(3)),
+    (46, 46, CertFault::Truncated),
+    (47, 63, CertFault::BadLine(4)),
+    (64, 64, CertFault::Truncated),
+    (65, 81, CertFault::BadLine(5)),
+    (82, 82, CertFault::Truncated),
+    (83, 87, CertFault::BadLine(6)),
+];
+
+fn refuses_fronts<R: AllocGlobal + Abort>(
+    rt: &R,
+    text: &str,
+    fronts: &[(usize, usize, CertFault)],
+) -> Result<(), Fail> {
+    for (from, to, fault) in fronts {
+        for length in *from..=*to {
+            refuses(rt, text.as_bytes().get(..length).ok_or("a front")?, *fault)?;
+        }
+    }
+    Ok(())
+}
+
+// Each front of the certificate of `web` is refused with its fault, in both versions.
+#[test]
+fn fronts_are_refused(rt: HostRuntime) -> Result<(), Fail> {
+    assert!(rt; IN_RUNS.len() == 56);
+    refuses_fronts(&rt, IN_RUNS, &FRONTS_OF_RUNS)?;
+    refuses_fronts(&rt, IN_WAKES, &FRONTS_OF_WAKES)
+}

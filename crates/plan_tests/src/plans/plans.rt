@@ -1,0 +1,219 @@
+use super::{Row, fill, forest_of, token, token_and_lease};
+use keep_moment::Moment;
+use keep_plan::{Decision, Plan, plan};
+use keep_schedule::Run;
+use keep_tree::{Forest, Kind};
+use std::alloc::Global;
+use std::test::Fail;
+
+// A token with this step.
+fn renewed(end: u64, step: u32, need: u64) -> Row {
+    Row {
+        step,
+        ..token(None, end, true, need)
+    }
+}
+
+// A token of end 1002 and step 2, with this ceiling.
+fn quick(ceiling: u64, need: u64) -> Row {
+    Row {
+        ceiling: Some(ceiling),
+        ..renewed(1002, 2, need)
+    }
+}
+
+// The token of the web example.
+fn web(need: u64) -> Row {
+    token(None, 1060, true, need)
+}
+
+// A lease of the entry at index `over`.
+fn lease(over: u32, end: u64, need: u64) -> Row {
+    Row {
+        kind: Kind::Lease,
+        ..token(Some(over), end, true, need)
+    }
+}
+
+// A periodic token with the explicit max 1100.
+fn pay(need: u64) -> Row {
+    Row {
+        ceiling: Some(1100),
+        ..web(need)
+    }
+}
+
+fn run(first: u64, step: u64, count: u64, index: u32) -> Run {
+    Run {
+        first,
+        step,
+        count,
+        entry: index,
+        needed: index,
+    }
+}
+
+fn start() -> Result<Moment, Fail> {
+    Ok(Moment::new(1000).ok_or("a moment")?)
+}
+
+// The plan from 1000 on, with the margin.
+fn planned(alloc: Global, margin: u32, rows: &[Row]) -> Result<Plan, Fail> {
+    let empty = if margin == 10 {
+        Forest::with_margin(alloc, 10)
+    } else {
+        Forest::new(alloc)
+    };
+    let forest = fill(alloc, empty, rows)?;
+    match plan(alloc, &forest, start()?)? {
+        Decision::Keep(plan) => Ok(plan),
+        _ => Err("no plan".into()),
+    }
+}
+
+// One token, or none.
+#[test]
+fn gives_the_runs_of_one_token(rt: HostRuntime) -> Result<(), Fail> {
+    let cases: [(&[Row], &[Run]); 10] = [
+        (&[web(1200)], &[run(1059, 59, 3, 0)]),
+        (&[web(1060)], &[]),
+        (&[web(1061)], &[run(1059, 0, 1, 0)]),
+        (&[], &[]),
+        (&[token(None, 1000, true, 1000)], &[]),
+        (&[renewed(1002, 2, 1010)], &[run(1001, 1, 8, 0)]),
+        (&[pay(1100)], &[run(1059, 0, 1, 0)]),
+        (&[quick(201000, 101002)], &[run(1001, 1, 100000, 0)]),
+        (&[quick(201000, 101003)], &[run(1001, 1, 100001, 0)]),
+        (&[quick(20001000, 10001002)], &[run(1001, 1, 10000000, 0)]),
+    ];
+    for (i, case) in cases.iter().enumerate() {
+        let (rows, want) = *case;
+        let plan = planned(rt.alloc(), 1, rows)?;
+        assert_eq!(rt; plan.runs(), want, "case {i}");
+    }
+    Ok(())
+}
+
+// Several entries; and the web example with the margin 10, also with increment 11 and need 1070.
+#[test]
+fn gives_the_runs_of_several(rt: HostRuntime) -> Result<(), Fail> {
+    let fixed = token(None, 1060, false, 0);
+    let cases: [(u32, &[Row], &[Run]); 6] = [
+        (1, &token_and_lease(10000), &[run(1059, 59, 3, 1)]),
+        (1, &with_big(1060), &[run(1059, 59, 3, 0)]),
+        (
+            1,
+            &[web(1100), renewed(1100, 100, 1400)],
+            &[run(1059, 0, 1, 0), run(1158, 99, 3, 1)],
+        ),
+        (1, &[fixed, token(None, 1300, true, 1200)], &[]),
+        (10, &[web(1200)], &[run(1050, 50, 3, 0)]),
+        (10, &[renewed(1060, 11, 1070)], &[run(1050, 1, 10, 0)]),
+    ];
+    for (i, case) in cases.iter().enumerate() {
+        let (margin, rows, want) = *case;
+        let plan = planned(rt.alloc(), margin, rows)?;
+        assert_eq!(rt; plan.runs(), want, "case {i}");
+    }
+    Ok(())
+}
+
+// Two tokens in turn: each wake-up with its force, and what is left without the first of them.
+#[test]
+fn walks_the_wake_ups(rt: HostRuntime) -> Result<(), Fail> {
+    let mut plan = planned(rt.alloc(), 1, &[web(1100), renewed(1100, 100, 1400)])?;
+    let want = [(1059, 0), (1158, 1), (1257, 1), (1356, 1)];
+    let left = [4, 3, 2, 1];
+    for (i, case) in want.iter().enumerate() {
+        let (at, entry) = *case;
+        let wake = plan.wakes().next().ok_or("a wake-up")?;
+        assert_eq!(rt;
+            (wake.at.get(), wake.entry, wake.needed),
+            (at, entry, entry)
+        );
+        assert_eq!(rt; plan.wakes().count() as u64, left[i]);
+        assert_eq!(rt; plan.len(), left[i]);
+        if plan.len() > 0 {
+            plan.drop_first();
+        }
+    }
+    assert!(rt; plan.runs().is_empty());
+    Ok(())
+}
+
+// What cannot be kept, and what takes ten million and one wake-ups.
+#[test]
+fn names_why_there_is_no_plan(rt: HostRuntime) -> Result<(), Fail> {
+    let alloc = rt.alloc();
+    let cases: [(&[Row], Option<(u32, u32)>); 5] = [
+        (&token_and_lease(1150), Some((0, 1))),
+        (&[token(None, 1000, true, 1100)], Some((0, 0))),
+        (&[pay(1101)], Some((0, 0))),
+        (
+            &[
+                token(None, 1060, false, 0),
+                token(Some(0), 1300, true, 1200),
+            ],
+            Some((0, 1)),
+        ),
+        (&[quick(20001000, 10001003)], None),
+    ];
+    for (i, case) in cases.iter().enumerate() {
+        let (rows, want) = *case;
+        let forest = forest_of(alloc, rows)?;
+        let pair = match plan(alloc, &forest, start()?)? {
+            Decision::Keep(_) => return Err("a plan".into()),
+            Decision::Unkeepable { entry, needed } => Some((entry, needed)),
+            Decision::TooLong => None,
+        };
+        assert_eq!(rt; pair, want, "case {i}");
+    }
+    Ok(())
+}
+
+// Token and lease, with the ends that each wake-up finds; the token later; web, base and big.
+#[test]
+fn asks_what_cannot_wait(rt: HostRuntime) -> Result<(), Fail> {
+    let alloc = rt.alloc();
+    let cases: [(&[Row], u64, &[u32]); 8] = [
+        (&pair(1100, 1060), 1059, &[0, 1]),
+        (&pair(1159, 1119), 1118, &[0, 1]),
+        (&pair(1218, 1178), 1177, &[1]),
+        (&pair(1130, 1060), 1059, &[1]),
+        (&pair(1130, 1119), 1118, &[0, 1]),
+        (&with_big(1060), 1059, &[0]),
+        (&with_big(1119), 1118, &[0]),
+        (&with_big(1178), 1177, &[0]),
+    ];
+    for (i, case) in cases.iter().enumerate() {
+        let (rows, at, want) = *case;
+        let forest = forest_of(alloc, rows)?;
+        let at = Moment::new(at).ok_or("a moment")?;
+        let Decision::Keep(plan) = plan(alloc, &forest, start()?)? else {
+            return Err("no plan".into());
+        };
+        assert_eq!(rt; plan.asks(&forest, at)?.list(), want, "case {i}");
+    }
+    Ok(())
+}
+
+// Token and lease with these ends.
+fn pair(token: u64, lease: u64) -> [Row; 2] {
+    let [over, under] = token_and_lease(10000);
+    [
+        Row { end: token, ..over },
+        Row {
+            end: lease,
+            ..under
+        },
+    ]
+}
+
+// Web with this end, base and its lease big.
+fn with_big(web: u64) -> [Row; 3] {
+    [
+        token(None, web, true, 1200),
+        token(None, 6000, true, 0),
+        lease(1, 5000, 4000),
+    ]
+}

@@ -1,0 +1,271 @@
+use crate::inventories::{IN_TURN, ONE_DUE, TOKEN_AND_LEASE, WEB, inventory_of};
+use crate::moments::moment;
+use crate::plans::{OF_ONE_TOKEN, PLANNED};
+use keep_device::MemorySink;
+use keep_engine::{Exit, run_check, run_plan};
+use std::process::Abort;
+use std::test::Fail;
+
+/// The certificate of the web example in version 2.
+pub const IN_RUNS: &str = "leasekeep-plan 2\nstart 1000\nrun 1059 59 3 web web\nend 3\n";
+
+/// The same in version 1.
+pub const IN_WAKES: &str =
+    "leasekeep-plan 1\nstart 1000\nwake 1059 web web\nwake 1118 web web\nwake 1177 web web\nend 3\n";
+
+/// The line of `check` about a certificate: exit 0 with `yes`, and 4 with any other.
+pub fn judges<R: AllocGlobal + Abort>(
+    rt: &R,
+    inventory: &str,
+    certificate: &[u8],
+    line: &str,
+) -> Result<(), Fail> {
+    let alloc = rt.alloc();
+    let mut out = MemorySink::new(alloc, None);
+    let mut errors = MemorySink::new(alloc, None);
+    let got = run_check(
+        alloc,
+        inventory.as_bytes(),
+        certificate,
+        &mut out,
+        &mut errors,
+    );
+    let want = if line == "yes\n" {
+        Exit::Done
+    } else {
+        Exit::No
+    };
+    assert_eq!(rt; got, want, "{line}");
+    assert!(rt; out.bytes() == line.as_bytes(), "{line}");
+    assert!(rt; errors.bytes().is_empty(), "{line}");
+    Ok(())
+}
+
+// What `plan` writes from 1000 on gets `yes`.
+fn accepts_own<R: AllocGlobal + Abort>(rt: &R, inventory: &str) -> Result<(), Fail> {
+    let alloc = rt.alloc();
+    let mut certificate = MemorySink::new(alloc, None);
+    let mut errors = MemorySink::new(alloc, None);
+    let start = moment(1000)?;
+    let exit = run_plan(
+        alloc,
+        inventory.as_bytes(),
+        start,
+        &mut certificate,
+        &mut errors,
+    );
+    assert!(rt; matches!(exit, Exit::Done | Exit::Unkeepable));
+    judges(rt, inventory, certificate.bytes(), "yes\n")
+}
+
+#[test]
+fn own_certificates_get_yes(rt: HostRuntime) -> Result<(), Fail> {
+    for (inventory, _, _) in PLANNED {
+        accepts_own(&rt, inventory)?;
+    }
+    Ok(())
+}
+
+#[test]
+fn own_certificates_of_one_token_get_yes(rt: HostRuntime) -> Result<(), Fail> {
+    for (web, _, _) in OF_ONE_TOKEN {
+        let inventory = inventory_of(rt.alloc(), web)?;
+        accepts_own(&rt, inventory.as_str())?;
+    }
+    Ok(())
+}
+
+// One run of ten million wake-ups, and one wake-up too few.
+#[test]
+fn ten_million_wake_ups_are_judged(rt: HostRuntime) -> Result<(), Fail> {
+    let inventory = inventory_of(rt.alloc(), (1, 1002, 2, 20000000, 10001002))?;
+    judges(
+        &rt,
+        inventory.as_str(),
+        b"leasekeep-plan 2\nstart 1000\nrun 1001 1 10000000 web web\nend 10000000\n".as_slice(),
+        "yes\n",
+    )?;
+    judges(
+        &rt,
+        inventory.as_str(),
+        b"leasekeep-plan 2\nstart 1000\nrun 1001 1 9999999 web web\nend 9999999\n".as_slice(),
+        "no not-kept web\n",
+    )
+}
+
+// Certificates of version 1, altered behind the first line, the inventory that each is judged by, and the line about it.
+const ALTERED_WAKES: [(&str, &str, &str); 13] = [
+    (
+        WEB,
+        "start 1000\nwake 1059 web web\nwake 1118 web web\nwake 1177 web web\nend 3\n",
+        "yes\n",
+    ),
+    (
+        WEB,
+        "start 1000\nwake 1058 web web\nwake 1118 web web\nwake 1177 web web\nend 3\n",
+        "no not-forced 1\n",
+    ),
+    (
+        WEB,
+        "start 1000\nwake 1059 web web\nwake 1059 web web\nwake 1177 web web\nend 3\n",
+        "no not-rising 2\n",
+    ),
+    (
+        WEB,
+        "start 1000\nwake 1059 web web\nwake 1118 web web\nend 2\n",
+        "no not-kept web\n",
+    ),
+    (
+        WEB,
+        "start 1000\nwake 1059 web web\nwake 1118 web web\nwake 1177 web web\nend 3\nx",
+        "unreadable trailing\n",
+    ),
+    (
+        WEB,
+        "start 1000\nwake 1059 web web\nwake 1118 web web\nwake 1177 web web\nend 4\n",
+        "unreadable bad-number 6\n",
+    ),
+    (
+        WEB,
+        "start 1000\nwake 01059 web web\nwake 1118 web web\nwake 1177 web web\nend 3\n",
+        "unreadable bad-number 3\n",
+    ),
+    (
+        WEB,
+        "start 1000\nrun 1059 0 1 web web\nwake 1118 web web\nwake 1177 web web\nend 3\n",
+        "unreadable bad-line 3\n",
+    ),
+    (WEB, "start 1200\nend 0\n", "yes\n"),
+    (
+        WEB,
+        "start 1000\nunkeepable web web\n",
+        "no not-unkeepable\n",
+    ),
+    (
+        TOKEN_AND_LEASE,
+        "start 1000\nunkeepable T L\n",
+        "no not-unkeepable\n",
+    ),
+    (
+        ONE_DUE,
+        "start 1000\nwake 1059 a b\nend 1\n",
+        "no not-forced 1\n",
+    ),
+    (
+        IN_TURN,
+        "start 1000\nwake 1059 web web\nend 1\n",
+        "unreadable unknown-name 3\n",
+    ),
+];
+
+// The same in version 2.
+const ALTERED_RUNS: [(&str, &str, &str); 15] = [
+    (WEB, "start 1000\nrun 1059 59 3 web web\nend 3\n", "yes\n"),
+    (
+        WEB,
+        "start 1000\nrun 1059 58 3 web web\nend 3\n",
+        "no not-forced 2\n",
+    ),
+    (
+        WEB,
+        "start 1000\nrun 1059 60 3 web web\nend 3\n",
+        "no not-kept web\n",
+    ),
+    (
+        WEB,
+        "start 1000\nrun 1059 59 4 web web\nend 4\n",
+        "no not-forced 4\n",
+    ),
+    (
+        WEB,
+        "start 1000\nrun 1059 0 3 web web\nend 3\n",
+        "unreadable bad-number 3\n",
+    ),
+    (
+        WEB,
+        "start 1000\nrun 1059 0 1 web web\nrun 1118 59 2 web web\nend 3\n",
+        "yes\n",
+    ),
+    (
+        WEB,
+        "start 1000\nwake 1059 web web\nend 3\n",
+        "unreadable bad-line 3\n",
+    ),
+    (
+        WEB,
+        "start 1000\nrun 1059 59 3 web web\nend 3\nx",
+        "unreadable trailing\n",
+    ),
+    (
+        WEB,
+        "start 1000\nrun 1059 59 3 web web\nend 4\n",
+        "unreadable bad-number 4\n",
+    ),
+    (
+        WEB,
+        "start 1000\nrun 01059 59 3 web web\nend 3\n",
+        "unreadable bad-number 3\n",
+    ),
+    (WEB, "start 1200\nend 0\n", "yes\n"),
+    (
+        WEB,
+        "start 1000\nunkeepable web web\n",
+        "no not-unkeepable\n",
+    ),
+    (
+        TOKEN_AND_LEASE,
+        "start 1000\nunkeepable T L\n",
+        "no not-unkeepable\n",
+    ),
+    (
+        ONE_DUE,
+        "start 1000\nrun 1059 0 1 a b\nend 1\n",
+        "no not-forced 1\n",
+    ),
+    (
+        IN_TURN,
+        "start 1000\nrun 1059 59 3 web web\nend 3\n",
+        "unreadable unknown-name 3\n",
+    ),
+];
+
+#[test]
+fn altered_wake_ups_are_judged(rt: HostRuntime) -> Result<(), Fail> {
+    for (inventory, lines, line) in ALTERED_WAKES {
+        let text = format!(in rt.alloc(); "leasekeep-plan 1\n{lines}")?;
+        judges(&rt, inventory, text.as_bytes(), line)?;
+    }
+    Ok(())
+}
+
+#[test]
+fn altered_runs_are_judged(rt: HostRuntime) -> Result<(), Fail> {
+    for (inventory, lines, line) in ALTERED_RUNS {
+        let text = format!(in rt.alloc(); "leasekeep-plan 2\n{lines}")?;
+        judges(&rt, inventory, text.as_bytes(), line)?;
+    }
+    Ok(())
+}
+
+// Each call of the output fails in turn: exit 6.
+#[test]
+fn a_failed_write_of_an_answer_is_exit_6(rt: HostRuntime) -> Result<(), Fail> {
+    let alloc = rt.alloc();
+    for call in 0..2u64 {
+        let mut out = MemorySink::new(alloc, Some(call));
+        let mut errors = MemorySink::new(alloc, None);
+        let exit = run_check(
+            alloc,
+            WEB.as_bytes(),
+            IN_RUNS.as_bytes(),
+            &mut out,
+            &mut errors,
+        );
+        assert_eq!(rt; exit, Exit::Device, "call {call}");
+        assert!(rt;
+            errors.bytes() == b"leasekeep: write\n".as_slice(),
+            "call {call}"
+        );
+    }
+    Ok(())
+}

@@ -1,0 +1,157 @@
+use crate::inventories::{
+    HIDDEN, IN_TURN, LOW_CEILING, PAY, TOKEN_AND_LEASE, WEB, WEB_BASE_AND_BIG, WEB_BY_DATE,
+};
+use crate::moments::moment;
+use keep_device::MemorySink;
+use keep_engine::{Exit, run_ends};
+use keep_moment::Moment;
+use std::alloc::Global;
+use std::process::Abort;
+use std::test::Fail;
+
+const WITH_MARGIN: &str =
+    "margin = 10\n[[token]]\nname = \"web\"\nissued = 1000\nend = 1060\nincrement = 60\nmax_ttl = 9000\nneed = 1200\n";
+
+// Inventories with moments, and what `ends` writes of them from 1000 on.
+const KEPT_OR_NOT: [(&str, &[u64], &str); 15] = [
+    (WEB, &[1059, 1118, 1177], "web 1237\nkeeps yes\n"),
+    (WEB, &[1059, 1118], "web 1178\nkeeps no\n"),
+    (WEB, &[1059], "web 1119\nkeeps no\n"),
+    (WEB, &[1060], "web 1060\nkeeps no\n"),
+    (WEB, &[1059, 1059], "web 1119\nkeeps no\n"),
+    (WEB_BY_DATE, &[1059, 1118, 1177], "web 1237\nkeeps yes\n"),
+    (
+        TOKEN_AND_LEASE,
+        &[1059, 1118, 1177],
+        "T 1277\nL 1237\nkeeps yes\n",
+    ),
+    (HIDDEN, &[1059, 1118, 1177], "T 1277\nL 1237\nkeeps yes\n"),
+    (
+        LOW_CEILING,
+        &[1059, 1118, 1177],
+        "T 1150\nL 1178\nkeeps no\n",
+    ),
+    (PAY, &[1059], "pay 1100\nkeeps yes\n"),
+    (
+        WEB_BASE_AND_BIG,
+        &[1059],
+        "web 1119\nbase 1119\nbig 1119\nkeeps no\n",
+    ),
+    (WITH_MARGIN, &[1055], "web 1060\nkeeps no\n"),
+    (WITH_MARGIN, &[1050], "web 1110\nkeeps no\n"),
+    ("", &[], "keeps yes\n"),
+    (
+        IN_TURN,
+        &[1059, 1158, 1257, 1356],
+        "a 1119\nb 1456\nkeeps yes\n",
+    ),
+];
+
+// What has no ends, with its fault line.
+const REFUSED: [(&str, &[u64], Exit, &str); 3] = [
+    (
+        WEB,
+        &[1118, 1059],
+        Exit::CommandLine,
+        "leasekeep: moments: unordered 2\n",
+    ),
+    (
+        WEB,
+        &[999],
+        Exit::CommandLine,
+        "leasekeep: moments: before-start 1\n",
+    ),
+    (
+        "[[token]]\nname = \"t\"\nissued = 1000\nend = 1002\nincrement = 1\n",
+        &[],
+        Exit::Inventory,
+        "leasekeep: inventory: tree 0 step-too-small\n",
+    ),
+];
+
+fn moments_of(alloc: Global, seconds: &[u64]) -> Result<Vec<Moment>, Fail> {
+    let mut moments = Vec::new(alloc);
+    for at in seconds {
+        moments.push(moment(*at)?)?;
+    }
+    Ok(moments)
+}
+
+// `ends` from 1000 on: its exit, its output and its fault line.
+fn ends<R: AllocGlobal + Abort>(
+    rt: &R,
+    inventory: &str,
+    moments: &[u64],
+    exit: Exit,
+    text: &str,
+    fault: &str,
+) -> Result<(), Fail> {
+    let alloc = rt.alloc();
+    let mut out = MemorySink::new(alloc, None);
+    let mut errors = MemorySink::new(alloc, None);
+    let start = moment(1000)?;
+    let moments = moments_of(alloc, moments)?;
+    let got = run_ends(
+        alloc,
+        inventory.as_bytes(),
+        start,
+        &moments,
+        &mut out,
+        &mut errors,
+    );
+    assert_eq!(rt; got, exit, "{text}{fault}");
+    assert!(rt; out.bytes() == text.as_bytes(), "{text}{fault}");
+    assert!(rt; errors.bytes() == fault.as_bytes(), "{text}{fault}");
+    Ok(())
+}
+
+#[test]
+fn ends_are_written(rt: HostRuntime) -> Result<(), Fail> {
+    for (inventory, moments, text) in KEPT_OR_NOT {
+        ends(&rt, inventory, moments, Exit::Done, text, "")?;
+    }
+    Ok(())
+}
+
+#[test]
+fn what_has_no_ends_leaves_the_output(rt: HostRuntime) -> Result<(), Fail> {
+    for (inventory, moments, exit, fault) in REFUSED {
+        ends(&rt, inventory, moments, exit, "", fault)?;
+    }
+    Ok(())
+}
+
+// Each call of the output fails in turn: exit 6. A failed fault line leaves the exit as it is.
+#[test]
+fn a_failed_write_is_exit_6(rt: HostRuntime) -> Result<(), Fail> {
+    let alloc = rt.alloc();
+    for call in 0..2u64 {
+        let mut out = MemorySink::new(alloc, Some(call));
+        let mut errors = MemorySink::new(alloc, None);
+        let exit = run_ends(
+            alloc,
+            WEB.as_bytes(),
+            moment(1000)?,
+            &[],
+            &mut out,
+            &mut errors,
+        );
+        assert_eq!(rt; exit, Exit::Device, "call {call}");
+        assert!(rt;
+            errors.bytes() == b"leasekeep: write\n".as_slice(),
+            "call {call}"
+        );
+    }
+    let mut out = MemorySink::new(alloc, None);
+    let mut errors = MemorySink::new(alloc, Some(0));
+    let exit = run_ends(
+        alloc,
+        b"x".as_slice(),
+        moment(1000)?,
+        &[],
+        &mut out,
+        &mut errors,
+    );
+    assert_eq!(rt; exit, Exit::Inventory);
+    Ok(())
+}

@@ -1,0 +1,186 @@
+ghost use Rattle.std.specs.Prelude.{None};
+
+use crate::checks::IN_RUNS;
+use crate::inventories::WEB;
+use crate::moments::moment;
+use keep_device::{InputFault, MemorySink};
+use keep_engine::{Command, Exit, Inputs, obey};
+use keep_moment::Text;
+use std::alloc::Global;
+use std::process::Abort;
+use std::test::Fail;
+
+// Two files: the inventory of the web example, and its certificate.
+#[derive(Drop)]
+struct Folder;
+
+impl Inputs for Folder {
+    ghost bytes_at = { λ _ _. None };
+
+    fn read(&mut self, alloc: Global, path: &str, max: usize) -> Result<Text, InputFault> {
+        let bytes = if path == "web.toml" {
+            WEB
+        } else if path == "web.plan" {
+            IN_RUNS
+        } else {
+            return Err(InputFault::ReadFailed);
+        };
+        if bytes.len() > max {
+            return Err(InputFault::TooLong);
+        }
+        Ok(Text::of(alloc, bytes.as_bytes())?)
+    }
+}
+
+#[derive(Clone, Copy)]
+enum Asked {
+    Ends,
+    Plan,
+    Reach,
+    Rehearse,
+    Check,
+}
+
+// What is asked of which files, from 1000 on: the exit, the output and the fault line. The files are read in order, and
+// nothing is written where one is not read.
+type Obeyed = (
+    Asked,
+    &'static str,
+    &'static str,
+    Exit,
+    &'static str,
+    &'static str,
+);
+
+const OBEYED: [Obeyed; 11] = [
+    (
+        Asked::Ends,
+        "web.toml",
+        "",
+        Exit::Done,
+        "web 1060\nkeeps no\n",
+        "",
+    ),
+    (Asked::Plan, "web.toml", "", Exit::Done, IN_RUNS, ""),
+    (
+        Asked::Reach,
+        "web.toml",
+        "",
+        Exit::Done,
+        "web 10000 web 1200\nkeeps yes\n",
+        "",
+    ),
+    (
+        Asked::Rehearse,
+        "web.toml",
+        "",
+        Exit::Done,
+        "wake 1059 web\ntold web 60\nwake 1118 web\ntold web 60\nwake 1177 web\ntold web 60\ndone 3 3\n",
+        "",
+    ),
+    (
+        Asked::Check,
+        "web.toml",
+        "web.plan",
+        Exit::Done,
+        "yes\n",
+        "",
+    ),
+    (
+        Asked::Check,
+        "web.toml",
+        "web.toml",
+        Exit::No,
+        "unreadable bad-header\n",
+        "",
+    ),
+    (
+        Asked::Check,
+        "web.plan",
+        "web.toml",
+        Exit::Inventory,
+        "",
+        "leasekeep: inventory: not-toml\n",
+    ),
+    (
+        Asked::Check,
+        "web.toml",
+        "other.plan",
+        Exit::Device,
+        "",
+        "leasekeep: read\n",
+    ),
+    (
+        Asked::Check,
+        "other.toml",
+        "web.plan",
+        Exit::Device,
+        "",
+        "leasekeep: read\n",
+    ),
+    (
+        Asked::Plan,
+        "other.toml",
+        "",
+        Exit::Device,
+        "",
+        "leasekeep: read\n",
+    ),
+    (
+        Asked::Rehearse,
+        "web.plan",
+        "",
+        Exit::Inventory,
+        "",
+        "leasekeep: inventory: not-toml\n",
+    ),
+];
+
+fn command_of(alloc: Global, asked: Asked, file: &str, certificate: &str) -> Result<Command, Fail> {
+    let file = format!(in alloc; "{file}")?;
+    let start = moment(1000)?;
+    Ok(match asked {
+        Asked::Ends => Command::Ends {
+            file,
+            start,
+            moments: Vec::new(alloc),
+        },
+        Asked::Plan => Command::Plan { file, start },
+        Asked::Reach => Command::Reach {
+            file,
+            start,
+            dates: false,
+        },
+        Asked::Rehearse => Command::Rehearse {
+            file,
+            start,
+            words: Vec::new(alloc),
+        },
+        Asked::Check => Command::Check {
+            file,
+            certificate: format!(in alloc; "{certificate}")?,
+        },
+    })
+}
+
+fn is_obeyed<R: AllocGlobal + Abort>(rt: &R, row: &Obeyed) -> Result<(), Fail> {
+    let alloc = rt.alloc();
+    let (asked, file, certificate, exit, text, fault) = *row;
+    let command = command_of(alloc, asked, file, certificate)?;
+    let mut inputs = Folder;
+    let mut out = MemorySink::new(alloc, None);
+    let mut errors = MemorySink::new(alloc, None);
+    let got = obey(alloc, &command, &mut inputs, &mut out, &mut errors);
+    assert!(rt; got == exit, "{file} {certificate}");
+    assert!(rt; out.bytes() == text.as_bytes(), "{file} {certificate}");
+    assert!(rt; errors.bytes() == fault.as_bytes(), "{file} {certificate}");
+    Ok(())
+}
+
+#[test]
+fn commands_are_obeyed_over_files(rt: HostRuntime) -> Result<(), Fail> {
+    for row in &OBEYED {
+        is_obeyed(&rt, row)?;
+    }
+    Ok(())
+}

@@ -1,0 +1,163 @@
+use crate::inventories::{
+    BESIDE, CHILD, HIDDEN, IN_TURN, LOW_CEILING, PAY, PAY_LONGER, TOKEN_AND_LEASE, WEB,
+    WEB_BASE_AND_BIG, WEB_BY_DATE, Web, inventory_of,
+};
+use crate::moments::moment;
+use keep_device::MemorySink;
+use keep_engine::{Exit, run_plan};
+use std::process::Abort;
+use std::test::Fail;
+
+/// Inventories, the exits of their plans from 1000 on, and the lines behind the first two.
+pub const PLANNED: [(&str, Exit, &str); 12] = [
+    (WEB, Exit::Done, "run 1059 59 3 web web\nend 3\n"),
+    (WEB_BY_DATE, Exit::Done, "run 1059 59 3 web web\nend 3\n"),
+    ("", Exit::Done, "end 0\n"),
+    (TOKEN_AND_LEASE, Exit::Done, "run 1059 59 3 L L\nend 3\n"),
+    (HIDDEN, Exit::Done, "run 1059 59 3 L L\nend 3\n"),
+    (LOW_CEILING, Exit::Unkeepable, "unkeepable T L\n"),
+    (PAY, Exit::Done, "run 1059 0 1 pay pay\nend 1\n"),
+    (PAY_LONGER, Exit::Unkeepable, "unkeepable pay pay\n"),
+    (
+        WEB_BASE_AND_BIG,
+        Exit::Done,
+        "run 1059 59 3 web web\nend 3\n",
+    ),
+    (
+        IN_TURN,
+        Exit::Done,
+        "run 1059 0 1 a a\nrun 1158 99 3 b b\nend 4\n",
+    ),
+    (BESIDE, Exit::Done, "end 0\n"),
+    (CHILD, Exit::Unkeepable, "unkeepable A B\n"),
+];
+
+/// The same of one token.
+pub const OF_ONE_TOKEN: [(Web, Exit, &str); 10] = [
+    ((1, 1060, 60, 9000, 1060), Exit::Done, "end 0\n"),
+    (
+        (1, 1060, 60, 9000, 1061),
+        Exit::Done,
+        "run 1059 0 1 web web\nend 1\n",
+    ),
+    (
+        (1, 1000, 60, 9000, 1100),
+        Exit::Unkeepable,
+        "unkeepable web web\n",
+    ),
+    ((1, 1000, 60, 9000, 1000), Exit::Done, "end 0\n"),
+    (
+        (1, 1002, 2, 9000, 1010),
+        Exit::Done,
+        "run 1001 1 8 web web\nend 8\n",
+    ),
+    (
+        (1, 1002, 2, 200000, 101002),
+        Exit::Done,
+        "run 1001 1 100000 web web\nend 100000\n",
+    ),
+    (
+        (1, 1002, 2, 200000, 101003),
+        Exit::Done,
+        "run 1001 1 100001 web web\nend 100001\n",
+    ),
+    (
+        (1, 1002, 2, 20000000, 10001002),
+        Exit::Done,
+        "run 1001 1 10000000 web web\nend 10000000\n",
+    ),
+    (
+        (10, 1060, 60, 9000, 1200),
+        Exit::Done,
+        "run 1050 50 3 web web\nend 3\n",
+    ),
+    (
+        (10, 1060, 11, 9000, 1070),
+        Exit::Done,
+        "run 1050 1 10 web web\nend 10\n",
+    ),
+];
+
+// What has no plan, with its fault line.
+const STOPPED: [(Web, Exit, &str); 3] = [
+    (
+        (1, 1002, 2, 20000000, 10001003),
+        Exit::TooLong,
+        "leasekeep: too long\n",
+    ),
+    (
+        (1, 1002, 1, 9000, 1010),
+        Exit::Inventory,
+        "leasekeep: inventory: tree 0 step-too-small\n",
+    ),
+    (
+        (10, 1060, 10, 9000, 1200),
+        Exit::Inventory,
+        "leasekeep: inventory: tree 0 step-too-small\n",
+    ),
+];
+
+// `plan` from 1000 on: its exit, its output and its fault line.
+fn plans<R: AllocGlobal + Abort>(
+    rt: &R,
+    inventory: &str,
+    exit: Exit,
+    text: &str,
+    fault: &str,
+) -> Result<(), Fail> {
+    let alloc = rt.alloc();
+    let mut out = MemorySink::new(alloc, None);
+    let mut errors = MemorySink::new(alloc, None);
+    let start = moment(1000)?;
+    let got = run_plan(alloc, inventory.as_bytes(), start, &mut out, &mut errors);
+    assert_eq!(rt; got, exit, "{text}{fault}");
+    assert!(rt; out.bytes() == text.as_bytes(), "{text}{fault}");
+    assert!(rt; errors.bytes() == fault.as_bytes(), "{text}{fault}");
+    Ok(())
+}
+
+#[test]
+fn plans_are_written(rt: HostRuntime) -> Result<(), Fail> {
+    for (inventory, exit, lines) in PLANNED {
+        let text = format!(in rt.alloc(); "leasekeep-plan 2\nstart 1000\n{lines}")?;
+        plans(&rt, inventory, exit, text.as_str(), "")?;
+    }
+    Ok(())
+}
+
+#[test]
+fn plans_of_one_token_are_written(rt: HostRuntime) -> Result<(), Fail> {
+    for (web, exit, lines) in OF_ONE_TOKEN {
+        let inventory = inventory_of(rt.alloc(), web)?;
+        let text = format!(in rt.alloc(); "leasekeep-plan 2\nstart 1000\n{lines}")?;
+        plans(&rt, inventory.as_str(), exit, text.as_str(), "")?;
+    }
+    Ok(())
+}
+
+// Ten million wake-ups are planned, above, and one more is too long.
+#[test]
+fn what_has_no_plan_leaves_the_output(rt: HostRuntime) -> Result<(), Fail> {
+    for (web, exit, fault) in STOPPED {
+        let inventory = inventory_of(rt.alloc(), web)?;
+        plans(&rt, inventory.as_str(), exit, "", fault)?;
+    }
+    Ok(())
+}
+
+// Each call of the output fails in turn: exit 6.
+#[test]
+fn a_failed_write_of_a_plan_is_exit_6(rt: HostRuntime) -> Result<(), Fail> {
+    let alloc = rt.alloc();
+    for call in 0..2u64 {
+        let mut out = MemorySink::new(alloc, Some(call));
+        let mut errors = MemorySink::new(alloc, None);
+        let exit = run_plan(alloc, WEB.as_bytes(), moment(1000)?, &mut out, &mut errors);
+        assert_eq!(rt; exit, Exit::Device, "call {call}");
+        assert!(rt;
+            errors.bytes() == b"leasekeep: write\n".as_slice(),
+            "call {call}"
+        );
+    }
+    Ok(())
+}
