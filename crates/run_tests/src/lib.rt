@@ -1,6 +1,6 @@
 //! Tests alone, of the runs of the program over whole inventories: the exit, the output and the fault line of each command,
-//! rehearsals, also cut off by their writer, live runs, and secrets that nothing shows. They stand above the crates that they
-//! test, so that none of these is proved a second time with its tests.
+//! rehearsals, also cut off by their writer, live runs, secrets that nothing shows, and the whole way at its full size. They
+//! stand above the crates that they test, so that none of these is proved a second time with its tests.
 #![tactic(auto)]
 
 #[cfg(test)]
@@ -15,6 +15,8 @@ mod exits;
 mod faulty;
 #[cfg(test)]
 mod fronts;
+#[cfg(test)]
+mod full_size;
 #[cfg(test)]
 mod inventories;
 #[cfg(test)]

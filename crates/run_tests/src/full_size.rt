@@ -1,3 +1,7 @@
+//! The whole way at its full size: an inventory of as many entries as there may be, and a certificate of as many lines. No
+//! contract forbids a call to give up for want of memory past some size: these tests would see it.
+
+use crate::moments::moment;
 use http::Method;
 use keep_check::{Answer, check};
 use keep_core::{Event, Keeper, Output};
@@ -18,10 +22,6 @@ use vault_http::{Reply, Request};
 const ENTRIES: u32 = 4096;
 
 const PLAN: &str = "leasekeep-plan 2\nstart 1000\nrun 1059 59 3 e0 e0\nend 3\n";
-
-fn moment(seconds: u64) -> Result<Moment, Fail> {
-    Ok(Moment::new(seconds).ok_or("a moment")?)
-}
 
 // A token's table but for its number.
 const BEFORE_NUMBER: &str = "[[token]]\nname = \"e";
