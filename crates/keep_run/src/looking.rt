@@ -1,5 +1,5 @@
 //! Looking the entries of an inventory up, one after another.
-ghost use Rattle.std.specs.Prelude.{◌≡◌, ◌<◌, IfOk, IfSome, OnOk, length};
+ghost use Rattle.std.specs.Prelude.{◌≡◌, ◌<◌, IfSome, OnOk, length};
 ghost use Rattle.std.specs.Result.{IfErr};
 ghost use Rattle.keep_run.specs.LiveRun.{IsListenStop};
 ghost use Rattle.keep_run.specs.Looking.{LooksAllUp, LooksOneUp, looked_line};
@@ -11,7 +11,7 @@ use keep_exchange::{Exchange, look_up};
 use keep_inventory::Inventory;
 use keep_moment::{Moment, Text};
 use keep_report::{Stop, Watched, send};
-use std::alloc::{AllocError, Global};
+use std::alloc::Global;
 
 /// Looks each entry up at `start`, by index, and writes and flushes its line before the next is looked up.
 ///
@@ -68,17 +68,8 @@ fn write_entry<W: Sink>(
     ensures written { Finishes (looked_line inventory.now i) result (⟦<W as Watched>⟧.sent out.old out.new) }
     ensures kept { OnOk result (W.failed_calls out.new ≡ W.failed_calls out.old) }
 {
-    let text = entry_text(alloc, inventory, i)?;
-    send(out, &text)
-}
-
-/// The line of an entry that was looked up.
-fn entry_text(alloc: Global, inventory: &Inventory, i: u32) -> Result<Vec<u8>, AllocError>
-    requires { i < length inventory.now.forest.entries }
-    ensures { IfOk result (λ text. text.items ≡ looked_line inventory.now i) }
-{
     let entry = inventory.forest().get(i);
     let mut text = Vec::new(alloc);
     push_entry(alloc, entry.name.list(), entry.end, &mut text)?;
-    Ok(text)
+    send(out, &text)
 }
