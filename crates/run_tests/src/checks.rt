@@ -35,7 +35,7 @@ pub fn judges<R: AllocGlobal + Abort>(
     } else {
         Exit::No
     };
-    assert_eq!(rt; got, want, "{line}");
+    assert!(rt; got == want, "{line}");
     assert!(rt; out.bytes() == line.as_bytes(), "{line}");
     assert!(rt; errors.bytes().is_empty(), "{line}");
     Ok(())
@@ -60,7 +60,7 @@ fn accepts_own<R: AllocGlobal + Abort>(rt: &R, inventory: &str) -> Result<(), Fa
 
 #[test]
 fn own_certificates_get_yes(rt: HostRuntime) -> Result<(), Fail> {
-    for (inventory, _, _) in PLANNED {
+    for (inventory, _, _) in &PLANNED {
         accepts_own(&rt, inventory)?;
     }
     Ok(())
@@ -68,8 +68,8 @@ fn own_certificates_get_yes(rt: HostRuntime) -> Result<(), Fail> {
 
 #[test]
 fn own_certificates_of_one_token_get_yes(rt: HostRuntime) -> Result<(), Fail> {
-    for (web, _, _) in OF_ONE_TOKEN {
-        let inventory = inventory_of(rt.alloc(), web)?;
+    for (web, _, _) in &OF_ONE_TOKEN {
+        let inventory = inventory_of(rt.alloc(), *web)?;
         accepts_own(&rt, inventory.as_str())?;
     }
     Ok(())
@@ -229,43 +229,47 @@ const ALTERED_RUNS: [(&str, &str, &str); 15] = [
     ),
 ];
 
-#[test]
-fn altered_wake_ups_are_judged(rt: HostRuntime) -> Result<(), Fail> {
-    for (inventory, lines, line) in ALTERED_WAKES {
-        let text = format!(in rt.alloc(); "leasekeep-plan 1\n{lines}")?;
-        judges(&rt, inventory, text.as_bytes(), line)?;
+// Certificates with this first line, as the rows say them.
+fn judges_altered<R: AllocGlobal + Abort>(
+    rt: &R,
+    header: &str,
+    rows: &[(&str, &str, &str)],
+) -> Result<(), Fail> {
+    for (inventory, lines, line) in rows {
+        let text = format!(in rt.alloc(); "{header}{lines}")?;
+        judges(rt, inventory, text.as_bytes(), line)?;
     }
     Ok(())
+}
+
+#[test]
+fn altered_wake_ups_are_judged(rt: HostRuntime) -> Result<(), Fail> {
+    judges_altered(&rt, "leasekeep-plan 1\n", &ALTERED_WAKES)
 }
 
 #[test]
 fn altered_runs_are_judged(rt: HostRuntime) -> Result<(), Fail> {
-    for (inventory, lines, line) in ALTERED_RUNS {
-        let text = format!(in rt.alloc(); "leasekeep-plan 2\n{lines}")?;
-        judges(&rt, inventory, text.as_bytes(), line)?;
-    }
-    Ok(())
+    judges_altered(&rt, "leasekeep-plan 2\n", &ALTERED_RUNS)
 }
 
-// Each call of the output fails in turn: exit 6.
-#[test]
-fn a_failed_write_of_an_answer_is_exit_6(rt: HostRuntime) -> Result<(), Fail> {
+// An output that fails behind so many calls: exit 6.
+fn fails_at<R: AllocGlobal + Abort>(rt: &R, call: u64) {
     let alloc = rt.alloc();
+    let mut out = MemorySink::new(alloc, Some(call));
+    let mut errors = MemorySink::new(alloc, None);
+    let certificate = IN_RUNS.as_bytes();
+    let exit = run_check(alloc, WEB.as_bytes(), certificate, &mut out, &mut errors);
+    assert!(rt; exit == Exit::Device, "call {call}");
+    assert!(rt;
+        errors.bytes() == b"leasekeep: write\n".as_slice(),
+        "call {call}"
+    );
+}
+
+// Each call of the output fails in turn.
+#[test]
+fn a_failed_write_of_an_answer_is_exit_6(rt: HostRuntime) {
     for call in 0..2u64 {
-        let mut out = MemorySink::new(alloc, Some(call));
-        let mut errors = MemorySink::new(alloc, None);
-        let exit = run_check(
-            alloc,
-            WEB.as_bytes(),
-            IN_RUNS.as_bytes(),
-            &mut out,
-            &mut errors,
-        );
-        assert_eq!(rt; exit, Exit::Device, "call {call}");
-        assert!(rt;
-            errors.bytes() == b"leasekeep: write\n".as_slice(),
-            "call {call}"
-        );
+        fails_at(&rt, call);
     }
-    Ok(())
 }

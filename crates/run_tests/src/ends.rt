@@ -99,7 +99,7 @@ fn ends<R: AllocGlobal + Abort>(
         &mut out,
         &mut errors,
     );
-    assert_eq!(rt; got, exit, "{text}{fault}");
+    assert!(rt; got == exit, "{text}{fault}");
     assert!(rt; out.bytes() == text.as_bytes(), "{text}{fault}");
     assert!(rt; errors.bytes() == fault.as_bytes(), "{text}{fault}");
     Ok(())
@@ -107,7 +107,7 @@ fn ends<R: AllocGlobal + Abort>(
 
 #[test]
 fn ends_are_written(rt: HostRuntime) -> Result<(), Fail> {
-    for (inventory, moments, text) in KEPT_OR_NOT {
+    for (inventory, moments, text) in &KEPT_OR_NOT {
         ends(&rt, inventory, moments, Exit::Done, text, "")?;
     }
     Ok(())
@@ -115,32 +115,33 @@ fn ends_are_written(rt: HostRuntime) -> Result<(), Fail> {
 
 #[test]
 fn what_has_no_ends_leaves_the_output(rt: HostRuntime) -> Result<(), Fail> {
-    for (inventory, moments, exit, fault) in REFUSED {
-        ends(&rt, inventory, moments, exit, "", fault)?;
+    for (inventory, moments, exit, fault) in &REFUSED {
+        ends(&rt, inventory, moments, *exit, "", fault)?;
     }
     Ok(())
 }
 
-// Each call of the output fails in turn: exit 6. A failed fault line leaves the exit as it is.
+// An output that fails behind so many calls: exit 6.
+fn fails_at<R: AllocGlobal + Abort>(rt: &R, call: u64) -> Result<(), Fail> {
+    let alloc = rt.alloc();
+    let mut out = MemorySink::new(alloc, Some(call));
+    let mut errors = MemorySink::new(alloc, None);
+    let start = moment(1000)?;
+    let exit = run_ends(alloc, WEB.as_bytes(), start, &[], &mut out, &mut errors);
+    assert!(rt; exit == Exit::Device, "call {call}");
+    assert!(rt;
+        errors.bytes() == b"leasekeep: write\n".as_slice(),
+        "call {call}"
+    );
+    Ok(())
+}
+
+// Each call of the output fails in turn. A failed fault line leaves the exit as it is.
 #[test]
 fn a_failed_write_is_exit_6(rt: HostRuntime) -> Result<(), Fail> {
     let alloc = rt.alloc();
     for call in 0..2u64 {
-        let mut out = MemorySink::new(alloc, Some(call));
-        let mut errors = MemorySink::new(alloc, None);
-        let exit = run_ends(
-            alloc,
-            WEB.as_bytes(),
-            moment(1000)?,
-            &[],
-            &mut out,
-            &mut errors,
-        );
-        assert_eq!(rt; exit, Exit::Device, "call {call}");
-        assert!(rt;
-            errors.bytes() == b"leasekeep: write\n".as_slice(),
-            "call {call}"
-        );
+        fails_at(&rt, call)?;
     }
     let mut out = MemorySink::new(alloc, None);
     let mut errors = MemorySink::new(alloc, Some(0));
@@ -152,6 +153,6 @@ fn a_failed_write_is_exit_6(rt: HostRuntime) -> Result<(), Fail> {
         &mut out,
         &mut errors,
     );
-    assert_eq!(rt; exit, Exit::Inventory);
+    assert!(rt; exit == Exit::Inventory);
     Ok(())
 }

@@ -188,48 +188,63 @@ fn live_runs_are_written(rt: HostRuntime) -> Result<(), Fail> {
     Ok(())
 }
 
+// The lengths of the pieces that the lines come in, and the number of reads.
+const CUTS: [(&[usize], u64); 5] = [
+    (&[], 2),
+    (&[10, 10], 3),
+    (&[3, 9, 1, 7], 5),
+    (&[19], 3),
+    (&[1; 20], 21),
+];
+
+fn is_the_same<R: AllocGlobal + Abort>(rt: &R, pieces: &[usize], reads: u64) -> Result<(), Fail> {
+    let events = source(rt.alloc(), TWO_TICKS.as_bytes(), pieces, None)?;
+    let (exit, out, errors, made) = runs(rt, WEB, None, events)?;
+    assert!(rt; exit == Exit::Done, "{reads}");
+    assert!(rt; out.bytes() == TWICE_RENEWED.as_bytes(), "{reads}");
+    assert!(rt; errors.bytes().is_empty(), "{reads}");
+    assert!(rt; made == reads, "{made} {reads}");
+    Ok(())
+}
+
 // A line in pieces, and several lines in one piece, are the same run; the last read tells the end.
 #[test]
 fn live_runs_are_the_same_in_pieces(rt: HostRuntime) -> Result<(), Fail> {
-    let cuts: [(&[usize], u64); 5] = [
-        (&[], 2),
-        (&[10, 10], 3),
-        (&[3, 9, 1, 7], 5),
-        (&[19], 3),
-        (&[1; 20], 21),
-    ];
-    for (pieces, reads) in cuts {
-        let events = source(rt.alloc(), TWO_TICKS.as_bytes(), pieces, None)?;
-        let (exit, out, errors, made) = runs(&rt, WEB, None, events)?;
-        assert_eq!(rt; exit, Exit::Done);
-        assert!(rt; out.bytes() == TWICE_RENEWED.as_bytes(), "{reads}");
-        assert!(rt; errors.bytes().is_empty(), "{reads}");
-        assert_eq!(rt; made, reads);
+    for (pieces, reads) in &CUTS {
+        is_the_same(&rt, pieces, *reads)?;
     }
+    Ok(())
+}
+
+// What goes wrong at the first renewal, and the lines of the run.
+const ANSWERED: [(Fault, &str); 3] = [
+    (
+        Fault::Deny,
+        "entry web 1060\nwake 1059 web\nrefused web 403\nshort web 1060\nnext none\n",
+    ),
+    (
+        Fault::Drop,
+        "entry web 1060\nwake 1059 web\nlost web\nnext 1059\n",
+    ),
+    (
+        Fault::Short(30),
+        "entry web 1060\nwake 1059 web\ntold web 30\nnext 1088\n",
+    ),
+];
+
+fn is_told<R: AllocGlobal + Abort>(rt: &R, fault: Fault, text: &str) -> Result<(), Fail> {
+    let events = source(rt.alloc(), b"tick 1059\n", &[], None)?;
+    let (exit, out, errors, _) = runs(rt, WEB, Some(fault), events)?;
+    assert!(rt; exit == Exit::Done, "{text}");
+    assert!(rt; out.bytes() == text.as_bytes(), "{text}");
+    assert!(rt; errors.bytes().is_empty(), "{text}");
     Ok(())
 }
 
 #[test]
 fn live_runs_tell_what_a_broker_answers(rt: HostRuntime) -> Result<(), Fail> {
-    for (fault, text) in [
-        (
-            Fault::Deny,
-            "entry web 1060\nwake 1059 web\nrefused web 403\nshort web 1060\nnext none\n",
-        ),
-        (
-            Fault::Drop,
-            "entry web 1060\nwake 1059 web\nlost web\nnext 1059\n",
-        ),
-        (
-            Fault::Short(30),
-            "entry web 1060\nwake 1059 web\ntold web 30\nnext 1088\n",
-        ),
-    ] {
-        let events = source(rt.alloc(), b"tick 1059\n", &[], None)?;
-        let (exit, out, errors, _) = runs(&rt, WEB, Some(fault), events)?;
-        assert_eq!(rt; exit, Exit::Done);
-        assert!(rt; out.bytes() == text.as_bytes(), "{text}");
-        assert!(rt; errors.bytes().is_empty(), "{text}");
+    for (fault, text) in &ANSWERED {
+        is_told(&rt, *fault, text)?;
     }
     Ok(())
 }

@@ -110,7 +110,7 @@ fn plans<R: AllocGlobal + Abort>(
     let mut errors = MemorySink::new(alloc, None);
     let start = moment(1000)?;
     let got = run_plan(alloc, inventory.as_bytes(), start, &mut out, &mut errors);
-    assert_eq!(rt; got, exit, "{text}{fault}");
+    assert!(rt; got == exit, "{text}{fault}");
     assert!(rt; out.bytes() == text.as_bytes(), "{text}{fault}");
     assert!(rt; errors.bytes() == fault.as_bytes(), "{text}{fault}");
     Ok(())
@@ -118,19 +118,19 @@ fn plans<R: AllocGlobal + Abort>(
 
 #[test]
 fn plans_are_written(rt: HostRuntime) -> Result<(), Fail> {
-    for (inventory, exit, lines) in PLANNED {
+    for (inventory, exit, lines) in &PLANNED {
         let text = format!(in rt.alloc(); "leasekeep-plan 2\nstart 1000\n{lines}")?;
-        plans(&rt, inventory, exit, text.as_str(), "")?;
+        plans(&rt, inventory, *exit, text.as_str(), "")?;
     }
     Ok(())
 }
 
 #[test]
 fn plans_of_one_token_are_written(rt: HostRuntime) -> Result<(), Fail> {
-    for (web, exit, lines) in OF_ONE_TOKEN {
-        let inventory = inventory_of(rt.alloc(), web)?;
+    for (web, exit, lines) in &OF_ONE_TOKEN {
+        let inventory = inventory_of(rt.alloc(), *web)?;
         let text = format!(in rt.alloc(); "leasekeep-plan 2\nstart 1000\n{lines}")?;
-        plans(&rt, inventory.as_str(), exit, text.as_str(), "")?;
+        plans(&rt, inventory.as_str(), *exit, text.as_str(), "")?;
     }
     Ok(())
 }
@@ -138,26 +138,32 @@ fn plans_of_one_token_are_written(rt: HostRuntime) -> Result<(), Fail> {
 // Ten million wake-ups are planned, above, and one more is too long.
 #[test]
 fn what_has_no_plan_leaves_the_output(rt: HostRuntime) -> Result<(), Fail> {
-    for (web, exit, fault) in STOPPED {
-        let inventory = inventory_of(rt.alloc(), web)?;
-        plans(&rt, inventory.as_str(), exit, "", fault)?;
+    for (web, exit, fault) in &STOPPED {
+        let inventory = inventory_of(rt.alloc(), *web)?;
+        plans(&rt, inventory.as_str(), *exit, "", fault)?;
     }
     Ok(())
 }
 
-// Each call of the output fails in turn: exit 6.
+// An output that fails behind so many calls: exit 6.
+fn fails_at<R: AllocGlobal + Abort>(rt: &R, call: u64) -> Result<(), Fail> {
+    let alloc = rt.alloc();
+    let mut out = MemorySink::new(alloc, Some(call));
+    let mut errors = MemorySink::new(alloc, None);
+    let exit = run_plan(alloc, WEB.as_bytes(), moment(1000)?, &mut out, &mut errors);
+    assert!(rt; exit == Exit::Device, "call {call}");
+    assert!(rt;
+        errors.bytes() == b"leasekeep: write\n".as_slice(),
+        "call {call}"
+    );
+    Ok(())
+}
+
+// Each call of the output fails in turn.
 #[test]
 fn a_failed_write_of_a_plan_is_exit_6(rt: HostRuntime) -> Result<(), Fail> {
-    let alloc = rt.alloc();
     for call in 0..2u64 {
-        let mut out = MemorySink::new(alloc, Some(call));
-        let mut errors = MemorySink::new(alloc, None);
-        let exit = run_plan(alloc, WEB.as_bytes(), moment(1000)?, &mut out, &mut errors);
-        assert_eq!(rt; exit, Exit::Device, "call {call}");
-        assert!(rt;
-            errors.bytes() == b"leasekeep: write\n".as_slice(),
-            "call {call}"
-        );
+        fails_at(&rt, call)?;
     }
     Ok(())
 }
