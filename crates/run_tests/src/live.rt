@@ -263,31 +263,40 @@ fn needs_of(alloc: Global, lines: usize, name: usize) -> Result<Vec<u8>, Fail> {
     Ok(events)
 }
 
-// The longest line has 256 bytes, the events 1 MiB, and 65,536 reads are the most; and one more of each.
+// How many lines, of which name's length, what comes behind them, how many pieces of one byte; and how much is written, with
+// which fault line. The longest line has 256 bytes, the events 1 MiB, and 65,536 reads are the most; and one more of each.
+type Limit = (usize, usize, &'static str, usize, usize, &'static str);
+
+const LIMITS: [Limit; 6] = [
+    (1, 248, "", 0, 34, ""),
+    (1, 249, "", 0, 15, "leasekeep: line 1\n"),
+    (65536, 8, "", 0, 1245199, ""),
+    (65536, 8, "t", 0, 1245199, "leasekeep: read\n"),
+    (4369, 7, "", 65535, 83026, ""),
+    (4096, 8, "", 65536, 77839, "leasekeep: read\n"),
+];
+
+fn is_limited<R: AllocGlobal + Abort>(rt: &R, row: &Limit) -> Result<(), Fail> {
+    let (lines, name, behind, ones, written, fault) = *row;
+    let mut bytes = needs_of(rt.alloc(), lines, name)?;
+    bytes.extend_from_slice(behind.as_bytes())?;
+    let pieces = vec![in rt.alloc(); 1usize; ones]?;
+    let (exit, out, errors, _) = runs(rt, WEB, None, MemorySource::new(bytes, pieces, None))?;
+    let wanted = if fault.is_empty() {
+        Exit::Done
+    } else {
+        Exit::Device
+    };
+    assert!(rt; exit == wanted, "{written}");
+    assert!(rt; out.bytes().len() == written, "{written}");
+    assert!(rt; errors.bytes() == fault.as_bytes(), "{written}");
+    Ok(())
+}
+
 #[test]
 fn live_runs_know_their_limits(rt: HostRuntime) -> Result<(), Fail> {
-    let alloc = rt.alloc();
-    let mut long = needs_of(alloc, 65536, 8)?;
-    long.push(b't')?;
-    let cases = [
-        (needs_of(alloc, 1, 248)?, 0, 34, ""),
-        (needs_of(alloc, 1, 249)?, 0, 15, "leasekeep: line 1\n"),
-        (needs_of(alloc, 65536, 8)?, 0, 1245199, ""),
-        (long, 0, 1245199, "leasekeep: read\n"),
-        (needs_of(alloc, 4369, 7)?, 65535, 83026, ""),
-        (needs_of(alloc, 4096, 8)?, 65536, 77839, "leasekeep: read\n"),
-    ];
-    for (bytes, ones, written, fault) in cases {
-        let pieces = vec![in alloc; 1usize; ones]?;
-        let (exit, out, errors, _) = runs(&rt, WEB, None, MemorySource::new(bytes, pieces, None))?;
-        let wanted = if fault.is_empty() {
-            Exit::Done
-        } else {
-            Exit::Device
-        };
-        assert_eq!(rt; exit, wanted, "{written}");
-        assert_eq!(rt; out.bytes().len(), written, "{written}");
-        assert!(rt; errors.bytes() == fault.as_bytes(), "{written}");
+    for row in &LIMITS {
+        is_limited(&rt, row)?;
     }
     Ok(())
 }

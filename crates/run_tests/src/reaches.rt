@@ -2,6 +2,7 @@ use crate::inventories::{CHILD, LOW_CEILING, PAY, PAY_LONGER, TOKEN_AND_LEASE, W
 use crate::moments::moment;
 use keep_device::MemorySink;
 use keep_engine::{Exit, run_reach};
+use std::process::Abort;
 use std::test::Fail;
 
 // A periodic token without a limit.
@@ -43,17 +44,28 @@ const REACHES: [(&str, bool, &str); 10] = [
     (FAR, true, "far 253402309000 far 0\nkeeps yes\n"),
 ];
 
+// `reach` from 1000 on.
+fn reaches<R: AllocGlobal + Abort>(
+    rt: &R,
+    inventory: &str,
+    dates: bool,
+    text: &str,
+) -> Result<(), Fail> {
+    let alloc = rt.alloc();
+    let mut out = MemorySink::new(alloc, None);
+    let mut errors = MemorySink::new(alloc, None);
+    let bytes = inventory.as_bytes();
+    let got = run_reach(alloc, bytes, moment(1000)?, dates, &mut out, &mut errors);
+    assert!(rt; got == Exit::Done, "{text}");
+    assert!(rt; out.bytes() == text.as_bytes(), "{text}");
+    assert!(rt; errors.bytes().is_empty(), "{text}");
+    Ok(())
+}
+
 #[test]
 fn reaches_are_written(rt: HostRuntime) -> Result<(), Fail> {
-    let alloc = rt.alloc();
-    for (inventory, dates, text) in REACHES {
-        let mut out = MemorySink::new(alloc, None);
-        let mut errors = MemorySink::new(alloc, None);
-        let bytes = inventory.as_bytes();
-        let got = run_reach(alloc, bytes, moment(1000)?, dates, &mut out, &mut errors);
-        assert_eq!(rt; got, Exit::Done, "{text}");
-        assert!(rt; out.bytes() == text.as_bytes(), "{text}");
-        assert!(rt; errors.bytes().is_empty(), "{text}");
+    for (inventory, dates, text) in &REACHES {
+        reaches(&rt, inventory, *dates, text)?;
     }
     Ok(())
 }

@@ -205,7 +205,7 @@ fn rehearses<R: AllocGlobal + Abort>(
         &mut errors,
         &mut exchange,
     );
-    assert_eq!(rt; got, exit, "{words} {text}{fault}");
+    assert!(rt; got == exit, "{words} {text}{fault}");
     assert!(rt; out.bytes() == text.as_bytes(), "{words} {text}{fault}");
     assert!(rt; errors.bytes() == fault.as_bytes(), "{words} {text}{fault}");
     Ok(())
@@ -225,7 +225,7 @@ fn rehearsals_are_written(rt: HostRuntime) -> Result<(), Fail> {
 
 #[test]
 fn a_fault_word_at_fault_is_told(rt: HostRuntime) -> Result<(), Fail> {
-    for (words, place) in BAD_WORDS {
+    for (words, place) in &BAD_WORDS {
         let fault = format!(in rt.alloc(); "leasekeep: fault word {place}\n")?;
         rehearses(&rt, WEB, words, Exit::CommandLine, "", fault.as_str())?;
     }
@@ -271,11 +271,14 @@ fn the_wire_of_a_rehearsal_is_its_last_exchange(rt: HostRuntime) -> Result<(), F
         &mut exchange,
     );
     assert!(rt; exchange.table().end_of(b"web") == Some(1237), "the end");
-    let wire = exchange.wire();
-    assert!(rt; wire.get(..REQUEST.len()) == Some(REQUEST), "the request");
-    assert!(rt; wire.get(REQUEST.len()..) == Some(REPLY), "the reply");
+    is_the_wire(&rt, exchange.wire());
     is_asked(&rt, REQUEST)?;
     is_answered(&rt, REPLY)
+}
+
+fn is_the_wire<R: Abort>(rt: &R, wire: &[u8]) {
+    assert!(rt; wire.get(..REQUEST.len()) == Some(REQUEST), "the request");
+    assert!(rt; wire.get(REQUEST.len()..) == Some(REPLY), "the reply");
 }
 
 // The request of these bytes is the renewal of `web`.

@@ -1,6 +1,7 @@
 //! No secret shows: inventories that differ in secrets and lease ids alone are rehearsed alike, whatever goes wrong.
 use crate::rehearsals::{nobody, start, words_of};
 use keep_device::MemorySink;
+use keep_exchange::MemoryExchange;
 use keep_report::Exit;
 use keep_run::run_rehearse;
 use std::alloc::Global;
@@ -52,35 +53,46 @@ const FAULTS: [&str; 12] = [
     "5=short:20 6=drop 7=deny",
 ];
 
+// What the rehearsal of the family with these secrets writes.
+fn rehearsed<R: AllocGlobal + Abort>(
+    rt: &R,
+    words: &str,
+    secrets: &(&str, &str, &str),
+) -> Result<MemorySink, Fail> {
+    let alloc = rt.alloc();
+    let (token, lease, child) = *secrets;
+    let inventory = family(alloc, token, lease, child)?;
+    let mut out = MemorySink::new(alloc, None);
+    let mut errors = MemorySink::new(alloc, None);
+    let got = run_rehearse(
+        alloc,
+        inventory.as_bytes(),
+        start()?,
+        &words_of(alloc, words)?,
+        &mut out,
+        &mut errors,
+        &mut nobody(alloc)?,
+    );
+    assert!(rt; got == Exit::Done, "{words} {token}");
+    assert!(rt; errors.bytes().is_empty(), "{words} {token}");
+    assert!(rt; !out.bytes().is_empty(), "{words} {token}");
+    Ok(out)
+}
+
+// With any secrets it is what it is with the first.
+fn is_alike<R: AllocGlobal + Abort>(rt: &R, words: &str) -> Result<(), Fail> {
+    let first = rehearsed(rt, words, &SECRETS[0])?;
+    for secrets in &SECRETS {
+        let out = rehearsed(rt, words, secrets)?;
+        assert!(rt; out.bytes() == first.bytes(), "{words}");
+    }
+    Ok(())
+}
+
 #[test]
 fn a_rehearsal_shows_no_secret(rt: HostRuntime) -> Result<(), Fail> {
-    let alloc = rt.alloc();
-    for words in FAULTS {
-        let mut first = MemorySink::new(alloc, None);
-        for (at, (token, lease, child)) in SECRETS.iter().enumerate() {
-            let inventory = family(alloc, token, lease, child)?;
-            let mut out = MemorySink::new(alloc, None);
-            let mut errors = MemorySink::new(alloc, None);
-            let got = run_rehearse(
-                alloc,
-                inventory.as_bytes(),
-                start()?,
-                &words_of(alloc, words)?,
-                &mut out,
-                &mut errors,
-                &mut nobody(alloc)?,
-            );
-            assert_eq!(rt; got, Exit::Done, "{words} {at}");
-            assert!(rt;
-                errors.bytes().is_empty() && !out.bytes().is_empty(),
-                "{words} {at}"
-            );
-            if at == 0 {
-                first = out;
-            } else {
-                assert!(rt; out.bytes() == first.bytes(), "{words} {at}");
-            }
-        }
+    for words in &FAULTS {
+        is_alike(&rt, words)?;
     }
     Ok(())
 }
@@ -109,27 +121,33 @@ fn hides<R: Abort>(rt: &R, carried: &str, shown: &str, secrets: &[(&str, &str)])
 // What an exchange shows of itself holds no secret that it carried, neither as a text nor as the numbers of its bytes.
 #[test]
 fn an_exchange_shows_no_secret(rt: HostRuntime) -> Result<(), Fail> {
-    let alloc = rt.alloc();
-    let inventory = pair(alloc, CARRIED[0].0, CARRIED[1].0)?;
-    for words in LEASE_LAST {
-        let mut exchange = nobody(alloc)?;
-        let got = run_rehearse(
-            alloc,
-            inventory.as_bytes(),
-            start()?,
-            &words_of(alloc, words)?,
-            &mut MemorySink::new(alloc, None),
-            &mut MemorySink::new(alloc, None),
-            &mut exchange,
-        );
-        assert_eq!(rt; got, Exit::Done, "{words}");
-        let shown = format!(in alloc; "{exchange:?}")?;
-        hides(
-            &rt,
-            str::from_utf8(exchange.wire())?,
-            shown.as_str(),
-            &CARRIED,
-        );
+    let inventory = pair(rt.alloc(), CARRIED[0].0, CARRIED[1].0)?;
+    for words in &LEASE_LAST {
+        let exchange = exchange_after(&rt, inventory.as_str(), words)?;
+        let shown = format!(in rt.alloc(); "{exchange:?}")?;
+        let carried = str::from_utf8(exchange.wire())?;
+        hides(&rt, carried, shown.as_str(), &CARRIED);
     }
     Ok(())
+}
+
+// The exchange that a rehearsal went through.
+fn exchange_after<R: AllocGlobal + Abort>(
+    rt: &R,
+    inventory: &str,
+    words: &str,
+) -> Result<MemoryExchange, Fail> {
+    let alloc = rt.alloc();
+    let mut exchange = nobody(alloc)?;
+    let got = run_rehearse(
+        alloc,
+        inventory.as_bytes(),
+        start()?,
+        &words_of(alloc, words)?,
+        &mut MemorySink::new(alloc, None),
+        &mut MemorySink::new(alloc, None),
+        &mut exchange,
+    );
+    assert!(rt; got == Exit::Done, "{words}");
+    Ok(exchange)
 }
