@@ -64,6 +64,24 @@ fn faulty(name: &'static str, kind: Kind, parent: Option<u32>, want: TreeFault) 
     }
 }
 
+// Whether the row is pushed or refused as it says, and the forest grows with it or stays.
+fn pushes(alloc: Global, forest: &mut Forest, row: &Row) -> Result<bool, Fail> {
+    let entry = Entry {
+        name: Name::of(alloc, row.name.as_bytes())?,
+        kind: row.kind,
+        parent: row.parent,
+        end: row.end,
+        renewable: true,
+        step: row.step,
+        ceiling: row.ceiling,
+        need: row.need,
+    };
+    let before = forest.len();
+    let answer = forest.push(entry);
+    let added = if row.want.is_ok() { 1 } else { 0 };
+    Ok(answer == row.want && forest.len() == before + added)
+}
+
 // Each refusal beside all that come after it in the order, and the values at the edges of their ranges.
 #[test]
 fn push_refuses_in_order(rt: HostRuntime) -> Result<(), Fail> {
@@ -100,20 +118,7 @@ fn push_refuses_in_order(rt: HostRuntime) -> Result<(), Fail> {
     let alloc = rt.alloc();
     let mut forest = small_forest(alloc)?;
     for (i, row) in rows.iter().enumerate() {
-        let entry = Entry {
-            name: Name::of(alloc, row.name.as_bytes())?,
-            kind: row.kind,
-            parent: row.parent,
-            end: row.end,
-            renewable: true,
-            step: row.step,
-            ceiling: row.ceiling,
-            need: row.need,
-        };
-        let before = forest.len();
-        assert_eq!(rt; forest.push(entry), row.want, "row {i}");
-        let added = if row.want.is_ok() { 1 } else { 0 };
-        assert!(rt; forest.len() == before + added, "row {i}");
+        assert!(rt; pushes(alloc, &mut forest, row)?, "row {i}");
     }
     Ok(())
 }
