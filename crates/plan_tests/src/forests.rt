@@ -123,26 +123,32 @@ fn push_refuses_in_order(rt: HostRuntime) -> Result<(), Fail> {
     Ok(())
 }
 
-// A chain of 64 tokens is pushed, and a lease of the last would be the 65th; a name has at most 64 bytes.
-#[test]
-fn a_chain_has_at_most_64_entries(rt: HostRuntime) -> Result<(), Fail> {
-    let alloc = rt.alloc();
-    let mut forest = Forest::new(alloc);
+// Pushes a chain of 64 tokens, and gives the last of them.
+fn push_chain(alloc: Global, forest: &mut Forest) -> Result<Option<u32>, Fail> {
     let mut parent = None;
     for i in 0..64u32 {
         let name = format!(in alloc; "t{i}")?;
         parent = Some(forest.push(named(alloc, name.as_str(), Kind::Token, parent)?)?);
     }
+    Ok(parent)
+}
+
+// A chain of 64 tokens is pushed, and a lease of the last would be the 65th; a name has at most 64 bytes.
+#[test]
+fn a_chain_has_at_most_64_entries(rt: HostRuntime) -> Result<(), Fail> {
+    let alloc = rt.alloc();
+    let mut forest = Forest::new(alloc);
+    let parent = push_chain(alloc, &mut forest)?;
     let lease = named(alloc, "lease", Kind::Lease, parent)?;
-    assert_eq!(rt; forest.push(lease), Err(TreeFault::TooDeep));
-    assert_eq!(rt; forest.len(), 64);
+    assert!(rt; forest.push(lease) == Err(TreeFault::TooDeep));
+    assert!(rt; forest.len() == 64);
     let long = [b'a'; 65];
     for (length, want) in [(64usize, Ok(64)), (65, Err(TreeFault::BadName))] {
         let entry = Entry {
             name: Name::of(alloc, &long[..length])?,
             ..named(alloc, "n", Kind::Token, None)?
         };
-        assert_eq!(rt; forest.push(entry), want);
+        assert!(rt; forest.push(entry) == want);
     }
     Ok(())
 }
@@ -222,8 +228,8 @@ fn a_setter_changes_its_fields(rt: HostRuntime) -> Result<(), Fail> {
         ..named(alloc, "l", Kind::Lease, Some(0))?
     };
     assert!(rt; forest.len() == 3);
-    assert_eq!(rt; forest.get(1), &want);
-    assert_eq!(rt; forest.get(0), &named(alloc, "t", Kind::Token, None)?);
+    assert!(rt; forest.get(1) == &want);
+    assert!(rt; forest.get(0) == &named(alloc, "t", Kind::Token, None)?);
     Ok(())
 }
 

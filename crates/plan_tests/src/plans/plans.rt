@@ -154,33 +154,27 @@ fn walks_the_wake_ups(rt: HostRuntime) -> Result<(), Fail> {
     Ok(())
 }
 
+// The pair for which there is no plan; `None` where it would be too long.
+fn unplanned(alloc: Global, rows: &[Row]) -> Result<Option<(u32, u32)>, Fail> {
+    let forest = forest_of(alloc, rows)?;
+    match plan(alloc, &forest, start()?)? {
+        Decision::Keep(_) => Err("a plan".into()),
+        Decision::Unkeepable { entry, needed } => Ok(Some((entry, needed))),
+        Decision::TooLong => Ok(None),
+    }
+}
+
 // What cannot be kept, and what takes ten million and one wake-ups.
 #[test]
 fn names_why_there_is_no_plan(rt: HostRuntime) -> Result<(), Fail> {
     let alloc = rt.alloc();
-    let cases: [(&[Row], Option<(u32, u32)>); 5] = [
-        (&token_and_lease(1150), Some((0, 1))),
-        (&[token(None, 1000, true, 1100)], Some((0, 0))),
-        (&[pay(1101)], Some((0, 0))),
-        (
-            &[
-                token(None, 1060, false, 0),
-                token(Some(0), 1300, true, 1200),
-            ],
-            Some((0, 1)),
-        ),
-        (&[quick(20001000, 10001003)], None),
-    ];
-    for (i, case) in cases.iter().enumerate() {
-        let (rows, want) = *case;
-        let forest = forest_of(alloc, rows)?;
-        let pair = match plan(alloc, &forest, start()?)? {
-            Decision::Keep(_) => return Err("a plan".into()),
-            Decision::Unkeepable { entry, needed } => Some((entry, needed)),
-            Decision::TooLong => None,
-        };
-        assert_eq!(rt; pair, want, "case {i}");
-    }
+    let fixed = token(None, 1060, false, 0);
+    let under = token(Some(0), 1300, true, 1200);
+    assert!(rt; unplanned(alloc, &token_and_lease(1150))? == Some((0, 1)));
+    assert!(rt; unplanned(alloc, &[token(None, 1000, true, 1100)])? == Some((0, 0)));
+    assert!(rt; unplanned(alloc, &[pay(1101)])? == Some((0, 0)));
+    assert!(rt; unplanned(alloc, &[fixed, under])? == Some((0, 1)));
+    assert!(rt; unplanned(alloc, &[quick(20001000, 10001003)])? == None);
     Ok(())
 }
 
