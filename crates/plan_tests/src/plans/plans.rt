@@ -131,21 +131,18 @@ fn gives_the_runs_of_several(rt: HostRuntime) -> Result<(), Fail> {
     Ok(())
 }
 
+// The wake-ups of two tokens in turn, the entry that forces each for its own need, and how many are left with it.
+const IN_TURN: [(u64, u32, u64); 4] = [(1059, 0, 4), (1158, 1, 3), (1257, 1, 2), (1356, 1, 1)];
+
 // Two tokens in turn: each wake-up with its force, and what is left without the first of them.
 #[test]
 fn walks_the_wake_ups(rt: HostRuntime) -> Result<(), Fail> {
     let mut plan = planned(rt.alloc(), 1, &[web(1100), renewed(1100, 100, 1400)])?;
-    let want = [(1059, 0), (1158, 1), (1257, 1), (1356, 1)];
-    let left = [4, 3, 2, 1];
-    for (i, case) in want.iter().enumerate() {
-        let (at, entry) = *case;
+    for (at, entry, left) in &IN_TURN {
         let wake = plan.wakes().next().ok_or("a wake-up")?;
-        assert_eq!(rt;
-            (wake.at.get(), wake.entry, wake.needed),
-            (at, entry, entry)
-        );
-        assert_eq!(rt; plan.wakes().count() as u64, left[i]);
-        assert_eq!(rt; plan.len(), left[i]);
+        assert!(rt; wake.at.get() == *at && wake.entry == *entry && wake.needed == *entry);
+        assert!(rt; plan.wakes().count() as u64 == *left);
+        assert!(rt; plan.len() == *left);
         if plan.len() > 0 {
             plan.drop_first();
         }
