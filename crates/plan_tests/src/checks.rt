@@ -76,29 +76,39 @@ fn answer_to(
     Ok(check(alloc, forest, &cert)?)
 }
 
+// Moments of wake-ups of the web example, and the answer.
+const WAKE_UPS: [(&[u64], Answer); 7] = [
+    (&[1059, 1118, 1177], Answer::Yes),
+    (&[1058, 1118, 1177], Answer::No(Cause::NotForced(1))),
+    (&[1059, 1059, 1177], Answer::No(Cause::NotRising(2))),
+    (&[1058, 1058, 1177], Answer::No(Cause::NotForced(1))),
+    (&[999, 1058], Answer::No(Cause::NotRising(1))),
+    (&[1059, 1118], Answer::No(Cause::NotKept(0))),
+    (&[], Answer::No(Cause::NotKept(0))),
+];
+
+// The answer to a run for each wake-up.
+fn answer_to_wake_ups(alloc: Global, forest: &Forest, moments: &[u64]) -> Result<Answer, Fail> {
+    let mut rows = Vec::new(alloc);
+    for at in moments {
+        rows.push((*at, 0, 1, 0, 0))?;
+    }
+    answer_to(alloc, forest, 1000, &rows)
+}
+
 // Certificates of the web example: a run for each wake-up.
 #[test]
 fn judges_wake_ups(rt: HostRuntime) -> Result<(), Fail> {
     let alloc = rt.alloc();
     let forest = forest_of(alloc, 1, &[WEB])?;
-    let cases = [
-        ([1059, 1118, 1177].as_slice(), Answer::Yes),
-        (&[1058, 1118, 1177], Answer::No(Cause::NotForced(1))),
-        (&[1059, 1059, 1177], Answer::No(Cause::NotRising(2))),
-        (&[1058, 1058, 1177], Answer::No(Cause::NotForced(1))),
-        (&[999, 1058], Answer::No(Cause::NotRising(1))),
-        (&[1059, 1118], Answer::No(Cause::NotKept(0))),
-        (&[], Answer::No(Cause::NotKept(0))),
-    ];
-    for (i, case) in cases.iter().enumerate() {
+    for (i, case) in WAKE_UPS.iter().enumerate() {
         let (moments, want) = *case;
-        let mut rows = Vec::new(alloc);
-        for at in moments {
-            rows.push((*at, 0, 1, 0, 0))?;
-        }
-        assert_eq!(rt; answer_to(alloc, &forest, 1000, &rows)?, want, "case {i}");
+        assert!(rt;
+            answer_to_wake_ups(alloc, &forest, moments)? == want,
+            "case {i}"
+        );
     }
-    assert_eq!(rt; answer_to(alloc, &forest, 1200, &[])?, Answer::Yes);
+    assert!(rt; answer_to(alloc, &forest, 1200, &[])? == Answer::Yes);
     Ok(())
 }
 

@@ -64,6 +64,24 @@ fn faulty(name: &'static str, kind: Kind, parent: Option<u32>, want: TreeFault) 
     }
 }
 
+// Whether the row is pushed or refused as it says, and the forest grows with it or stays.
+fn pushes(alloc: Global, forest: &mut Forest, row: &Row) -> Result<bool, Fail> {
+    let entry = Entry {
+        name: Name::of(alloc, row.name.as_bytes())?,
+        kind: row.kind,
+        parent: row.parent,
+        end: row.end,
+        renewable: true,
+        step: row.step,
+        ceiling: row.ceiling,
+        need: row.need,
+    };
+    let before = forest.len();
+    let answer = forest.push(entry);
+    let added = if row.want.is_ok() { 1 } else { 0 };
+    Ok(answer == row.want && forest.len() == before + added)
+}
+
 // Each refusal beside all that come after it in the order, and the values at the edges of their ranges.
 #[test]
 fn push_refuses_in_order(rt: HostRuntime) -> Result<(), Fail> {
@@ -100,22 +118,19 @@ fn push_refuses_in_order(rt: HostRuntime) -> Result<(), Fail> {
     let alloc = rt.alloc();
     let mut forest = small_forest(alloc)?;
     for (i, row) in rows.iter().enumerate() {
-        let entry = Entry {
-            name: Name::of(alloc, row.name.as_bytes())?,
-            kind: row.kind,
-            parent: row.parent,
-            end: row.end,
-            renewable: true,
-            step: row.step,
-            ceiling: row.ceiling,
-            need: row.need,
-        };
-        let before = forest.len();
-        assert_eq!(rt; forest.push(entry), row.want, "row {i}");
-        let added = if row.want.is_ok() { 1 } else { 0 };
-        assert!(rt; forest.len() == before + added, "row {i}");
+        assert!(rt; pushes(alloc, &mut forest, row)?, "row {i}");
     }
     Ok(())
+}
+
+// Pushes a chain of 64 tokens, and gives the last of them.
+fn push_chain(alloc: Global, forest: &mut Forest) -> Result<Option<u32>, Fail> {
+    let mut parent = None;
+    for i in 0..64u32 {
+        let name = format!(in alloc; "t{i}")?;
+        parent = Some(forest.push(named(alloc, name.as_str(), Kind::Token, parent)?)?);
+    }
+    Ok(parent)
 }
 
 // A chain of 64 tokens is pushed, and a lease of the last would be the 65th; a name has at most 64 bytes.
@@ -123,21 +138,17 @@ fn push_refuses_in_order(rt: HostRuntime) -> Result<(), Fail> {
 fn a_chain_has_at_most_64_entries(rt: HostRuntime) -> Result<(), Fail> {
     let alloc = rt.alloc();
     let mut forest = Forest::new(alloc);
-    let mut parent = None;
-    for i in 0..64u32 {
-        let name = format!(in alloc; "t{i}")?;
-        parent = Some(forest.push(named(alloc, name.as_str(), Kind::Token, parent)?)?);
-    }
+    let parent = push_chain(alloc, &mut forest)?;
     let lease = named(alloc, "lease", Kind::Lease, parent)?;
-    assert_eq!(rt; forest.push(lease), Err(TreeFault::TooDeep));
-    assert_eq!(rt; forest.len(), 64);
+    assert!(rt; forest.push(lease) == Err(TreeFault::TooDeep));
+    assert!(rt; forest.len() == 64);
     let long = [b'a'; 65];
     for (length, want) in [(64usize, Ok(64)), (65, Err(TreeFault::BadName))] {
         let entry = Entry {
             name: Name::of(alloc, &long[..length])?,
             ..named(alloc, "n", Kind::Token, None)?
         };
-        assert_eq!(rt; forest.push(entry), want);
+        assert!(rt; forest.push(entry) == want);
     }
     Ok(())
 }
@@ -217,8 +228,8 @@ fn a_setter_changes_its_fields(rt: HostRuntime) -> Result<(), Fail> {
         ..named(alloc, "l", Kind::Lease, Some(0))?
     };
     assert!(rt; forest.len() == 3);
-    assert_eq!(rt; forest.get(1), &want);
-    assert_eq!(rt; forest.get(0), &named(alloc, "t", Kind::Token, None)?);
+    assert!(rt; forest.get(1) == &want);
+    assert!(rt; forest.get(0) == &named(alloc, "t", Kind::Token, None)?);
     Ok(())
 }
 

@@ -98,17 +98,15 @@ fn texts_are_read(rt: HostRuntime) {
 
 #[test]
 fn texts_are_refused(rt: HostRuntime) {
-    for text in OUTSIDE {
-        assert_eq!(rt;
-            read_rfc3339(text).map(|m| m.get()),
-            Err(TimeFault::OutOfRange),
+    for text in &OUTSIDE {
+        assert!(rt;
+            read_rfc3339(text).err() == Some(TimeFault::OutOfRange),
             "{text}"
         );
     }
-    for text in BAD {
-        assert_eq!(rt;
-            read_rfc3339(text).map(|m| m.get()),
-            Err(TimeFault::BadTime),
+    for text in &BAD {
+        assert!(rt;
+            read_rfc3339(text).err() == Some(TimeFault::BadTime),
             "{text}"
         );
     }

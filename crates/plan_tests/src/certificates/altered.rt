@@ -1,5 +1,6 @@
 use super::refuses;
 use keep_cert::CertFault;
+use std::process::Abort;
 use std::test::Fail;
 
 // Certificates of version 1, altered behind the second line.
@@ -74,20 +75,29 @@ const BAD_RUNS: [(&str, CertFault); 14] = [
     ("end 00\n", CertFault::BadNumber(3)),
 ];
 
+// A certificate of this version with these lines behind the second is refused.
+fn refuses_lines<R: AllocGlobal + Abort>(
+    rt: &R,
+    version: u32,
+    lines: &str,
+    fault: CertFault,
+) -> Result<(), Fail> {
+    let text = format!(in rt.alloc(); "leasekeep-plan {version}\nstart 1000\n{lines}")?;
+    refuses(rt, text.as_bytes(), fault)
+}
+
 #[test]
 fn altered_wake_ups_are_refused(rt: HostRuntime) -> Result<(), Fail> {
-    for (lines, fault) in BAD_WAKES {
-        let text = format!(in rt.alloc(); "leasekeep-plan 1\nstart 1000\n{lines}")?;
-        refuses(&rt, text.as_bytes(), fault)?;
+    for (lines, fault) in &BAD_WAKES {
+        refuses_lines(&rt, 1, lines, *fault)?;
     }
     Ok(())
 }
 
 #[test]
 fn altered_runs_are_refused(rt: HostRuntime) -> Result<(), Fail> {
-    for (lines, fault) in BAD_RUNS {
-        let text = format!(in rt.alloc(); "leasekeep-plan 2\nstart 1000\n{lines}")?;
-        refuses(&rt, text.as_bytes(), fault)?;
+    for (lines, fault) in &BAD_RUNS {
+        refuses_lines(&rt, 2, lines, *fault)?;
     }
     Ok(())
 }

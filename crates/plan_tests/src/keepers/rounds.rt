@@ -9,10 +9,19 @@ use std::test::Fail;
 // A round is open at this moment, or none, and waits for just these of the indices 0, 1 and 2, of which 2 is past the entries.
 fn is_open<R: Abort>(rt: &R, keeper: &Keeper, at: Option<u64>, waited: [bool; 3]) {
     let seconds = keeper.open_round().map(|moment| moment.get());
-    assert_eq!(rt; seconds, at);
+    assert!(rt; seconds == at);
     for (i, waits) in waited.iter().enumerate() {
         assert_eq!(rt; keeper.waits_for(i as u32), *waits, "entry {i}");
     }
+}
+
+// An event, its answer, the moment of the round that is then open, and for whom it waits.
+type Step<'a> = (Event, Said<'a>, Option<u64>, [bool; 3]);
+
+fn leads_to<R: Abort>(rt: &R, keeper: &mut Keeper, step: &Step<'_>) {
+    let (event, said, at, waited) = *step;
+    goes(rt, keeper, &[(event, said)]);
+    is_open(rt, keeper, at, waited);
 }
 
 // Token and lease: an event, its answer, and the round that is then open.
@@ -53,11 +62,10 @@ fn a_round_waits_for_whom_it_asked(rt: HostRuntime) -> Result<(), Fail> {
             [true, true, false],
         ),
     ];
-    for (event, said, at, waited) in steps {
-        goes(&rt, &mut keeper, &[(event, said)]);
-        is_open(&rt, &keeper, at, waited);
+    for step in &steps {
+        leads_to(&rt, &mut keeper, step);
     }
-    assert_eq!(rt; keeper.now(), moment(1099)?);
+    assert!(rt; keeper.now() == moment(1099)?);
     ends_are(&rt, &keeper, &[1100, 1119]);
     needs_are(&rt, &keeper.into_forest(), &[0, 1200]);
     Ok(())

@@ -42,18 +42,16 @@ fn is_foretold<R: AllocGlobal + Abort>(
     let forest = forest_of(alloc, 1, rows)?;
     let start = moment(1000)?;
     let whole = changed(alloc, plan, Change::Nothing)?;
-    assert_eq!(rt; keeps(alloc, &forest, start, &whole), Ok(true));
+    assert!(rt; keeps(alloc, &forest, start, &whole) == Ok(true));
     for i in 0..plan.len() {
         let fewer = changed(alloc, plan, Change::LeftOut(i))?;
-        assert_eq!(rt;
-            keeps(alloc, &forest, start, &fewer),
-            Ok(false),
+        assert!(rt;
+            keeps(alloc, &forest, start, &fewer) == Ok(false),
             "without {i}"
         );
         let later = changed(alloc, plan, Change::Later(i))?;
-        assert_eq!(rt;
-            keeps(alloc, &forest, start, &later),
-            Ok(false),
+        assert!(rt;
+            keeps(alloc, &forest, start, &later) == Ok(false),
             "later at {i}"
         );
     }
