@@ -131,16 +131,22 @@ fn set_faults(table: &mut Table) -> Result<(), SetFault> {
     table.set_fault(3, Fault::Short(30))
 }
 
+// Each of the first three renewals has its fault, and the fourth has none.
+fn uses_faults<R: Abort>(rt: &R, table: &mut Table, renewal: &Request) -> Result<(), Fail> {
+    assert!(rt; is_dropped(table, 1059, renewal)?);
+    assert!(rt; ends_at(table, 1119));
+    assert!(rt; status(table, 1060, renewal)? == 403);
+    assert!(rt; is_renewed(table, 1061, renewal, FOR_30)?);
+    assert!(rt; is_renewed(table, 1062, renewal, FOR_60)?);
+    Ok(())
+}
+
 #[test]
 fn takes_each_fault_once(rt: HostRuntime) -> Result<(), Fail> {
     let renewal = request(rt.alloc(), "POST", RENEW_SELF, "web", "")?;
     let mut table = table(rt.alloc(), WEB)?;
     set_faults(&mut table)?;
-    assert!(rt; is_dropped(&mut table, 1059, &renewal)?);
-    assert!(rt; ends_at(&table, 1119));
-    assert!(rt; status(&mut table, 1060, &renewal)? == 403);
-    assert!(rt; is_renewed(&mut table, 1061, &renewal, FOR_30)?);
-    assert!(rt; is_renewed(&mut table, 1062, &renewal, FOR_60)?);
+    uses_faults(&rt, &mut table, &renewal)?;
     assert!(rt; is_set(&mut table, 4, Fault::Deny, Err(SetFault::BadNumber)));
     Ok(())
 }
