@@ -1,5 +1,5 @@
-//! Rows of texts with what they are read as or written from, in tables that are kept short: each row stands in every proof
-//! about its function.
+//! Rows of texts with what they are read as or written from: each table is a constant, and a function of its own tries one
+//! row, so that no row stands in a proof.
 
 mod faults;
 mod leases;
@@ -10,20 +10,4 @@ mod token_lookups;
 mod whole;
 mod written;
 
-use vault_json::{Renewed, ReplyFault};
-
 pub(crate) const RENEWED: &str = "{\"auth\":{\"lease_duration\":60,\"renewable\":true}}";
-
-pub(crate) fn seconds(seconds: u32) -> Result<Renewed, ReplyFault> {
-    Ok(Renewed {
-        seconds,
-        renewable: false,
-    })
-}
-
-pub(crate) fn renewable(seconds: u32) -> Result<Renewed, ReplyFault> {
-    Ok(Renewed {
-        seconds,
-        renewable: true,
-    })
-}

@@ -7,6 +7,7 @@ use keep_device::{
 use std::alloc::Global;
 use std::io;
 use std::io::{Error, ErrorKind, Read, Write};
+use std::process::Abort;
 use std::test::Fail;
 
 /// A source of these bytes, handed out in pieces of these lengths.
@@ -57,125 +58,161 @@ impl Write for Full {
     }
 }
 
+// What each read of a source hands out.
+const HANDED: [(Result<usize, Failed>, &[u8]); 6] = [
+    (Ok(1), b"h"),
+    (Ok(1), b"e"),
+    (Ok(4), b"llo "),
+    (Err(Failed), b""),
+    (Ok(3), b"wor"),
+    (Ok(2), b"ld"),
+];
+
+fn hands_out<R: Abort>(
+    rt: &R,
+    source: &mut MemorySource,
+    answer: Result<usize, Failed>,
+    bytes: &[u8],
+) {
+    let mut room = [0u8; 4];
+    let got = source.read_some(&mut room);
+    assert!(rt; got == answer);
+    if let Ok(n) = got {
+        assert!(rt; room.get(..n) == Some(bytes));
+    }
+}
+
 #[test]
 fn hands_out_pieces(rt: HostRuntime) -> Result<(), Fail> {
     let mut source = source(rt.alloc(), b"hello world", &[1, 0, 9, 3], Some(3))?;
-    let mut room = [0u8; 4];
-    let want: [(Result<usize, Failed>, &[u8]); 6] = [
-        (Ok(1), b"h"),
-        (Ok(1), b"e"),
-        (Ok(4), b"llo "),
-        (Err(Failed), b""),
-        (Ok(3), b"wor"),
-        (Ok(2), b"ld"),
-    ];
-    for (answer, bytes) in want {
-        let got = source.read_some(&mut room);
-        assert_eq!(rt; got, answer);
-        if let Ok(n) = got {
-            assert_eq!(rt; room.get(..n), Some(bytes));
-        }
+    for (answer, bytes) in &HANDED {
+        hands_out(&rt, &mut source, *answer, bytes);
     }
-    assert_eq!(rt; source.read_some(&mut room), Ok(0));
-    assert_eq!(rt; source.failures(), 1);
+    hands_out(&rt, &mut source, Ok(0), b"");
+    assert!(rt; source.failures() == 1);
+    Ok(())
+}
+
+// The pieces of an input, the read that fails, the greatest length, and what is read.
+type Input = (
+    &'static [usize],
+    Option<u64>,
+    usize,
+    Result<&'static [u8], InputFault>,
+);
+
+const INPUTS: [Input; 8] = [
+    (&[], None, 11, Ok(b"hello world")),
+    (&[], None, 12, Ok(b"hello world")),
+    (&[], None, 10, Err(InputFault::TooLong)),
+    (&[], None, 0, Err(InputFault::TooLong)),
+    (&[1, 2, 3], None, 11, Ok(b"hello world")),
+    (&[], Some(0), 11, Err(InputFault::ReadFailed)),
+    (&[], Some(1), 11, Err(InputFault::ReadFailed)),
+    (&[], Some(2), 11, Ok(b"hello world")),
+];
+
+fn reads_input<R: AllocGlobal + Abort>(rt: &R, input: &Input) -> Result<(), Fail> {
+    let (pieces, before_failure, max, want) = *input;
+    let mut source = source(rt.alloc(), b"hello world", pieces, before_failure)?;
+    match read_all(rt.alloc(), &mut source, max) {
+        Ok(text) => assert!(rt; Ok(text.list()) == want),
+        Err(fault) => assert!(rt; Err(fault) == want),
+    }
     Ok(())
 }
 
 #[test]
 fn reads_whole_inputs(rt: HostRuntime) -> Result<(), Fail> {
-    let alloc = rt.alloc();
-    let cases: [(&[usize], Option<u64>, usize, Result<&[u8], InputFault>); 8] = [
-        (&[], None, 11, Ok(b"hello world")),
-        (&[], None, 12, Ok(b"hello world")),
-        (&[], None, 10, Err(InputFault::TooLong)),
-        (&[], None, 0, Err(InputFault::TooLong)),
-        (&[1, 2, 3], None, 11, Ok(b"hello world")),
-        (&[], Some(0), 11, Err(InputFault::ReadFailed)),
-        (&[], Some(1), 11, Err(InputFault::ReadFailed)),
-        (&[], Some(2), 11, Ok(b"hello world")),
-    ];
-    for (pieces, before_failure, max, want) in cases {
-        let mut source = source(alloc, b"hello world", pieces, before_failure)?;
-        let got = read_all(alloc, &mut source, max);
-        assert_eq!(rt;
-            got.as_ref().map(|text| text.list()).map_err(|fault| *fault),
-            want
-        );
+    for input in &INPUTS {
+        reads_input(&rt, input)?;
     }
     Ok(())
+}
+
+/// What is read of so many bytes, one byte a read.
+fn read_one_by_one(alloc: Global, n: usize) -> Result<Result<usize, InputFault>, Fail> {
+    let bytes = vec![in alloc; b'x'; n]?;
+    let pieces = vec![in alloc; 1usize; n]?;
+    let mut source = MemorySource::new(bytes, pieces, None);
+    match read_all(alloc, &mut source, 1048576) {
+        Ok(text) => Ok(Ok(text.list().len())),
+        Err(fault) => Ok(Err(fault)),
+    }
 }
 
 #[test]
 fn counts_reads(rt: HostRuntime) -> Result<(), Fail> {
-    let alloc = rt.alloc();
-    for (n, whole) in [(4095, true), (4096, false)] {
-        let bytes = vec![in alloc; b'x'; n]?;
-        let pieces = vec![in alloc; 1usize; n]?;
-        let mut source = MemorySource::new(bytes, pieces, None);
-        match read_all(alloc, &mut source, 1048576) {
-            Ok(text) => {
-                assert!(rt; whole);
-                assert_eq!(rt; text.list().len(), n);
-            }
-            Err(fault) => {
-                assert!(rt; !whole);
-                assert_eq!(rt; fault, InputFault::TooLong);
-            }
-        }
-    }
+    assert!(rt; read_one_by_one(rt.alloc(), 4095)? == Ok(4095));
+    assert!(rt; read_one_by_one(rt.alloc(), 4096)? == Err(InputFault::TooLong));
     Ok(())
 }
 
+// The call that fails, what two writes and a flush answer, and what was collected.
+type Collected = (Option<u64>, [Result<(), SinkFault>; 3], &'static [u8]);
+
+const COLLECTED: [Collected; 4] = [
+    (None, [Ok(()), Ok(()), Ok(())], b"one two"),
+    (Some(0), [Err(SinkFault::Failed), Ok(()), Ok(())], b" two"),
+    (Some(1), [Ok(()), Err(SinkFault::Failed), Ok(())], b"one"),
+    (
+        Some(2),
+        [Ok(()), Ok(()), Err(SinkFault::Failed)],
+        b"one two",
+    ),
+];
+
+fn collects<R: AllocGlobal + Abort>(rt: &R, row: &Collected) {
+    let (before_failure, [first, second, flush], bytes) = *row;
+    let mut sink = MemorySink::new(rt.alloc(), before_failure);
+    assert!(rt; write_all(&mut sink, b"one") == first);
+    assert!(rt; write_all(&mut sink, b" two") == second);
+    assert!(rt; !sink.is_flushed());
+    assert!(rt; sink.flush() == flush);
+    assert!(rt; sink.is_flushed() == flush.is_ok());
+    assert!(rt; sink.bytes() == bytes);
+    let failed = if before_failure.is_some() { 1 } else { 0 };
+    assert!(rt; sink.failures() == failed);
+}
+
 #[test]
-fn collects_what_is_written(rt: HostRuntime) -> Result<(), Fail> {
-    let alloc = rt.alloc();
-    let cases: [(Option<u64>, [Result<(), SinkFault>; 3], &[u8]); 4] = [
-        (None, [Ok(()), Ok(()), Ok(())], b"one two"),
-        (Some(0), [Err(SinkFault::Failed), Ok(()), Ok(())], b" two"),
-        (Some(1), [Ok(()), Err(SinkFault::Failed), Ok(())], b"one"),
-        (
-            Some(2),
-            [Ok(()), Ok(()), Err(SinkFault::Failed)],
-            b"one two",
-        ),
-    ];
-    for (before_failure, [first, second, flush], bytes) in cases {
-        let mut sink = MemorySink::new(alloc, before_failure);
-        assert_eq!(rt; write_all(&mut sink, b"one"), first);
-        assert_eq!(rt; write_all(&mut sink, b" two"), second);
-        assert!(rt; !sink.is_flushed());
-        assert_eq!(rt; sink.flush(), flush);
-        assert_eq!(rt; sink.is_flushed(), flush.is_ok());
-        assert_eq!(rt; sink.bytes(), bytes);
-        let failed = if before_failure.is_some() { 1 } else { 0 };
-        assert_eq!(rt; sink.failures(), failed);
+fn collects_what_is_written(rt: HostRuntime) {
+    for row in &COLLECTED {
+        collects(&rt, row);
     }
-    Ok(())
+}
+
+// One read goes well, and the next one fails.
+fn asks<R: Abort>(rt: &R, pair: &mut MemoryPair) {
+    let mut room = [0u8; 8];
+    assert!(rt; pair.read_some(&mut room) == Ok(3));
+    assert!(rt; pair.read_some(&mut room) == Err(Failed));
+}
+
+// One write goes well, and the flush fails.
+fn answers<R: Abort>(rt: &R, pair: &mut MemoryPair) {
+    assert!(rt; write_all(pair, b"answer") == Ok(()));
+    assert!(rt; pair.flush() == Err(SinkFault::Failed));
+    assert!(rt; pair.sink() == b"answer".as_slice());
 }
 
 #[test]
 fn joins_a_source_and_a_sink(rt: HostRuntime) -> Result<(), Fail> {
-    let alloc = rt.alloc();
-    let sink = MemorySink::new(alloc, Some(1));
-    let mut pair = MemoryPair::new(source(alloc, b"ask", &[], Some(1))?, sink);
-    let mut room = [0u8; 8];
-    assert_eq!(rt; pair.read_some(&mut room), Ok(3));
-    assert_eq!(rt; pair.read_some(&mut room), Err(Failed));
-    assert_eq!(rt; write_all(&mut pair, b"answer"), Ok(()));
-    assert_eq!(rt; pair.flush(), Err(SinkFault::Failed));
-    assert_eq!(rt; pair.sink(), b"answer".as_slice());
-    assert_eq!(rt; pair.failures(), 2);
+    let source = source(rt.alloc(), b"ask", &[], Some(1))?;
+    let mut pair = MemoryPair::new(source, MemorySink::new(rt.alloc(), Some(1)));
+    asks(&rt, &mut pair);
+    answers(&rt, &mut pair);
+    assert!(rt; pair.failures() == 2);
     Ok(())
 }
 
 #[test]
 fn counts_no_failure_of_a_reader_that_goes_well(rt: HostRuntime) -> Result<(), Fail> {
-    let alloc = rt.alloc();
     let bytes: &[u8] = b"text";
     let mut reader = Counted::new(bytes);
-    let text = read_all(alloc, &mut reader, 16)?;
-    assert_eq!(rt; text.list(), b"text".as_slice());
-    assert_eq!(rt; reader.failures(), 0);
+    let text = read_all(rt.alloc(), &mut reader, 16)?;
+    assert!(rt; text.list() == b"text".as_slice());
+    assert!(rt; reader.failures() == 0);
     Ok(())
 }
 
@@ -183,17 +220,17 @@ fn counts_no_failure_of_a_reader_that_goes_well(rt: HostRuntime) -> Result<(), F
 fn counts_each_failure(rt: HostRuntime) {
     let mut room = [0u8; 4];
     let mut broken = Counted::new(Broken);
-    assert_eq!(rt; broken.read_some(&mut room), Err(Failed));
-    assert_eq!(rt; write_all(&mut broken, b"x"), Err(SinkFault::Failed));
-    assert_eq!(rt; broken.flush(), Err(SinkFault::Failed));
-    assert_eq!(rt; broken.failures(), 3);
+    assert!(rt; broken.read_some(&mut room) == Err(Failed));
+    assert!(rt; write_all(&mut broken, b"x") == Err(SinkFault::Failed));
+    assert!(rt; broken.flush() == Err(SinkFault::Failed));
+    assert!(rt; broken.failures() == 3);
     let Broken = broken.into_inner();
 }
 
 #[test]
 fn counts_a_write_that_takes_nothing(rt: HostRuntime) {
     let mut full = Counted::new(Full);
-    assert_eq!(rt; write_all(&mut full, b""), Ok(()));
-    assert_eq!(rt; write_all(&mut full, b"x"), Err(SinkFault::Failed));
-    assert_eq!(rt; full.failures(), 1);
+    assert!(rt; write_all(&mut full, b"") == Ok(()));
+    assert!(rt; write_all(&mut full, b"x") == Err(SinkFault::Failed));
+    assert!(rt; full.failures() == 1);
 }

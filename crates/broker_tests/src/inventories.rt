@@ -2,9 +2,10 @@ mod faulty;
 mod lookups;
 
 use faulty::FAULTY;
-use keep_inventory::{InvFault, Inventory, Key, Terms, read};
+use keep_inventory::{Credentials, InvFault, Inventory, Key, Terms, read};
 use keep_moment::{Moment, Name};
 use keep_tree::{Entry, Kind};
+use std::alloc::Global;
 use std::process::Abort;
 use std::test::Fail;
 
@@ -16,21 +17,29 @@ const WEB: &str =
 const TOKEN_AND_LEASE: &str =
     "[[lease]]\nname = \"L\"\ntoken = \"T\"\nissued = \"1970-01-01T00:16:40Z\"\nend = \"1970-01-01T01:17:40+01:00\"\nincrement = 60\nmax_ttl = 9000\nneed = \"1970-01-01t00:20:00.9z\"\nlease_id = \"db/creds/app/1\"\n\n[[token]]\nname = \"T\"\nissued = 1000\nend = 1100\nincrement = 100\nmax_ttl = 150\nsecret = \"s.1234\"\n";
 
-// Each text is refused with the fault beside it.
-fn refuses<R: AllocGlobal + Abort>(rt: &R, rows: &[(&str, InvFault)]) {
-    for (text, fault) in rows {
-        assert_eq!(rt;
-            read(rt.alloc(), text.as_bytes()).err(),
-            Some(*fault),
-            "{text}"
-        );
-    }
+// Whether the bytes are no inventory, for this reason.
+fn is_refused(alloc: Global, bytes: &[u8], fault: InvFault) -> bool {
+    read(alloc, bytes).err() == Some(fault)
 }
 
 #[test]
 fn faults_in_order(rt: HostRuntime) {
-    refuses(&rt, &FAULTY);
-    assert_eq!(rt; read(rt.alloc(), b"# \xff").err(), Some(InvFault::NotToml));
+    for (text, fault) in &FAULTY {
+        assert!(rt; is_refused(rt.alloc(), text.as_bytes(), *fault), "{text}");
+    }
+    assert!(rt; is_refused(rt.alloc(), b"# \xff", InvFault::NotToml));
+}
+
+fn is_entry(inventory: &Inventory, index: u32, entry: &Entry) -> bool {
+    index < inventory.forest().len() && inventory.forest().get(index) == entry
+}
+
+fn is_credential(inventory: &Inventory, index: u32, credential: &str) -> bool {
+    index < inventory.forest().len() && inventory.credential(index) == credential.as_bytes()
+}
+
+fn are_terms(inventory: &Inventory, index: u32, terms: Terms) -> bool {
+    index < inventory.forest().len() && inventory.terms(index) == terms
 }
 
 // The entry at an index, its credential and its terms.
@@ -42,22 +51,33 @@ fn holds<R: Abort>(
     credential: &str,
     terms: Terms,
 ) {
-    assert!(rt; index < inventory.forest().len());
-    assert!(rt; inventory.forest().get(index) == entry, "the entry");
+    assert!(rt; is_entry(inventory, index, entry), "the entry");
     assert!(rt;
-        inventory.credential(index) == credential.as_bytes(),
+        is_credential(inventory, index, credential),
         "the credential"
     );
-    assert!(rt; inventory.terms(index) == terms, "the terms");
+    assert!(rt; are_terms(inventory, index, terms), "the terms");
 }
 
-#[test]
-fn the_web_example(rt: HostRuntime) -> Result<(), Fail> {
-    let alloc = rt.alloc();
-    let inventory = read(alloc, WEB.as_bytes())?;
-    assert!(rt; inventory.forest().len() == 1);
-    assert_eq!(rt; inventory.forest().margin(), 1);
-    let web = Entry {
+// Whether the parts of an inventory are so many entries, and as the last one's credential this one.
+fn is_last_credential(inventory: Inventory, entries: u32, credential: &str) -> bool {
+    let (forest, credentials) = inventory.into_parts();
+    forest.len() == entries && 0 < entries && credentials.get(entries - 1) == credential.as_bytes()
+}
+
+// The terms of an issue at 1000, without a period and without an explicit max.
+fn terms(increment: u32, max_ttl: u32) -> Result<Terms, Fail> {
+    Ok(Terms {
+        issued: Moment::new(1000).ok_or("a moment")?,
+        increment: Some(increment),
+        period: 0,
+        max_ttl,
+        explicit_max: 0,
+    })
+}
+
+fn web(alloc: Global) -> Result<Entry, Fail> {
+    Ok(Entry {
         name: Name::of(alloc, b"web")?,
         kind: Kind::Token,
         parent: None,
@@ -66,28 +86,11 @@ fn the_web_example(rt: HostRuntime) -> Result<(), Fail> {
         step: 60,
         ceiling: Some(10000),
         need: 1200,
-    };
-    let terms = Terms {
-        issued: Moment::new(1000).ok_or("a moment")?,
-        increment: Some(60),
-        period: 0,
-        max_ttl: 9000,
-        explicit_max: 0,
-    };
-    holds(&rt, &inventory, 0, &web, "web", terms);
-    let (forest, credentials) = inventory.into_parts();
-    assert!(rt; forest.len() == 1);
-    assert!(rt; credentials.get(0) == b"web".as_slice());
-    Ok(())
+    })
 }
 
-#[test]
-fn a_token_and_its_lease(rt: HostRuntime) -> Result<(), Fail> {
-    let alloc = rt.alloc();
-    let inventory = read(alloc, TOKEN_AND_LEASE.as_bytes())?;
-    assert!(rt; inventory.forest().len() == 2);
-    let issued = Moment::new(1000).ok_or("a moment")?;
-    let token = Entry {
+fn token(alloc: Global) -> Result<Entry, Fail> {
+    Ok(Entry {
         name: Name::of(alloc, b"T")?,
         kind: Kind::Token,
         parent: None,
@@ -96,16 +99,11 @@ fn a_token_and_its_lease(rt: HostRuntime) -> Result<(), Fail> {
         step: 100,
         ceiling: Some(1150),
         need: 0,
-    };
-    let terms = Terms {
-        issued,
-        increment: Some(100),
-        period: 0,
-        max_ttl: 150,
-        explicit_max: 0,
-    };
-    holds(&rt, &inventory, 0, &token, "s.1234", terms);
-    let lease = Entry {
+    })
+}
+
+fn lease(alloc: Global) -> Result<Entry, Fail> {
+    Ok(Entry {
         name: Name::of(alloc, b"L")?,
         kind: Kind::Lease,
         parent: Some(0),
@@ -114,18 +112,48 @@ fn a_token_and_its_lease(rt: HostRuntime) -> Result<(), Fail> {
         step: 60,
         ceiling: Some(10000),
         need: 1200,
-    };
-    let terms = Terms {
-        issued,
-        increment: Some(60),
-        period: 0,
-        max_ttl: 9000,
-        explicit_max: 0,
-    };
-    holds(&rt, &inventory, 1, &lease, "db/creds/app/1", terms);
-    let (forest, credentials) = inventory.into_parts();
-    assert!(rt; forest.len() == 2);
-    assert!(rt; credentials.get(1) == b"db/creds/app/1".as_slice());
+    })
+}
+
+#[test]
+fn the_web_example(rt: HostRuntime) -> Result<(), Fail> {
+    let inventory = read(rt.alloc(), WEB.as_bytes())?;
+    assert!(rt; inventory.forest().len() == 1);
+    assert!(rt; inventory.forest().margin() == 1);
+    holds(
+        &rt,
+        &inventory,
+        0,
+        &web(rt.alloc())?,
+        "web",
+        terms(60, 9000)?,
+    );
+    assert!(rt; is_last_credential(inventory, 1, "web"));
+    Ok(())
+}
+
+#[test]
+fn a_token_and_its_lease(rt: HostRuntime) -> Result<(), Fail> {
+    let alloc = rt.alloc();
+    let inventory = read(alloc, TOKEN_AND_LEASE.as_bytes())?;
+    assert!(rt; inventory.forest().len() == 2);
+    holds(
+        &rt,
+        &inventory,
+        0,
+        &token(alloc)?,
+        "s.1234",
+        terms(100, 150)?,
+    );
+    holds(
+        &rt,
+        &inventory,
+        1,
+        &lease(alloc)?,
+        "db/creds/app/1",
+        terms(60, 9000)?,
+    );
+    assert!(rt; is_last_credential(inventory, 2, "db/creds/app/1"));
     Ok(())
 }
 
@@ -179,19 +207,23 @@ const STEPS: [(&str, u32, Option<u64>); 10] = [
     ),
 ];
 
+// A token under a margin and a system's maximum, without the rest of its keys.
+const PAY: &str = "system_max = 500\nmargin = 10\n[[token]]\nname = \"pay\"\nrenewable = false\n";
+
+fn read_with(alloc: Global, head: &str, keys: &str) -> Result<Inventory, Fail> {
+    let text = format!(in alloc; "{head}{keys}")?;
+    Ok(read(alloc, text.as_bytes())?)
+}
+
 fn has_step<R: AllocGlobal + Abort>(
     rt: &R,
     keys: &str,
     step: u32,
     ceiling: Option<u64>,
 ) -> Result<(), Fail> {
-    let alloc = rt.alloc();
-    let text = format!(in alloc;
-        "system_max = 500\nmargin = 10\n[[token]]\nname = \"pay\"\nrenewable = false\n{keys}"
-    )?;
-    let inventory = read(alloc, text.as_bytes())?;
+    let inventory = read_with(rt.alloc(), PAY, keys)?;
     assert!(rt; inventory.forest().len() == 1);
-    assert_eq!(rt; inventory.forest().margin(), 10);
+    assert!(rt; inventory.forest().margin() == 10);
     let entry = inventory.forest().get(0);
     assert!(rt;
         entry.step == step && entry.ceiling == ceiling && !entry.renewable,
@@ -200,28 +232,28 @@ fn has_step<R: AllocGlobal + Abort>(
     Ok(())
 }
 
-fn have_steps<R: AllocGlobal + Abort>(
-    rt: &R,
-    rows: &[(&str, u32, Option<u64>)],
-) -> Result<(), Fail> {
-    for (keys, step, ceiling) in rows {
-        has_step(rt, keys, *step, *ceiling)?;
-    }
+// A token without a maximum, where the top level has none either: its ceiling is Vault's 32 days past its issue.
+const NO_MAXIMUM: &str = "token = [{name = \"a\", issued = 1000, end = 1060, increment = 60}]";
+
+fn has_ceiling<R: AllocGlobal + Abort>(rt: &R, text: &str, ceiling: u64) -> Result<(), Fail> {
+    let inventory = read(rt.alloc(), text.as_bytes())?;
+    assert!(rt; inventory.forest().len() == 1);
+    assert!(rt; inventory.forest().get(0).ceiling == Some(ceiling));
     Ok(())
+}
+
+fn is_empty(alloc: Global, text: &str) -> Result<bool, Fail> {
+    Ok(read(alloc, text.as_bytes())?.forest().is_empty())
 }
 
 // Step and ceiling by increment, period, maximum TTLs and the system's maximum; the margin of the top level.
 #[test]
 fn steps_and_ceilings(rt: HostRuntime) -> Result<(), Fail> {
-    have_steps(&rt, &STEPS)?;
-    let alloc = rt.alloc();
-    let absent = read(
-        alloc,
-        b"token = [{name = \"a\", issued = 1000, end = 1060, increment = 60}]",
-    )?;
-    assert!(rt; absent.forest().len() == 1);
-    assert_eq!(rt; absent.forest().get(0).ceiling, Some(2765800));
-    assert!(rt; read(alloc, b"")?.forest().is_empty());
+    for (keys, step, ceiling) in &STEPS {
+        has_step(&rt, keys, *step, *ceiling)?;
+    }
+    has_ceiling(&rt, NO_MAXIMUM, 2765800)?;
+    assert!(rt; is_empty(rt.alloc(), "")?);
     Ok(())
 }
 
@@ -254,14 +286,20 @@ const READ_FRONTS: [(usize, usize, u32, u64, u64); 10] = [
     (89, 90, 60, 10000, 1200),
 ];
 
-fn refuses_front<R: AllocGlobal + Abort>(rt: &R, length: usize, fault: InvFault) {
-    let front = WEB.as_bytes().get(..length);
-    assert!(rt; front.is_some());
-    assert_eq!(rt;
-        read(rt.alloc(), front.unwrap_or_default()).err(),
-        Some(fault),
+fn front(text: &str, length: usize) -> Result<&[u8], Fail> {
+    Ok(text.as_bytes().get(..length).ok_or("a front")?)
+}
+
+fn refuses_front<R: AllocGlobal + Abort>(
+    rt: &R,
+    length: usize,
+    fault: InvFault,
+) -> Result<(), Fail> {
+    assert!(rt;
+        is_refused(rt.alloc(), front(WEB, length)?, fault),
         "{length}"
     );
+    Ok(())
 }
 
 fn reads_front<R: AllocGlobal + Abort>(
@@ -271,7 +309,7 @@ fn reads_front<R: AllocGlobal + Abort>(
     ceiling: u64,
     need: u64,
 ) -> Result<(), Fail> {
-    let inventory = read(rt.alloc(), WEB.as_bytes().get(..length).ok_or("a front")?)?;
+    let inventory = read(rt.alloc(), front(WEB, length)?)?;
     assert!(rt; inventory.forest().len() == 1);
     let entry = inventory.forest().get(0);
     assert!(rt;
@@ -285,10 +323,10 @@ fn reads_front<R: AllocGlobal + Abort>(
 #[test]
 fn fronts_of_the_web_example(rt: HostRuntime) -> Result<(), Fail> {
     assert!(rt; WEB.len() == 90);
-    assert!(rt; read(rt.alloc(), b"")?.forest().is_empty());
+    assert!(rt; is_empty(rt.alloc(), "")?);
     for (from, to, fault) in REFUSED_FRONTS {
         for length in from..=to {
-            refuses_front(&rt, length, fault);
+            refuses_front(&rt, length, fault)?;
         }
     }
     for (from, to, step, ceiling, need) in READ_FRONTS {
@@ -302,23 +340,29 @@ fn fronts_of_the_web_example(rt: HostRuntime) -> Result<(), Fail> {
 // Fronts of the two credentials, as texts and as the numbers of their bytes.
 const SECRETS: [&str; 4] = ["s.1234", "115, 46, 49, 50", "db/creds", "100, 98, 47, 99"];
 
-fn hides<R: Abort>(rt: &R, shown: &str, secrets: &[&str]) {
-    for secret in secrets {
+// What is shown holds this text, and no credential.
+fn hides<R: Abort>(rt: &R, shown: &str, text: &str) {
+    assert!(rt; shown.contains(text));
+    for secret in &SECRETS {
         assert!(rt; !shown.contains(secret), "{secret}");
     }
+}
+
+fn hides_credentials<R: AllocGlobal + Abort>(
+    rt: &R,
+    credentials: &Credentials,
+) -> Result<(), Fail> {
+    let shown = format!(in rt.alloc(); "{credentials:?}")?;
+    hides(rt, &shown, "Credentials");
+    Ok(())
 }
 
 // What an inventory shows of itself holds no credential, neither as a text nor as the numbers of its bytes.
 #[test]
 fn no_credential_is_shown(rt: HostRuntime) -> Result<(), Fail> {
-    let alloc = rt.alloc();
-    let inventory = read(alloc, TOKEN_AND_LEASE.as_bytes())?;
-    let shown = format!(in alloc; "{inventory:?}")?;
-    assert!(rt; shown.contains("1150"));
-    hides(&rt, &shown, &SECRETS);
+    let inventory = read(rt.alloc(), TOKEN_AND_LEASE.as_bytes())?;
+    let shown = format!(in rt.alloc(); "{inventory:?}")?;
+    hides(&rt, &shown, "1150");
     let (_forest, credentials) = inventory.into_parts();
-    let shown = format!(in alloc; "{credentials:?}")?;
-    assert!(rt; shown.contains("Credentials"));
-    hides(&rt, &shown, &SECRETS);
-    Ok(())
+    hides_credentials(&rt, &credentials)
 }

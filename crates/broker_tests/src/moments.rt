@@ -2,6 +2,7 @@ use crate::requests::{THREE_TOKENS, moment, table};
 use keep_device::{Device, MemorySource};
 use mini_broker::{LineFault, Moments, next_moment};
 use std::alloc::Global;
+use std::process::Abort;
 use std::test::Fail;
 
 // Texts of lines, and the moments that they are read as, until one is none.
@@ -64,15 +65,20 @@ fn a_failed_read_is_no_moment(rt: HostRuntime) -> Result<(), Fail> {
     Ok(())
 }
 
+const SECRETS: [&str; 4] = ["s.T", "115, 46, 84", "db/creds", "100, 98, 47, 99"];
+
+fn hides<R: Abort>(rt: &R, shown: &str) {
+    assert!(rt; shown.contains("1100"));
+    for secret in &SECRETS {
+        assert!(rt; !shown.contains(secret), "{secret}");
+    }
+}
+
 // What a table shows of itself holds names, and no credential, neither as a text nor as the numbers of its bytes.
 #[test]
 fn no_credential_is_shown(rt: HostRuntime) -> Result<(), Fail> {
-    let alloc = rt.alloc();
-    let table = table(alloc, THREE_TOKENS)?;
-    let shown = format!(in alloc; "{table:?}")?;
-    assert!(rt; shown.contains("1100"));
-    for secret in ["s.T", "115, 46, 84", "db/creds", "100, 98, 47, 99"] {
-        assert!(rt; !shown.contains(secret), "{secret}");
-    }
+    let table = table(rt.alloc(), THREE_TOKENS)?;
+    let shown = format!(in rt.alloc(); "{table:?}")?;
+    hides(&rt, &shown);
     Ok(())
 }

@@ -41,6 +41,22 @@ pub(crate) fn table(alloc: Global, text: &str) -> Result<Table, Fail> {
     Ok(Table::load(alloc, &inventory)?)
 }
 
+/// The texts of a request; an empty token is none. (Apart from its method, which no early end has to drop here.)
+fn texts(
+    alloc: Global,
+    path: &str,
+    token: &str,
+    body: &str,
+) -> Result<(Text, Option<Text>, Text), Fail> {
+    let path = Text::of(alloc, path.as_bytes())?;
+    let body = Text::of(alloc, body.as_bytes())?;
+    if token.is_empty() {
+        return Ok((path, None, body));
+    }
+    let token = Text::of(alloc, token.as_bytes())?;
+    Ok((path, Some(token), body))
+}
+
 /// A request; an empty token is none.
 pub(crate) fn request(
     alloc: Global,
@@ -49,15 +65,12 @@ pub(crate) fn request(
     token: &str,
     body: &str,
 ) -> Result<Request, Fail> {
+    let (path, token, body) = texts(alloc, path, token, body)?;
     Ok(Request {
         method: Method::from_bytes(alloc, name.as_bytes())?,
-        path: Text::of(alloc, path.as_bytes())?,
-        token: if token.is_empty() {
-            None
-        } else {
-            Some(Text::of(alloc, token.as_bytes())?)
-        },
-        body: Text::of(alloc, body.as_bytes())?,
+        path,
+        token,
+        body,
         port: 0,
     })
 }
@@ -71,6 +84,14 @@ fn reply(table: &mut Table, t: u64, request: &Request) -> Result<Reply, Fail> {
     }
 }
 
+fn status(table: &mut Table, t: u64, request: &Request) -> Result<u16, Fail> {
+    Ok(reply(table, t, request)?.status)
+}
+
+fn is_dropped(table: &mut Table, t: u64, request: &Request) -> Result<bool, Fail> {
+    Ok(matches!(table.serve(moment(t)?, request), Ok(Served::Dropped)))
+}
+
 /// Whether the renewal of its own token is answered with status 200 and this body.
 fn is_renewed(table: &mut Table, t: u64, renewal: &Request, body: &str) -> Result<bool, Fail> {
     let got = reply(table, t, renewal)?;
@@ -81,38 +102,52 @@ const FOR_30: &str = "{\"auth\":{\"lease_duration\":30,\"renewable\":true}}";
 
 const FOR_60: &str = "{\"auth\":{\"lease_duration\":60,\"renewable\":true}}";
 
+// Whether the fault of a number is answered so.
+fn is_set(table: &mut Table, number: u64, fault: Fault, answer: Result<(), SetFault>) -> bool {
+    table.set_fault(number, fault) == answer
+}
+
 // A number is from 1 and not that of a request that was counted, and has one fault.
 #[test]
 fn takes_a_fault_for_each_number(rt: HostRuntime) -> Result<(), Fail> {
-    let mut table = table(rt.alloc(), WEB)?;
-    assert!(rt; table.set_fault(0, Fault::Drop) == Err(SetFault::BadNumber));
-    assert!(rt; table.set_fault(1, Fault::Drop) == Ok(()));
-    assert!(rt; table.set_fault(1, Fault::Deny) == Err(SetFault::Twice));
     let renewal = request(rt.alloc(), "POST", RENEW_SELF, "web", "")?;
-    assert!(rt; matches!(table.serve(moment(1000)?, &renewal), Ok(Served::Dropped)));
-    assert!(rt; table.set_fault(1, Fault::Deny) == Err(SetFault::BadNumber));
+    let mut table = table(rt.alloc(), WEB)?;
+    assert!(rt; is_set(&mut table, 0, Fault::Drop, Err(SetFault::BadNumber)));
+    assert!(rt; is_set(&mut table, 1, Fault::Drop, Ok(())));
+    assert!(rt; is_set(&mut table, 1, Fault::Deny, Err(SetFault::Twice)));
+    assert!(rt; is_dropped(&mut table, 1000, &renewal)?);
+    assert!(rt; is_set(&mut table, 1, Fault::Deny, Err(SetFault::BadNumber)));
     Ok(())
 }
 
-/// The web example, whose first three requests have a fault.
-fn faulty(alloc: Global) -> Result<Table, Fail> {
-    let mut table = table(alloc, WEB)?;
+fn ends_at(table: &Table, end: u64) -> bool {
+    table.end_of(b"web") == Some(end)
+}
+
+/// Gives the first three requests a fault.
+fn set_faults(table: &mut Table) -> Result<(), SetFault> {
     table.set_fault(1, Fault::Drop)?;
     table.set_fault(2, Fault::Deny)?;
-    table.set_fault(3, Fault::Short(30))?;
-    Ok(table)
+    table.set_fault(3, Fault::Short(30))
+}
+
+// Each of the first three renewals has its fault, and the fourth has none.
+fn uses_faults<R: Abort>(rt: &R, table: &mut Table, renewal: &Request) -> Result<(), Fail> {
+    assert!(rt; is_dropped(table, 1059, renewal)?);
+    assert!(rt; ends_at(table, 1119));
+    assert!(rt; status(table, 1060, renewal)? == 403);
+    assert!(rt; is_renewed(table, 1061, renewal, FOR_30)?);
+    assert!(rt; is_renewed(table, 1062, renewal, FOR_60)?);
+    Ok(())
 }
 
 #[test]
 fn takes_each_fault_once(rt: HostRuntime) -> Result<(), Fail> {
-    let mut table = faulty(rt.alloc())?;
     let renewal = request(rt.alloc(), "POST", RENEW_SELF, "web", "")?;
-    assert!(rt; matches!(table.serve(moment(1059)?, &renewal), Ok(Served::Dropped)));
-    assert!(rt; table.end_of(b"web") == Some(1119));
-    assert!(rt; reply(&mut table, 1060, &renewal)?.status == 403);
-    assert!(rt; is_renewed(&mut table, 1061, &renewal, FOR_30)?);
-    assert!(rt; is_renewed(&mut table, 1062, &renewal, FOR_60)?);
-    assert!(rt; table.set_fault(4, Fault::Deny) == Err(SetFault::BadNumber));
+    let mut table = table(rt.alloc(), WEB)?;
+    set_faults(&mut table)?;
+    uses_faults(&rt, &mut table, &renewal)?;
+    assert!(rt; is_set(&mut table, 4, Fault::Deny, Err(SetFault::BadNumber)));
     Ok(())
 }
 
@@ -121,25 +156,30 @@ const ENDS: [u64; 11] = [
     1001, 1002, 1003, 1004, 1005, 1006, 1007, 1008, 1009, 1010, 1060,
 ];
 
-// Each renewal of `web` at 1000 comes to the next of these ends.
-fn come_to<R: AllocGlobal + Abort>(rt: &R, table: &mut Table, ends: &[u64]) -> Result<(), Fail> {
-    let renewal = request(rt.alloc(), "POST", RENEW_SELF, "web", "")?;
-    for end in ends {
-        assert!(rt; reply(table, 1000, &renewal)?.status == 200);
-        assert!(rt; table.end_of(b"web") == Some(*end), "{end}");
-    }
-    Ok(())
+// The renewal of `web` at 1000 comes to this end.
+fn comes_to(table: &mut Table, renewal: &Request, end: u64) -> Result<bool, Fail> {
+    let is_granted = status(table, 1000, renewal)? == 200;
+    Ok(is_granted && ends_at(table, end))
 }
 
-// Ten faults, given from the last to the first: each is that of its own request, and the eleventh has none.
-#[test]
-fn uses_each_fault_at_its_number(rt: HostRuntime) -> Result<(), Fail> {
-    let mut table = table(rt.alloc(), WEB)?;
+// Ten faults, given from the last to the first.
+fn set_short<R: Abort>(rt: &R, table: &mut Table) {
     for before in 0..10u32 {
         let number = 10 - before;
-        assert!(rt; table.set_fault(number as u64, Fault::Short(number)).is_ok());
+        assert!(rt; is_set(table, number as u64, Fault::Short(number), Ok(())));
     }
-    come_to(&rt, &mut table, &ENDS)
+}
+
+// Each of ten faults is that of its own request, and the eleventh has none.
+#[test]
+fn uses_each_fault_at_its_number(rt: HostRuntime) -> Result<(), Fail> {
+    let renewal = request(rt.alloc(), "POST", RENEW_SELF, "web", "")?;
+    let mut table = table(rt.alloc(), WEB)?;
+    set_short(&rt, &mut table);
+    for end in &ENDS {
+        assert!(rt; comes_to(&mut table, &renewal, *end)?, "{end}");
+    }
+    Ok(())
 }
 
 /// A request, and the status and the body of its reply.
@@ -302,9 +342,15 @@ fn looks_up_what_is_the_tokens_own(rt: HostRuntime) -> Result<(), Fail> {
     all_answered(&rt, THREE_TOKENS, 1010, &LOOKED_UP)
 }
 
+/// Whether a renewal at 1059 is granted, and L ends at 1119 beside T.
+fn is_renewed_at_1059(table: &mut Table, renewal: &Request) -> Result<bool, Fail> {
+    let is_granted = status(table, 1059, renewal)? == 200;
+    Ok(is_granted & table.alive(b"T") & (table.end_of(b"L") == Some(1119)))
+}
+
 /// Whether a renewal at 1100 is refused, and T and L are listed no more.
 fn both_ended_at_1100(table: &mut Table, renewal: &Request) -> Result<bool, Fail> {
-    let refused = reply(table, 1100, renewal)?.status == 403;
+    let refused = status(table, 1100, renewal)? == 403;
     Ok(refused & !table.alive(b"T") & !table.alive(b"L") & table.end_of(b"L").is_none())
 }
 
@@ -330,9 +376,7 @@ fn ends_a_lease_with_its_token(rt: HostRuntime) -> Result<(), Fail> {
 fn ends_a_renewed_lease_with_its_token(rt: HostRuntime) -> Result<(), Fail> {
     let mut table = table(rt.alloc(), TOKEN_AND_LEASE)?;
     let renewal = renewal_of_the_lease(rt.alloc())?;
-    assert!(rt; reply(&mut table, 1059, &renewal)?.status == 200);
-    assert!(rt; table.end_of(b"L") == Some(1119));
-    assert!(rt; table.alive(b"T"));
+    assert!(rt; is_renewed_at_1059(&mut table, &renewal)?);
     assert!(rt; both_ended_at_1100(&mut table, &renewal)?);
     Ok(())
 }
@@ -346,7 +390,7 @@ fn grants_what_is_asked(rt: HostRuntime) -> Result<(), Fail> {
     let mut web = table(rt.alloc(), WEB)?;
     let ten = request(rt.alloc(), "POST", RENEW_SELF, "web", "{\"increment\":10}")?;
     assert!(rt; is_renewed(&mut web, 1000, &ten, FOR_10)?);
-    assert!(rt; web.end_of(b"web") == Some(1010));
+    assert!(rt; ends_at(&web, 1010));
     Ok(())
 }
 

@@ -46,20 +46,18 @@ fn shape(inventory: &Inventory, index: u32) -> (u64, u32, Option<u64>, u64) {
     }
 }
 
-fn apply<R: AllocGlobal>(
-    rt: &R,
-    text: &str,
+// What is answered where the lookup is applied to an entry.
+fn apply(
+    inventory: &mut Inventory,
     index: u32,
     lookup: &Lookup,
     now: u64,
-) -> Result<(Result<(), LookupFault>, Inventory), Fail> {
-    let mut inventory = read(rt.alloc(), text.as_bytes())?;
+) -> Result<Result<(), LookupFault>, Fail> {
     let now = Moment::new(now).ok_or("a moment")?;
     if index >= inventory.forest().len() {
         return Err(Fail::from("an entry"));
     }
-    let answer = inventory.apply_lookup(index, lookup, now);
-    Ok((answer, inventory))
+    Ok(inventory.apply_lookup(index, lookup, now))
 }
 
 // The lookup applied to an entry, after which it has this shape, and the first entry that one.
@@ -71,8 +69,8 @@ fn is_told<R: AllocGlobal + Abort>(
     now: u64,
     shapes: [(u64, u32, Option<u64>, u64); 2],
 ) -> Result<(), Fail> {
-    let (answer, inventory) = apply(rt, text, index, lookup, now)?;
-    assert!(rt; answer == Ok(()));
+    let mut inventory = read(rt.alloc(), text.as_bytes())?;
+    assert!(rt; apply(&mut inventory, index, lookup, now)? == Ok(()));
     assert!(rt; shape(&inventory, index) == shapes[0]);
     assert!(rt; shape(&inventory, 0) == shapes[1]);
     Ok(())
@@ -151,12 +149,24 @@ const BY_A_LEASE: [Refused; 2] = [
     ),
 ];
 
-// The lookup is refused in each row, and the entry stays as it is.
+// The lookup is refused, and the entry stays as it is.
+fn leaves<R: AllocGlobal + Abort>(
+    rt: &R,
+    text: &str,
+    index: u32,
+    lookup: &Lookup,
+    fault: LookupFault,
+    same: (u64, u32, Option<u64>, u64),
+) -> Result<(), Fail> {
+    let mut inventory = read(rt.alloc(), text.as_bytes())?;
+    assert!(rt; apply(&mut inventory, index, lookup, 2000)? == Err(fault));
+    assert!(rt; shape(&inventory, index) == same);
+    Ok(())
+}
+
 fn leave<R: AllocGlobal + Abort>(rt: &R, lookup: &Lookup, rows: &[Refused]) -> Result<(), Fail> {
     for (text, index, fault, same) in rows {
-        let (answer, inventory) = apply(rt, text, *index, lookup, 2000)?;
-        assert!(rt; answer == Err(*fault));
-        assert!(rt; shape(&inventory, *index) == *same);
+        leaves(rt, text, *index, lookup, *fault, *same)?;
     }
     Ok(())
 }

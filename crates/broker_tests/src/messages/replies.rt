@@ -1,8 +1,9 @@
 use super::{GRANT, reply_of};
 use crate::devices::source;
+use std::alloc::Global;
 use std::process::Abort;
 use std::test::Fail;
-use vault_http::{Device, HttpFault, read_reply};
+use vault_http::{Device, HttpFault, Reply, read_reply};
 
 const COUNTED: &[u8] = b"HTTP/1.1 200 OK\r\nContent-Length: 47\r\n\r\n\
 {\"auth\":{\"lease_duration\":60,\"renewable\":true}}";
@@ -13,20 +14,26 @@ const CHUNKED: &[u8] = b"HTTP/1.1 200 OK\r\nTransfer-Encoding: chunked\r\n\r\n\
 const TO_END: &[u8] = b"HTTP/1.1 200 OK\r\n\r\n\
 {\"auth\":{\"lease_duration\":60,\"renewable\":true}}";
 
+fn is_granted(alloc: Global, text: &[u8], pieces: &[usize]) -> Result<bool, Fail> {
+    let reply = reply_of(alloc, text, pieces, 1048576)??;
+    Ok(reply.status == 200 && reply.body.list() == GRANT)
+}
+
+// The reply is read in two pieces, wherever it is cut, and byte by byte.
+fn reads_in_pieces<R: AllocGlobal + Abort>(rt: &R, text: &[u8]) -> Result<(), Fail> {
+    for cut in 0..text.len() {
+        assert!(rt; is_granted(rt.alloc(), text, &[cut + 1])?, "{cut}");
+    }
+    let ones = vec![in rt.alloc(); 1usize; 200]?;
+    assert!(rt; is_granted(rt.alloc(), text, &ones)?);
+    Ok(())
+}
+
 #[test]
 fn reads_one_reply_however_it_is_framed_and_cut(rt: HostRuntime) -> Result<(), Fail> {
-    let alloc = rt.alloc();
-    for text in [COUNTED, CHUNKED, TO_END] {
-        for cut in 0..text.len() {
-            let reply = reply_of(alloc, text, &[cut + 1], 1048576)??;
-            assert_eq!(rt; reply.status, 200);
-            assert_eq!(rt; reply.body.list(), GRANT);
-        }
-        let ones = vec![in alloc; 1usize; 200]?;
-        let reply = reply_of(alloc, text, &ones, 1048576)??;
-        assert_eq!(rt; reply.body.list(), GRANT);
-    }
-    Ok(())
+    reads_in_pieces(&rt, COUNTED)?;
+    reads_in_pieces(&rt, CHUNKED)?;
+    reads_in_pieces(&rt, TO_END)
 }
 
 // Replies that are refused, the greatest length and the fault.
@@ -91,6 +98,16 @@ const REFUSED: [(&[u8], usize, HttpFault); 14] = [
     (b"hello", 1048576, HttpFault::BadHead),
 ];
 
+fn is_refused(
+    alloc: Global,
+    text: &[u8],
+    pieces: &[usize],
+    max: usize,
+    fault: HttpFault,
+) -> Result<bool, Fail> {
+    Ok(reply_of(alloc, text, pieces, max)?.err() == Some(fault))
+}
+
 // Refused at once, and in small pieces.
 fn refuses<R: AllocGlobal + Abort>(
     rt: &R,
@@ -98,12 +115,8 @@ fn refuses<R: AllocGlobal + Abort>(
     max: usize,
     fault: HttpFault,
 ) -> Result<(), Fail> {
-    let alloc = rt.alloc();
-    assert_eq!(rt; reply_of(alloc, text, &[], max)?.err(), Some(fault));
-    assert_eq!(rt;
-        reply_of(alloc, text, &[1, 1, 1, 7, 2], max)?.err(),
-        Some(fault)
-    );
+    assert!(rt; is_refused(rt.alloc(), text, &[], max, fault)?);
+    assert!(rt; is_refused(rt.alloc(), text, &[1, 1, 1, 7, 2], max, fault)?);
     Ok(())
 }
 
@@ -168,8 +181,8 @@ fn reads<R: AllocGlobal + Abort>(
     body: &[u8],
 ) -> Result<(), Fail> {
     let reply = reply_of(rt.alloc(), text, &[], 1048576)??;
-    assert_eq!(rt; reply.status, status);
-    assert_eq!(rt; reply.body.list(), body);
+    assert!(rt; reply.status == status);
+    assert!(rt; reply.body.list() == body);
     Ok(())
 }
 
@@ -181,66 +194,80 @@ fn reads_other_replies(rt: HostRuntime) -> Result<(), Fail> {
     Ok(())
 }
 
-#[test]
-fn reads_every_front_of_a_reply(rt: HostRuntime) -> Result<(), Fail> {
-    let alloc = rt.alloc();
-    for text in [COUNTED, CHUNKED] {
-        for len in 0..text.len() {
-            assert_eq!(rt;
-                reply_of(alloc, &text[..len], &[], 1048576)?.err(),
-                Some(HttpFault::Truncated)
-            );
-        }
-    }
-    let head = TO_END.len() - GRANT.len();
-    for len in 0..head {
-        assert_eq!(rt;
-            reply_of(alloc, &TO_END[..len], &[], 1048576)?.err(),
-            Some(HttpFault::Truncated)
+// Each front of the text is refused as a reply that is cut.
+fn refuses_fronts<R: AllocGlobal + Abort>(rt: &R, text: &[u8]) -> Result<(), Fail> {
+    let cut = HttpFault::Truncated;
+    for len in 0..text.len() {
+        assert!(rt;
+            is_refused(rt.alloc(), &text[..len], &[], 1048576, cut)?,
+            "{len}"
         );
     }
+    Ok(())
+}
+
+// A reply that is sent to the end of the connection is read where it is cut behind its head.
+fn reads_fronts_to_the_end<R: AllocGlobal + Abort>(rt: &R, head: usize) -> Result<(), Fail> {
     for len in head..TO_END.len() {
-        let reply = reply_of(alloc, &TO_END[..len], &[], 1048576)??;
-        assert_eq!(rt; reply.body.list(), &TO_END[head..len]);
+        let reply = reply_of(rt.alloc(), &TO_END[..len], &[], 1048576)??;
+        assert!(rt; reply.body.list() == &TO_END[head..len], "{len}");
+    }
+    Ok(())
+}
+
+#[test]
+fn reads_every_front_of_a_reply(rt: HostRuntime) -> Result<(), Fail> {
+    refuses_fronts(&rt, COUNTED)?;
+    refuses_fronts(&rt, CHUNKED)?;
+    let head = TO_END.len() - GRANT.len();
+    refuses_fronts(&rt, &TO_END[..head])?;
+    reads_fronts_to_the_end(&rt, head)
+}
+
+// The read after so many fails: it is told and counted. The whole message is there after `reads`: its end is not waited for,
+// and no later read is made.
+fn fails_at<R: AllocGlobal + Abort>(
+    rt: &R,
+    text: &[u8],
+    reads: u64,
+    call: u64,
+) -> Result<(), Fail> {
+    let mut source = source(rt.alloc(), text, &[1, 20, 3, 30], Some(call))?;
+    let got = read_reply(rt.alloc(), &mut source, 1048576);
+    if call < reads {
+        assert!(rt; got.err() == Some(HttpFault::ReadFailed));
+        assert!(rt; source.failures() == 1);
+    } else {
+        let reply = got?;
+        assert!(rt; reply.body.list() == GRANT);
+        assert!(rt; source.failures() == 0);
     }
     Ok(())
 }
 
 #[test]
 fn fails_where_a_read_of_a_reply_fails(rt: HostRuntime) -> Result<(), Fail> {
-    let alloc = rt.alloc();
-    for (text, reads) in [(COUNTED, 5), (CHUNKED, 5), (TO_END, 6)] {
-        for call in 0..8 {
-            let mut source = source(alloc, text, &[1, 20, 3, 30], Some(call))?;
-            let got = read_reply(alloc, &mut source, 1048576);
-            if call < reads {
-                assert_eq!(rt; got.err(), Some(HttpFault::ReadFailed));
-                assert_eq!(rt; source.failures(), 1);
-            } else {
-                // The whole message was there before: its end was not waited for, and no later read was made.
-                let reply = got?;
-                assert_eq!(rt; reply.body.list(), GRANT);
-                assert_eq!(rt; source.failures(), 0);
-            }
-        }
+    for call in 0..8 {
+        fails_at(&rt, COUNTED, 5, call)?;
+        fails_at(&rt, CHUNKED, 5, call)?;
+        fails_at(&rt, TO_END, 6, call)?;
     }
     Ok(())
 }
 
+// What is read of a reply whose head has so many fields.
+fn reply_of_fields(alloc: Global, fields: usize) -> Result<Result<Reply, HttpFault>, Fail> {
+    let mut text = Vec::from_slice(alloc, b"HTTP/1.1 204 No Content\r\n")?;
+    for _ in 0..fields {
+        text.extend_from_slice(b"A: b\r\n")?;
+    }
+    text.extend_from_slice(b"\r\n")?;
+    reply_of(alloc, &text, &[], 1048576)
+}
+
 #[test]
 fn refuses_heads_of_many_fields(rt: HostRuntime) -> Result<(), Fail> {
-    let alloc = rt.alloc();
-    for (fields, is_read) in [(64, true), (65, false)] {
-        let mut text = Vec::from_slice(alloc, b"HTTP/1.1 204 No Content\r\n")?;
-        for _ in 0..fields {
-            text.extend_from_slice(b"A: b\r\n")?;
-        }
-        text.extend_from_slice(b"\r\n")?;
-        let got = reply_of(alloc, &text, &[], 1048576)?;
-        assert_eq!(rt; got.is_ok(), is_read);
-        if !is_read {
-            assert_eq!(rt; got.err(), Some(HttpFault::BadHead));
-        }
-    }
+    assert!(rt; reply_of_fields(rt.alloc(), 64)?.is_ok());
+    assert!(rt; reply_of_fields(rt.alloc(), 65)?.err() == Some(HttpFault::BadHead));
     Ok(())
 }

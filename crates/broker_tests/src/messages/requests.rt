@@ -1,5 +1,6 @@
 use super::{LOOKUP, RENEWAL, is_request, request_of};
 use crate::devices::source;
+use std::alloc::Global;
 use std::process::Abort;
 use std::test::Fail;
 use vault_http::{Device, HttpFault, read_request};
@@ -92,6 +93,16 @@ const REFUSED: [(&[u8], usize, HttpFault); 7] = [
     ),
 ];
 
+fn is_refused(
+    alloc: Global,
+    text: &[u8],
+    pieces: &[usize],
+    max: usize,
+    fault: HttpFault,
+) -> Result<bool, Fail> {
+    Ok(request_of(alloc, text, pieces, max)?.err() == Some(fault))
+}
+
 // Refused at once, and in small pieces.
 fn refuses<R: AllocGlobal + Abort>(
     rt: &R,
@@ -99,12 +110,8 @@ fn refuses<R: AllocGlobal + Abort>(
     max: usize,
     fault: HttpFault,
 ) -> Result<(), Fail> {
-    let alloc = rt.alloc();
-    assert_eq!(rt; request_of(alloc, text, &[], max)?.err(), Some(fault));
-    assert_eq!(rt;
-        request_of(alloc, text, &[1, 1, 1, 7, 2], max)?.err(),
-        Some(fault)
-    );
+    assert!(rt; is_refused(rt.alloc(), text, &[], max, fault)?);
+    assert!(rt; is_refused(rt.alloc(), text, &[1, 1, 1, 7, 2], max, fault)?);
     Ok(())
 }
 
@@ -116,34 +123,43 @@ fn refuses_requests(rt: HostRuntime) -> Result<(), Fail> {
     refuses(&rt, RENEWAL, RENEWAL.len() - 1, HttpFault::TooLong)
 }
 
+// Each front of the request is refused as one that is cut.
+fn refuses_fronts<R: AllocGlobal + Abort>(rt: &R, text: &[u8]) -> Result<(), Fail> {
+    let cut = HttpFault::Truncated;
+    for len in 0..text.len() {
+        assert!(rt;
+            is_refused(rt.alloc(), &text[..len], &[], 1048576, cut)?,
+            "{len}"
+        );
+    }
+    Ok(())
+}
+
 #[test]
 fn reads_every_front_of_a_request(rt: HostRuntime) -> Result<(), Fail> {
-    let alloc = rt.alloc();
-    for text in [RENEWAL, LOOKUP] {
-        for len in 0..text.len() {
-            assert_eq!(rt;
-                request_of(alloc, &text[..len], &[], 1048576)?.err(),
-                Some(HttpFault::Truncated)
-            );
-        }
+    refuses_fronts(&rt, RENEWAL)?;
+    refuses_fronts(&rt, LOOKUP)
+}
+
+// The read after so many fails: it is told and counted, and from the fifth on it is not made.
+fn fails_at<R: AllocGlobal + Abort>(rt: &R, call: u64) -> Result<(), Fail> {
+    let mut source = source(rt.alloc(), RENEWAL, &[1, 20, 3, 30], Some(call))?;
+    let got = read_request(rt.alloc(), &mut source, 1048576);
+    if call < 5 {
+        assert!(rt; got.err() == Some(HttpFault::ReadFailed));
+        assert!(rt; source.failures() == 1);
+    } else {
+        let request = got?;
+        assert!(rt; request.body.list() == b"{\"increment\":60}".as_slice());
+        assert!(rt; source.failures() == 0);
     }
     Ok(())
 }
 
 #[test]
 fn fails_where_a_read_of_a_request_fails(rt: HostRuntime) -> Result<(), Fail> {
-    let alloc = rt.alloc();
     for call in 0..7 {
-        let mut source = source(alloc, RENEWAL, &[1, 20, 3, 30], Some(call))?;
-        let got = read_request(alloc, &mut source, 1048576);
-        if call < 5 {
-            assert_eq!(rt; got.err(), Some(HttpFault::ReadFailed));
-            assert_eq!(rt; source.failures(), 1);
-        } else {
-            let request = got?;
-            assert_eq!(rt; request.body.list(), b"{\"increment\":60}".as_slice());
-            assert_eq!(rt; source.failures(), 0);
-        }
+        fails_at(&rt, call)?;
     }
     Ok(())
 }

@@ -29,22 +29,28 @@ fn reads_back_a_request_that_was_written(rt: HostRuntime) -> Result<(), Fail> {
     Ok(())
 }
 
+const STATUSES: [u16; 8] = [200, 400, 403, 404, 405, 429, 500, 503];
+
+// The reply that is read of what was written of this one.
+fn reply_back(alloc: Global, sent: &Reply) -> Result<Reply, Fail> {
+    if !sent.is_writable() {
+        return Err("a reply".into());
+    }
+    let mut sink = MemorySink::new(alloc, None);
+    write_reply(alloc, &mut sink, sent)?;
+    Ok(reply_of(alloc, sink.bytes(), &[], sink.bytes().len())??)
+}
+
+fn is_read_back(alloc: Global, status: u16) -> Result<bool, Fail> {
+    let body = Text::of(alloc, GRANT)?;
+    let got = reply_back(alloc, &Reply { status, body })?;
+    Ok(got.status == status && got.body.list() == GRANT)
+}
+
 #[test]
 fn reads_back_replies_that_were_written(rt: HostRuntime) -> Result<(), Fail> {
-    let alloc = rt.alloc();
-    for status in [200, 400, 403, 404, 405, 429, 500, 503] {
-        let sent = Reply {
-            status,
-            body: Text::of(alloc, GRANT)?,
-        };
-        if !sent.is_writable() {
-            return Err("a reply".into());
-        }
-        let mut sink = MemorySink::new(alloc, None);
-        assert_eq!(rt; write_reply(alloc, &mut sink, &sent), Ok(()));
-        let got = reply_of(alloc, sink.bytes(), &[], sink.bytes().len())??;
-        assert_eq!(rt; got.status, status);
-        assert_eq!(rt; got.body.list(), GRANT);
+    for status in &STATUSES {
+        assert!(rt; is_read_back(rt.alloc(), *status)?, "{status}");
     }
     Ok(())
 }

@@ -1,6 +1,7 @@
 use super::{RENEWAL, reply_of, request_of};
 use std::process::Abort;
 use std::test::Fail;
+use vault_http::{Reply, Request};
 
 // Fronts of the token, of the request's body and of the lease id, as texts and as the numbers of their bytes.
 const SECRETS: [&str; 5] = [
@@ -11,24 +12,30 @@ const SECRETS: [&str; 5] = [
     "100, 98, 47",
 ];
 
-fn hides<R: Abort>(rt: &R, shown: &str, secrets: &[&str]) {
-    for secret in secrets {
+// What is shown holds this text, and no secret.
+fn hides<R: Abort>(rt: &R, shown: &str, text: &str) {
+    assert!(rt; shown.contains(text), "{shown}");
+    for secret in &SECRETS {
         assert!(rt; !shown.contains(secret), "{shown}");
     }
+}
+
+fn request_hides<R: AllocGlobal + Abort>(rt: &R, request: &Request) -> Result<(), Fail> {
+    hides(rt, &format!(in rt.alloc(); "{request:?}")?, "POST");
+    Ok(())
+}
+
+fn reply_hides<R: AllocGlobal + Abort>(rt: &R, reply: &Reply) -> Result<(), Fail> {
+    hides(rt, &format!(in rt.alloc(); "{reply:?}")?, "200");
+    Ok(())
 }
 
 // Tokens and ids of leases are secret: neither a request nor a reply shows its own, as a text or as the numbers of its bytes.
 #[test]
 fn no_secret_is_shown(rt: HostRuntime) -> Result<(), Fail> {
-    let alloc = rt.alloc();
-    let request = request_of(alloc, RENEWAL, &[], 1048576)??;
+    let request = request_of(rt.alloc(), RENEWAL, &[], 1048576)??;
+    request_hides(&rt, &request)?;
     let answer = b"HTTP/1.1 200 OK\r\nContent-Length: 14\r\n\r\ndb/creds/app/1";
-    let reply = reply_of(alloc, answer, &[], 1048576)??;
-    let asked = format!(in alloc; "{request:?}")?;
-    let said = format!(in alloc; "{reply:?}")?;
-    assert!(rt; asked.contains("POST"), "{asked}");
-    assert!(rt; said.contains("200"), "{said}");
-    hides(&rt, asked.as_str(), &SECRETS);
-    hides(&rt, said.as_str(), &SECRETS);
-    Ok(())
+    let reply = reply_of(rt.alloc(), answer, &[], 1048576)??;
+    reply_hides(&rt, &reply)
 }
