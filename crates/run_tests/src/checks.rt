@@ -14,7 +14,7 @@ pub const IN_WAKES: &str =
     "leasekeep-plan 1\nstart 1000\nwake 1059 web web\nwake 1118 web web\nwake 1177 web web\nend 3\n";
 
 /// The line of `check` about a certificate: exit 0 with `yes`, and 4 with any other.
-pub fn judges<R: AllocGlobal + Abort>(
+pub(crate) fn judges<R: AllocGlobal + Abort>(
     rt: &R,
     inventory: &str,
     certificate: &[u8],
