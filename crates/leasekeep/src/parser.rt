@@ -129,14 +129,14 @@ fn ends<'a>(alloc: Global) -> Result<Command<'a>, AllocError> {
     Command::new(alloc, "ends")
         .about(ENDS_ABOUT)
         .after_help(ENDS_AFTER)
-        .arg(file(alloc)?)?
-        .arg(start(alloc)?)?
+        .arg(file(alloc))?
+        .arg(start(alloc))?
         .arg(
             moment(
                 alloc,
                 "MOMENT",
                 "A moment at which every entry is asked to be renewed",
-            )?
+            )
             .action(ArgAction::Append)
             .num_args(0..),
         )
@@ -147,8 +147,8 @@ fn plan<'a>(alloc: Global) -> Result<Command<'a>, AllocError> {
     Command::new(alloc, "plan")
         .about(PLAN_ABOUT)
         .after_help(PLAN_AFTER)
-        .arg(file(alloc)?)?
-        .arg(start(alloc)?)
+        .arg(file(alloc))?
+        .arg(start(alloc))
 }
 
 /// `reach FILE START [--dates]`
@@ -156,8 +156,8 @@ fn reach<'a>(alloc: Global) -> Result<Command<'a>, AllocError> {
     Command::new(alloc, "reach")
         .about(REACH_ABOUT)
         .after_help(REACH_AFTER)
-        .arg(file(alloc)?)?
-        .arg(start(alloc)?)?
+        .arg(file(alloc))?
+        .arg(start(alloc))?
         .arg(
             Arg::new(alloc, "dates")
                 .long("dates")
@@ -171,8 +171,8 @@ fn rehearse<'a>(alloc: Global) -> Result<Command<'a>, AllocError> {
     Command::new(alloc, "rehearse")
         .about(REHEARSE_ABOUT)
         .after_help(REHEARSE_AFTER)
-        .arg(file(alloc)?)?
-        .arg(start(alloc)?)?
+        .arg(file(alloc))?
+        .arg(start(alloc))?
         .arg(
             Arg::new(alloc, "FAULT")
                 .help("What goes wrong at a renewal request: K=short:SECONDS, K=drop or K=deny")
@@ -186,13 +186,8 @@ fn check<'a>(alloc: Global) -> Result<Command<'a>, AllocError> {
     Command::new(alloc, "check")
         .about(CHECK_ABOUT)
         .after_help(CHECK_AFTER)
-        .arg(file(alloc)?)?
-        .arg(
-            Arg::new(alloc, "CERT")
-                .help("The certificate, at most 16 MiB")
-                .required(true)
-                .action(ArgAction::Set),
-        )
+        .arg(file(alloc))?
+        .arg(word(alloc, "CERT", "The certificate, at most 16 MiB"))
 }
 
 /// `run FILE PORT START [--timeout SECONDS]`
@@ -200,20 +195,17 @@ fn run<'a>(alloc: Global) -> Result<Command<'a>, AllocError> {
     Command::new(alloc, "run")
         .about(RUN_ABOUT)
         .after_help(RUN_AFTER)
-        .arg(file(alloc)?)?
-        .arg(
-            Arg::new(alloc, "PORT")
-                .help(
-                    "The broker's port of 127.0.0.1; or the path of its UNIX socket, with a `/` in it",
-                )
-                .required(true)
-                .action(ArgAction::Set),
-        )?
+        .arg(file(alloc))?
+        .arg(word(
+            alloc,
+            "PORT",
+            "The broker's port of 127.0.0.1; or the path of its UNIX socket, with a `/` in it",
+        ))?
         .arg(moment(
             alloc,
             "START",
             "The moment of the lookups, from which entries are kept, in seconds as `date +%s` writes it",
-        )?
+        )
         .required(true))?
         .arg(
             Arg::new(alloc, "timeout")
@@ -226,23 +218,24 @@ fn run<'a>(alloc: Global) -> Result<Command<'a>, AllocError> {
         )
 }
 
-fn file<'a>(alloc: Global) -> Result<Arg<'a>, AllocError> {
-    Ok(
-        Arg::new(alloc, "FILE")
-            .help("The inventory, at most 1 MiB")
-            .required(true)
-            .action(ArgAction::Set),
-    )
+fn file<'a>(alloc: Global) -> Arg<'a> {
+    word(alloc, "FILE", "The inventory, at most 1 MiB")
 }
 
-fn start<'a>(alloc: Global) -> Result<Arg<'a>, AllocError> {
-    Ok(moment(alloc, "START", START_HELP)?.required(true))
+// A word that has to be there.
+fn word<'a>(alloc: Global, name: &'a str, help: &'a str) -> Arg<'a> {
+    Arg::new(alloc, name)
+        .help(help)
+        .required(true)
+        .action(ArgAction::Set)
 }
 
-fn moment<'a>(alloc: Global, name: &'a str, help: &'a str) -> Result<Arg<'a>, AllocError> {
-    Ok(
-        Arg::new(alloc, name)
-            .help(help)
-            .value_parser(clap::value_parser!(u64).range(0..=LAST as i64)),
-    )
+fn start<'a>(alloc: Global) -> Arg<'a> {
+    moment(alloc, "START", START_HELP).required(true)
+}
+
+fn moment<'a>(alloc: Global, name: &'a str, help: &'a str) -> Arg<'a> {
+    Arg::new(alloc, name)
+        .help(help)
+        .value_parser(clap::value_parser!(u64).range(0..=LAST as i64))
 }

@@ -1,8 +1,9 @@
 use crate::inventories::{IN_TURN, ONE_DUE, TOKEN_AND_LEASE, WEB, inventory_of};
-use crate::moments::moment;
-use crate::plans::{OF_ONE_TOKEN, PLANNED};
+use crate::outcomes::Outcome;
+use crate::plans::{OF_ONE_TOKEN, PLANNED, plans};
 use keep_device::MemorySink;
-use keep_engine::{Exit, run_check, run_plan};
+use keep_engine::{Exit, run_check};
+use std::alloc::Global;
 use std::process::Abort;
 use std::test::Fail;
 
@@ -13,49 +14,46 @@ pub const IN_RUNS: &str = "leasekeep-plan 2\nstart 1000\nrun 1059 59 3 web web\n
 pub const IN_WAKES: &str =
     "leasekeep-plan 1\nstart 1000\nwake 1059 web web\nwake 1118 web web\nwake 1177 web web\nend 3\n";
 
-/// The line of `check` about a certificate: exit 0 with `yes`, and 4 with any other.
-pub(crate) fn judges<R: AllocGlobal + Abort>(
-    rt: &R,
+/// `check`, to an output that fails behind so many calls.
+pub(crate) fn checks(
+    alloc: Global,
     inventory: &str,
     certificate: &[u8],
-    line: &str,
-) -> Result<(), Fail> {
-    let alloc = rt.alloc();
-    let mut out = MemorySink::new(alloc, None);
+    failing: Option<u64>,
+) -> Outcome {
+    let mut out = MemorySink::new(alloc, failing);
     let mut errors = MemorySink::new(alloc, None);
-    let got = run_check(
+    let exit = run_check(
         alloc,
         inventory.as_bytes(),
         certificate,
         &mut out,
         &mut errors,
     );
-    let want = if line == "yes\n" {
+    Outcome { exit, out, errors }
+}
+
+/// The line of `check` about a certificate: exit 0 with `yes`, and 4 with any other.
+pub(crate) fn judges<R: AllocGlobal + Abort>(
+    rt: &R,
+    inventory: &str,
+    certificate: &[u8],
+    line: &str,
+) {
+    let exit = if line == "yes\n" {
         Exit::Done
     } else {
         Exit::No
     };
-    assert!(rt; got == want, "{line}");
-    assert!(rt; out.bytes() == line.as_bytes(), "{line}");
-    assert!(rt; errors.bytes().is_empty(), "{line}");
-    Ok(())
+    checks(rt.alloc(), inventory, certificate, None).is(rt, exit, line, "");
 }
 
 // What `plan` writes from 1000 on gets `yes`.
 fn accepts_own<R: AllocGlobal + Abort>(rt: &R, inventory: &str) -> Result<(), Fail> {
-    let alloc = rt.alloc();
-    let mut certificate = MemorySink::new(alloc, None);
-    let mut errors = MemorySink::new(alloc, None);
-    let start = moment(1000)?;
-    let exit = run_plan(
-        alloc,
-        inventory.as_bytes(),
-        start,
-        &mut certificate,
-        &mut errors,
-    );
-    assert!(rt; matches!(exit, Exit::Done | Exit::Unkeepable));
-    judges(rt, inventory, certificate.bytes(), "yes\n")
+    let planned = plans(rt.alloc(), inventory, None)?;
+    assert!(rt; matches!(planned.exit, Exit::Done | Exit::Unkeepable));
+    judges(rt, inventory, planned.out.bytes(), "yes\n");
+    Ok(())
 }
 
 #[test]
@@ -84,13 +82,14 @@ fn ten_million_wake_ups_are_judged(rt: HostRuntime) -> Result<(), Fail> {
         inventory.as_str(),
         b"leasekeep-plan 2\nstart 1000\nrun 1001 1 10000000 web web\nend 10000000\n".as_slice(),
         "yes\n",
-    )?;
+    );
     judges(
         &rt,
         inventory.as_str(),
         b"leasekeep-plan 2\nstart 1000\nrun 1001 1 9999999 web web\nend 9999999\n".as_slice(),
         "no not-kept web\n",
-    )
+    );
+    Ok(())
 }
 
 // Certificates of version 1, altered behind the first line, the inventory that each is judged by, and the line about it.
@@ -237,7 +236,7 @@ fn judges_altered<R: AllocGlobal + Abort>(
 ) -> Result<(), Fail> {
     for (inventory, lines, line) in rows {
         let text = format!(in rt.alloc(); "{header}{lines}")?;
-        judges(rt, inventory, text.as_bytes(), line)?;
+        judges(rt, inventory, text.as_bytes(), line);
     }
     Ok(())
 }
@@ -252,24 +251,10 @@ fn altered_runs_are_judged(rt: HostRuntime) -> Result<(), Fail> {
     judges_altered(&rt, "leasekeep-plan 2\n", &ALTERED_RUNS)
 }
 
-// An output that fails behind so many calls: exit 6.
-fn fails_at<R: AllocGlobal + Abort>(rt: &R, call: u64) {
-    let alloc = rt.alloc();
-    let mut out = MemorySink::new(alloc, Some(call));
-    let mut errors = MemorySink::new(alloc, None);
-    let certificate = IN_RUNS.as_bytes();
-    let exit = run_check(alloc, WEB.as_bytes(), certificate, &mut out, &mut errors);
-    assert!(rt; exit == Exit::Device, "call {call}");
-    assert!(rt;
-        errors.bytes() == b"leasekeep: write\n".as_slice(),
-        "call {call}"
-    );
-}
-
 // Each call of the output fails in turn.
 #[test]
 fn a_failed_write_of_an_answer_is_exit_6(rt: HostRuntime) {
     for call in 0..2u64 {
-        fails_at(&rt, call);
+        checks(rt.alloc(), WEB, IN_RUNS.as_bytes(), Some(call)).is_a_failed_write(&rt);
     }
 }

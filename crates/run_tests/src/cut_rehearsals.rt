@@ -2,10 +2,12 @@
 ghost use Rattle.std.specs.Prelude.{true};
 
 use crate::inventories::WEB;
-use crate::rehearsals::{AS_PLANNED, nobody, start};
+use crate::moments::moment;
+use crate::rehearsals::{AS_PLANNED, nobody};
 use keep_device::{Device, MemorySink, Sink, SinkFault};
 use keep_report::Exit;
 use keep_run::run_rehearse;
+use std::alloc::Global;
 use std::process::Abort;
 use std::test::Fail;
 
@@ -13,77 +15,57 @@ use std::test::Fail;
 // last line and the flush.
 const HELD: [(u64, usize); 5] = [(0, 0), (1, 26), (2, 52), (3, 78), (4, 87)];
 
-fn holds_at_a_failure<R: AllocGlobal + Abort>(
-    rt: &R,
-    calls: u64,
-    length: usize,
-) -> Result<(), Fail> {
-    let alloc = rt.alloc();
-    let mut out = MemorySink::new(alloc, Some(calls));
-    let mut errors = MemorySink::new(alloc, None);
-    let got = run_rehearse(
+// A rehearsal of the web example, written there: its exit and its fault line.
+fn rehearses_to<S: Sink>(
+    alloc: Global,
+    out: &mut S,
+    errors: &mut MemorySink,
+) -> Result<Exit, Fail> {
+    let start = moment(1000)?;
+    let mut exchange = nobody(alloc)?;
+    Ok(run_rehearse(
         alloc,
         WEB.as_bytes(),
-        start()?,
+        start,
         &[],
-        &mut out,
-        &mut errors,
-        &mut nobody(alloc)?,
-    );
-    assert!(rt; got == Exit::Device, "{calls}");
+        out,
+        errors,
+        &mut exchange,
+    ))
+}
+
+// So many bytes of the rehearsal are held, and this is the fault line.
+fn hold<R: Abort>(rt: &R, out: &MemorySink, length: usize, errors: &MemorySink, fault: &[u8]) {
     assert!(rt;
         Some(out.bytes()) == AS_PLANNED.as_bytes().get(..length),
-        "{calls}"
+        "{length}"
     );
-    assert!(rt;
-        errors.bytes() == b"leasekeep: write\n".as_slice(),
-        "{calls}"
-    );
-    Ok(())
+    assert!(rt; errors.bytes() == fault, "{length}");
 }
 
 #[test]
 fn a_writer_that_fails_holds_whole_wake_ups(rt: HostRuntime) -> Result<(), Fail> {
-    for (calls, length) in &HELD {
-        holds_at_a_failure(&rt, *calls, *length)?;
-    }
-    Ok(())
-}
-
-fn holds_without_memory<R: AllocGlobal + Abort>(
-    rt: &R,
-    calls: u64,
-    length: usize,
-) -> Result<(), Fail> {
     let alloc = rt.alloc();
-    let sink = MemorySink::new(alloc, None);
-    let mut out = Wanting { sink, left: calls };
-    let mut errors = MemorySink::new(alloc, None);
-    let got = run_rehearse(
-        alloc,
-        WEB.as_bytes(),
-        start()?,
-        &[],
-        &mut out,
-        &mut errors,
-        &mut nobody(alloc)?,
-    );
-    assert!(rt; got == Exit::Memory, "{calls}");
-    assert!(rt;
-        Some(out.sink.bytes()) == AS_PLANNED.as_bytes().get(..length),
-        "{calls}"
-    );
-    assert!(rt;
-        errors.bytes() == b"leasekeep: memory\n".as_slice(),
-        "{calls}"
-    );
+    for (calls, length) in &HELD {
+        let mut out = MemorySink::new(alloc, Some(*calls));
+        let mut errors = MemorySink::new(alloc, None);
+        let got = rehearses_to(alloc, &mut out, &mut errors)?;
+        assert!(rt; got == Exit::Device, "{calls}");
+        hold(&rt, &out, *length, &errors, b"leasekeep: write\n");
+    }
     Ok(())
 }
 
 #[test]
 fn a_writer_that_wants_memory_holds_whole_wake_ups(rt: HostRuntime) -> Result<(), Fail> {
+    let alloc = rt.alloc();
     for (calls, length) in &HELD {
-        holds_without_memory(&rt, *calls, *length)?;
+        let sink = MemorySink::new(alloc, None);
+        let mut out = Wanting { sink, left: *calls };
+        let mut errors = MemorySink::new(alloc, None);
+        let got = rehearses_to(alloc, &mut out, &mut errors)?;
+        assert!(rt; got == Exit::Memory, "{calls}");
+        hold(&rt, &out.sink, *length, &errors, b"leasekeep: memory\n");
     }
     Ok(())
 }

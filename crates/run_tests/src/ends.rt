@@ -1,16 +1,14 @@
 use crate::inventories::{
     HIDDEN, IN_TURN, LOW_CEILING, PAY, TOKEN_AND_LEASE, WEB, WEB_BASE_AND_BIG, WEB_BY_DATE,
+    WITH_MARGIN,
 };
 use crate::moments::moment;
+use crate::outcomes::Outcome;
 use keep_device::MemorySink;
 use keep_engine::{Exit, run_ends};
 use keep_moment::Moment;
 use std::alloc::Global;
-use std::process::Abort;
 use std::test::Fail;
-
-const WITH_MARGIN: &str =
-    "margin = 10\n[[token]]\nname = \"web\"\nissued = 1000\nend = 1060\nincrement = 60\nmax_ttl = 9000\nneed = 1200\n";
 
 // Inventories with moments, and what `ends` writes of them from 1000 on.
 const KEPT_OR_NOT: [(&str, &[u64], &str); 15] = [
@@ -77,21 +75,18 @@ fn moments_of(alloc: Global, seconds: &[u64]) -> Result<Vec<Moment>, Fail> {
     Ok(moments)
 }
 
-// `ends` from 1000 on: its exit, its output and its fault line.
-fn ends<R: AllocGlobal + Abort>(
-    rt: &R,
+/// `ends` from 1000 on, to an output that fails behind so many calls.
+pub(crate) fn ends(
+    alloc: Global,
     inventory: &str,
     moments: &[u64],
-    exit: Exit,
-    text: &str,
-    fault: &str,
-) -> Result<(), Fail> {
-    let alloc = rt.alloc();
-    let mut out = MemorySink::new(alloc, None);
+    failing: Option<u64>,
+) -> Result<Outcome, Fail> {
+    let mut out = MemorySink::new(alloc, failing);
     let mut errors = MemorySink::new(alloc, None);
     let start = moment(1000)?;
     let moments = moments_of(alloc, moments)?;
-    let got = run_ends(
+    let exit = run_ends(
         alloc,
         inventory.as_bytes(),
         start,
@@ -99,16 +94,13 @@ fn ends<R: AllocGlobal + Abort>(
         &mut out,
         &mut errors,
     );
-    assert!(rt; got == exit, "{text}{fault}");
-    assert!(rt; out.bytes() == text.as_bytes(), "{text}{fault}");
-    assert!(rt; errors.bytes() == fault.as_bytes(), "{text}{fault}");
-    Ok(())
+    Ok(Outcome { exit, out, errors })
 }
 
 #[test]
 fn ends_are_written(rt: HostRuntime) -> Result<(), Fail> {
     for (inventory, moments, text) in &KEPT_OR_NOT {
-        ends(&rt, inventory, moments, Exit::Done, text, "")?;
+        ends(rt.alloc(), inventory, moments, None)?.is(&rt, Exit::Done, text, "");
     }
     Ok(())
 }
@@ -116,23 +108,8 @@ fn ends_are_written(rt: HostRuntime) -> Result<(), Fail> {
 #[test]
 fn what_has_no_ends_leaves_the_output(rt: HostRuntime) -> Result<(), Fail> {
     for (inventory, moments, exit, fault) in &REFUSED {
-        ends(&rt, inventory, moments, *exit, "", fault)?;
+        ends(rt.alloc(), inventory, moments, None)?.is(&rt, *exit, "", fault);
     }
-    Ok(())
-}
-
-// An output that fails behind so many calls: exit 6.
-fn fails_at<R: AllocGlobal + Abort>(rt: &R, call: u64) -> Result<(), Fail> {
-    let alloc = rt.alloc();
-    let mut out = MemorySink::new(alloc, Some(call));
-    let mut errors = MemorySink::new(alloc, None);
-    let start = moment(1000)?;
-    let exit = run_ends(alloc, WEB.as_bytes(), start, &[], &mut out, &mut errors);
-    assert!(rt; exit == Exit::Device, "call {call}");
-    assert!(rt;
-        errors.bytes() == b"leasekeep: write\n".as_slice(),
-        "call {call}"
-    );
     Ok(())
 }
 
@@ -141,7 +118,7 @@ fn fails_at<R: AllocGlobal + Abort>(rt: &R, call: u64) -> Result<(), Fail> {
 fn a_failed_write_is_exit_6(rt: HostRuntime) -> Result<(), Fail> {
     let alloc = rt.alloc();
     for call in 0..2u64 {
-        fails_at(&rt, call)?;
+        ends(alloc, WEB, &[], Some(call))?.is_a_failed_write(&rt);
     }
     let mut out = MemorySink::new(alloc, None);
     let mut errors = MemorySink::new(alloc, Some(0));

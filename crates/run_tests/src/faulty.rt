@@ -1,6 +1,8 @@
-use crate::moments::moment;
-use keep_device::MemorySink;
-use keep_engine::{Exit, run_check, run_ends, run_plan};
+use crate::checks::checks;
+use crate::ends::ends;
+use crate::outcomes::Outcome;
+use crate::plans::plans;
+use keep_engine::Exit;
 use std::process::Abort;
 use std::test::Fail;
 
@@ -54,43 +56,24 @@ const FAULTY: [(&str, &str); 15] = [
 ];
 
 // What a command of a text that is no inventory comes to: exit 1, one fault line, and nothing on the output.
-fn is_refused<R: AllocGlobal + Abort>(
-    rt: &R,
-    got: Exit,
-    out: &MemorySink,
-    errors: &MemorySink,
-    fault: &str,
-) -> Result<(), Fail> {
+fn is_refused<R: AllocGlobal + Abort>(rt: &R, outcome: &Outcome, fault: &str) -> Result<(), Fail> {
     let line = format!(in rt.alloc(); "leasekeep: inventory: {fault}\n")?;
-    assert!(rt; got == Exit::Inventory, "{fault}");
-    assert!(rt; out.bytes().is_empty(), "{fault}");
-    assert!(rt; errors.bytes() == line.as_bytes(), "{fault}");
+    outcome.is(rt, Exit::Inventory, "", line.as_str());
     Ok(())
 }
 
 #[test]
 fn ends_names_the_fault_of_an_inventory(rt: HostRuntime) -> Result<(), Fail> {
-    let alloc = rt.alloc();
-    let start = moment(1000)?;
     for (inventory, fault) in &FAULTY {
-        let mut out = MemorySink::new(alloc, None);
-        let mut errors = MemorySink::new(alloc, None);
-        let inventory = inventory.as_bytes();
-        let got = run_ends(alloc, inventory, start, &[], &mut out, &mut errors);
-        is_refused(&rt, got, &out, &errors, fault)?;
+        is_refused(&rt, &ends(rt.alloc(), inventory, &[], None)?, fault)?;
     }
     Ok(())
 }
 
 #[test]
 fn plan_names_the_fault_of_an_inventory(rt: HostRuntime) -> Result<(), Fail> {
-    let alloc = rt.alloc();
-    let start = moment(1000)?;
     for (inventory, fault) in &FAULTY {
-        let mut out = MemorySink::new(alloc, None);
-        let mut errors = MemorySink::new(alloc, None);
-        let got = run_plan(alloc, inventory.as_bytes(), start, &mut out, &mut errors);
-        is_refused(&rt, got, &out, &errors, fault)?;
+        is_refused(&rt, &plans(rt.alloc(), inventory, None)?, fault)?;
     }
     Ok(())
 }
@@ -98,19 +81,8 @@ fn plan_names_the_fault_of_an_inventory(rt: HostRuntime) -> Result<(), Fail> {
 // The inventory is judged before the certificate, which is none here.
 #[test]
 fn check_names_the_fault_of_an_inventory(rt: HostRuntime) -> Result<(), Fail> {
-    let alloc = rt.alloc();
     for (inventory, fault) in &FAULTY {
-        let mut out = MemorySink::new(alloc, None);
-        let mut errors = MemorySink::new(alloc, None);
-        let certificate = b"x".as_slice();
-        let got = run_check(
-            alloc,
-            inventory.as_bytes(),
-            certificate,
-            &mut out,
-            &mut errors,
-        );
-        is_refused(&rt, got, &out, &errors, fault)?;
+        is_refused(&rt, &checks(rt.alloc(), inventory, b"x", None), fault)?;
     }
     Ok(())
 }

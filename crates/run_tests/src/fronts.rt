@@ -37,7 +37,7 @@ fn judges_fronts<R: AllocGlobal + Abort>(
     for (from, to, line) in fronts {
         for length in *from..=*to {
             let front = text.as_bytes().get(..length).ok_or("a front")?;
-            judges(rt, WEB, front, *line)?;
+            judges(rt, WEB, front, *line);
         }
     }
     Ok(())

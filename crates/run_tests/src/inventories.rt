@@ -6,6 +6,10 @@ use std::test::Fail;
 pub(crate) const WEB: &str =
     "[[token]]\nname = \"web\"\nissued = 1000\nend = 1060\nincrement = 60\nmax_ttl = 9000\nneed = 1200\n";
 
+/// The same with a margin of ten seconds.
+pub(crate) const WITH_MARGIN: &str =
+    "margin = 10\n[[token]]\nname = \"web\"\nissued = 1000\nend = 1060\nincrement = 60\nmax_ttl = 9000\nneed = 1200\n";
+
 pub(crate) const WEB_BY_DATE: &str =
     "[[token]]\nname = \"web\"\nissued = 1000\nend = \"1970-01-01T00:17:40Z\"\nincrement = 60\nmax_ttl = 9000\nneed = 1200\n";
 

@@ -26,6 +26,8 @@ mod moments;
 #[cfg(test)]
 mod obeyed;
 #[cfg(test)]
+mod outcomes;
+#[cfg(test)]
 mod plans;
 #[cfg(test)]
 mod reaches;

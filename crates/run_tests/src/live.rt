@@ -1,19 +1,16 @@
 //! Live runs in memory: exit, output and fault line, however the event lines come.
 use crate::inventories::{TOKEN_AND_LEASE, WEB};
+use crate::moments::moment;
+use crate::outcomes::Outcome;
 use keep_device::{MemorySink, MemorySource};
 use keep_exchange::MemoryExchange;
 use keep_inventory::read;
-use keep_moment::Moment;
 use keep_report::Exit;
 use keep_run::run_live;
 use mini_broker::{Fault, Table};
 use std::alloc::Global;
 use std::process::Abort;
 use std::test::Fail;
-
-fn moment(seconds: u64) -> Result<Moment, Fail> {
-    Ok(Moment::new(seconds).ok_or("a moment")?)
-}
 
 const TWO_TICKS: &str = "tick 1059\ntick 1118\n";
 
@@ -132,13 +129,14 @@ fn table_of<R: AllocGlobal + Abort>(
     Ok(table)
 }
 
-// A run from 1000 on over the inventory's own table, with a fault at the first renewal, if there is one.
+// A run from 1000 on over the inventory's own table, with a fault at the first renewal, if there is one; and how many reads
+// it made.
 fn runs<R: AllocGlobal + Abort>(
     rt: &R,
     inventory: &str,
     fault: Option<Fault>,
     events: MemorySource,
-) -> Result<(Exit, MemorySink, MemorySink, u64), Fail> {
+) -> Result<(Outcome, u64), Fail> {
     let alloc = rt.alloc();
     let mut exchange = MemoryExchange::new(alloc, table_of(rt, inventory, fault)?);
     let mut out = MemorySink::new(alloc, None);
@@ -153,7 +151,7 @@ fn runs<R: AllocGlobal + Abort>(
         &mut out,
         &mut errors,
     );
-    Ok((exit, out, errors, events.reads()))
+    Ok((Outcome { exit, out, errors }, events.reads()))
 }
 
 // Event lines that come in pieces of these lengths, and then whole.
@@ -173,10 +171,8 @@ fn source(
 fn is_written<R: AllocGlobal + Abort>(rt: &R, row: &Heard) -> Result<(), Fail> {
     let (inventory, lines, before_failure, exit, text, fault) = *row;
     let events = source(rt.alloc(), lines.as_bytes(), &[], before_failure)?;
-    let (got, out, errors, _) = runs(rt, inventory, None, events)?;
-    assert!(rt; got == exit, "{lines}");
-    assert!(rt; out.bytes() == text.as_bytes(), "{lines}");
-    assert!(rt; errors.bytes() == fault.as_bytes(), "{lines}");
+    let (outcome, _) = runs(rt, inventory, None, events)?;
+    outcome.is(rt, exit, text, fault);
     Ok(())
 }
 
@@ -199,10 +195,8 @@ const CUTS: [(&[usize], u64); 5] = [
 
 fn is_the_same<R: AllocGlobal + Abort>(rt: &R, pieces: &[usize], reads: u64) -> Result<(), Fail> {
     let events = source(rt.alloc(), TWO_TICKS.as_bytes(), pieces, None)?;
-    let (exit, out, errors, made) = runs(rt, WEB, None, events)?;
-    assert!(rt; exit == Exit::Done, "{reads}");
-    assert!(rt; out.bytes() == TWICE_RENEWED.as_bytes(), "{reads}");
-    assert!(rt; errors.bytes().is_empty(), "{reads}");
+    let (outcome, made) = runs(rt, WEB, None, events)?;
+    outcome.is(rt, Exit::Done, TWICE_RENEWED, "");
     assert!(rt; made == reads, "{made} {reads}");
     Ok(())
 }
@@ -234,10 +228,8 @@ const ANSWERED: [(Fault, &str); 3] = [
 
 fn is_told<R: AllocGlobal + Abort>(rt: &R, fault: Fault, text: &str) -> Result<(), Fail> {
     let events = source(rt.alloc(), b"tick 1059\n", &[], None)?;
-    let (exit, out, errors, _) = runs(rt, WEB, Some(fault), events)?;
-    assert!(rt; exit == Exit::Done, "{text}");
-    assert!(rt; out.bytes() == text.as_bytes(), "{text}");
-    assert!(rt; errors.bytes().is_empty(), "{text}");
+    let (outcome, _) = runs(rt, WEB, Some(fault), events)?;
+    outcome.is(rt, Exit::Done, text, "");
     Ok(())
 }
 
@@ -281,15 +273,15 @@ fn is_limited<R: AllocGlobal + Abort>(rt: &R, row: &Limit) -> Result<(), Fail> {
     let mut bytes = needs_of(rt.alloc(), lines, name)?;
     bytes.extend_from_slice(behind.as_bytes())?;
     let pieces = vec![in rt.alloc(); 1usize; ones]?;
-    let (exit, out, errors, _) = runs(rt, WEB, None, MemorySource::new(bytes, pieces, None))?;
+    let (outcome, _) = runs(rt, WEB, None, MemorySource::new(bytes, pieces, None))?;
     let wanted = if fault.is_empty() {
         Exit::Done
     } else {
         Exit::Device
     };
-    assert!(rt; exit == wanted, "{written}");
-    assert!(rt; out.bytes().len() == written, "{written}");
-    assert!(rt; errors.bytes() == fault.as_bytes(), "{written}");
+    assert!(rt; outcome.exit == wanted, "{written}");
+    assert!(rt; outcome.out.bytes().len() == written, "{written}");
+    assert!(rt; outcome.errors.bytes() == fault.as_bytes(), "{written}");
     Ok(())
 }
 

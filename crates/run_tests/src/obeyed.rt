@@ -3,11 +3,11 @@ ghost use Rattle.std.specs.Prelude.{None};
 use crate::checks::IN_RUNS;
 use crate::inventories::WEB;
 use crate::moments::moment;
+use crate::outcomes::Outcome;
 use keep_device::{InputFault, MemorySink};
 use keep_engine::{Command, Exit, Inputs, obey};
 use keep_moment::Text;
 use std::alloc::Global;
-use std::process::Abort;
 use std::test::Fail;
 
 // Two files: the inventory of the web example, and its certificate.
@@ -163,24 +163,19 @@ fn command_of(alloc: Global, asked: Asked, file: &str, certificate: &str) -> Res
     })
 }
 
-fn is_obeyed<R: AllocGlobal + Abort>(rt: &R, row: &Obeyed) -> Result<(), Fail> {
-    let alloc = rt.alloc();
-    let (asked, file, certificate, exit, text, fault) = *row;
+fn obeys(alloc: Global, asked: Asked, file: &str, certificate: &str) -> Result<Outcome, Fail> {
     let command = command_of(alloc, asked, file, certificate)?;
     let mut inputs = Folder;
     let mut out = MemorySink::new(alloc, None);
     let mut errors = MemorySink::new(alloc, None);
-    let got = obey(alloc, &command, &mut inputs, &mut out, &mut errors);
-    assert!(rt; got == exit, "{file} {certificate}");
-    assert!(rt; out.bytes() == text.as_bytes(), "{file} {certificate}");
-    assert!(rt; errors.bytes() == fault.as_bytes(), "{file} {certificate}");
-    Ok(())
+    let exit = obey(alloc, &command, &mut inputs, &mut out, &mut errors);
+    Ok(Outcome { exit, out, errors })
 }
 
 #[test]
 fn commands_are_obeyed_over_files(rt: HostRuntime) -> Result<(), Fail> {
-    for row in &OBEYED {
-        is_obeyed(&rt, row)?;
+    for (asked, file, certificate, exit, text, fault) in &OBEYED {
+        obeys(rt.alloc(), *asked, file, certificate)?.is(&rt, *exit, text, fault);
     }
     Ok(())
 }

@@ -3,9 +3,10 @@ use crate::inventories::{
     WEB_BASE_AND_BIG, WEB_BY_DATE, Web, inventory_of,
 };
 use crate::moments::moment;
+use crate::outcomes::Outcome;
 use keep_device::MemorySink;
 use keep_engine::{Exit, run_plan};
-use std::process::Abort;
+use std::alloc::Global;
 use std::test::Fail;
 
 /// Inventories, the exits of their plans from 1000 on, and the lines behind the first two.
@@ -97,40 +98,32 @@ const STOPPED: [(Web, Exit, &str); 3] = [
     ),
 ];
 
-// `plan` from 1000 on: its exit, its output and its fault line.
-fn plans<R: AllocGlobal + Abort>(
-    rt: &R,
-    inventory: &str,
-    exit: Exit,
-    text: &str,
-    fault: &str,
-) -> Result<(), Fail> {
-    let alloc = rt.alloc();
-    let mut out = MemorySink::new(alloc, None);
+/// `plan` from 1000 on, to an output that fails behind so many calls.
+pub(crate) fn plans(alloc: Global, inventory: &str, failing: Option<u64>) -> Result<Outcome, Fail> {
+    let mut out = MemorySink::new(alloc, failing);
     let mut errors = MemorySink::new(alloc, None);
     let start = moment(1000)?;
-    let got = run_plan(alloc, inventory.as_bytes(), start, &mut out, &mut errors);
-    assert!(rt; got == exit, "{text}{fault}");
-    assert!(rt; out.bytes() == text.as_bytes(), "{text}{fault}");
-    assert!(rt; errors.bytes() == fault.as_bytes(), "{text}{fault}");
-    Ok(())
+    let exit = run_plan(alloc, inventory.as_bytes(), start, &mut out, &mut errors);
+    Ok(Outcome { exit, out, errors })
 }
 
 #[test]
 fn plans_are_written(rt: HostRuntime) -> Result<(), Fail> {
+    let alloc = rt.alloc();
     for (inventory, exit, lines) in &PLANNED {
-        let text = format!(in rt.alloc(); "leasekeep-plan 2\nstart 1000\n{lines}")?;
-        plans(&rt, inventory, *exit, text.as_str(), "")?;
+        let text = format!(in alloc; "leasekeep-plan 2\nstart 1000\n{lines}")?;
+        plans(alloc, inventory, None)?.is(&rt, *exit, text.as_str(), "");
     }
     Ok(())
 }
 
 #[test]
 fn plans_of_one_token_are_written(rt: HostRuntime) -> Result<(), Fail> {
+    let alloc = rt.alloc();
     for (web, exit, lines) in &OF_ONE_TOKEN {
-        let inventory = inventory_of(rt.alloc(), *web)?;
-        let text = format!(in rt.alloc(); "leasekeep-plan 2\nstart 1000\n{lines}")?;
-        plans(&rt, inventory.as_str(), *exit, text.as_str(), "")?;
+        let inventory = inventory_of(alloc, *web)?;
+        let text = format!(in alloc; "leasekeep-plan 2\nstart 1000\n{lines}")?;
+        plans(alloc, inventory.as_str(), None)?.is(&rt, *exit, text.as_str(), "");
     }
     Ok(())
 }
@@ -140,22 +133,8 @@ fn plans_of_one_token_are_written(rt: HostRuntime) -> Result<(), Fail> {
 fn what_has_no_plan_leaves_the_output(rt: HostRuntime) -> Result<(), Fail> {
     for (web, exit, fault) in &STOPPED {
         let inventory = inventory_of(rt.alloc(), *web)?;
-        plans(&rt, inventory.as_str(), *exit, "", fault)?;
+        plans(rt.alloc(), inventory.as_str(), None)?.is(&rt, *exit, "", fault);
     }
-    Ok(())
-}
-
-// An output that fails behind so many calls: exit 6.
-fn fails_at<R: AllocGlobal + Abort>(rt: &R, call: u64) -> Result<(), Fail> {
-    let alloc = rt.alloc();
-    let mut out = MemorySink::new(alloc, Some(call));
-    let mut errors = MemorySink::new(alloc, None);
-    let exit = run_plan(alloc, WEB.as_bytes(), moment(1000)?, &mut out, &mut errors);
-    assert!(rt; exit == Exit::Device, "call {call}");
-    assert!(rt;
-        errors.bytes() == b"leasekeep: write\n".as_slice(),
-        "call {call}"
-    );
     Ok(())
 }
 
@@ -163,7 +142,7 @@ fn fails_at<R: AllocGlobal + Abort>(rt: &R, call: u64) -> Result<(), Fail> {
 #[test]
 fn a_failed_write_of_a_plan_is_exit_6(rt: HostRuntime) -> Result<(), Fail> {
     for call in 0..2u64 {
-        fails_at(&rt, call)?;
+        plans(rt.alloc(), WEB, Some(call))?.is_a_failed_write(&rt);
     }
     Ok(())
 }

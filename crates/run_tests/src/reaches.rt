@@ -1,8 +1,9 @@
 use crate::inventories::{CHILD, LOW_CEILING, PAY, PAY_LONGER, TOKEN_AND_LEASE, WEB};
 use crate::moments::moment;
+use crate::outcomes::Outcome;
 use keep_device::MemorySink;
 use keep_engine::{Exit, run_reach};
-use std::process::Abort;
+use std::alloc::Global;
 use std::test::Fail;
 
 // A periodic token without a limit.
@@ -45,27 +46,18 @@ const REACHES: [(&str, bool, &str); 10] = [
 ];
 
 // `reach` from 1000 on.
-fn reaches<R: AllocGlobal + Abort>(
-    rt: &R,
-    inventory: &str,
-    dates: bool,
-    text: &str,
-) -> Result<(), Fail> {
-    let alloc = rt.alloc();
+fn reaches(alloc: Global, inventory: &str, dates: bool) -> Result<Outcome, Fail> {
     let mut out = MemorySink::new(alloc, None);
     let mut errors = MemorySink::new(alloc, None);
     let bytes = inventory.as_bytes();
-    let got = run_reach(alloc, bytes, moment(1000)?, dates, &mut out, &mut errors);
-    assert!(rt; got == Exit::Done, "{text}");
-    assert!(rt; out.bytes() == text.as_bytes(), "{text}");
-    assert!(rt; errors.bytes().is_empty(), "{text}");
-    Ok(())
+    let exit = run_reach(alloc, bytes, moment(1000)?, dates, &mut out, &mut errors);
+    Ok(Outcome { exit, out, errors })
 }
 
 #[test]
 fn reaches_are_written(rt: HostRuntime) -> Result<(), Fail> {
     for (inventory, dates, text) in &REACHES {
-        reaches(&rt, inventory, *dates, text)?;
+        reaches(rt.alloc(), inventory, *dates)?.is(&rt, Exit::Done, text, "");
     }
     Ok(())
 }

@@ -1,9 +1,11 @@
 //! Rehearsals over whole inventories: exit, output, fault line and wire.
-use crate::inventories::{LOW_CEILING, PAY, TOKEN_AND_LEASE, WEB, WEB_BASE_AND_BIG};
+use crate::inventories::{LOW_CEILING, PAY, TOKEN_AND_LEASE, WEB, WEB_BASE_AND_BIG, WITH_MARGIN};
+use crate::moments::moment;
+use crate::outcomes::Outcome;
 use keep_device::{MemorySink, MemorySource};
 use keep_exchange::MemoryExchange;
 use keep_inventory::read;
-use keep_moment::{Moment, Text};
+use keep_moment::Text;
 use keep_report::Exit;
 use keep_run::run_rehearse;
 use mini_broker::Table;
@@ -12,16 +14,12 @@ use std::process::Abort;
 use std::test::Fail;
 use vault_http::{read_reply, read_request};
 
-// The web example with a margin of ten seconds.
-const WIDE: &str =
-    "margin = 10\n[[token]]\nname = \"web\"\nissued = 1000\nend = 1060\nincrement = 60\nmax_ttl = 9000\nneed = 1200\n";
-
 // Token and lease, of which the token is longer alive.
 const TOKEN_LATER: &str =
     "[[token]]\nname = \"T\"\nissued = 1000\nend = 1130\nincrement = 100\nmax_ttl = 9000\n\n\
     [[lease]]\nname = \"L\"\ntoken = \"T\"\nissued = 1000\nend = 1060\nincrement = 60\nmax_ttl = 9000\nneed = 1200\n";
 
-pub(super) const AS_PLANNED: &str =
+pub(crate) const AS_PLANNED: &str =
     "wake 1059 web\ntold web 60\nwake 1118 web\ntold web 60\nwake 1177 web\ntold web 60\ndone 3 3\n";
 
 // Inventories, FAULT words and the lines of their rehearsals from 1000 on.
@@ -106,12 +104,12 @@ const REHEARSED: [(&str, &str, &str); 28] = [
         "wake 1059 T L\nlost T\ntold L 60\nwake 1099 T L\ntold T 100\ntold L 60\nwake 1158 T L\ntold T 100\ntold L 60\ndone 3 6\n",
     ),
     (
-        WIDE,
+        WITH_MARGIN,
         "1=drop",
         "wake 1050 web\nlost web\nwake 1050 web\ntold web 60\nwake 1100 web\ntold web 60\nwake 1150 web\ntold web 60\ndone 4 4\n",
     ),
     (
-        WIDE,
+        WITH_MARGIN,
         "1=short:5",
         "wake 1050 web\ntold web 5\nshort web 1055\ndone 1 1\n",
     ),
@@ -161,12 +159,8 @@ const BAD_WORDS: [(&str, u64); 17] = [
     ("1=drop x 1=drop", 2),
 ];
 
-pub(super) fn start() -> Result<Moment, Fail> {
-    Ok(Moment::new(1000).ok_or("a moment")?)
-}
-
 // The words of a line, one after another.
-pub(super) fn words_of(alloc: Global, line: &str) -> Result<Vec<Text>, Fail> {
+pub(crate) fn words_of(alloc: Global, line: &str) -> Result<Vec<Text>, Fail> {
     let mut words = Vec::new(alloc);
     if !line.is_empty() {
         for word in line.as_bytes().split(|byte| *byte == b' ') {
@@ -177,43 +171,38 @@ pub(super) fn words_of(alloc: Global, line: &str) -> Result<Vec<Text>, Fail> {
 }
 
 // An exchange over the table of an empty inventory.
-pub(super) fn nobody(alloc: Global) -> Result<MemoryExchange, Fail> {
+pub(crate) fn nobody(alloc: Global) -> Result<MemoryExchange, Fail> {
     let inventory = read(alloc, b"")?;
     Ok(MemoryExchange::new(alloc, Table::load(alloc, &inventory)?))
 }
 
-// `rehearse` from 1000 on: its exit, its output and its fault line.
-fn rehearses<R: AllocGlobal + Abort>(
-    rt: &R,
+/// `rehearse` from 1000 on through this exchange.
+pub(crate) fn rehearses(
+    alloc: Global,
     inventory: &str,
     words: &str,
-    exit: Exit,
-    text: &str,
-    fault: &str,
-) -> Result<(), Fail> {
-    let alloc = rt.alloc();
+    exchange: &mut MemoryExchange,
+) -> Result<Outcome, Fail> {
     let mut out = MemorySink::new(alloc, None);
     let mut errors = MemorySink::new(alloc, None);
-    let mut exchange = nobody(alloc)?;
+    let start = moment(1000)?;
     let faults = words_of(alloc, words)?;
-    let got = run_rehearse(
+    let exit = run_rehearse(
         alloc,
         inventory.as_bytes(),
-        start()?,
+        start,
         &faults,
         &mut out,
         &mut errors,
-        &mut exchange,
+        exchange,
     );
-    assert!(rt; got == exit, "{words} {text}{fault}");
-    assert!(rt; out.bytes() == text.as_bytes(), "{words} {text}{fault}");
-    assert!(rt; errors.bytes() == fault.as_bytes(), "{words} {text}{fault}");
-    Ok(())
+    Ok(Outcome { exit, out, errors })
 }
 
 fn rehearse_all<R: AllocGlobal + Abort>(rt: &R, rows: &[(&str, &str, &str)]) -> Result<(), Fail> {
+    let alloc = rt.alloc();
     for (inventory, words, text) in rows {
-        rehearses(rt, inventory, words, Exit::Done, text, "")?;
+        rehearses(alloc, inventory, words, &mut nobody(alloc)?)?.is(rt, Exit::Done, text, "");
     }
     Ok(())
 }
@@ -225,9 +214,15 @@ fn rehearsals_are_written(rt: HostRuntime) -> Result<(), Fail> {
 
 #[test]
 fn a_fault_word_at_fault_is_told(rt: HostRuntime) -> Result<(), Fail> {
+    let alloc = rt.alloc();
     for (words, place) in &BAD_WORDS {
-        let fault = format!(in rt.alloc(); "leasekeep: fault word {place}\n")?;
-        rehearses(&rt, WEB, words, Exit::CommandLine, "", fault.as_str())?;
+        let fault = format!(in alloc; "leasekeep: fault word {place}\n")?;
+        rehearses(alloc, WEB, words, &mut nobody(alloc)?)?.is(
+            &rt,
+            Exit::CommandLine,
+            "",
+            fault.as_str(),
+        );
     }
     Ok(())
 }
@@ -235,14 +230,14 @@ fn a_fault_word_at_fault_is_told(rt: HostRuntime) -> Result<(), Fail> {
 // The inventory is judged before the FAULT words.
 #[test]
 fn an_inventory_at_fault_is_told_first(rt: HostRuntime) -> Result<(), Fail> {
-    rehearses(
+    let alloc = rt.alloc();
+    rehearses(alloc, "x", "drop", &mut nobody(alloc)?)?.is(
         &rt,
-        "x",
-        "drop",
         Exit::Inventory,
         "",
         "leasekeep: inventory: not-toml\n",
-    )
+    );
+    Ok(())
 }
 
 // The last request of the web example, and the reply to it.
@@ -257,19 +252,8 @@ const REPLY: &[u8] =
 // The wire is the last request and its reply; each is read as it was meant.
 #[test]
 fn the_wire_of_a_rehearsal_is_its_last_exchange(rt: HostRuntime) -> Result<(), Fail> {
-    let alloc = rt.alloc();
-    let mut out = MemorySink::new(alloc, None);
-    let mut errors = MemorySink::new(alloc, None);
-    let mut exchange = nobody(alloc)?;
-    run_rehearse(
-        alloc,
-        WEB.as_bytes(),
-        start()?,
-        &[],
-        &mut out,
-        &mut errors,
-        &mut exchange,
-    );
+    let mut exchange = nobody(rt.alloc())?;
+    rehearses(rt.alloc(), WEB, "", &mut exchange)?.is(&rt, Exit::Done, AS_PLANNED, "");
     assert!(rt; exchange.table().end_of(b"web") == Some(1237), "the end");
     is_the_wire(&rt, exchange.wire());
     is_asked(&rt, REQUEST)?;

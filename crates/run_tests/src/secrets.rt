@@ -1,9 +1,8 @@
 //! No secret shows: inventories that differ in secrets and lease ids alone are rehearsed alike, whatever goes wrong.
-use crate::rehearsals::{nobody, start, words_of};
+use crate::rehearsals::{nobody, rehearses};
 use keep_device::MemorySink;
 use keep_exchange::MemoryExchange;
 use keep_report::Exit;
-use keep_run::run_rehearse;
 use std::alloc::Global;
 use std::process::Abort;
 use std::test::Fail;
@@ -62,21 +61,11 @@ fn rehearsed<R: AllocGlobal + Abort>(
     let alloc = rt.alloc();
     let (token, lease, child) = *secrets;
     let inventory = family(alloc, token, lease, child)?;
-    let mut out = MemorySink::new(alloc, None);
-    let mut errors = MemorySink::new(alloc, None);
-    let got = run_rehearse(
-        alloc,
-        inventory.as_bytes(),
-        start()?,
-        &words_of(alloc, words)?,
-        &mut out,
-        &mut errors,
-        &mut nobody(alloc)?,
-    );
-    assert!(rt; got == Exit::Done, "{words} {token}");
-    assert!(rt; errors.bytes().is_empty(), "{words} {token}");
-    assert!(rt; !out.bytes().is_empty(), "{words} {token}");
-    Ok(out)
+    let outcome = rehearses(alloc, inventory.as_str(), words, &mut nobody(alloc)?)?;
+    assert!(rt; outcome.exit == Exit::Done, "{words} {token}");
+    assert!(rt; outcome.errors.bytes().is_empty(), "{words} {token}");
+    assert!(rt; !outcome.out.bytes().is_empty(), "{words} {token}");
+    Ok(outcome.out)
 }
 
 // With any secrets it is what it is with the first.
@@ -139,15 +128,7 @@ fn exchange_after<R: AllocGlobal + Abort>(
 ) -> Result<MemoryExchange, Fail> {
     let alloc = rt.alloc();
     let mut exchange = nobody(alloc)?;
-    let got = run_rehearse(
-        alloc,
-        inventory.as_bytes(),
-        start()?,
-        &words_of(alloc, words)?,
-        &mut MemorySink::new(alloc, None),
-        &mut MemorySink::new(alloc, None),
-        &mut exchange,
-    );
-    assert!(rt; got == Exit::Done, "{words}");
+    let outcome = rehearses(alloc, inventory, words, &mut exchange)?;
+    assert!(rt; outcome.exit == Exit::Done, "{words}");
     Ok(exchange)
 }

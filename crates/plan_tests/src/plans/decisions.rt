@@ -1,5 +1,5 @@
 use super::{Row, fill, forest_of, token, token_and_lease};
-use keep_moment::Moment;
+use crate::rows::moment;
 use keep_plan::{Decision, Plan, plan};
 use keep_schedule::Run;
 use keep_tree::{Forest, Kind};
@@ -53,10 +53,6 @@ fn run(first: u64, step: u64, count: u64, index: u32) -> Run {
     }
 }
 
-fn start() -> Result<Moment, Fail> {
-    Ok(Moment::new(1000).ok_or("a moment")?)
-}
-
 // The plan from 1000 on, with the margin.
 fn planned(alloc: Global, margin: u32, rows: &[Row]) -> Result<Plan, Fail> {
     let empty = if margin == 10 {
@@ -65,7 +61,7 @@ fn planned(alloc: Global, margin: u32, rows: &[Row]) -> Result<Plan, Fail> {
         Forest::new(alloc)
     };
     let forest = fill(alloc, empty, rows)?;
-    match plan(alloc, &forest, start()?)? {
+    match plan(alloc, &forest, moment(1000)?)? {
         Decision::Keep(plan) => Ok(plan),
         _ => Err("no plan".into()),
     }
@@ -154,7 +150,7 @@ fn walks_the_wake_ups(rt: HostRuntime) -> Result<(), Fail> {
 // The pair for which there is no plan; `None` where it would be too long.
 fn unplanned(alloc: Global, rows: &[Row]) -> Result<Option<(u32, u32)>, Fail> {
     let forest = forest_of(alloc, rows)?;
-    match plan(alloc, &forest, start()?)? {
+    match plan(alloc, &forest, moment(1000)?)? {
         Decision::Keep(_) => Err("a plan".into()),
         Decision::Unkeepable { entry, needed } => Ok(Some((entry, needed))),
         Decision::TooLong => Ok(None),
@@ -178,8 +174,8 @@ fn names_why_there_is_no_plan(rt: HostRuntime) -> Result<(), Fail> {
 // Whether the plan from 1000 on asks these at a moment.
 fn asks(alloc: Global, rows: &[Row], at: u64, want: &[u32]) -> Result<bool, Fail> {
     let forest = forest_of(alloc, rows)?;
-    let at = Moment::new(at).ok_or("a moment")?;
-    let Decision::Keep(plan) = plan(alloc, &forest, start()?)? else {
+    let at = moment(at)?;
+    let Decision::Keep(plan) = plan(alloc, &forest, moment(1000)?)? else {
         return Err("no plan".into());
     };
     Ok(plan.asks(&forest, at)?.list() == want)
