@@ -1,10 +1,12 @@
 //! Rows of bytes with what they are read as or written from.
 
 mod reads;
+mod refusals;
 mod replies;
 mod requests;
 mod round_trips;
 mod shown;
+mod sockets;
 mod writing;
 
 use crate::devices::source;

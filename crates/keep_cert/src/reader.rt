@@ -1,4 +1,4 @@
-ghost use Rattle.std.specs.Prelude.{◌≡◌, ◌≤◌, [], List, ℕ, IfOk};
+ghost use Rattle.std.specs.Prelude.{◌≡◌, List, ℕ, IfOk};
 ghost use Rattle.keep_cert.specs.Answers.{Gives};
 ghost use Rattle.keep_cert.specs.CertificateText.{CanBeWritten, Writes};
 ghost use Rattle.keep_cert.specs.Lines.{lines};

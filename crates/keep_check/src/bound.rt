@@ -1,6 +1,5 @@
-ghost use Rattle.std.specs.Prelude.{◌≡◌, ℕ, ◌+◌, ◌<◌, ◌≤◌, Some, None, IfSome};
+ghost use Rattle.std.specs.Prelude.{◌≡◌, ℕ, ◌<◌, ◌≤◌, Some, None, IfSome};
 ghost use Rattle.keep_moment.specs.declared.moment.TheConstants.{LAST};
-ghost use Rattle.keep_tree.specs.Renewal.{capped};
 ghost use Rattle.keep_rule.specs.Forced.{latest_end};
 ghost use Rattle.keep_check.specs.code.Steps.{LongFrom};
 

@@ -1,4 +1,4 @@
-ghost use Rattle.std.specs.Prelude.{◌≡◌, ℕ, ◌^◌, ◌+◌, ◌<◌, ◌≤◌, ◌⊎◌, IfOk, length};
+ghost use Rattle.std.specs.Prelude.{◌≡◌, ℕ, ◌^◌, ◌+◌, ◌<◌, IfOk, length};
 ghost use Rattle.keep_check.specs.code.Steps.{AllFit};
 ghost use Rattle.keep_check.specs.code.Gaps.{HasMarks, IsFirstFrom, gap_from, gap_within, gaps_in, gaps_of, mark};
 

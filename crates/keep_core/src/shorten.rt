@@ -1,6 +1,4 @@
-ghost use Rattle.std.specs.Prelude.{◌≡◌, ◌≤◌, ◌<◌, length, IfOk};
-ghost use Rattle.keep_moment.specs.declared.moment.TheConstants.{LAST};
-ghost use Rattle.keep_tree.specs.Forest.{entry_at};
+ghost use Rattle.std.specs.Prelude.{◌≡◌, ◌<◌, length, IfOk};
 ghost use Rattle.keep_core.specs.code.Passes.{AreLeast, AreNeeds, HasNeeds, shorter, with_needs};
 ghost use Rattle.keep_core.specs.Shorten.{need_left, pairs};
 

@@ -1,4 +1,4 @@
-ghost use Rattle.std.specs.Prelude.{◌≡◌, ℕ, ◌+◌, ◌-◌, ◌^◌, ◌<◌, ◌≤◌, ◌⊎◌, List, length, take, Option, None, Some, Bool, true, false, IsTrue, IfOk, OnOk, IfSome, MatchResult, IsErrOf};
+ghost use Rattle.std.specs.Prelude.{◌≡◌, ℕ, ◌-◌, ◌<◌, ◌≤◌, ◌⊎◌, List, length, take, Option, None, Bool, true, false, IsTrue, IfOk, OnOk, IfSome, MatchResult, IsErrOf};
 ghost use Rattle.std.specs.Io.KnownBytes.{Keeps, Appends, Consumes, IsAtEnd};
 ghost use Rattle.keep_device.specs.declared.fault.SinkFault.TheVariants.{OutOfMemory};
 ghost use Rattle.keep_device.specs.Failures.{one_more, Counts, CountsRead};

@@ -1,4 +1,4 @@
-ghost use Rattle.std.specs.Prelude.{◌≡◌, ℕ, ◌+◌, ◌-◌, ◌^◌, ◌<◌, ◌≤◌, [], ◌++◌, length, true, false, IsTrue, Some, IfOk, OnOk, IsOkUnless, MatchResult};
+ghost use Rattle.std.specs.Prelude.{◌≡◌, ◌+◌, ◌-◌, ◌<◌, ◌≤◌, [], ◌++◌, length, true, false, IsTrue, Some, IfOk, OnOk, IsOkUnless, MatchResult};
 ghost use Rattle.keep_device.specs.declared.fault.SinkFault.TheVariants.{Failed};
 ghost use Rattle.keep_device.specs.Failures.{Counts};
 ghost use Rattle.keep_device.specs.Memory.{IsCall, is_failed};

@@ -1,12 +1,12 @@
-ghost use Rattle.std.specs.Prelude.{◌≡◌, ℕ, ◌+◌, ◌-◌, ◌<◌, ◌≤◌, [], length, take, IfOk, IfSome, OnOk, vec_len, ◌++◌};
+ghost use Rattle.std.specs.Prelude.{◌≡◌, ◌-◌, ◌<◌, ◌≤◌, [], length, IfOk, IfSome, OnOk, vec_len};
 ghost use Rattle.std.specs.Result.{result_map_both};
-ghost use Rattle.std.specs.Io.KnownBytes.{Keeps, Consumes, IsAtEnd};
+ghost use Rattle.std.specs.Io.KnownBytes.{Keeps, IsAtEnd};
 ghost use Rattle.keep_device.specs.Failures.{CountsInput};
 ghost use Rattle.keep_device.specs.declared.limits.TheConstants.{MOST_READS, MOST_ROOM};
 ghost use Rattle.keep_device.specs.Whole.{IsWhole, MakesAtMost};
 
 use crate::limits::{MOST_READS, MOST_ROOM};
-use crate::one_read::{MoreFault, read_more, zeros};
+use crate::one_read::{read_more, zeros};
 use crate::{InputFault, Source};
 use keep_moment::Text;
 use std::alloc::Global;

@@ -1,4 +1,3 @@
-ghost use Rattle.std.specs.Prelude.{IfOk};
 ghost use Rattle.keep_check.specs.Fit.{CanBeJudged};
 ghost use Rattle.keep_engine.specs.CheckAnswers.{VerdictTexts};
 ghost use Rattle.keep_engine.specs.CheckRun.{CheckTexts};

@@ -1,4 +1,3 @@
-ghost use Rattle.std.specs.Prelude.{◌≡◌};
 ghost use Rattle.keep_engine.specs.EndsText.{OneEndsText};
 ghost use Rattle.keep_engine.specs.Laws.{OneCheckText, OnePlanText, OwnCertificateLaw, OwnTextLaw};
 ghost use Rattle.keep_engine.specs.ReachLaws.{UntilLaw, WhateverIsNeeded};

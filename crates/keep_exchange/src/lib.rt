@@ -16,8 +16,6 @@ mod requests;
 mod self_served;
 mod sure;
 mod tcp;
-#[cfg(test)]
-mod tests;
 mod texts;
 mod unix;
 

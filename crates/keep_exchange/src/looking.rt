@@ -2,7 +2,6 @@ ghost use Rattle.std.specs.Prelude.{◌≡◌, ◌<◌, ◌≤◌, ◌≢◌, If
 ghost use Rattle.keep_exchange.specs.Lookups.{LooksUp, lookup_in, looked, behind_if};
 ghost use Rattle.keep_exchange.specs.Requests.{lease_looked, lookup_of, token_looked};
 ghost use Rattle.keep_inventory.specs.Inventories.{IsSendable};
-ghost use Rattle.keep_tree.specs.Forest.{entry_at};
 ghost use Rattle.vault_http.specs.declared.known.TheConstants.{MOST_MESSAGE};
 ghost use Rattle.vault_http.specs.RoundTripRequest.{IsWritable};
 ghost use Rattle.vault_http.specs.Written.{request_text};

@@ -2,7 +2,7 @@ ghost use Rattle.std.specs.Prelude.{◌≡◌, [], Some};
 
 use crate::exchange::Exchange;
 use crate::fault::ExchangeFault;
-use crate::texts::{Delivery, deliver, request_of_text, text_of_request};
+use crate::texts::{deliver, request_of_text, text_of_request};
 use keep_moment::Moment;
 use mini_broker::Table;
 use std::alloc::Global;

@@ -1,4 +1,4 @@
-ghost use Rattle.std.specs.Prelude.{◌≡◌, ◌<◌, ◌≤◌, ◌^◌, IfOk, IfSome, IsUtf8, length};
+ghost use Rattle.std.specs.Prelude.{◌≡◌, ◌<◌, ◌^◌, IfOk, IfSome, IsUtf8, length};
 ghost use Rattle.keep_exchange.specs.Requests.{IsFit, lease_renewal, request_of, token_renewal};
 ghost use Rattle.keep_inventory.specs.Inventories.{IsSendable};
 

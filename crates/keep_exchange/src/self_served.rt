@@ -1,4 +1,4 @@
-ghost use Rattle.std.specs.Prelude.{◌≡◌, None};
+ghost use Rattle.std.specs.Prelude.{None};
 ghost use Rattle.vault_http.specs.RoundTripRequest.{IsWritable};
 
 use crate::exchange::Exchange;

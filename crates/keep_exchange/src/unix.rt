@@ -1,4 +1,4 @@
-ghost use Rattle.std.specs.Prelude.{◌≡◌, None};
+ghost use Rattle.std.specs.Prelude.{None};
 
 use crate::exchange::Exchange;
 use crate::fault::ExchangeFault;

@@ -1,7 +1,5 @@
-ghost use Rattle.std.specs.Prelude.{◌≡◌};
 ghost use Rattle.toml.specs.View.{table_view};
 ghost use Rattle.keep_inventory.specs.Answers.{Gives};
-ghost use Rattle.keep_inventory.specs.Intake.{inventory_with};
 ghost use Rattle.keep_inventory.specs.Inventory.{intake_of, inventory_of, tree_of, read_inventory};
 
 use crate::draft::Draft;

@@ -1,6 +1,5 @@
-ghost use Rattle.std.specs.Prelude.{◌≡◌, ◌<◌, ◌++◌, ◌∷◌, [], length};
+ghost use Rattle.std.specs.Prelude.{◌≡◌, ◌<◌};
 ghost use Rattle.toml.specs.View.{items_view, table_view};
-ghost use Rattle.keep_inventory.specs.Answers.{Gives};
 ghost use Rattle.keep_inventory.specs.Intake.{Changes, nothing, pushed, distinct, with_token, with_lease};
 ghost use Rattle.keep_inventory.specs.Inventory.{token_entered, lease_entered, entered_by};
 

@@ -1,8 +1,8 @@
-ghost use Rattle.std.specs.Prelude.{◌≡◌, ◌+◌, ◌*◌, ◌/◌, ◌%◌, ◌<◌, ◌≤◌, ◌++◌, ◌∷◌, [], pos, ◌≤ℤ◌, ◌+ℤ◌, ◌-ℤ◌, ◌*ℤ◌, IfSome, Some, None, slice_index, drop, if◌then◌else◌};
+ghost use Rattle.std.specs.Prelude.{◌≡◌, ◌+◌, ◌*◌, ◌/◌, ◌%◌, ◌<◌, ◌≤◌, ◌++◌, ◌∷◌, [], pos, ◌≤ℤ◌, ◌+ℤ◌, ◌-ℤ◌, ◌*ℤ◌, IfSome, Some, None, if◌then◌else◌};
 ghost use Rattle.jiff_core.specs.Calendar.{days_from_civil, IsEpochDay};
 ghost use Rattle.jiff_core.specs.Date.{epoch_day};
 ghost use Rattle.keep_moment.specs.Rfc3339.{IsDateTime, face, seconds_of, clock_of, offset_of};
-ghost use Rattle.keep_moment.specs.MomentOf.{is_date, is_date_time, is_time, is_offset, two_at, four_at, mark_at, after_digits, after_fraction, zone_of, stamp_of};
+ghost use Rattle.keep_moment.specs.MomentOf.{is_date, is_date_time, is_time, is_offset, zone_of, stamp_of};
 
 use crate::moment::Moment;
 use crate::places::{behind, behind_fraction, byte_at, four_digits, mark, two_digits};

@@ -1,4 +1,3 @@
-ghost use Rattle.std.specs.Prelude.{◌≡◌};
 ghost use Rattle.keep_needs.specs.code.Loads.{IsHeavier};
 
 /// A need that an entry carries, as a moment, 0 where it carries none, and the index of the entry that has it.

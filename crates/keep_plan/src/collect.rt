@@ -1,4 +1,4 @@
-ghost use Rattle.std.specs.Prelude.{◌≡◌, IfOk, MatchOption};
+ghost use Rattle.std.specs.Prelude.{IfOk, MatchOption};
 ghost use Rattle.keep_schedule.specs.Courses.{IsToCome};
 ghost use Rattle.keep_plan.specs.code.Collecting.{IsOverlong, IsWhole};
 

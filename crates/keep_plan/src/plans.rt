@@ -1,8 +1,7 @@
-ghost use Rattle.std.specs.Prelude.{◌≡◌, ℕ, ◌<◌, length, IfOk};
+ghost use Rattle.std.specs.Prelude.{◌≡◌, ◌<◌, length, IfOk};
 ghost use Rattle.keep_tree.specs.Forest.{end_of};
 ghost use Rattle.keep_rule.specs.Asks.{asks};
 ghost use Rattle.keep_needs.specs.Carried.{IsCarried};
-ghost use Rattle.keep_rule.specs.Runs.{AreRuns, all_wakes};
 ghost use Rattle.keep_plan.specs.Planned.{IsPlanned, IsTail, Planned, next_after, to_come, without_first};
 
 use crate::asks::asks;

@@ -1,4 +1,4 @@
-ghost use Rattle.std.specs.Prelude.{◌≡◌, ℕ};
+ghost use Rattle.std.specs.Prelude.{◌≡◌};
 ghost use Rattle.keep_rule.specs.Runs.{AreRuns, IsRun, all_wakes, wakes};
 ghost use Rattle.keep_plan.specs.Planned.{behind_first, next_after};
 

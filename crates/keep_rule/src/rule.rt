@@ -1,4 +1,4 @@
-ghost use Rattle.std.specs.Prelude.{◌≡◌, ℕ, ◌+◌, ◌<◌, ◌≤◌, length};
+ghost use Rattle.std.specs.Prelude.{◌≡◌, ◌<◌, length};
 ghost use Rattle.keep_tree.specs.Forest.{end_of};
 ghost use Rattle.keep_tree.specs.Renewal.{all_last, is_granted, renewed};
 ghost use Rattle.keep_rule.specs.Reach.{reach, reach_of};

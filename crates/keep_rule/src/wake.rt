@@ -1,4 +1,4 @@
-ghost use Rattle.std.specs.Prelude.{◌≡◌, ◌+◌, length};
+ghost use Rattle.std.specs.Prelude.{◌≡◌, ◌+◌};
 ghost use Rattle.keep_rule.specs.declared.wake.WakeFault.TheVariants.{OutOfMemory};
 ghost use Rattle.keep_rule.specs.Plans.{asks_past, fault_at, wake_fault};
 

@@ -1,4 +1,4 @@
-ghost use Rattle.std.specs.Prelude.{◌≡◌, ℕ, ◌+◌, ◌-◌, ◌*◌, ◌<◌, ◌≤◌, ◌↔◌, List, length, None, IfOk, IfSome};
+ghost use Rattle.std.specs.Prelude.{◌≡◌, ◌+◌, ◌-◌, ◌*◌, ◌<◌, ◌≤◌, ◌↔◌, List, length, None, IfOk, IfSome};
 ghost use Rattle.keep_moment.specs.declared.moment.TheConstants.{LAST};
 ghost use Rattle.keep_tree.specs.Forest.{end_of};
 ghost use Rattle.keep_rule.specs.Unkeepable.{AllKeepable};
@@ -6,7 +6,6 @@ ghost use Rattle.keep_needs.specs.Carried.{IsCarried};
 ghost use Rattle.keep_rule.specs.declared.force.Force.{Force};
 ghost use Rattle.keep_schedule.specs.Courses.{IsToCome, IsWithin};
 ghost use Rattle.keep_schedule.specs.Forces.{AreForces};
-ghost use Rattle.keep_schedule.specs.code.Groups.{Waits};
 ghost use Rattle.keep_schedule.specs.Prospect.{terms_of};
 ghost use Rattle.keep_schedule.specs.code.Queueing.{Fills, IsBegun, IsReady, runs_left};
 ghost use Rattle.keep_schedule.specs.Given.{GivesRun, LeavesFewer};

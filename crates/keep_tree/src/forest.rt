@@ -1,4 +1,4 @@
-ghost use Rattle.std.specs.Prelude.{◌≡◌, ℕ, ◌+◌, ◌<◌, ◌≤◌, false, [], ◌∷◌, ◌++◌, List, Some, None, not, length, is_some, is_none, nat_le, slice_set, IfOk, IfSome, IsTrue, OnErr, IsOkUnless, ◌↔◌};
+ghost use Rattle.std.specs.Prelude.{◌≡◌, ℕ, ◌+◌, ◌<◌, ◌≤◌, false, [], ◌∷◌, ◌++◌, List, Some, None, length, is_some, is_none, slice_set, IfOk, IfSome, IsTrue, OnErr, IsOkUnless, ◌↔◌};
 ghost use Rattle.std.specs.List.{list_all};
 ghost use Rattle.keep_tree.specs.Forest.{entry_at, index_named};
 ghost use Rattle.keep_tree.specs.Over.{chain, is_over};

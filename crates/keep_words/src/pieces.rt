@@ -1,4 +1,4 @@
-ghost use Rattle.std.specs.Prelude.{◌≡◌, ◌<◌, ◌≤◌, ◌∷◌, ◌++◌, IfSome, drop, length};
+ghost use Rattle.std.specs.Prelude.{◌≡◌, ◌<◌, ◌≤◌, IfSome, drop, length};
 ghost use Rattle.std.specs.Option.{option_map};
 ghost use Rattle.keep_words.specs.code.Cutting.{first_place};
 ghost use Rattle.keep_words.specs.Pieces.{parted, pieces};

@@ -1,8 +1,8 @@
-ghost use Rattle.std.specs.Prelude.{◌≡◌, ◌<◌, IfOk, length};
+ghost use Rattle.std.specs.Prelude.{◌≡◌, ◌<◌, IfOk};
 ghost use Rattle.mini_broker.specs.Found.{subject_at, row_granted, IsFoundWithin, IsGrantWithin};
 ghost use Rattle.mini_broker.specs.Index.{IsIndexed};
 ghost use Rattle.mini_broker.specs.Renewing.{asked_or, granted, is_deny, new_end, renewal, shortened, step_of};
-ghost use Rattle.mini_broker.specs.Slots.{listed_rows, slot_at};
+ghost use Rattle.mini_broker.specs.Slots.{listed_rows};
 
 use crate::call::Call;
 use crate::fault::Fault;

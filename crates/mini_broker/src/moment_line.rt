@@ -4,7 +4,7 @@ ghost use Rattle.keep_device.specs.Failures.{CountsRead};
 ghost use Rattle.keep_device.specs.Whole.{MakesAtMost};
 ghost use Rattle.mini_broker.specs.declared.moment_line.TheConstants.{MOST_LINE};
 ghost use Rattle.mini_broker.specs.declared.moment_line.LineFault.TheVariants as lines;
-ghost use Rattle.mini_broker.specs.MomentLine.{BreaksOff, CountsLine, HasNoLine, HasNoMoment, IsOneLine, PassesLine, ReadsNothing, Tells, TellsLine, moment_line};
+ghost use Rattle.mini_broker.specs.MomentLine.{BreaksOff, CountsLine, HasNoLine, HasNoMoment, IsOneLine, PassesLine, ReadsNothing, Tells, moment_line};
 
 use keep_device::{Failed, Source};
 use keep_moment::{LAST, Moment};

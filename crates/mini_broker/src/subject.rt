@@ -1,5 +1,5 @@
-ghost use Rattle.std.specs.Prelude.{◌≡◌, ◌<◌, true, IfOk, IfSome, length, option_map, option_copied};
-ghost use Rattle.mini_broker.specs.Found.{subject_at, IsFoundWithin, SubjectNamesText};
+ghost use Rattle.std.specs.Prelude.{◌≡◌, ◌<◌, true, IfOk, IfSome, length, option_map};
+ghost use Rattle.mini_broker.specs.Found.{subject_at, IsFoundWithin};
 ghost use Rattle.mini_broker.specs.Index.{IsIndexed};
 ghost use Rattle.mini_broker.specs.Slots.{listed_rows, slot_at};
 ghost use Rattle.mini_broker.specs.Subject.{bearer, belongs, lease_with, named, subject, token_with};

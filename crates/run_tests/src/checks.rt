@@ -92,8 +92,23 @@ fn ten_million_wake_ups_are_judged(rt: HostRuntime) -> Result<(), Fail> {
     Ok(())
 }
 
-// Certificates of version 1, altered behind the first line, the inventory that each is judged by, and the line about it.
-const ALTERED_WAKES: [(&str, &str, &str); 13] = [
+// Certificates behind their first line, whichever version it names: the inventory that each is judged by, and the line about it.
+const OF_EITHER: [(&str, &str, &str); 3] = [
+    (WEB, "start 1200\nend 0\n", "yes\n"),
+    (
+        WEB,
+        "start 1000\nunkeepable web web\n",
+        "no not-unkeepable\n",
+    ),
+    (
+        TOKEN_AND_LEASE,
+        "start 1000\nunkeepable T L\n",
+        "no not-unkeepable\n",
+    ),
+];
+
+// Certificates of version 1, altered.
+const ALTERED_WAKES: [(&str, &str, &str); 10] = [
     (
         WEB,
         "start 1000\nwake 1059 web web\nwake 1118 web web\nwake 1177 web web\nend 3\n",
@@ -134,17 +149,6 @@ const ALTERED_WAKES: [(&str, &str, &str); 13] = [
         "start 1000\nrun 1059 0 1 web web\nwake 1118 web web\nwake 1177 web web\nend 3\n",
         "unreadable bad-line 3\n",
     ),
-    (WEB, "start 1200\nend 0\n", "yes\n"),
-    (
-        WEB,
-        "start 1000\nunkeepable web web\n",
-        "no not-unkeepable\n",
-    ),
-    (
-        TOKEN_AND_LEASE,
-        "start 1000\nunkeepable T L\n",
-        "no not-unkeepable\n",
-    ),
     (
         ONE_DUE,
         "start 1000\nwake 1059 a b\nend 1\n",
@@ -158,7 +162,7 @@ const ALTERED_WAKES: [(&str, &str, &str); 13] = [
 ];
 
 // The same in version 2.
-const ALTERED_RUNS: [(&str, &str, &str); 15] = [
+const ALTERED_RUNS: [(&str, &str, &str); 12] = [
     (WEB, "start 1000\nrun 1059 59 3 web web\nend 3\n", "yes\n"),
     (
         WEB,
@@ -205,17 +209,6 @@ const ALTERED_RUNS: [(&str, &str, &str); 15] = [
         "start 1000\nrun 01059 59 3 web web\nend 3\n",
         "unreadable bad-number 3\n",
     ),
-    (WEB, "start 1200\nend 0\n", "yes\n"),
-    (
-        WEB,
-        "start 1000\nunkeepable web web\n",
-        "no not-unkeepable\n",
-    ),
-    (
-        TOKEN_AND_LEASE,
-        "start 1000\nunkeepable T L\n",
-        "no not-unkeepable\n",
-    ),
     (
         ONE_DUE,
         "start 1000\nrun 1059 0 1 a b\nend 1\n",
@@ -243,11 +236,13 @@ fn judges_altered<R: AllocGlobal + Abort>(
 
 #[test]
 fn altered_wake_ups_are_judged(rt: HostRuntime) -> Result<(), Fail> {
+    judges_altered(&rt, "leasekeep-plan 1\n", &OF_EITHER)?;
     judges_altered(&rt, "leasekeep-plan 1\n", &ALTERED_WAKES)
 }
 
 #[test]
 fn altered_runs_are_judged(rt: HostRuntime) -> Result<(), Fail> {
+    judges_altered(&rt, "leasekeep-plan 2\n", &OF_EITHER)?;
     judges_altered(&rt, "leasekeep-plan 2\n", &ALTERED_RUNS)
 }
 

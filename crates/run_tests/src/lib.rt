@@ -1,6 +1,7 @@
-//! Tests alone, of the runs of the program over whole inventories: the exit, the output and the fault line of each command,
-//! rehearsals, also cut off by their writer, live runs, secrets that nothing shows, and the whole way at its full size. They
-//! stand above the crates that they test, so that none of these is proved a second time with its tests.
+//! Tests alone, of exchanges with a broker, in memory and over sockets, and of the runs of the program over whole inventories:
+//! the exit, the output and the fault line of each command, rehearsals, also cut off by their writer, live runs, secrets that
+//! nothing shows, and the whole way at its full size. They stand above the crates that they test, so that none of these is
+//! proved a second time with its tests.
 #![tactic(auto)]
 
 #[cfg(test)]
@@ -9,6 +10,8 @@ mod checks;
 mod cut_rehearsals;
 #[cfg(test)]
 mod ends;
+#[cfg(test)]
+mod exchanges;
 #[cfg(test)]
 mod exits;
 #[cfg(test)]

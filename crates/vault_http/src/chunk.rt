@@ -1,4 +1,4 @@
-ghost use Rattle.std.specs.Prelude.{◌≡◌, ℕ, ◌+◌, ◌-◌, ◌<◌, ◌≤◌, ◌⊎◌, List, [], ◌++◌, length, take, drop, take_while, IsTrue, Err};
+ghost use Rattle.std.specs.Prelude.{◌≡◌, ℕ, ◌+◌, ◌-◌, ◌<◌, ◌≤◌, ◌⊎◌, List, [], ◌++◌, length, take, take_while, IsTrue, Err};
 ghost use Rattle.vault_http.specs.declared.body.BodyFault.TheVariants.{Truncated};
 ghost use Rattle.vault_http.specs.declared.framing.Framing.TheVariants as Framing;
 ghost use Rattle.vault_http.specs.Body.{framing_of, IsPartOf};

@@ -1,4 +1,4 @@
-ghost use Rattle.std.specs.Prelude.{◌≡◌, ℕ, ◌+◌, ◌≤◌, length, take, drop, take_while, IsTrue, false};
+ghost use Rattle.std.specs.Prelude.{◌≡◌, ◌+◌, ◌≤◌, length, take, take_while, IsTrue, false};
 ghost use Rattle.std.specs.List.{list_all};
 ghost use Rattle.vault_http.specs.EmptyLine.{HasLineBehind, is_blank};
 

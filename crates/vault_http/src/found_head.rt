@@ -1,4 +1,4 @@
-ghost use Rattle.std.specs.Prelude.{◌≡◌, length, map, All};
+ghost use Rattle.std.specs.Prelude.{length, map, All};
 ghost use Rattle.httparse.specs.Spans.{IsHeaderWithin, header_bytes};
 ghost use Rattle.vault_http.specs.Heads.{IsReplyHead, IsRequestHead, IsAt, token_of, token_name};
 

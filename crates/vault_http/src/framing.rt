@@ -1,7 +1,7 @@
-ghost use Rattle.std.specs.Prelude.{◌≡◌, ℕ, ◌+◌, ◌<◌, ◌≤◌, List, length, map, All, if◌then◌else◌, Ok, Err};
+ghost use Rattle.std.specs.Prelude.{◌≡◌, ◌+◌, ◌<◌, ◌≤◌, length, map, All, if◌then◌else◌, Ok, Err};
 ghost use Rattle.httparse.specs.Spans.{IsHeaderWithin, header_bytes};
 ghost use Rattle.vault_http.specs.Fields.{is_named};
-ghost use Rattle.vault_http.specs.Framing.{framing, length_in, number_in, transfer_encoding, content_length, chunked_coding, counted, bodiless, reply_framing};
+ghost use Rattle.vault_http.specs.Framing.{framing, length_in, number_in, transfer_encoding, content_length, chunked_coding, counted, reply_framing};
 
 use crate::named_field::{Lone, has_name, lone_value};
 use httparse::spans::HeaderSpan;

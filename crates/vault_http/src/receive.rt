@@ -1,4 +1,4 @@
-ghost use Rattle.std.specs.Prelude.{◌≡◌, ℕ, List, [], length, IfSome, IsErrOf};
+ghost use Rattle.std.specs.Prelude.{◌≡◌, [], length, IfSome, IsErrOf};
 ghost use Rattle.std.specs.Io.KnownBytes.{Keeps};
 ghost use Rattle.keep_device.specs.declared.limits.TheConstants.{MOST_READS, MOST_ROOM};
 ghost use Rattle.keep_device.specs.Whole.{MakesAtMost};

@@ -1,4 +1,4 @@
-ghost use Rattle.std.specs.Prelude.{◌≡◌, ◌<◌, ◌≤◌, length, take};
+ghost use Rattle.std.specs.Prelude.{◌<◌, take};
 ghost use Rattle.vault_http.specs.Heads.{FoundReply};
 ghost use Rattle.vault_http.specs.Known.{IsHead};
 ghost use Rattle.vault_http.specs.Messages.{IsReply, reply_with};

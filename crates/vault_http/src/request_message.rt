@@ -1,4 +1,4 @@
-ghost use Rattle.std.specs.Prelude.{◌≡◌, [], ◌<◌, ◌≤◌, length, take, Ok};
+ghost use Rattle.std.specs.Prelude.{◌≡◌, [], ◌<◌, take, Ok};
 ghost use Rattle.vault_http.specs.Heads.{FoundRequest};
 ghost use Rattle.vault_http.specs.Known.{IsHead};
 ghost use Rattle.vault_http.specs.Messages.{IsRequest, UnlessMemory, request_with};

@@ -1,4 +1,4 @@
-ghost use Rattle.std.specs.Prelude.{◌≡◌, ◌++◌, OnErr, OnOk, IfOk, IsErrOf, IsTrue, length, string_bytes};
+ghost use Rattle.std.specs.Prelude.{◌≡◌, OnErr, OnOk, IfOk, IsTrue, string_bytes};
 ghost use Rattle.std.specs.Io.KnownBytes.{Keeps, Appends};
 ghost use Rattle.keep_device.specs.Front.{AppendsFront};
 ghost use Rattle.vault_http.specs.declared.writing.SendFault.TheVariants.{OutOfMemory};

@@ -1,4 +1,4 @@
-ghost use Rattle.std.specs.Prelude.{◌≡◌, ◌<◌, length, IsUtf8, option_map, codes};
+ghost use Rattle.std.specs.Prelude.{◌<◌};
 ghost use Rattle.serde_json.specs.View.{view};
 ghost use Rattle.vault_json.specs.Answer.{Gives};
 ghost use Rattle.vault_json.specs.Body.{body_of, reply_of, tree_of, or_not_json, unwrapped};

@@ -2,7 +2,7 @@ ghost use Rattle.std.specs.Prelude.{◌≡◌};
 ghost use Rattle.std.specs.Char.{is_ascii_digit};
 ghost use Rattle.std.specs.List.{list_all};
 ghost use Rattle.serde_json.specs.View.{view};
-ghost use Rattle.vault_json.specs.Duration.{duration_of, seconds_of_text, seconds_of_digits, without_unit};
+ghost use Rattle.vault_json.specs.Duration.{duration_of, seconds_of_text, without_unit};
 
 use keep_moment::Span;
 use serde_json::Value;

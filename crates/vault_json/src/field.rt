@@ -1,7 +1,7 @@
-ghost use Rattle.std.specs.Prelude.{◌≡◌, ◌≤◌, List, ℕ, Some, option_map, option_copied, false};
+ghost use Rattle.std.specs.Prelude.{◌≡◌, Some, option_map, false};
 ghost use Rattle.serde_json.specs.Find.{as_bool, as_str};
 ghost use Rattle.serde_json.specs.View.{view};
-ghost use Rattle.vault_json.specs.Answer.{Gives, or_bad};
+ghost use Rattle.vault_json.specs.Answer.{Gives};
 ghost use Rattle.vault_json.specs.Duration.{duration_of};
 ghost use Rattle.vault_json.specs.Field.{key_of, present, member_of, required, optional, object_of, timestamp_of, date_of};
 

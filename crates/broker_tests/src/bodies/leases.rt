@@ -1,6 +1,5 @@
 use keep_moment::{Moment, Text};
 use std::alloc::Global;
-use std::process::Abort;
 use std::test::Fail;
 use vault_json::*;
 

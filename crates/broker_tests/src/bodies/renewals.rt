@@ -1,6 +1,5 @@
 use super::RENEWED;
 use std::alloc::{AllocError, Global};
-use std::process::Abort;
 use std::test::Fail;
 use vault_json::*;
 

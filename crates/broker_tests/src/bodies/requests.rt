@@ -1,5 +1,4 @@
 use std::alloc::Global;
-use std::process::Abort;
 use std::test::Fail;
 use vault_json::*;
 

@@ -1,5 +1,5 @@
 use super::{TOKEN_AND_LEASE, WEB};
-use keep_inventory::{Inventory, LookupFault, Terms, read};
+use keep_inventory::{Inventory, LookupFault, read};
 use keep_moment::{Moment, Text};
 use std::process::Abort;
 use std::test::Fail;

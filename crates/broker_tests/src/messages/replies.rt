@@ -1,3 +1,4 @@
+use super::refusals::{Kind, refuses, refuses_fronts};
 use super::{GRANT, reply_of};
 use crate::devices::source;
 use std::alloc::Global;
@@ -98,44 +99,24 @@ const REFUSED: [(&[u8], usize, HttpFault); 14] = [
     (b"hello", 1048576, HttpFault::BadHead),
 ];
 
-fn is_refused(
-    alloc: Global,
-    text: &[u8],
-    pieces: &[usize],
-    max: usize,
-    fault: HttpFault,
-) -> Result<bool, Fail> {
-    Ok(reply_of(alloc, text, pieces, max)?.err() == Some(fault))
-}
-
-// Refused at once, and in small pieces.
-fn refuses<R: AllocGlobal + Abort>(
-    rt: &R,
-    text: &[u8],
-    max: usize,
-    fault: HttpFault,
-) -> Result<(), Fail> {
-    assert!(rt; is_refused(rt.alloc(), text, &[], max, fault)?);
-    assert!(rt; is_refused(rt.alloc(), text, &[1, 1, 1, 7, 2], max, fault)?);
-    Ok(())
-}
-
 #[test]
 fn refuses_replies(rt: HostRuntime) -> Result<(), Fail> {
     for (text, max, fault) in REFUSED {
-        refuses(&rt, text, max, fault)?;
+        refuses(&rt, Kind::Reply, text, max, fault)?;
     }
     Ok(())
 }
 
 #[test]
 fn refuses_replies_that_are_cut_or_too_long(rt: HostRuntime) -> Result<(), Fail> {
-    let cut = HttpFault::Truncated;
-    refuses(&rt, &COUNTED[..COUNTED.len() - 1], 1048576, cut)?;
-    refuses(&rt, &CHUNKED[..CHUNKED.len() - 1], 1048576, cut)?;
+    for text in [COUNTED, CHUNKED] {
+        let front = &text[..text.len().saturating_sub(1)];
+        refuses(&rt, Kind::Reply, front, 1048576, HttpFault::Truncated)?;
+    }
     for text in [COUNTED, CHUNKED, TO_END] {
-        refuses(&rt, text, 20, HttpFault::TooLong)?;
-        refuses(&rt, text, text.len().saturating_sub(1), HttpFault::TooLong)?;
+        let most = text.len().saturating_sub(1);
+        refuses(&rt, Kind::Reply, text, 20, HttpFault::TooLong)?;
+        refuses(&rt, Kind::Reply, text, most, HttpFault::TooLong)?;
     }
     Ok(())
 }
@@ -194,18 +175,6 @@ fn reads_other_replies(rt: HostRuntime) -> Result<(), Fail> {
     Ok(())
 }
 
-// Each front of the text is refused as a reply that is cut.
-fn refuses_fronts<R: AllocGlobal + Abort>(rt: &R, text: &[u8]) -> Result<(), Fail> {
-    let cut = HttpFault::Truncated;
-    for len in 0..text.len() {
-        assert!(rt;
-            is_refused(rt.alloc(), &text[..len], &[], 1048576, cut)?,
-            "{len}"
-        );
-    }
-    Ok(())
-}
-
 // A reply that is sent to the end of the connection is read where it is cut behind its head.
 fn reads_fronts_to_the_end<R: AllocGlobal + Abort>(rt: &R, head: usize) -> Result<(), Fail> {
     for len in head..TO_END.len() {
@@ -217,10 +186,10 @@ fn reads_fronts_to_the_end<R: AllocGlobal + Abort>(rt: &R, head: usize) -> Resul
 
 #[test]
 fn reads_every_front_of_a_reply(rt: HostRuntime) -> Result<(), Fail> {
-    refuses_fronts(&rt, COUNTED)?;
-    refuses_fronts(&rt, CHUNKED)?;
+    refuses_fronts(&rt, Kind::Reply, COUNTED)?;
+    refuses_fronts(&rt, Kind::Reply, CHUNKED)?;
     let head = TO_END.len() - GRANT.len();
-    refuses_fronts(&rt, &TO_END[..head])?;
+    refuses_fronts(&rt, Kind::Reply, &TO_END[..head])?;
     reads_fronts_to_the_end(&rt, head)
 }
 

@@ -1,6 +1,6 @@
+use super::refusals::{Kind, refuses, refuses_fronts};
 use super::{LOOKUP, RENEWAL, is_request, request_of};
 use crate::devices::source;
-use std::alloc::Global;
 use std::process::Abort;
 use std::test::Fail;
 use vault_http::{Device, HttpFault, read_request};
@@ -93,52 +93,24 @@ const REFUSED: [(&[u8], usize, HttpFault); 7] = [
     ),
 ];
 
-fn is_refused(
-    alloc: Global,
-    text: &[u8],
-    pieces: &[usize],
-    max: usize,
-    fault: HttpFault,
-) -> Result<bool, Fail> {
-    Ok(request_of(alloc, text, pieces, max)?.err() == Some(fault))
-}
-
-// Refused at once, and in small pieces.
-fn refuses<R: AllocGlobal + Abort>(
-    rt: &R,
-    text: &[u8],
-    max: usize,
-    fault: HttpFault,
-) -> Result<(), Fail> {
-    assert!(rt; is_refused(rt.alloc(), text, &[], max, fault)?);
-    assert!(rt; is_refused(rt.alloc(), text, &[1, 1, 1, 7, 2], max, fault)?);
-    Ok(())
-}
-
 #[test]
 fn refuses_requests(rt: HostRuntime) -> Result<(), Fail> {
     for (text, max, fault) in REFUSED {
-        refuses(&rt, text, max, fault)?;
+        refuses(&rt, Kind::Request, text, max, fault)?;
     }
-    refuses(&rt, RENEWAL, RENEWAL.len() - 1, HttpFault::TooLong)
-}
-
-// Each front of the request is refused as one that is cut.
-fn refuses_fronts<R: AllocGlobal + Abort>(rt: &R, text: &[u8]) -> Result<(), Fail> {
-    let cut = HttpFault::Truncated;
-    for len in 0..text.len() {
-        assert!(rt;
-            is_refused(rt.alloc(), &text[..len], &[], 1048576, cut)?,
-            "{len}"
-        );
-    }
-    Ok(())
+    refuses(
+        &rt,
+        Kind::Request,
+        RENEWAL,
+        RENEWAL.len() - 1,
+        HttpFault::TooLong,
+    )
 }
 
 #[test]
 fn reads_every_front_of_a_request(rt: HostRuntime) -> Result<(), Fail> {
-    refuses_fronts(&rt, RENEWAL)?;
-    refuses_fronts(&rt, LOOKUP)
+    refuses_fronts(&rt, Kind::Request, RENEWAL)?;
+    refuses_fronts(&rt, Kind::Request, LOOKUP)
 }
 
 // The read after so many fails: it is told and counted, and from the fifth on it is not made.

@@ -1,0 +1,140 @@
+//! Exchanges with a broker, in memory and over real sockets, in one thread, and with a peer that does not answer.
+
+use crate::inventories::WEB;
+use crate::moments::moment;
+use http::Method;
+use keep_exchange::{
+    Exchange, ExchangeFault, MemoryExchange, SelfServed, TcpExchange, UnixExchange, can_carry,
+};
+use keep_inventory::read;
+use keep_moment::Text;
+use mini_broker::{Fault, Table};
+use std::alloc::Global;
+use std::fs;
+use std::net::{IpAddr, Ipv4Addr, OpenListener, SocketAddr, TcpListener};
+use std::os::unix::net::UnixListener;
+use std::process::Abort;
+use std::test::Fail;
+use std::time::Duration;
+use vault_http::{Device, HttpFault, Reply, Request};
+
+const RENEWED: &[u8] = b"{\"auth\":{\"lease_duration\":60,\"renewable\":true}}";
+
+/// The first renewal and its reply as bytes (docs/http.md), with the token `web`.
+const WIRE: &[u8] =
+    b"POST /v1/auth/token/renew-self HTTP/1.1\r\nHost: 127.0.0.1:8200\r\nX-Vault-Token: web\r\n\
+Content-Type: application/json\r\nContent-Length: 16\r\nConnection: close\r\n\r\n{\"increment\":60}\
+HTTP/1.1 200 OK\r\nContent-Type: application/json\r\nContent-Length: 47\r\nConnection: close\r\n\r\n\
+{\"auth\":{\"lease_duration\":60,\"renewable\":true}}";
+
+fn table(alloc: Global) -> Result<Table, Fail> {
+    let inventory = read(alloc, WEB.as_bytes())?;
+    Ok(Table::load(alloc, &inventory)?)
+}
+
+/// The first renewal of the web example, to a broker at port 8200.
+fn renewal(alloc: Global) -> Result<Request, Fail> {
+    Ok(Request {
+        method: Method::POST,
+        path: Text::of(alloc, b"/v1/auth/token/renew-self")?,
+        token: Some(Text::of(alloc, b"web")?),
+        body: Text::of(alloc, b"{\"increment\":60}")?,
+        port: 8200,
+    })
+}
+
+/// Sends the renewal at 1059.
+fn renew<E: Exchange>(
+    alloc: Global,
+    exchange: &mut E,
+) -> Result<Result<Reply, ExchangeFault>, Fail> {
+    let request = renewal(alloc)?;
+    let at = moment(1059)?;
+    if !can_carry(&request) {
+        return Err("a request".into());
+    }
+    Ok(exchange.exchange(alloc, at, &request))
+}
+
+// The renewal is answered as a broker at 1059 answers it.
+fn is_renewed<E: Exchange, R: AllocGlobal + Abort>(rt: &R, exchange: &mut E) -> Result<(), Fail> {
+    let reply = renew(rt.alloc(), exchange)??;
+    assert!(rt; reply.status == 200);
+    assert!(rt; reply.body.list() == RENEWED);
+    Ok(())
+}
+
+// The renewal ends in this fault, and so many failures were counted by then.
+fn fails_with<E: Exchange, R: AllocGlobal + Abort>(
+    rt: &R,
+    exchange: &mut E,
+    fault: ExchangeFault,
+    failures: u64,
+) -> Result<(), Fail> {
+    let result = renew(rt.alloc(), exchange)?;
+    assert!(rt; result.err() == Some(fault));
+    assert!(rt; exchange.failures() == failures);
+    Ok(())
+}
+
+#[test]
+fn carries_both_texts(rt: HostRuntime) -> Result<(), Fail> {
+    let mut exchange = MemoryExchange::new(rt.alloc(), table(rt.alloc())?);
+    assert!(rt; exchange.wire().is_empty());
+    is_renewed(&rt, &mut exchange)?;
+    assert!(rt; exchange.wire() == WIRE);
+    assert!(rt; exchange.table().end_of(b"web") == Some(1119));
+    Ok(())
+}
+
+#[test]
+fn drops_a_reply(rt: HostRuntime) -> Result<(), Fail> {
+    let mut dropping = table(rt.alloc())?;
+    assert!(rt; dropping.set_fault(1, Fault::Drop).is_ok());
+    let mut exchange = MemoryExchange::new(rt.alloc(), dropping);
+    let cut = ExchangeFault::Http(HttpFault::Truncated);
+    fails_with(&rt, &mut exchange, cut, 0)?;
+    assert!(rt; exchange.wire() == &WIRE[..172]);
+    assert!(rt; exchange.table().end_of(b"web") == Some(1119));
+    Ok(())
+}
+
+#[test]
+fn serves_itself_over_a_socket(rt: HostRuntime) -> Result<(), Fail> {
+    let mut exchange = SelfServed::bind(&rt, rt.alloc(), table(rt.alloc())?)?;
+    is_renewed(&rt, &mut exchange)?;
+    assert!(rt; exchange.table().end_of(b"web") == Some(1119));
+    assert!(rt; exchange.failures() == 0);
+    Ok(())
+}
+
+/// Nobody listens; and then somebody does, and says nothing: the second wait is a quarter of a second, or this would take
+/// longer than a test may.
+#[test]
+fn waits_for_no_silent_peer(rt: HostRuntime) -> Result<(), Fail> {
+    let any = SocketAddr::new(IpAddr::V4(Ipv4Addr::LOCALHOST), 0);
+    let listener = TcpListener::bind(&rt, any)?;
+    let port = listener.local_addr()?.port();
+    let mut silent = TcpExchange::patient(&rt, port, Duration::from_secs(1));
+    let late = ExchangeFault::Http(HttpFault::ReadFailed);
+    fails_with(&rt, &mut silent, late, 1)?;
+    fails_with(&rt, &mut silent, late, 2)?;
+    drop(listener);
+    let mut nobody = TcpExchange::new(&rt, port);
+    fails_with(&rt, &mut nobody, ExchangeFault::ConnectFailed, 1)
+}
+
+#[test]
+fn asks_over_a_unix_socket(rt: HostRuntime) -> Result<(), Fail> {
+    let path = "/tmp/keep_exchange_test.socket";
+    let _ = fs::remove_file(&rt, path);
+    let mut nobody = UnixExchange::patient(&rt, path, Duration::from_secs(1));
+    fails_with(&rt, &mut nobody, ExchangeFault::ConnectFailed, 1)?;
+    let listener = UnixListener::bind(&rt, path)?;
+    let mut silent = UnixExchange::patient(&rt, path, Duration::from_secs(1));
+    let late = ExchangeFault::Http(HttpFault::ReadFailed);
+    fails_with(&rt, &mut silent, late, 1)?;
+    drop(listener);
+    let _ = fs::remove_file(&rt, path);
+    Ok(())
+}
