@@ -202,7 +202,7 @@ yes_of_walk g s rs fit answer =
     (forced_is_least es g.margin s (end_of es) plan order (λ i. answer.1 i) (subst (AllForced es g.margin s (end_of es) None) (sym same) walk.1))
 
 pub yes_of_body : (g : Forest) (s : ℕ) (b : Body) → CanBeJudged g b → IsBodyAnswer g s b Yes → Holds g s b
-yes_of_body g s (body.Runs rs) fit answer = yes_of_walk g s rs fit.0 answer
+yes_of_body g s (body.Runs rs) fit answer = (yes_of_walk g s rs fit.0 answer, λ i. answer.1 i)
 yes_of_body g s (body.Unkeepable entry needed) fit answer = unkeepable g.entries g.margin s (end_of g.entries) entry needed answer
 
 pub yes_holds : YesLaw

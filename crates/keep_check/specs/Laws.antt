@@ -40,9 +40,11 @@ ForcedTestLaw =
 abbrev pub AnswerLaw : Type 0
 AnswerLaw = (g : Forest) (c : Cert) (x y : Answer) → IsAnswer g c x → IsAnswer g c y → x ≡ y
 
--- what a certificate claims: its moments are least and latest, or no plan keeps
+-- what a certificate claims: its moments are least and latest, and with their Asks they keep; or no plan keeps
 abbrev pub Holds : Forest → ℕ → Body → Type 0
-Holds g s (body.Runs rs) = IsLeastAndLatest g.entries g.margin s (end_of g.entries) (moments_of (all_wakes rs))
+Holds g s (body.Runs rs) =
+    IsLeastAndLatest g.entries g.margin s (end_of g.entries) (moments_of (all_wakes rs))
+    × Keeps g.entries g.margin s (end_of g.entries) (with_asks g.entries g.margin s (end_of g.entries) (moments_of (all_wakes rs)))
 Holds g s (body.Unkeepable entry needed) = (plan : List Wake) → IsPlan s plan → Keeps g.entries g.margin s (end_of g.entries) plan → ⊥
 
 -- what gets Yes holds

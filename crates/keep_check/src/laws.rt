@@ -16,8 +16,8 @@ pub fn answer_law()
     ensures { AnswerLaw }
 {}
 
-/// The law of Yes: the moments of a certificate that gets Yes are least and latest; or, where it names an unkeepable pair,
-/// no plan keeps.
+/// The law of Yes: the moments of a certificate that gets Yes are least and latest, and with their Asks they keep; or, where
+/// it names an unkeepable pair, no plan keeps.
 pub fn yes_law()
     ensures { YesLaw }
 {}

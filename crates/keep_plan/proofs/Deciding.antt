@@ -29,7 +29,7 @@ some_keeps g s forest keepable =
     let least = (schedule_is_best g s (end_of g.entries) forest keepable ts.0 ts.1).1.1.1 in
     (least.plan, (least.in_order, least.kept))
 
-length_moments : (xs : List Force) → length (moments_of xs) ≡ length xs
+pub length_moments : (xs : List Force) → length (moments_of xs) ≡ length xs
 length_moments [] = refl
 length_moments (x ∷ xs) = ap (λ k. suc k) (length_moments xs)
 

@@ -4,3 +4,4 @@ pub mod Nexts
 pub mod Wanted
 pub mod Collecting
 pub mod Deciding
+pub mod Widening

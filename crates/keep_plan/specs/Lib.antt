@@ -1,4 +1,5 @@
 pub mod Planned
 pub mod Shortfall
 pub mod Decides
+pub mod Widest
 pub mod code

@@ -1,3 +1,4 @@
 pub mod Collecting
 pub mod Wanted
 pub mod FallingShort
+pub mod Widening

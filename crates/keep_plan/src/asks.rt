@@ -13,7 +13,7 @@ use std::alloc::{AllocError, Global};
 
 /// The Asks at `at`, where the next moment is `next`, `None` for none, and the entries carry `carried`: one pass over the
 /// entries, and a look at those that are over each that cannot wait. The only error is want of memory.
-pub(crate) fn asks(
+pub fn asks_before(
     alloc: Global,
     forest: &Forest,
     carried: &Carried,

@@ -16,7 +16,9 @@ mod planning;
 mod plans;
 mod runs;
 mod wakes;
+mod widest;
 
+pub use asks::asks_before;
 pub use decision::Decision;
 pub use falling_short::shortfall;
 pub use fault::PlanFault;
@@ -25,3 +27,4 @@ pub use pair::Shortfall;
 pub use planning::plan;
 pub use plans::Plan;
 pub use wakes::Wakes;
+pub use widest::{Widest, widest_margin};

@@ -4,7 +4,7 @@ ghost use Rattle.keep_rule.specs.Asks.{asks};
 ghost use Rattle.keep_needs.specs.Carried.{IsCarried};
 ghost use Rattle.keep_plan.specs.Planned.{IsPlanned, IsTail, Planned, next_after, to_come, without_first};
 
-use crate::asks::asks;
+use crate::asks::asks_before;
 use crate::fault::PlanFault;
 use crate::runs::{behind_first, next_after};
 use crate::wakes::Wakes;
@@ -98,6 +98,6 @@ impl Plan {
         ensures { IfOk result (λ asked. asked ≡ asks forest.now.entries forest.now.margin self.now.start (end_of forest.now.entries) at (next_after at (to_come self.now))) }
     {
         let next = next_after(self.runs(), at);
-        Ok(asks(*self.runs.allocator(), forest, &self.carried, at, next)?)
+        Ok(asks_before(*self.runs.allocator(), forest, &self.carried, at, next)?)
     }
 }

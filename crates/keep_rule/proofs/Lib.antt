@@ -9,6 +9,7 @@ pub mod Examples
 pub mod Covering
 pub mod Timely
 pub mod Enough
+pub mod Margin
 pub mod Next
 pub mod Schedule
 pub mod Existence

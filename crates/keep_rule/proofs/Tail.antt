@@ -16,7 +16,7 @@ moments_with_asks es margin s ends [] = refl
 moments_with_asks es margin s ends (t ∷ ts) = ap (λ us. t ∷ us) (moments_with_asks es margin s (after es margin ends (asking es margin s ends t (first_of ts))) ts)
 
 -- so it is a plan where they are those of one
-with_asks_plan : (es : List Entry) (margin s : ℕ) (ends : ℕ → ℕ) (ts : List ℕ) → InOrder s ts → IsPlan s (with_asks es margin s ends ts)
+pub with_asks_plan : (es : List Entry) (margin s : ℕ) (ends : ℕ → ℕ) (ts : List ℕ) → InOrder s ts → IsPlan s (with_asks es margin s ends ts)
 with_asks_plan es margin s ends ts order = order_plan s (with_asks es margin s ends ts) (subst (InOrder s) (sym (moments_with_asks es margin s ends ts)) order)
 
 pub tail : EnoughLaw → TailLaw

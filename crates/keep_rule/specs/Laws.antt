@@ -1,5 +1,5 @@
 -- Laws: what no plan can do, and what a least one is. Each is the contract of a public function without a body.
-use Rattle.std.specs.Prelude.{◌≡◌, ℕ, List, None}
+use Rattle.std.specs.Prelude.{◌≡◌, ◌<◌, ◌≤◌, ℕ, List, None, length, slice_index}
 use Rattle.keep_tree.specs.declared.entry.Entry.{Entry}
 use Rattle.keep_rule.specs.declared.wake.Wake.{Wake}
 use Rattle.keep_tree.specs.Forest.{Forest}
@@ -48,3 +48,16 @@ ScheduleLaw =
     (g : Forest) (s : ℕ) (ends : ℕ → ℕ) → IsForest g → AllKeepable g s ends → (ts : List ℕ) → IsSchedule g.entries g.margin s ends None ts →
     RisesStrictly s ts × (AllForced g.entries g.margin s ends None ts
     × (Keeps g.entries g.margin s ends (with_asks g.entries g.margin s ends ts) × IsLeastAndLatest g.entries g.margin s ends ts))
+
+-- where some plan keeps, some plan with the same moments keeps with each smaller margin
+abbrev pub MarginLaw : Type 0
+MarginLaw =
+    (g : Forest) (less s : ℕ) (ends : ℕ → ℕ) (plan : List Wake) → IsForest g → 0 < less → less ≤ g.margin → IsPlan s plan → Keeps g.entries g.margin s ends plan →
+    (other : List Wake) × (IsPlan s other × ((moments other ≡ moments plan) × Keeps g.entries less s ends other))
+
+-- so with a smaller margin the least and latest moments are no more, and each comes no earlier
+abbrev pub LeastMarginLaw : Type 0
+LeastMarginLaw =
+    (g : Forest) (less s : ℕ) (ends : ℕ → ℕ) (ts us : List ℕ) → IsForest g → 0 < less → less ≤ g.margin →
+    IsLeastAndLatest g.entries g.margin s ends ts → IsLeastAndLatest g.entries less s ends us →
+    (length us ≤ length ts) × ((k : ℕ) → k < length us → slice_index ts k ≤ slice_index us k)

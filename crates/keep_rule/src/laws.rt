@@ -1,4 +1,4 @@
-ghost use Rattle.keep_rule.specs.Laws.{EnoughLaw, ExistenceLaw, ForcedLaw, ScheduleLaw, UniqueLaw, UnkeepableLaw};
+ghost use Rattle.keep_rule.specs.Laws.{EnoughLaw, ExistenceLaw, ForcedLaw, LeastMarginLaw, MarginLaw, ScheduleLaw, UniqueLaw, UnkeepableLaw};
 
 /// The law of what cannot be kept: where an entry over a needed one cannot be led to that need by any renewal, no plan
 /// keeps. Its end can never pass its reach, and at the greater of start and reach the needed entry is gone.
@@ -33,4 +33,16 @@ pub fn existence_law()
 /// forced by some pair, they are kept with their Asks, and they are least and latest.
 pub fn schedule_law()
     ensures { ScheduleLaw }
+{}
+
+/// The law of the margin: where some plan keeps, some plan with the same moments keeps with each smaller margin. A plan
+/// that keeps comes in time for each end by its margin, so by a smaller one, and then the Asks keep.
+pub fn margin_law()
+    ensures { MarginLaw }
+{}
+
+/// The law of least plans by their margins: with a smaller margin the least and latest moments are no more, and each comes
+/// no earlier.
+pub fn least_margin_law()
+    ensures { LeastMarginLaw }
 {}

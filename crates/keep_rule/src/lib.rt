@@ -17,7 +17,10 @@ mod run;
 mod wake;
 
 pub use force::Force;
-pub use laws::{enough_law, existence_law, forced_law, schedule_law, unique_law, unkeepable_law};
+pub use laws::{
+    enough_law, existence_law, forced_law, least_margin_law, margin_law, schedule_law, unique_law,
+    unkeepable_law,
+};
 pub use laws_of_rounds::{
     fewest_requests_law, fewest_times_law, later_start_law, same_asks_law, same_requests_law,
     tail_law,

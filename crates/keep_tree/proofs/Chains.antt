@@ -1,5 +1,5 @@
 -- The chain of an entry: its two laws, and that it stays where the parents stay.
-use Rattle.std.proofs.Common.{◌≡◌, ◌==◌, ◌||◌, ◌&&◌, nat_le, ℕ, suc, zero, ◌<◌, true, false, List, [], ◌∷◌, Option, Some, None, refl, sym, ap, ◌∙◌, arith}
+use Rattle.std.proofs.Common.{◌≡◌, ◌==◌, ◌||◌, ◌&&◌, nat_le, ℕ, suc, zero, ◌<◌, true, false, List, [], ◌∷◌, Option, Some, None, length, ◌≤◌, refl, sym, ap, ◌∙◌, arith}
 use Rattle.std.proofs.lemmas.Bool.{and_left, or_left}
 use Rattle.std.proofs.lemmas.Bool.Decides.{nat_tests}
 use Rattle.std.proofs.Math.Bool.{and-true, or-false}
@@ -65,6 +65,32 @@ chain_of_same k es fs first same (suc n) i h =
 pub chain_same : (k : ℕ) (es fs : List Entry) → ParentsFirst es → SameParents k es fs → (i : ℕ) → i < k → chain fs i ≡ chain es i
 unfolding chain
 chain_same k es fs first same i h = chain_of_same k es fs first same (suc i) i h
+
+-- each parent in fs is one in es
+abbrev pub FewerParents : List Entry → List Entry → Type 0
+FewerParents es fs = (i p : ℕ) → (entry_at fs i).parent ≡ Some p → (entry_at es i).parent ≡ Some p
+
+chain_of_some : (n : ℕ) (es : List Entry) (i : ℕ) → 1 ≤ length (chain_of (suc n) es i)
+chain_of_some n es i =
+    cases_Option (entry_at es i).parent (1 ≤ length (chain_of (suc n) es i))
+    (λ root. let here : length (chain_of (suc n) es i) ≡ 1 = ap length (chain_of_root n es i root) in omega arith)
+    (λ p child. let here : length (chain_of (suc n) es i) ≡ suc (length (chain_of n es p)) = ap length (chain_of_child n es i p child) in omega arith)
+
+chain_of_fewer : (es fs : List Entry) → FewerParents es fs → (n i : ℕ) → length (chain_of n fs i) ≤ length (chain_of n es i)
+chain_of_fewer es fs fewer zero i = let here : length (chain_of zero fs i) ≡ 0 = ap length (chain_of_nothing fs i) in omega arith
+chain_of_fewer es fs fewer (suc n) i =
+    cases_Option (entry_at fs i).parent (length (chain_of (suc n) fs i) ≤ length (chain_of (suc n) es i))
+    (λ root. let here : length (chain_of (suc n) fs i) ≡ 1 = ap length (chain_of_root n fs i root) in let some = chain_of_some n es i in omega arith)
+    (λ p child.
+    let here : length (chain_of (suc n) fs i) ≡ suc (length (chain_of n fs p)) = ap length (chain_of_child n fs i p child) in
+    let there : length (chain_of (suc n) es i) ≡ suc (length (chain_of n es p)) = ap length (chain_of_child n es i p (fewer i p child)) in
+    let rest = chain_of_fewer es fs fewer n p in
+    omega arith)
+
+-- where parents are taken away, no chain is longer
+pub chain_fewer : (es fs : List Entry) → FewerParents es fs → (i : ℕ) → length (chain fs i) ≤ length (chain es i)
+unfolding chain
+chain_fewer es fs fewer i = chain_of_fewer es fs fewer (suc i) i
 
 eqb_same : (n : ℕ) → (n == n) ≡ true
 eqb_same n = grind (arith, nat_tests)

@@ -3,3 +3,4 @@ pub mod Chains
 pub mod Placed
 pub mod Carrying
 pub mod Names
+pub mod Margins

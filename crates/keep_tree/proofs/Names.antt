@@ -2,6 +2,9 @@
 use Rattle.std.proofs.Common.{◌≡◌, ℕ, Bool, true, false, cond, List, ◌++◌, ◌∷◌, [], Option, Some, None, length, bytes_eq, refl, sym, ap, ◌∙◌, subst, ⊎_elim, Vec, Global}
 use Rattle.std.proofs.lemmas.Bool.{cases_Bool, cond-true, cond-false}
 use Rattle.std.proofs.lemmas.Map.Text.{is_eq-slice_cmp}
+use Rattle.std.proofs.lemmas.Map.Entries.{lookup_clone}
+use Rattle.std.specs.List.{AllZip}
+use Rattle.std.specs.Option.{IsSomeAnd, MatchOption}
 use Rattle.std.specs.BTreeMap.{BTreeMap, IsEmpty, get_by, Updates}
 use Rattle.std.specs.Cmp.{eq_by_cmp_equiv}
 use Rattle.std.specs.Cmp.Lexicographic.{slice_cmp, nat_list_eq_equiv, nat_list_cmp_total, bytes_decides}
@@ -20,6 +23,18 @@ at_bytes m q = get_by (λ k. slice_cmp nat_cmp q k.items) m
 pub none_at_bytes : (m : BTreeMap (Vec ℕ Global) ℕ) → IsEmpty m → (q : List ℕ) → at_bytes m q ≡ index_named [] q
 unfolding index_named
 none_at_bytes m empty q = ap (lookup (λ k. is_eq (slice_cmp nat_cmp q k.items))) empty
+
+found_copied : (o p : Option ℕ) → MatchOption o (p ≡ None) (λ v. IsSomeAnd p (λ w. w ≡ v)) → p ≡ o
+found_copied None p h = h
+found_copied (Some v) None h = absurd h
+found_copied (Some v) (Some w) h = ap Some h
+
+-- a copy of the map has the same at all bytes
+pub names_copied :
+    (C : Vec ℕ Global → Vec ℕ Global → Type 0) → ((x y : Vec ℕ Global) → C x y → y.items ≡ x.items) → (m n : BTreeMap (Vec ℕ Global) ℕ) →
+    AllZip (λ p q. C p.0 q.0 × (q.1 ≡ p.1)) m.entries n.entries → (q : List ℕ) → at_bytes n q ≡ at_bytes m q
+names_copied C same m n copied q =
+    found_copied (at_bytes m q) (at_bytes n q) (lookup_clone C (λ v w. w ≡ v) (λ k. is_eq (slice_cmp nat_cmp q k.items)) (λ x y h. ap (λ bs. is_eq (slice_cmp nat_cmp q bs)) (same x y h)) m.entries n.entries copied)
 
 pub apart : (bs cs ks : List ℕ) → bytes_eq bs cs ≡ false → is_eq (slice_cmp nat_cmp bs ks) ≡ true → is_eq (slice_cmp nat_cmp cs ks) ≡ false
 apart bs cs ks n y =

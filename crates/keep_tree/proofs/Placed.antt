@@ -14,7 +14,7 @@ use Rattle.keep_tree.specs.Forest.{Forest, entry_at, index_named}
 use Rattle.keep_tree.specs.Over.{chain}
 use Rattle.keep_tree.specs.Push.{IsForest, IsPlaced, depth_under, is_lease, is_name, is_out_of_range, is_too_high, is_under_lease, lacks_parent, refusal}
 use Rattle.keep_tree.proofs.Entries.{entry_at_past, entry_at_push_new, entry_at_push_old, entry_at_set_other, entry_at_set_same, index_named_push, index_named_set, later_index, later_index_found, later_index_new}
-use Rattle.keep_tree.proofs.Chains.{ParentsFirst, SameParents, cases_Option, chain_child, chain_root, chain_same}
+use Rattle.keep_tree.proofs.Chains.{FewerParents, ParentsFirst, SameParents, cases_Option, chain_child, chain_fewer, chain_root, chain_same}
 
 pub parents_first : (g : Forest) → IsForest g → ParentsFirst g.entries
 parents_first g forest i p child =
@@ -94,6 +94,57 @@ replaced_is_forest g forest i e with = record {
         | inl here ↦ ap is_out_of_range (ap (entry_at fs) here ∙ entry_at_set_same g.entries i e with.within) ∙ with.range
         | inr other ↦ ap is_out_of_range (entry_at_set_other g.entries i j e other) ∙ (forest.placed j there).in_range
       ]);
+}
+
+-- a token without its parent, in its place
+abbrev alone_now : List Entry → ℕ → Entry
+alone_now es i = record (entry_at es i) { parent = None }
+
+fewer_parents : (es : List Entry) (i : ℕ) → i < length es → FewerParents es (set es i (alone_now es i))
+fewer_parents es i within j p child =
+    elim (cases_eq j i) [
+      | inl here ↦ absurd (let none : (entry_at (set es i (alone_now es i)) j).parent ≡ None = ap (λ (x : Entry). x.parent) (ap (entry_at (set es i (alone_now es i))) here ∙ entry_at_set_same es i (alone_now es i) within) in cc)
+      | inr other ↦ sym (ap (λ (x : Entry). x.parent) (entry_at_set_other es i j (alone_now es i) other)) ∙ child
+    ]
+
+under_fewer : (es fs : List Entry) → ((p : ℕ) → (entry_at fs p).kind ≡ (entry_at es p).kind) → (o : Option ℕ) (was : Option ℕ) → ((p : ℕ) → o ≡ Some p → was ≡ Some p) → is_under_lease es was ≡ false → is_under_lease fs o ≡ false
+unfolding is_under_lease
+under_fewer es fs kinds None was fewer token = refl
+under_fewer es fs kinds (Some p) was fewer token = ap is_lease (kinds p) ∙ subst (λ (o : Option ℕ). is_under_lease es o ≡ false) (fewer p refl) token
+
+token_alone : (es : List Entry) (i j : ℕ) → i < length es → is_lease (entry_at es i).kind ≡ false → is_lease (entry_at es j).kind && is_none (entry_at es j).parent ≡ false →
+    is_lease (entry_at (set es i (alone_now es i)) j).kind && is_none (entry_at (set es i (alone_now es i)) j).parent ≡ false
+token_alone es i j within token old =
+    elim (cases_eq j i) [
+      | inl here ↦ ap (λ (x : Entry). is_lease x.kind && is_none x.parent) (ap (entry_at (set es i (alone_now es i))) here ∙ entry_at_set_same es i (alone_now es i) within) ∙ ap (λ b. b && true) token
+      | inr other ↦ ap (λ (x : Entry). is_lease x.kind && is_none x.parent) (entry_at_set_other es i j (alone_now es i) other) ∙ old
+    ]
+
+pub orphaned_is_forest : (g : Forest) → IsForest g → (i : ℕ) → i < length g.entries → is_lease (entry_at g.entries i).kind ≡ false → IsForest (record { entries = set g.entries i (alone_now g.entries i); margin = g.margin })
+unfolding is_out_of_range
+orphaned_is_forest g forest i within token = record {
+  margin_above = forest.margin_above;
+  margin_within = forest.margin_within;
+  few = let l = length-set g.entries i (alone_now g.entries i) in let f = forest.few in omega arith;
+  placed = λ j h.
+      let es = g.entries in
+      let e = alone_now es i in
+      let fs = set es i e in
+      let l = length-set es i e in
+      let there : j < length es = omega arith in
+      let old = forest.placed j there in
+      let name : (entry_at fs j).name ≡ (entry_at es j).name = kept (λ (x : Entry). x.name) es i e within refl j in
+      let fewer = fewer_parents es i within in
+      record {
+        named = ap is_name name ∙ old.named;
+        alone = ap (index_named fs) name ∙ (index_named_set es i e (entry_at es j).name refl ∙ old.alone);
+        parent_first = λ p child. old.parent_first p (fewer j p child);
+        parent_is_token = under_fewer es fs (λ p. kept (λ (x : Entry). x.kind) es i e within refl p) (entry_at fs j).parent (entry_at es j).parent (fewer j) old.parent_is_token;
+        lease_has_token = token_alone es i j within token old.lease_has_token;
+        step_past_margin = subst (λ s. g.margin < s) (sym (kept (λ (x : Entry). x.step) es i e within refl j)) old.step_past_margin;
+        in_range = kept is_out_of_range es i e within refl j ∙ old.in_range;
+        depth = let d = chain_fewer es fs fewer j in let o = old.depth in omega arith;
+      };
 }
 
 -- what an entry that is not refused has

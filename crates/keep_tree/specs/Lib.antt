@@ -3,3 +3,4 @@ pub mod Over
 pub mod Carried
 pub mod Push
 pub mod Renewal
+pub mod Margins

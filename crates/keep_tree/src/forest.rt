@@ -1,13 +1,14 @@
 ghost use Rattle.std.specs.Prelude.{◌≡◌, ℕ, ◌+◌, ◌<◌, ◌≤◌, false, [], ◌∷◌, ◌++◌, List, Some, None, length, is_some, is_none, slice_set, IfOk, IfSome, IsTrue, OnErr, IsOkUnless, ◌↔◌};
 ghost use Rattle.std.specs.List.{list_all};
 ghost use Rattle.keep_tree.specs.Forest.{entry_at, index_named};
+ghost use Rattle.keep_tree.specs.Margins.{IsMargin, IsMostMargin};
 ghost use Rattle.keep_tree.specs.Over.{chain, is_over};
 ghost use Rattle.keep_tree.specs.Push.{IsForest, depth_under, is_lease, is_name, is_name_byte, is_out_of_range, is_too_high, is_under_lease, lacks_parent, refusal};
 
 use crate::entry::{Entry, Kind};
 use crate::fault::TreeFault;
 use keep_moment::{LAST, Moment};
-use std::alloc::Global;
+use std::alloc::{AllocError, Global};
 use std::collections::BTreeMap;
 use std::marker::Model;
 
@@ -92,11 +93,44 @@ impl Forest {
         }
     }
 
+    /// Another forest with the same entries, names and margin. The only error is want of memory.
+    pub fn copy(&self) -> Result<Forest, AllocError>
+        ensures { IfOk result (λ g. g ≡ self.now) }
+    {
+        let entries = copy_entries(*self.entries.allocator(), &self.entries)?;
+        let names = self.names.clone()?;
+        Ok(Forest {
+            entries,
+            names,
+            margin: self.margin,
+        })
+    }
+
     /// The margin, in seconds: 1 to 3600.
     pub fn margin(&self) -> u32
         ensures { result ≡ self.now.margin }
     {
         self.margin
+    }
+
+    /// The greatest margin that these entries allow, in seconds: at most 3600, and less than each step.
+    pub fn most_margin(&self) -> u32
+        ensures value { IsMostMargin self.now.entries result }
+        ensures sound { IsForest self.now }
+    {
+        let mut most = MARGIN_MAX;
+        for index in 0..self.len() {
+            most = most.min(self.get(index).step - 1);
+        }
+        most
+    }
+
+    /// Sets the margin, in seconds.
+    pub fn set_margin(&mut self, margin: u32)
+        requires { IsMargin self.old.entries margin }
+        ensures { self.new ≡ record self.old { margin = margin } }
+    {
+        self.margin = margin;
     }
 
     /// The number of entries, at most 4,096.
@@ -205,6 +239,15 @@ impl Forest {
         entry.ceiling = ceiling;
     }
 
+    /// Takes an entry away from its parent: a token is an orphan then.
+    pub fn orphan(&mut self, index: u32)
+        requires within { index < length self.old.entries }
+        requires token { is_lease (entry_at self.old.entries index).kind ≡ false }
+        ensures { self.new ≡ record self.old { entries = slice_set self.old.entries index (record (entry_at self.old.entries index) { parent = None }) } }
+    {
+        self.entries[index as usize].parent = None;
+    }
+
     /// Why the entry would be refused: the first of the nine that applies, `None` where none does.
     fn refusal(&self, entry: &Entry) -> Option<TreeFault>
         ensures { result ≡ refusal self.now entry.now }
@@ -284,6 +327,33 @@ impl Forest {
             Some(parent) => self.depth(parent) + 1,
         }
     }
+}
+
+/// An entry with the same fields. The only error is want of memory.
+fn copy_entry(entry: &Entry) -> Result<Entry, AllocError>
+    ensures { IfOk result (λ e. e ≡ entry.now) }
+{
+    Ok(Entry {
+        name: entry.name.clone()?,
+        kind: entry.kind,
+        parent: entry.parent,
+        end: entry.end,
+        renewable: entry.renewable,
+        step: entry.step,
+        ceiling: entry.ceiling,
+        need: entry.need,
+    })
+}
+
+/// Entries with the same fields. The only error is want of memory.
+fn copy_entries(alloc: Global, entries: &[Entry]) -> Result<Vec<Entry>, AllocError>
+    ensures { IfOk result (λ copies. copies.items ≡ entries.now) }
+{
+    let mut copies = Vec::new(alloc);
+    for entry in entries {
+        copies.push(copy_entry(entry)?)?;
+    }
+    Ok(copies)
 }
 
 fn is_lease(kind: Kind) -> bool

@@ -6,8 +6,8 @@ use Rattle.keep_tree.specs.Forest.{end_of}
 use Rattle.keep_rule.specs.Asks.{is_wanted}
 use Rattle.keep_plan.specs.code.Wanted.{waits_until}
 use Rattle.keep_plan.proofs.Wanted.{asked_more, asks_of, test_is}
-use Rattle.keep_plan.proofs.asks.asks.Goals as goal
-use Rattle.keep_plan.proofs.asks.asks.Goals.{else-is_wanted, then-is_wanted+in_ok-push}
+use Rattle.keep_plan.proofs.asks.asks_before.Goals as goal
+use Rattle.keep_plan.proofs.asks.asks_before.Goals.{else-is_wanted, then-is_wanted+in_ok-push}
 
 pub loop-index-preserved : goal.loop-index-preserved
 loop-index-preserved c = λ s is.

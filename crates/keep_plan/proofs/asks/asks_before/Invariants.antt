@@ -3,7 +3,7 @@ use Rattle.std.specs.List.{range_with_len}
 use Rattle.keep_tree.specs.Forest.{end_of}
 use Rattle.keep_rule.specs.Asks.{is_wanted}
 use Rattle.keep_needs.specs.Carried.{IsCarried}
-use Rattle.keep_plan.proofs.asks.asks.Given as goal
+use Rattle.keep_plan.proofs.asks.asks_before.Given as goal
 
 -- who is asked so far
 abbrev pub invariant-loop-index : goal.invariant-loop-index

@@ -1,0 +1,9 @@
+use Rattle.std.proofs.Common.{◌≡◌, ◌-◌}
+use Rattle.keep_plan.specs.code.Widening.{IsBetween}
+use Rattle.keep_plan.proofs.widest.bisect.Given as goal
+
+abbrev pub invariant-loop-low : goal.invariant-loop-low
+invariant-loop-low l = IsBetween l.initial.forest l.start l.most_wakes l.low l.high × (l.forest.entries ≡ l.initial.forest.entries)
+
+abbrev pub decreases-loop-low : goal.decreases-loop-low
+decreases-loop-low l = l.high - l.low.margin

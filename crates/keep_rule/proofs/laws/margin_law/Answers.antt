@@ -1,0 +1,5 @@
+use Rattle.keep_rule.proofs.Margin.{margin}
+use Rattle.keep_rule.proofs.laws.margin_law.Goals as goal
+
+pub returns : goal.returns
+returns c = margin

@@ -1,0 +1,22 @@
+use Rattle.std.proofs.Common.{◌≡◌, ◌∙◌, ℕ, List, ap, subst, sym}
+use Rattle.std.specs.List.{each_same}
+use Rattle.std.specs.BTreeMap.{get_by}
+use Rattle.std.specs.Cmp.Lexicographic.{slice_cmp}
+use Rattle.std.specs.Ordering.{nat_cmp}
+use Rattle.keep_tree.specs.declared.entry.Entry.{Entry}
+use Rattle.keep_tree.specs.Forest.{Forest, index_named}
+use Rattle.keep_tree.specs.Push.{IsForest}
+use Rattle.keep_tree.proofs.Names.{names_copied}
+use Rattle.keep_tree.proofs.forest.Forest.copy.Goals as goal
+
+pub invariant_of-result : goal.invariant_of-result
+invariant_of-result c =
+    let same : c.in_ok-entries.entries.items ≡ c.self.inside.entries.items = c.in_ok-entries.ensures ∙ c.deref.ensures.value in (
+      subst (λ (es : List Entry). IsForest (record { entries = es; margin = c.self.inside.margin })) (sym same) c.self.invariant.0,
+      λ q. names_copied _ (λ x y h. each_same _ _ h.0) c.self.inside.names c.in_ok-names.names c.in_ok-names.ensures.cases q ∙ c.self.invariant.1 q ∙ ap (λ (es : List Entry). index_named es q) (sym same),
+    )
+
+pub returns : goal.returns
+returns c =
+    let same : c.in_ok-entries.entries.items ≡ c.self.inside.entries.items = c.in_ok-entries.ensures ∙ c.deref.ensures.value in
+    ap (λ (es : List Entry). record { entries = es; margin = c.self.inside.margin }) same ∙ c.self.view_is
