@@ -1,5 +1,7 @@
 -- A whole input of at most so many bytes, read in pieces. The limits of bytes and of reads are the project's own.
 use Rattle.std.specs.Prelude.{◌≡◌, ℕ, ◌+◌, ◌<◌, ◌≤◌, ◌⊎◌, List, length, Option, IfSome, Result, Ok, Err}
+use Rattle.std.specs.declared.io.ErrorKind.{ErrorKind}
+use Rattle.std.specs.declared.io.ErrorKind.TheVariants as kinds
 use Rattle.keep_device.specs.declared.fault.InputFault.{InputFault}
 use Rattle.keep_device.specs.declared.fault.InputFault.TheVariants as faults
 use Rattle.keep_device.specs.declared.one_read.MoreFault.{MoreFault}
@@ -26,3 +28,8 @@ IsWhole max bytes before now (Err faults.OutOfMemory) = Unit {0}
 abbrev pub input_fault : MoreFault → InputFault
 input_fault more.ReadFailed = faults.ReadFailed
 input_fault more.OutOfMemory = faults.OutOfMemory
+
+-- a file that was not opened, as the fault of the whole input
+abbrev pub open_fault : ErrorKind → InputFault
+open_fault kinds.OutOfMemory = faults.OutOfMemory
+open_fault kind = faults.ReadFailed

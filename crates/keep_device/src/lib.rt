@@ -21,7 +21,7 @@ mod write_whole;
 pub use counted::Counted;
 pub use device::{Device, Sink, Source};
 pub use fault::{Failed, InputFault, SinkFault};
-pub use file::read_file;
+pub use file::{read_file, read_opened};
 pub use limits::{MOST_READS, MOST_ROOM, limits_law};
 pub use memory_pair::MemoryPair;
 pub use memory_sink::MemorySink;

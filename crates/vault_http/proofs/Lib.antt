@@ -14,6 +14,8 @@ pub mod EmptyLines
 pub mod WholeChunks
 pub mod Waiting
 pub mod ReplyLaws
+pub mod Dated
+pub mod DatedRoundTrip
 pub mod RequestLaws
 pub mod Sends
 pub mod Writable

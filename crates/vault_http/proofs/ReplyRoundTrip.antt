@@ -39,14 +39,14 @@ length_field n = record { name = codes "Content-Length"; raw = 32 ∷ decimal n;
 abbrev pub close_field : Field
 close_field = record { name = codes "Connection"; raw = codes " close"; end = crlf }
 
-abbrev written_fields : ℕ → List Field
+abbrev pub written_fields : ℕ → List Field
 written_fields n = type_field ∷ length_field n ∷ close_field ∷ []
 
-abbrev written : ℕ → ℕ → ResponseHead
+abbrev pub written : ℕ → ℕ → ResponseHead
 written status n = record { blank = []; minor = 1; digits = decimal status; reason = Some (phrase status); line_end = crlf; fields = written_fields n; last = crlf }
 
 -- what a status has to be for its head to be read
-record IsWritable (status : ℕ) : Type 0 where
+pub record IsWritable (status : ℕ) : Type 0 where
   three : length (decimal status) ≡ 3
   digits : AllPass is_ascii_digit (decimal status)
   value : digits_value 10 (decimal status) ≡ status
@@ -65,7 +65,7 @@ start_text status rest =
     ap (λ t. codes "HTTP/1.1 " ++ t) (append_assoc (decimal status) (32 ∷ (phrase status ++ 13 ∷ 10 ∷ [])) rest
     ∙ ap (λ t. decimal status ++ (32 ∷ t)) (append_assoc (phrase status) (13 ∷ 10 ∷ []) rest))
 
-written_text : (r : Reply) (more : List ℕ) → reply_text r ++ more ≡ print_response (written r.status (length r.body)) ++ (r.body ++ more)
+pub written_text : (r : Reply) (more : List ℕ) → reply_text r ++ more ≡ print_response (written r.status (length r.body)) ++ (r.body ++ more)
 unfolding reply_text
 written_text r more =
     let n = length r.body in
@@ -90,7 +90,7 @@ pub close_is : IsField close_field
 unfolding is_token_byte
 close_is = record { name = (omega arith, AllPass-from_list_all is_token_byte (codes "Connection") refl); raw = AllPass-from_list_all is_value_byte (codes " close") refl }
 
-written_is : (status n : ℕ) → IsWritable status → n < 2 ^ 64 → IsResponseHead (written status n)
+pub written_is : (status n : ℕ) → IsWritable status → n < 2 ^ 64 → IsResponseHead (written status n)
 written_is status n w few = record {
   minor = omega arith;
   digits = (w.three, w.digits);
@@ -220,7 +220,7 @@ writable_503 : IsWritable 503
 unfolding phrase
 writable_503 = by_digits 503 (53 ∷ 48 ∷ 51 ∷ []) (three 503 (omega arith) (omega arith)) refl refl refl refl refl refl
 
-writable : (status : ℕ) → IsTrue (is_sent status) → IsWritable status
+pub writable : (status : ℕ) → IsTrue (is_sent status) → IsWritable status
 writable status h = elim (sent_case status 200 _ h) [
   | inl e ↦ subst IsWritable (sym e) writable_200
   | inr h0 ↦ elim (sent_case status 400 _ h0) [

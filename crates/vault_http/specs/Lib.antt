@@ -15,4 +15,5 @@ pub mod Known
 pub mod Starts
 pub mod Reading
 pub mod RoundTrip
+pub mod Dates
 pub mod RoundTripRequest

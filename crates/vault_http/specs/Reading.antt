@@ -7,8 +7,10 @@ use Rattle.vault_http.specs.declared.http_fault.HttpFault.{HttpFault}
 use Rattle.vault_http.specs.declared.http_fault.HttpFault.TheVariants.{ReadFailed, TooLong, OutOfMemory}
 use Rattle.keep_device.specs.Failures.{one_more}
 use Rattle.httparse.specs.Grammar.{HasNoRequest, HasNoResponse}
+use Rattle.vault_http.specs.declared.dated_reply.DatedReply.{DatedReply}
 use Rattle.vault_http.specs.declared.reply.Reply.{Reply}
 use Rattle.vault_http.specs.declared.request.Request.{Request}
+use Rattle.vault_http.specs.Dates.{IsDatedReply}
 use Rattle.vault_http.specs.Holding.{Holds, HandedNone}
 use Rattle.vault_http.specs.Messages.{IsReply, IsRequest}
 use Rattle.keep_device.specs.declared.limits.TheConstants.{MOST_READS}
@@ -34,15 +36,21 @@ Settles HasNoHead IsAnswer bytes left before now (Err ReadFailed) = Unit {0}
 Settles HasNoHead IsAnswer bytes left before now (Err TooLong) = IsAnswer bytes (Err TooLong) ⊎ IsLate HasNoHead IsAnswer bytes left before now
 Settles HasNoHead IsAnswer bytes left before now answer = IsAnswer bytes answer
 
--- the same of a reply and of a request, of at most so many bytes
+-- the same of a reply, of one with its date, and of a request, of at most so many bytes
 abbrev pub SettlesReply : ℕ → List ℕ → Option (List ℕ) → ℕ → ℕ → Result Reply HttpFault → Type 0
 SettlesReply max bytes left before now answer = Settles HasNoResponse (IsReply max) bytes left before now answer
+
+abbrev pub SettlesDated : ℕ → List ℕ → Option (List ℕ) → ℕ → ℕ → Result DatedReply HttpFault → Type 0
+SettlesDated max bytes left before now answer = Settles HasNoResponse (IsDatedReply max) bytes left before now answer
 
 abbrev pub SettlesRequest : ℕ → List ℕ → Option (List ℕ) → ℕ → ℕ → Result Request HttpFault → Type 0
 SettlesRequest max bytes left before now answer = Settles HasNoRequest (IsRequest max) bytes left before now answer
 
 abbrev pub HandedNoReply : ℕ → Option (List ℕ) → Option (List ℕ) → Type 0
 HandedNoReply max before now = HandedNone HasNoResponse (IsReply max) before now
+
+abbrev pub HandedNoDated : ℕ → Option (List ℕ) → Option (List ℕ) → Type 0
+HandedNoDated max before now = HandedNone HasNoResponse (IsDatedReply max) before now
 
 abbrev pub HandedNoRequest : ℕ → Option (List ℕ) → Option (List ℕ) → Type 0
 HandedNoRequest max before now = HandedNone HasNoRequest (IsRequest max) before now

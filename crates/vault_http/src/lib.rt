@@ -8,6 +8,8 @@
 
 mod body;
 mod chunk;
+mod date;
+mod dated_reply;
 mod empty_line;
 mod first_bytes;
 mod found_head;
@@ -25,6 +27,7 @@ mod round_trip;
 mod verdict;
 mod writing;
 
+pub use dated_reply::DatedReply;
 pub use found_head::MOST_FIELDS;
 pub use http_fault::HttpFault;
 pub use keep_device::{
@@ -32,8 +35,10 @@ pub use keep_device::{
     Source, read_all, write_all,
 };
 pub use known::{MOST_MESSAGE, SMALL_HEAD};
-pub use receive::{read_reply, read_request};
+pub use receive::{read_dated_reply, read_reply, read_request};
 pub use reply::Reply;
 pub use request::Request;
-pub use round_trip::{held_is_read, http_limits_law, reply_reads_back, request_reads_back};
+pub use round_trip::{
+    held_is_read, http_limits_law, reply_reads_back, request_reads_back, undated_reply_reads_back,
+};
 pub use writing::{SendFault, write_reply, write_request};

@@ -5,12 +5,12 @@ ghost use Rattle.keep_device.specs.Whole.{MakesAtMost};
 ghost use Rattle.vault_http.specs.declared.http_fault.HttpFault.TheVariants as faults;
 ghost use Rattle.vault_http.specs.Holding.{HandedNone};
 ghost use Rattle.vault_http.specs.Known.{IsCurrent, IsKnown};
-ghost use Rattle.vault_http.specs.Reading.{Settles, SettlesReply, SettlesRequest, HandedNoReply, HandedNoRequest, CountsMessage};
+ghost use Rattle.vault_http.specs.Reading.{Settles, SettlesDated, SettlesReply, SettlesRequest, HandedNoDated, HandedNoReply, HandedNoRequest, CountsMessage};
 
 use crate::known::{Known, go_on, look};
 use crate::message::Message;
 use crate::verdict::Verdict;
-use crate::{HttpFault, Reply, Request, Source};
+use crate::{DatedReply, HttpFault, Reply, Request, Source};
 use keep_device::{MOST_READS, MOST_ROOM, read_more};
 use std::alloc::Global;
 
@@ -33,6 +33,24 @@ pub fn read_reply<R: Source>(alloc: Global, reader: &mut R, max: usize) -> Resul
 
     // Any read may be the one that fails, so none is made but where more bytes are rightly waited for.
     ensures prompt { IsErrOf result faults.ReadFailed → HandedNoReply max (R.remaining reader.old) (R.remaining reader.new) }
+{
+    read_message(alloc, reader, max)
+}
+
+/// Reads one reply as [`read_reply`] does, with what its field `Date` tells.
+pub fn read_dated_reply<R: Source>(
+    alloc: Global,
+    reader: &mut R,
+    max: usize,
+) -> Result<DatedReply, HttpFault>
+    ensures answer { IfSome (R.remaining reader.old) (λ bytes.
+        SettlesDated max bytes (R.remaining reader.new) (R.reads_left reader.old) (R.reads_left reader.new) result) }
+    ensures reads { MakesAtMost MOST_READS (R.remaining reader.old) (R.reads_made reader.old) (R.reads_made reader.new) }
+    ensures written { Keeps (R.written reader.old) (R.written reader.new) }
+    ensures count { CountsMessage result (R.failed_calls reader.old) (R.failed_calls reader.new) }
+
+    // Any read may be the one that fails, so none is made but where more bytes are rightly waited for.
+    ensures prompt { IsErrOf result faults.ReadFailed → HandedNoDated max (R.remaining reader.old) (R.remaining reader.new) }
 {
     read_message(alloc, reader, max)
 }

@@ -41,7 +41,7 @@ impl Message for Reply {
 }
 
 /// The reply without its body, where its head was found and does not refuse it.
-fn found_reply(
+pub(crate) fn found_reply(
     alloc: Global,
     bytes: &[u8],
     max: usize,

@@ -2,6 +2,7 @@ ghost use Rattle.std.specs.Prelude.{◌≡◌};
 ghost use Rattle.vault_http.specs.declared.found_head.TheConstants.{MOST_FIELDS};
 ghost use Rattle.vault_http.specs.declared.known.TheConstants.{MOST_MESSAGE, SMALL_HEAD};
 ghost use Rattle.httparse.specs.Grammar.{HasNoRequest, HasNoResponse};
+ghost use Rattle.vault_http.specs.Dates.{ReadsBackUndated};
 ghost use Rattle.vault_http.specs.Messages.{IsReply, IsRequest};
 ghost use Rattle.vault_http.specs.Reading.{HeldIsRead};
 ghost use Rattle.vault_http.specs.RoundTrip.{ReadsBackReply};
@@ -14,6 +15,14 @@ use crate::{Reply, Request};
 /// status 200, 400, 403, 404, 405, 429, 500 or 503 and a body of less than 10^15 bytes, and does nothing.
 pub fn reply_reads_back(reply: &Reply)
     ensures { ReadsBackReply reply.now }
+{
+    let _ = reply;
+}
+
+/// The law that [`crate::read_dated_reply`] reads such a reply back without a date: [`crate::write_reply`] writes none. It does
+/// nothing.
+pub fn undated_reply_reads_back(reply: &Reply)
+    ensures { ReadsBackUndated reply.now }
 {
     let _ = reply;
 }

@@ -9,7 +9,7 @@ use Rattle.serde_json.specs.Data.{Num, unsigned, negative, float, Data, null, bo
 use Rattle.serde_json.specs.Find.{get}
 use Rattle.vault_json.specs.Answer.{or_bad}
 use Rattle.vault_json.specs.declared.field.Field.{Field}
-use Rattle.vault_json.specs.declared.field.Field.TheVariants.{Auth, CreationTime, Data as DataField, ExplicitMaxTtl, Id, Increment, IssueTime, LeaseDuration, LeaseId, Orphan, Period, Renewable, Ttl}
+use Rattle.vault_json.specs.declared.field.Field.TheVariants.{Auth, CreationTime, Data as DataField, ExpireTime, ExplicitMaxTtl, Id, Increment, IssueTime, LeaseDuration, LeaseId, Orphan, Period, Renewable, Ttl}
 use Rattle.vault_json.specs.declared.fault.ReplyFault.{ReplyFault}
 use Rattle.vault_json.specs.declared.fault.ReplyFault.TheVariants.{Missing}
 
@@ -18,6 +18,7 @@ unfoldable pub key_of : Field → List ℕ
 key_of Auth = codes "auth"
 key_of CreationTime = codes "creation_time"
 key_of DataField = codes "data"
+key_of ExpireTime = codes "expire_time"
 key_of ExplicitMaxTtl = codes "explicit_max_ttl"
 key_of Id = codes "id"
 key_of Increment = codes "increment"

@@ -1,13 +1,13 @@
 -- The replies to a lookup.
 -- Vault, HTTP API: `auth/token`, "Lookup a token (self)"; `sys/leases`, "Read lease".
-use Rattle.std.specs.Prelude.{ℕ, List, false, Result, Ok}
+use Rattle.std.specs.Prelude.{ℕ, ◌==◌, List, Bool, false, ◌&&◌, is_none, Result, Ok}
 use Rattle.serde_json.specs.Data.{Data}
 use Rattle.serde_json.specs.Find.{as_bool, as_str}
 use Rattle.vault_json.specs.Answer.{◌>>=◌}
 use Rattle.vault_json.specs.Body.{reply_of}
 use Rattle.vault_json.specs.Duration.{duration_of}
-use Rattle.vault_json.specs.Field.{required, optional, object_of, timestamp_of, date_of}
-use Rattle.vault_json.specs.declared.field.Field.TheVariants.{CreationTime, Data as DataField, ExplicitMaxTtl, Id, IssueTime, Orphan, Period, Renewable, Ttl}
+use Rattle.vault_json.specs.Field.{member_of, required, optional, object_of, timestamp_of, date_of}
+use Rattle.vault_json.specs.declared.field.Field.TheVariants.{CreationTime, Data as DataField, ExpireTime, ExplicitMaxTtl, Id, IssueTime, Orphan, Period, Renewable, Ttl}
 use Rattle.vault_json.specs.declared.fault.ReplyFault.{ReplyFault}
 use Rattle.vault_json.specs.declared.lookup.Lookup.{Lookup}
 use Rattle.vault_json.specs.declared.lookup.Lookup.TheVariants.{Token, Lease}
@@ -27,6 +27,19 @@ looked_self_in body = do
 -- Body and answer, of the reply to a token's lookup
 unfoldable pub lookup_self_answer : List ℕ → Result Lookup ReplyFault
 lookup_self_answer bytes = reply_of bytes >>= looked_self_in
+
+-- whether an object says of a token, in its object `data`, that it never ends: 0 seconds are left of it, and no moment at
+-- which it ends is told. Vault tells an ended token's lookup with 403, so nothing but a token without an end, as its first
+-- root token, is told so.
+unfoldable pub never_ends_in : Data → Result Bool ReplyFault
+never_ends_in body = do
+  about ← required DataField object_of body
+  ttl ← required Ttl duration_of about
+  Ok (ttl == 0 && is_none (member_of ExpireTime about))
+
+-- Body and answer, of the reply to a token's lookup
+unfoldable pub never_ends_answer : List ℕ → Result Bool ReplyFault
+never_ends_answer bytes = reply_of bytes >>= never_ends_in
 
 -- what an object says of a lease, in its object `data`, or at its top level where it has none
 unfoldable pub looked_lease_in : Data → Result Lookup ReplyFault

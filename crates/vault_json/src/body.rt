@@ -1,6 +1,8 @@
-ghost use Rattle.std.specs.Prelude.{◌<◌};
+ghost use Rattle.std.specs.Prelude.{◌≡◌, IfErr, IfOk, Ok, Err};
+ghost use Rattle.serde_json.specs.Errors.{IsMemory};
 ghost use Rattle.serde_json.specs.View.{view};
 ghost use Rattle.vault_json.specs.Answer.{Gives};
+ghost use Rattle.vault_json.specs.declared.fault.ReplyFault.TheVariants as faults;
 ghost use Rattle.vault_json.specs.Body.{body_of, reply_of, tree_of, or_not_json, unwrapped};
 
 use crate::fault::ReplyFault;
@@ -28,7 +30,16 @@ fn tree(alloc: Global, bytes: &[u8]) -> Result<Value, ReplyFault>
     let Ok(text) = std::str::from_utf8(bytes) else {
         return Err(ReplyFault::NotJson);
     };
-    match Value::from_str(alloc, text) {
+    judged(Value::from_str(alloc, text))
+}
+
+/// The tree that serde_json read; and why there is none: memory ran out only where serde_json says so.
+fn judged(read: serde_json::Result<Value>) -> Result<Value, ReplyFault>
+    ensures tree { IfOk read (λ value. result ≡ Ok value) }
+    ensures memory { IfErr read (λ error. IsMemory error → result ≡ Err faults.OutOfMemory) }
+    ensures malformed { IfErr read (λ error. ¬ IsMemory error → result ≡ Err faults.NotJson) }
+{
+    match read {
         Ok(value) => Ok(value),
         Err(error) if error.is_memory() => Err(ReplyFault::OutOfMemory),
         Err(_) => Err(ReplyFault::NotJson),

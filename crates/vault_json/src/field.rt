@@ -21,6 +21,8 @@ pub enum Field {
     CreationTime,
     /// `data`
     Data,
+    /// `expire_time`
+    ExpireTime,
     /// `explicit_max_ttl`
     ExplicitMaxTtl,
     /// `id`
@@ -53,6 +55,7 @@ impl Field {
             Field::Auth => "auth",
             Field::CreationTime => "creation_time",
             Field::Data => "data",
+            Field::ExpireTime => "expire_time",
             Field::ExplicitMaxTtl => "explicit_max_ttl",
             Field::Id => "id",
             Field::Increment => "increment",

@@ -1,11 +1,11 @@
 ghost use Rattle.serde_json.specs.View.{view};
 ghost use Rattle.vault_json.specs.Answer.{Gives};
-ghost use Rattle.vault_json.specs.Lookup.{looked_self_in, looked_lease_in, lookup_self_answer, lookup_lease_answer};
+ghost use Rattle.vault_json.specs.Lookup.{looked_self_in, looked_lease_in, never_ends_in, lookup_self_answer, lookup_lease_answer, never_ends_answer};
 
 use crate::body::reply;
 use crate::fault::ReplyFault;
 use crate::field::{
-    Field, date, flag, object, object_or_itself, span, span_or_zero, text, timestamp,
+    Field, date, flag, member, object, object_or_itself, span, span_or_zero, text, timestamp,
 };
 use keep_moment::{Moment, Span, Text};
 use serde_json::Value;
@@ -90,6 +90,18 @@ pub fn read_lookup_self(alloc: Global, bytes: &[u8]) -> Result<Lookup, ReplyFaul
     looked_self(&reply(alloc, bytes)?)
 }
 
+/// Whether the body of a reply to `auth/token/lookup-self` says that the token never ends: its `ttl` is 0, and it has no
+/// `expire_time`, or a null one (Vault, HTTP API `auth/token`, "Lookup a token (self)"; a root token is such a one).
+///
+/// The fields are, in the object `data`, `ttl` and `expire_time`, of whatever form this is. Faults come in the order NotJson,
+/// Wrapped, then Missing or BadField of `data`, then of `ttl`.
+#[tactic(auto, unfolding(crate::specs::Lookup::never_ends_answer))]
+pub fn never_ends(alloc: Global, bytes: &[u8]) -> Result<bool, ReplyFault>
+    ensures { Gives (λ x. x) result (never_ends_answer bytes.now) }
+{
+    has_no_end(&reply(alloc, bytes)?)
+}
+
 /// Reads the body of a reply to `sys/leases/lookup` (Vault, HTTP API `sys/leases`, "Read lease").
 ///
 /// The fields are, in the object `data`, or at the top level where `data` is absent or null, `id`, `issue_time` (a text
@@ -138,4 +150,13 @@ fn looked_self(body: &Value) -> Result<Lookup, ReplyFault>
         renewable,
         period,
     })
+}
+
+#[tactic(auto, unfolding(crate::specs::Lookup::never_ends_in))]
+fn has_no_end(body: &Value) -> Result<bool, ReplyFault>
+    ensures { Gives (λ x. x) result (never_ends_in (view body.now)) }
+{
+    let about = object(body, Field::Data)?;
+    let left = span(about, Field::Ttl)?;
+    Ok(left == 0 && member(about, Field::ExpireTime).is_none())
 }

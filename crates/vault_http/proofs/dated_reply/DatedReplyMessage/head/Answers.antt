@@ -1,0 +1,9 @@
+-- A head that is refused stays so however the bytes go on.
+use Rattle.std.proofs.Common.{subst}
+use Rattle.httparse.specs.Spans.{ResponseOverflows}
+use Rattle.vault_http.proofs.MessageLemmas.{refused_reply}
+use Rattle.vault_http.proofs.dated_reply.DatedReplyMessage.head.Goals as goal
+use Rattle.vault_http.specs.declared.found_head.TheConstants.{MOST_FIELDS}
+
+pub returns-in-Refused : goal.returns-in-Refused
+returns-in-Refused c = λ more. refused_reply c.args.max c.args.bytes.now more (subst (ResponseOverflows MOST_FIELDS) c.front_of.ensures c.in-Refused.ensures)
