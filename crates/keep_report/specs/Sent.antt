@@ -1,8 +1,10 @@
 -- Sent: what a device was sent between two of its states.
 use Rattle.std.specs.Prelude.{◌≡◌, ℕ, Bool, IsTrue, ◌⊎◌, List, Option, Result, Ok, Err}
 use Rattle.std.specs.Io.KnownBytes.{Appends, Keeps}
-use Rattle.keep_device.specs.Failures.{HasFailed}
+use Rattle.keep_device.specs.Failures.{HasFailed, one_more}
 use Rattle.keep_device.specs.Front.{AppendsFront}
+use Rattle.keep_device.specs.declared.fault.SinkFault.{SinkFault}
+use Rattle.keep_device.specs.declared.fault.SinkFault.TheVariants as sink
 use Rattle.keep_report.specs.declared.stop.Stop.{Stop}
 use Rattle.keep_report.specs.declared.stop.Stop.TheVariants as stops
 
@@ -35,3 +37,10 @@ Sends (Ok u) text out = IsAll text out
 Sends (Err stops.Write) text out = HasFailed out.failed_before out.failed_after × AppendsFront out.old out.new text
 Sends (Err stops.Memory) text out = IsTrue out.is_in_memory × AppendsFront out.old out.new text
 Sends (Err stop) text out = ⊥
+
+-- a piece that was written whole, or why only a front of it was: by the bytes before and after, where they are known, by the
+-- counts of failures, and by whether the device keeps the bytes in memory
+abbrev pub Puts : Result (Unit {0}) SinkFault → List ℕ → Option (List ℕ) → Option (List ℕ) → ℕ → ℕ → Bool → Type 0
+Puts (Ok u) piece old new before after in_memory = Appends old new piece × (after ≡ before)
+Puts (Err sink.Failed) piece old new before after in_memory = AppendsFront old new piece × (after ≡ one_more before)
+Puts (Err sink.OutOfMemory) piece old new before after in_memory = AppendsFront old new piece × (after ≡ before) × IsTrue in_memory

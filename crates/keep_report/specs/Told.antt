@@ -11,13 +11,11 @@ use Rattle.keep_report.specs.declared.stop.Stop.TheVariants as stops
 use Rattle.keep_report.specs.FaultLine.{fault_line}
 use Rattle.keep_report.specs.Sent.{GaveUp, IsUntouched, Sent}
 
--- the line, and nothing else, was written and flushed; or nothing was, where memory for the line was wanting; or, where the
--- device gave up, a front of the line was written
+-- the line, and nothing else, was written and flushed; or, where the device gave up, a front of the line was written
 abbrev pub Reports : List ℕ → Sent → Type 0
 Reports line errors =
     (Appends errors.old errors.new line × (IsTrue errors.flushed ⊎ GaveUp errors))
-    ⊎ (IsUntouched errors
-    ⊎ (AppendsFront errors.old errors.new line × GaveUp errors))
+    ⊎ (AppendsFront errors.old errors.new line × GaveUp errors)
 
 -- what a run of this program over the bytes of an inventory has told, by exit, where it writes and reads nothing besides
 abbrev pub Told : List ℕ → List ℕ → Exit → Sent → Type 0

@@ -1,82 +1,76 @@
-ghost use Rattle.std.specs.Prelude.{◌≡◌, ◌∷◌, ◌++◌, IfOk, OnOk, decimal};
+ghost use Rattle.std.specs.Prelude.{◌≡◌, ◌∷◌, ◌++◌, decimal};
 ghost use Rattle.keep_report.specs.FaultLine.{fault_line, inventory_words, moments_words, place_word, stop_words, tree_word};
+ghost use Rattle.keep_report.specs.Sent.{Puts};
 
+use crate::putting::put;
 use crate::stop::Stop;
+use itoa::Buffer;
+use keep_device::{Sink, SinkFault};
 use keep_inventory::InvFault;
-use keep_moment::Text;
 use keep_rule::WakeFault;
 use keep_tree::TreeFault;
-use std::alloc::{AllocError, Global};
 
-/// The fault line of a program that stopped, with its line feed.
-#[tactic(auto, unfolding(crate::specs::FaultLine::fault_line))]
-pub(crate) fn fault_line(alloc: Global, program: &str, stop: &Stop) -> Result<Text, AllocError>
-    ensures { IfOk result (λ line. line ≡ fault_line program.now stop.now) }
+/// Writes the fault line of a program that stopped, with its line feed, piece by piece, so that it wants no memory.
+#[tactic(auto, using(crate::proofs::Pieces::piece_cut, crate::proofs::Pieces::piece_more), unfolding(crate::specs::FaultLine::fault_line))]
+pub(crate) fn put_line<E: Sink>(errors: &mut E, program: &str, stop: &Stop) -> Result<(), SinkFault>
+    ensures { Puts result (fault_line program.now stop.now) (E.written errors.old) (E.written errors.new) (E.failed_calls errors.old) (E.failed_calls errors.new) E.is_in_memory }
 {
-    let mut line = Vec::new(alloc);
-    line.extend_from_slice(program.as_bytes())?;
-    line.extend_from_slice(b": ")?;
-    push_stop(alloc, stop, &mut line)?;
-    line.push(b'\n')?;
-    Ok(Text::from_vec(line))
+    put(errors, program.as_bytes())?;
+    put(errors, b": ")?;
+    put_stop(errors, stop)?;
+    put(errors, b"\n")
 }
 
-/// Appends what is said of a stop.
-#[tactic(auto, unfolding(crate::specs::FaultLine::stop_words))]
-fn push_stop(alloc: Global, stop: &Stop, line: &mut Vec<u8>) -> Result<(), AllocError>
-    ensures { OnOk result (line.new.items ≡ line.old.items ++ stop_words stop.now) }
+/// Writes what is said of a stop.
+#[tactic(auto, using(crate::proofs::Pieces::piece_named), unfolding(crate::specs::FaultLine::stop_words))]
+fn put_stop<E: Sink>(errors: &mut E, stop: &Stop) -> Result<(), SinkFault>
+    ensures { Puts result (stop_words stop.now) (E.written errors.old) (E.written errors.new) (E.failed_calls errors.old) (E.failed_calls errors.new) E.is_in_memory }
 {
     match stop {
-        Stop::Inventory(fault) => push_inventory(alloc, *fault, line)?,
-        Stop::Moments(fault) => push_moments(alloc, *fault, line)?,
-        Stop::FaultWord(position) => push_number(alloc, b"fault word ", *position, line)?,
-        Stop::TooLong => line.extend_from_slice(b"too long")?,
-        Stop::Read => line.extend_from_slice(b"read")?,
-        Stop::Write => line.extend_from_slice(b"write")?,
-        Stop::Broker(name) => {
-            line.extend_from_slice(b"broker ")?;
-            line.extend_from_slice(name.list())?;
-        }
-        Stop::Line(number) => push_number(alloc, b"line ", *number, line)?,
-        Stop::Memory => line.extend_from_slice(b"memory")?,
+        Stop::Inventory(fault) => put_inventory(errors, *fault),
+        Stop::Moments(fault) => put_moments(errors, *fault),
+        Stop::FaultWord(position) => put_number(errors, b"fault word ", *position),
+        Stop::TooLong => put(errors, b"too long"),
+        Stop::Read => put(errors, b"read"),
+        Stop::Write => put(errors, b"write"),
+        Stop::Broker(name) => put_both(errors, b"broker ", name.list()),
+        Stop::Line(number) => put_number(errors, b"line ", *number),
+        Stop::Memory => put(errors, b"memory"),
     }
-    Ok(())
 }
 
-/// Appends the fault of a text that is no inventory: the entry by its index, `-` for the top level.
-#[tactic(auto, unfolding(crate::specs::FaultLine::inventory_words))]
-fn push_inventory(alloc: Global, fault: InvFault, line: &mut Vec<u8>) -> Result<(), AllocError>
-    ensures { OnOk result (line.new.items ≡ line.old.items ++ inventory_words fault) }
+/// Writes the fault of a text that is no inventory: the entry by its index, `-` for the top level.
+#[tactic(auto, using(crate::proofs::Pieces::piece_named), unfolding(crate::specs::FaultLine::inventory_words))]
+fn put_inventory<E: Sink>(errors: &mut E, fault: InvFault) -> Result<(), SinkFault>
+    ensures { Puts result (inventory_words fault) (E.written errors.old) (E.written errors.new) (E.failed_calls errors.old) (E.failed_calls errors.new) E.is_in_memory }
 {
     match fault {
-        InvFault::NotToml => line.extend_from_slice(b"inventory: not-toml"),
+        InvFault::NotToml => put(errors, b"inventory: not-toml"),
         InvFault::MissingKey(entry, key) => {
-            let key = key.text();
-            push_word(alloc, b"inventory: missing-key ", Some(entry), key, line)
+            put_word(errors, b"inventory: missing-key ", Some(entry), key.text())
         }
-        InvFault::UnknownKey(place) => push_where(alloc, b"inventory: unknown-key ", place, line),
+        InvFault::UnknownKey(place) => put_where(errors, b"inventory: unknown-key ", place),
         InvFault::BadValue(place, key) => {
-            let key = key.text();
-            push_word(alloc, b"inventory: bad-value ", place, key, line)
+            put_word(errors, b"inventory: bad-value ", place, key.text())
         }
         InvFault::Tree(entry, fault) => {
             let fault = tree_word(fault);
-            push_word(alloc, b"inventory: tree ", Some(entry), fault, line)
+            put_word(errors, b"inventory: tree ", Some(entry), fault)
         }
-        InvFault::OutOfMemory => line.extend_from_slice(b"memory"),
+        InvFault::OutOfMemory => put(errors, b"memory"),
     }
 }
 
-/// Appends the first of the moments at fault, counted from 1.
-#[tactic(auto, unfolding(crate::specs::FaultLine::moments_words))]
-fn push_moments(alloc: Global, fault: WakeFault, line: &mut Vec<u8>) -> Result<(), AllocError>
-    ensures { OnOk result (line.new.items ≡ line.old.items ++ moments_words fault) }
+/// Writes the first of the moments at fault, counted from 1.
+#[tactic(auto, using(crate::proofs::Pieces::piece_named), unfolding(crate::specs::FaultLine::moments_words))]
+fn put_moments<E: Sink>(errors: &mut E, fault: WakeFault) -> Result<(), SinkFault>
+    ensures { Puts result (moments_words fault) (E.written errors.old) (E.written errors.new) (E.failed_calls errors.old) (E.failed_calls errors.new) E.is_in_memory }
 {
     match fault {
-        WakeFault::BeforeStart(n) => push_number(alloc, b"moments: before-start ", n, line),
-        WakeFault::Unordered(n) => push_number(alloc, b"moments: unordered ", n, line),
-        WakeFault::BadIndex(n) => push_number(alloc, b"moments: bad-index ", n, line),
-        WakeFault::OutOfMemory => line.extend_from_slice(b"memory"),
+        WakeFault::BeforeStart(n) => put_number(errors, b"moments: before-start ", n),
+        WakeFault::Unordered(n) => put_number(errors, b"moments: unordered ", n),
+        WakeFault::BadIndex(n) => put_number(errors, b"moments: bad-index ", n),
+        WakeFault::OutOfMemory => put(errors, b"memory"),
     }
 }
 
@@ -98,59 +92,57 @@ fn tree_word(fault: TreeFault) -> &'static str
     }
 }
 
-/// Appends words and a number.
-fn push_number(
-    alloc: Global,
-    words: &[u8],
-    number: u64,
-    line: &mut Vec<u8>,
-) -> Result<(), AllocError>
-    ensures { OnOk result (line.new.items ≡ line.old.items ++ (words.now ++ decimal number)) }
+/// Writes words and a number.
+fn put_number<E: Sink>(errors: &mut E, words: &[u8], number: u64) -> Result<(), SinkFault>
+    ensures { Puts result (words.now ++ decimal number) (E.written errors.old) (E.written errors.new) (E.failed_calls errors.old) (E.failed_calls errors.new) E.is_in_memory }
 {
-    let number = number.to_string(alloc)?;
-    line.extend_from_slice(words)?;
-    line.extend_from_slice(number.as_bytes())
+    let mut digits = Buffer::new();
+    put_both(errors, words, digits.format(number).as_bytes())
 }
 
-/// Appends words, an entry's index, a blank and a word.
-fn push_word(
-    alloc: Global,
+/// Writes words, an entry's index, a blank and a word.
+#[tactic(auto, using(crate::proofs::Pieces::piece_cut, crate::proofs::Pieces::piece_more))]
+fn put_word<E: Sink>(
+    errors: &mut E,
     words: &[u8],
     place: Option<u32>,
     word: &str,
-    line: &mut Vec<u8>,
-) -> Result<(), AllocError>
-    ensures { OnOk result (line.new.items ≡ line.old.items ++ (words.now ++ (place_word place ++ (32 ∷ word.now)))) }
+) -> Result<(), SinkFault>
+    ensures { Puts result (words.now ++ (place_word place ++ (32 ∷ word.now))) (E.written errors.old) (E.written errors.new) (E.failed_calls errors.old) (E.failed_calls errors.new) E.is_in_memory }
 {
-    line.extend_from_slice(words)?;
-    push_place(alloc, place, line)?;
-    line.push(b' ')?;
-    line.extend_from_slice(word.as_bytes())
+    put(errors, words)?;
+    put_place(errors, place)?;
+    put_both(errors, b" ", word.as_bytes())
 }
 
-/// Appends words and an entry's index.
-fn push_where(
-    alloc: Global,
-    words: &[u8],
-    place: Option<u32>,
-    line: &mut Vec<u8>,
-) -> Result<(), AllocError>
-    ensures { OnOk result (line.new.items ≡ line.old.items ++ (words.now ++ place_word place)) }
+/// Writes words and an entry's index.
+#[tactic(auto, using(crate::proofs::Pieces::piece_cut, crate::proofs::Pieces::piece_more))]
+fn put_where<E: Sink>(errors: &mut E, words: &[u8], place: Option<u32>) -> Result<(), SinkFault>
+    ensures { Puts result (words.now ++ place_word place) (E.written errors.old) (E.written errors.new) (E.failed_calls errors.old) (E.failed_calls errors.new) E.is_in_memory }
 {
-    line.extend_from_slice(words)?;
-    push_place(alloc, place, line)
+    put(errors, words)?;
+    put_place(errors, place)
 }
 
-/// Appends an entry's index, `-` for the top level.
+/// Writes an entry's index, `-` for the top level.
 #[tactic(auto, unfolding(crate::specs::FaultLine::place_word))]
-fn push_place(alloc: Global, place: Option<u32>, line: &mut Vec<u8>) -> Result<(), AllocError>
-    ensures { OnOk result (line.new.items ≡ line.old.items ++ place_word place) }
+fn put_place<E: Sink>(errors: &mut E, place: Option<u32>) -> Result<(), SinkFault>
+    ensures { Puts result (place_word place) (E.written errors.old) (E.written errors.new) (E.failed_calls errors.old) (E.failed_calls errors.new) E.is_in_memory }
 {
     match place {
-        None => line.extend_from_slice(b"-"),
+        None => put(errors, b"-"),
         Some(entry) => {
-            let entry = entry.to_string(alloc)?;
-            line.extend_from_slice(entry.as_bytes())
+            let mut digits = Buffer::new();
+            put(errors, digits.format(entry).as_bytes())
         }
     }
+}
+
+/// Writes two pieces, one after the other.
+#[tactic(auto, using(crate::proofs::Pieces::piece_cut, crate::proofs::Pieces::piece_more))]
+fn put_both<E: Sink>(errors: &mut E, first: &[u8], second: &[u8]) -> Result<(), SinkFault>
+    ensures { Puts result (first.now ++ second.now) (E.written errors.old) (E.written errors.new) (E.failed_calls errors.old) (E.failed_calls errors.new) E.is_in_memory }
+{
+    put(errors, first)?;
+    put(errors, second)
 }

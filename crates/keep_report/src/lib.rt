@@ -8,6 +8,7 @@
 
 mod exit;
 mod fault_line;
+mod putting;
 mod sending;
 mod sent;
 mod stop;

@@ -5,14 +5,13 @@ ghost use Rattle.keep_report.specs.Told.{Reports};
 ghost use Rattle.keep_report.specs.declared.stop.Stop.TheVariants.{Memory};
 
 use crate::exit::Exit;
-use crate::fault_line::fault_line;
+use crate::fault_line::put_line;
 use crate::sent::Watched;
-use crate::telling::tell;
 use keep_device::{InputFault, Sink, SinkFault};
 use keep_inventory::InvFault;
 use keep_moment::Name;
 use keep_rule::WakeFault;
-use std::alloc::{AllocError, AllocFailed, Global};
+use std::alloc::{AllocError, AllocFailed};
 
 /// Why a run stopped before its end.
 #[derive(Debug, Drop)]
@@ -112,14 +111,13 @@ impl Stop {
     }
 
     /// Writes the fault line with the program's name in front, flushes, and gives the exit, which a write that fails leaves
-    /// as it is.
-    pub fn report<F: Sink>(&self, alloc: Global, program: &str, errors: &mut F) -> Exit
+    /// as it is. It takes no memory: a run that was refused some tells of it all the same.
+    pub fn report<F: Sink>(&self, program: &str, errors: &mut F) -> Exit
         ensures exit { result ≡ exit_of self.now }
         ensures told { Reports (fault_line program.now self.now) (⟦<F as Watched>⟧.sent errors.old errors.new) }
     {
-        if let Ok(line) = fault_line(alloc, program, self) {
-            tell(errors, line.list());
-        }
+        let _ = put_line(errors, program, self);
+        let _ = errors.flush();
         self.exit()
     }
 }

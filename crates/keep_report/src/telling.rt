@@ -1,12 +1,13 @@
 ghost use Rattle.keep_report.specs.Told.{Reports};
 
+use crate::putting::put;
 use crate::sent::Watched;
-use keep_device::{Sink, write_all};
+use keep_device::Sink;
 
 /// Writes a line for faults and flushes. A write that fails is passed over: there is nowhere left to tell of it.
 pub fn tell<E: Sink>(errors: &mut E, line: &[u8])
     ensures { Reports line.now (⟦<E as Watched>⟧.sent errors.old errors.new) }
 {
-    let _ = write_all(errors, line);
+    let _ = put(errors, line);
     let _ = errors.flush();
 }

@@ -1,8 +1,17 @@
+use Rattle.keep_report.specs.Sent.{Sent}
 use Rattle.keep_report.proofs.Reporting.{reported}
 use Rattle.keep_report.proofs.telling.tell.Goals as goal
 
 pub returns : goal.returns
 returns g c =
-    reported c.args.line.now _ (g.E.Device.written c.write_all.new.sink) (g.E.Device.failed_calls c.write_all.new.sink) c.write_all.result c.flush.result
-    c.write_all.ensures.written c.write_all.ensures.front c.write_all.ensures.memory c.write_all.ensures.count c.flush.ensures.bytes
-    c.flush.ensures.flushed c.flush.ensures.memory c.flush.ensures.count
+    let errors : Sent = record {
+      old = g.E.Device.written c.args.errors.now;
+      new = g.E.Device.written c.flush.new.self;
+      failed_before = g.E.Device.failed_calls c.args.errors.now;
+      failed_after = g.E.Device.failed_calls c.flush.new.self;
+      flushed_before = g.E.Device.is_flushed c.args.errors.now;
+      flushed = g.E.Device.is_flushed c.flush.new.self;
+      is_in_memory = g.E.Device.is_in_memory;
+    } in
+    reported c.args.line.now errors (g.E.Device.written c.put.new.errors) (g.E.Device.failed_calls c.put.new.errors) c.put.result c.flush.result
+    c.put.ensures c.flush.ensures.bytes c.flush.ensures.flushed c.flush.ensures.memory c.flush.ensures.count
