@@ -1,5 +1,5 @@
 -- Of which row an answer of the broker speaks: so no reply to a renewal is longer than is read.
-use Rattle.std.proofs.Common.{◌≡◌, ℕ, ◌<◌, ◌≤◌, ◌^◌, ◌⊎◌, inl, inr, ◌-◌, Bool, true, false, cond, List, [], ◌∷◌, length, bytes_eq, ◌&&◌, refl, sym, subst, ap, ◌∙◌, arith, Option, Some, None, Result, Ok, Err, if◌then◌else◌, IsUtf8}
+use Rattle.std.proofs.Common.{◌≡◌, ℕ, ◌<◌, ◌≤◌, ◌^◌, ◌⊎◌, inl, inr, Bool, true, false, cond, List, [], ◌∷◌, length, bytes_eq, ◌&&◌, refl, sym, subst, ap, ◌∙◌, arith, Option, Some, None, Result, Ok, Err, if◌then◌else◌, IsUtf8}
 use Rattle.std.specs.Cmp.Lexicographic.{bytes_decides}
 use Rattle.std.specs.List.{find}
 use Rattle.keep_tree.specs.Push.{is_lease}
@@ -23,7 +23,6 @@ use Rattle.mini_broker.specs.Subject.{Subject, bearer, belongs, is_lease_with, l
 use Rattle.std.proofs.lemmas.Bool.{cond-true}
 use Rattle.std.proofs.lemmas.Str.{is_utf8-from_IsUtf8}
 use Rattle.std.specs.Str.{is_utf8}
-use Rattle.vault_http.specs.declared.reply.Reply.{Reply}
 use Rattle.vault_http.specs.declared.request.Request.{Request}
 use Rattle.vault_json.proofs.ReadBack.{lease_body_is_read}
 use Rattle.vault_json.specs.Request.{increment_answer}

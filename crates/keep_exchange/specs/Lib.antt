@@ -1,3 +1,7 @@
 pub mod Exchanges
 pub mod Requests
 pub mod Lookups
+pub mod Abreast
+pub mod Waits
+pub mod Lines
+pub mod Heard

@@ -1,4 +1,4 @@
-ghost use Rattle.std.specs.Prelude.{◌≡◌, ◌<◌, IfSome, length};
+ghost use Rattle.std.specs.Prelude.{◌≡◌, ◌≢◌, ◌<◌, IfSome, None, Ok, length};
 ghost use Rattle.keep_exchange.specs.Requests.{Asks, request_of};
 
 use crate::exchange::Exchange;
@@ -14,6 +14,7 @@ use vault_http::Reply;
 /// read. The only error is want of memory.
 ///
 /// Where the broker's table is known, the reply is that of the Broker step at `t`, and the table is as that step leaves it.
+/// Known or not, nothing but `None` comes of an exchange that has failed: no connection, no whole request, or a read that failed.
 pub fn ask<E: Exchange>(
     alloc: Global,
     exchange: &mut E,
@@ -25,7 +26,8 @@ pub fn ask<E: Exchange>(
 ) -> Result<Option<Reply>, AllocError>
     requires within { i < length forest.now.entries }
     requires credentials { length credentials.now ≡ length forest.now.entries }
-    ensures { IfSome (E.behind exchange.old) (λ old. Asks old t (request_of port credentials.now forest.now i) result (E.behind exchange.new)) }
+    ensures asked { IfSome (E.behind exchange.old) (λ old. Asks old t (request_of port credentials.now forest.now i) result (E.behind exchange.new)) }
+    ensures unanswered { result ≢ Ok None → E.failed_calls exchange.new ≡ E.failed_calls exchange.old }
 {
     let request = request_for(alloc, port, credentials, forest, i)?;
     match exchange.exchange(alloc, t, &request) {

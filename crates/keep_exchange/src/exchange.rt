@@ -25,6 +25,12 @@ pub trait Exchange: Device {
     fn port(&self) -> u16
         ensures { result ≡ host_port self.now };
 
+    /// A new event line begins: each connect, read and write may take as long as at first again.
+    fn begin_line(&mut self)
+        ensures behind { Self.behind self.new ≡ Self.behind self.old }
+        ensures count { Self.failed_calls self.new ≡ Self.failed_calls self.old }
+        ensures port { Self.host_port self.new ≡ Self.host_port self.old };
+
     /// Sends a request of at most 1 MiB, which is served at `t`, and reads the reply.
     ///
     /// Where the table is known the reply is that of the Broker step, and the table is as that step leaves it. A reply that

@@ -5,27 +5,37 @@
 //! (`specs/Requests.antt`) can be sent and whose replies can be read. Begin with `exchange`, then `memory` and `asking`.
 #![tactic(auto)]
 
+mod abreast;
 mod asking;
 mod exchange;
 mod fault;
+mod heard;
+mod line;
+mod link;
 mod looking;
 mod memory;
+mod memory_slice;
 mod over;
 mod patience;
 mod requests;
 mod self_served;
+mod sockets;
 mod sure;
 mod tcp;
 mod texts;
 mod unix;
+mod waits;
 
+pub use abreast::{Abreast, MOST_WIDTH, Waiting};
 pub use asking::ask;
 pub use exchange::{Exchange, can_carry};
 pub use fault::ExchangeFault;
+pub use heard::{Heard, Terms, hear_lookup, hear_renewal};
 pub use looking::look_up;
 pub use memory::MemoryExchange;
 pub use patience::PATIENCE;
 pub use requests::request_for;
 pub use self_served::SelfServed;
+pub use sockets::SocketSlices;
 pub use tcp::TcpExchange;
 pub use unix::UnixExchange;

@@ -1,4 +1,4 @@
-ghost use Rattle.std.specs.Prelude.{◌≡◌, ◌<◌, ◌≤◌, ◌≢◌, IfOk, IfSome, IsUtf8, Ok, true, length};
+ghost use Rattle.std.specs.Prelude.{◌≡◌, ◌<◌, ◌≤◌, ◌≢◌, IfOk, IfSome, IsUtf8, Ok, false, true, length};
 ghost use Rattle.keep_exchange.specs.Lookups.{LooksUp, lookup_in, looked, behind_if};
 ghost use Rattle.keep_exchange.specs.Requests.{lease_looked, lookup_of, token_looked};
 ghost use Rattle.keep_inventory.specs.Inventories.{IsSendable};
@@ -22,7 +22,8 @@ use vault_json::{Lookup, ReplyFault, lookup_body, read_lookup_lease, read_lookup
 /// none with status 200 that can be read, or it says what is not applied to this entry; the inventory is then as it was. The
 /// only error is want of memory. No lookup changes the number of entries.
 ///
-/// Where the broker's table is known, the reply is that of the Broker step, and the table is as that step leaves it.
+/// Where the broker's table is known, the reply is that of the Broker step, and the table is as that step leaves it. Known or
+/// not, nothing but `false` comes of an exchange that has failed: no connection, no whole request, or a read that failed.
 pub fn look_up<E: Exchange>(
     alloc: Global,
     exchange: &mut E,
@@ -34,6 +35,7 @@ pub fn look_up<E: Exchange>(
     requires { i < length inventory.old.forest.entries }
     ensures looked { IfSome (E.behind exchange.old) (λ old. LooksUp port old t inventory.old i result inventory.new (E.behind exchange.new)) }
     ensures unapplied { result ≢ Ok true → inventory.new ≡ inventory.old }
+    ensures unanswered { result ≢ Ok false → E.failed_calls exchange.new ≡ E.failed_calls exchange.old }
     ensures count { length inventory.new.forest.entries ≡ length inventory.old.forest.entries }
 {
     let request = lookup_for(alloc, port, inventory, i)?;
@@ -97,7 +99,7 @@ fn apply(
 }
 
 /// What the body of a reply says of an entry of that kind.
-fn lookup_in(alloc: Global, kind: Kind, body: &[u8]) -> Result<Lookup, ReplyFault>
+pub(crate) fn lookup_in(alloc: Global, kind: Kind, body: &[u8]) -> Result<Lookup, ReplyFault>
     ensures { Gives (λ x. x) result (lookup_in kind body.now) }
 {
     match kind {

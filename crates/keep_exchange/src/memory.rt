@@ -88,6 +88,8 @@ impl Exchange for MemoryExchange {
         8200
     }
 
+    fn begin_line(&mut self) {}
+
     fn exchange(
         &mut self,
         alloc: Global,

@@ -3,10 +3,11 @@ ghost use Rattle.keep_exchange.specs.Exchanges.{CountsExchange};
 ghost use Rattle.vault_http.specs.RoundTripRequest.{IsWritable};
 
 use crate::fault::ExchangeFault;
+use crate::line::carry;
 use crate::patience::{Patience, Watched};
 use std::alloc::Global;
 use std::io::{Read, Write};
-use vault_http::{Counted, HttpFault, MOST_MESSAGE, Reply, Request, read_reply, write_request};
+use vault_http::{Counted, HttpFault, Reply, Request};
 
 /// Writes the request and reads the reply, and learns from it how long the next ones may take.
 pub(crate) fn exchange_over<S: Read + Write + Drop>(
@@ -19,23 +20,8 @@ pub(crate) fn exchange_over<S: Read + Write + Drop>(
 {
     let mut line = Counted::new(Watched::new(stream));
     let result = carry(alloc, &mut line, request);
-    if line.into_inner().is_late() {
-        patience.shorten();
-    } else if result.is_ok() {
-        patience.restore();
-    }
+    patience.learn(line.into_inner().is_late(), result.is_ok());
     result
-}
-
-fn carry<S: Read + Write>(
-    alloc: Global,
-    line: &mut Counted<S>,
-    request: &Request,
-) -> Result<Reply, ExchangeFault>
-    requires { IsWritable request.now }
-{
-    write_request(alloc, line, request)?;
-    Ok(read_reply(alloc, line, MOST_MESSAGE)?)
 }
 
 /// The count of failures behind an exchange: one more where a connect, an accept, a write or a read failed.

@@ -1,3 +1,6 @@
+ghost use Rattle.std.specs.Prelude.{◌≡◌, true, false, if◌then◌else◌, min};
+ghost use Rattle.std.specs.Duration.{as_nanos};
+
 use std::io;
 use std::io::{ErrorKind, Read, Write};
 use std::time::Duration;
@@ -6,7 +9,8 @@ use std::time::Duration;
 pub const PATIENCE: u64 = 5;
 
 /// How long each connect, read and write may take: the longest time that was named, and a quarter of a second from one that
-/// took longer to the next exchange that has its reply. So a round of many entries against a silent broker ends.
+/// took longer to the next exchange that has its reply, or to the next event line. So a round of many entries against a silent
+/// broker ends, and a broker that was late in one round is waited for in the next.
 #[derive(Clone, Copy, Debug)]
 pub(crate) struct Patience {
     longest: Duration,
@@ -14,7 +18,9 @@ pub(crate) struct Patience {
 }
 
 impl Patience {
-    pub(crate) fn new(longest: Duration) -> Patience {
+    pub(crate) fn new(longest: Duration) -> Patience
+        ensures { result ≡ record { longest = longest; is_short = false } }
+    {
         Patience {
             longest,
             is_short: false,
@@ -22,7 +28,9 @@ impl Patience {
     }
 
     /// How long the next connect, read or write may take.
-    pub(crate) fn limit(&self) -> Duration {
+    pub(crate) fn limit(&self) -> Duration
+        ensures { as_nanos result ≡ (if self.now.is_short then min (as_nanos self.now.longest) 250_000_000 else as_nanos self.now.longest) }
+    {
         if self.is_short {
             self.longest.min(Duration::from_millis(250))
         } else {
@@ -31,13 +39,28 @@ impl Patience {
     }
 
     /// Something took too long.
-    pub(crate) fn shorten(&mut self) {
+    pub(crate) fn shorten(&mut self)
+        ensures { self.new ≡ record self.old { is_short = true } }
+    {
         self.is_short = true;
     }
 
-    /// An exchange has its reply.
-    pub(crate) fn restore(&mut self) {
+    /// An exchange has its reply, or the next event line begins.
+    pub(crate) fn restore(&mut self)
+        ensures { self.new ≡ record self.old { is_short = false } }
+    {
         self.is_short = false;
+    }
+
+    /// What an exchange says of those to come: it took too long, or has its reply, or neither.
+    pub(crate) fn learn(&mut self, is_late: bool, has_reply: bool)
+        ensures { self.new ≡ record self.old { is_short = if is_late then true else (if has_reply then false else self.old.is_short) } }
+    {
+        if is_late {
+            self.shorten();
+        } else if has_reply {
+            self.restore();
+        }
     }
 }
 

@@ -98,6 +98,8 @@ impl<'a, R: Net> Exchange for SelfServed<'a, R> {
         self.port
     }
 
+    fn begin_line(&mut self) {}
+
     fn exchange(
         &mut self,
         alloc: Global,

@@ -27,7 +27,7 @@ impl<'a, R: Net> TcpExchange<'a, R> {
     }
 
     /// The same where each connect, read and write may take so long. One that takes longer has failed; those that follow may
-    /// take a quarter of a second, until an exchange has its reply.
+    /// take a quarter of a second, until an exchange has its reply, or the next event line begins.
     pub fn patient(rt: &'a R, port: u16, longest: Duration) -> TcpExchange<'a, R> {
         TcpExchange {
             rt,
@@ -74,6 +74,10 @@ impl<'a, R: Net> Exchange for TcpExchange<'a, R> {
 
     fn port(&self) -> u16 {
         self.port
+    }
+
+    fn begin_line(&mut self) {
+        self.patience.restore();
     }
 
     fn exchange(

@@ -2,8 +2,10 @@ ghost use Rattle.std.specs.Prelude.{None};
 
 use crate::exchange::Exchange;
 use crate::fault::ExchangeFault;
+use crate::link::{Bell, Shared, connect_unix};
 use crate::over::{count_after, exchange_over};
-use crate::patience::Patience;
+use crate::patience::{Patience, is_late};
+use crate::waits::Waits;
 use keep_moment::Moment;
 use std::alloc::Global;
 use std::net::Net;
@@ -22,9 +24,9 @@ pub struct UnixExchange<'a, R: Net> {
 }
 
 impl<'a, R: Net> UnixExchange<'a, R> {
-    /// The exchange with the broker at that path, where each read and write may take so long. One that takes longer has
-    /// failed; those that follow may take a quarter of a second, until an exchange has its reply. It takes no memory, and
-    /// connects to nothing yet.
+    /// The exchange with the broker at that path, where each connect, read and write may take so long. One that takes longer
+    /// has failed; those that follow may take a quarter of a second, until an exchange has its reply, or the next event line
+    /// begins. It takes no memory, and connects to nothing yet.
     pub fn patient(rt: &'a R, path: &'a str, longest: Duration) -> UnixExchange<'a, R> {
         UnixExchange {
             rt,
@@ -34,13 +36,25 @@ impl<'a, R: Net> UnixExchange<'a, R> {
         }
     }
 
-    /// A connection whose reads and writes have a limit.
-    fn connect(&self) -> Result<UnixStream, ExchangeFault> {
+    /// A connection whose reads and writes have a limit. A socket whose queue stays full is given up like one that does not
+    /// answer.
+    fn connect(&mut self, alloc: Global) -> Result<UnixStream, ExchangeFault> {
         let limit = self.patience.limit();
-        let Ok(stream) = UnixStream::connect(self.rt, self.path) else {
-            return Err(ExchangeFault::ConnectFailed);
+        let mut shared = Shared {
+            bell: Bell::new(self.rt, alloc)?,
+            waits: Waits::of(limit),
         };
-        if stream.set_read_timeout(Some(limit)).is_err()
+        let stream = match connect_unix(self.rt, self.path, &mut shared, &mut 0) {
+            Ok(stream) => UnixStream::from(stream),
+            Err(error) => {
+                if is_late(&error) {
+                    self.patience.shorten();
+                }
+                return Err(ExchangeFault::ConnectFailed);
+            }
+        };
+        if stream.set_nonblocking(false).is_err()
+            || stream.set_read_timeout(Some(limit)).is_err()
             || stream.set_write_timeout(Some(limit)).is_err()
         {
             return Err(ExchangeFault::ConnectFailed);
@@ -64,6 +78,10 @@ impl<'a, R: Net> Exchange for UnixExchange<'a, R> {
         8200
     }
 
+    fn begin_line(&mut self) {
+        self.patience.restore();
+    }
+
     fn exchange(
         &mut self,
         alloc: Global,
@@ -71,7 +89,7 @@ impl<'a, R: Net> Exchange for UnixExchange<'a, R> {
         request: &Request,
     ) -> Result<Reply, ExchangeFault> {
         let before = self.failures;
-        let result = match self.connect() {
+        let result = match self.connect(alloc) {
             Ok(stream) => exchange_over(alloc, stream, request, &mut self.patience),
             Err(fault) => Err(fault),
         };

@@ -1,4 +1,6 @@
 //! Laws of the definitions alone.
+ghost use Rattle.std.specs.Prelude.{◌≡◌};
+ghost use Rattle.mini_broker.specs.declared.moment_line.TheConstants.{MOST_LINE};
 ghost use Rattle.mini_broker.specs.Laws.{RenewalIsByTheRule, SweptInventory, SweptLater, SweptRowsLive, UngrantedIsRefused};
 
 /// The law that a sweep has nothing more to do at the same moment: every row that it has kept is alive, with all that are
@@ -22,4 +24,9 @@ pub fn swept_inventory()
 pub fn renewal_is_by_the_rule()
     ensures granted { RenewalIsByTheRule }
     ensures refused { UngrantedIsRefused }
+{}
+
+/// The most bytes of a line of moments, its line feed included, as a number. It does nothing.
+pub fn limits_of_moments()
+    ensures { MOST_LINE ≡ 256 }
 {}

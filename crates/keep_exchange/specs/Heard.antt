@@ -1,0 +1,68 @@
+-- What an answer comes to, for who keeps a watch.
+-- Source: Vault, HTTP API, "HTTP status codes" (400, 403, 404 and 405 speak of the request; 412, 429, 472, 473 and 5xx of the
+-- broker); that a reply which cannot be read counts as none is this project's own.
+use Rattle.std.specs.Prelude.{ℕ, ◌==◌, ◌||◌, List, Bool, false, bytes_eq, Option, Some, None, Result, Ok, Err, if◌then◌else◌}
+use Rattle.keep_exchange.specs.Abreast.{Answer}
+use Rattle.keep_exchange.specs.Lookups.{lookup_in}
+use Rattle.keep_exchange.specs.declared.heard.Heard.{Heard}
+use Rattle.keep_exchange.specs.declared.heard.Heard.TheVariants.{Told, Refused, Busy, Lost}
+use Rattle.keep_exchange.specs.declared.heard.Terms.{Terms}
+use Rattle.keep_tree.specs.declared.entry.Kind.{Kind}
+use Rattle.keep_tree.specs.declared.entry.Kind.TheVariants.{Token, Lease}
+use Rattle.vault_json.specs.declared.fault.ReplyFault.{ReplyFault}
+use Rattle.vault_json.specs.declared.lookup.Lookup.{Lookup}
+use Rattle.vault_json.specs.declared.renewed.Renewed.{Renewed}
+use Rattle.vault_json.specs.declared.renewed.RenewedLease.{RenewedLease}
+use Rattle.vault_json.specs.Lookup.{never_ends_answer}
+use Rattle.vault_json.specs.Renewed.{renew_lease_answer, renew_self_answer}
+
+-- a reply whose status is not 200
+abbrev pub refuses : {T : Type 0} → ℕ → Option ℕ → Heard T
+refuses status date =
+    if status == 400 || (status == 403 || (status == 404 || status == 405)) then Refused status date else (if status == 429 then Busy else Lost)
+
+-- what was told, if it was
+abbrev pub told_at : {T : Type 0} → Option ℕ → Option T → Heard T
+told_at date (Some x) = Told x date
+told_at date None = Lost
+
+-- ---- a renewal
+
+abbrev pub of_token : Result Renewed ReplyFault → Option Renewed
+of_token (Ok r) = Some r
+of_token (Err fault) = None
+
+-- of a lease, with the lease id that was asked
+abbrev pub of_lease : List ℕ → Result RenewedLease ReplyFault → Option Renewed
+of_lease id (Ok r) = if bytes_eq r.lease_id id then Some (record { seconds = r.seconds; renewable = r.renewable }) else None
+of_lease id (Err fault) = None
+
+abbrev pub renewed_in : Kind → List ℕ → List ℕ → Option Renewed
+renewed_in Token id body = of_token (renew_self_answer body)
+renewed_in Lease id body = of_lease id (renew_lease_answer body)
+
+unfoldable pub renewed_by : Kind → List ℕ → Answer → Heard Renewed
+renewed_by kind id (Err fault) = Lost
+renewed_by kind id (Ok d) = if d.reply.status == 200 then told_at d.date (renewed_in kind id d.reply.body) else refuses d.reply.status d.date
+
+-- ---- a lookup
+
+abbrev pub is_told : Result Bool ReplyFault → Bool
+is_told (Ok b) = b
+is_told (Err fault) = false
+
+-- a lease never tells that it has no end
+abbrev pub has_no_end : Kind → List ℕ → Bool
+has_no_end Token body = is_told (never_ends_answer body)
+has_no_end Lease body = false
+
+abbrev pub looked_of : Bool → Result Lookup ReplyFault → Option Terms
+looked_of never (Ok lookup) = Some (record { lookup = lookup; never_ends = never })
+looked_of never (Err fault) = None
+
+abbrev pub looked_in : Kind → List ℕ → Option Terms
+looked_in kind body = looked_of (has_no_end kind body) (lookup_in kind body)
+
+unfoldable pub looked_up : Kind → Answer → Heard Terms
+looked_up kind (Err fault) = Lost
+looked_up kind (Ok d) = if d.reply.status == 200 then told_at d.date (looked_in kind d.reply.body) else refuses d.reply.status d.date
