@@ -1,0 +1,123 @@
+-- Sending: what goes out of an entry in one slice: nothing, or one request, and it was due. For the laws of load.
+use Rattle.std.proofs.Common.{◌≡◌, ◌≢◌, ◌⊎◌, ◌∙◌, ℕ, zero, suc, ◌+◌, ◌<◌, ◌≤◌, min, max, Bool, true, false, cond, not, ◌&&◌, ◌||◌, ◌==◌, if◌then◌else◌, List, [], ◌∷◌, Option, Some, None, IsPermutation, All, count_by, filter, length, map, nat_le, nat_lt, sum_by, take, zero-add, refl, sym, ap, subst, arith, inl, inr}
+use Rattle.std.proofs.Math.Nat.{le-max_left, le-max_right}
+use Rattle.std.proofs.lemmas.Bool.{cases_Bool, cond-true, cond-false}
+use Rattle.std.proofs.lemmas.Bool.Decides.{nat_tests}
+use Rattle.std.proofs.lemmas.List.Elements.{All-cons, All-filter, All-head, All-nil, All-tail, All-take, filter_passes}
+use Rattle.std.proofs.lemmas.List.Sorted.{All-permutation, sum_by-IsPermutation}
+use Rattle.std.proofs.lemmas.List.Sums.{length-filter, sum_by-cons, sum_by-take-le}
+use Rattle.std.specs.List.{range_with_len}
+use Rattle.keep_watch.specs.declared.event.Operation.{Operation}
+use Rattle.keep_watch.specs.declared.event.Request.{Request}
+use Rattle.keep_watch.specs.declared.track.Try.{Try}
+use Rattle.keep_watch.specs.LawsOfLoad.{Sent, sent_at}
+use Rattle.keep_watch.specs.Slice.{IsPicked, due, is_due, operation_of, request}
+use Rattle.keep_watch.specs.State.{State, attempt_at, indices}
+use Rattle.keep_watch.proofs.Cases.{if_cases}
+
+-- a list of numbers below n, each of which passes a test
+abbrev pub AreOf : (ℕ → Bool) → ℕ → List ℕ → Type 0
+AreOf p n xs = All (λ i. (i < n) × (p i ≡ true)) xs
+
+range_below : (n a m : ℕ) → a + n ≤ m → All (λ i. i < m) (range_with_len a n)
+range_below zero a m h = All-nil (λ i. i < m)
+range_below (suc n) a m h = All-cons (λ i. i < m) a (range_with_len (a + 1) n) (omega arith) (range_below n (a + 1) m (omega arith))
+
+filter_of : (p : ℕ → Bool) (n : ℕ) (xs : List ℕ) → All (λ i. i < n) xs → AreOf p n (filter p xs)
+filter_of p n xs h k d within = (All-filter p (λ i. i < n) xs h k d within, filter_passes p xs k d within)
+
+-- how often i is among some numbers
+abbrev pub times : ℕ → List ℕ → ℕ
+times i xs = count_by (λ j. j == i) xs
+
+times_cons : (i j : ℕ) (xs : List ℕ) → times i (j ∷ xs) ≡ cond (j == i) 1 0 + times i xs
+times_cons i j xs = sum_by-cons (λ k. cond (k == i) 1 0) j xs
+
+-- one more, and one that is another
+counts : (i j : ℕ) (xs : List ℕ) → (j == i) ≡ true → times i (j ∷ xs) ≡ 1 + times i xs
+counts i j xs same = times_cons i j xs ∙ ap (λ (b : Bool). cond b 1 0 + times i xs) same
+
+skips : (i j : ℕ) (xs : List ℕ) → (j == i) ≡ false → times i (j ∷ xs) ≡ times i xs
+skips i j xs other = times_cons i j xs ∙ ap (λ (b : Bool). cond b 1 0 + times i xs) other ∙ zero-add (times i xs)
+
+times_range : (n a i : ℕ) → (i < a → times i (range_with_len a n) ≡ 0) × (times i (range_with_len a n) ≤ 1)
+times_range zero a i = ((λ h. refl), omega arith)
+times_range (suc n) a i =
+    let rest = times_range n (a + 1) i in
+    elim (cases_Bool (a == i)) as (λ _. (i < a → times i (range_with_len a (suc n)) ≡ 0) × (times i (range_with_len a (suc n)) ≤ 1)) [
+      | inl same ↦
+          let more = counts i a (range_with_len (a + 1) n) same in
+          let is : a ≡ i = grind (arith, nat_tests) in
+          let none : times i (range_with_len (a + 1) n) ≡ 0 = rest.0 (omega arith) in
+          ((λ h. absurd (omega arith)), omega arith)
+      | inr other ↦
+          let more = skips i a (range_with_len (a + 1) n) other in
+          let below = rest.0 in
+          let few = rest.1 in
+          ((λ h. (let b : times i (range_with_len (a + 1) n) ≡ 0 = below (omega arith) in omega arith)), omega arith)
+    ]
+
+times_filter : (p : ℕ → Bool) (i : ℕ) (xs : List ℕ) → times i (filter p xs) ≤ times i xs
+times_filter p i [] = omega arith
+times_filter p i (x ∷ xs) =
+    let rest = times_filter p i xs in
+    let more = times_cons i x xs in
+    if_cases (λ (ys : List ℕ). times i ys ≤ times i (x ∷ xs)) (p x) (x ∷ filter p xs) (filter p xs) (λ e. (let here = times_cons i x (filter p xs) in omega arith)) (λ e. omega arith)
+
+-- who is picked is due, and picked once
+pub picked_of : (s : State) (first : Bool) (picked : List ℕ) → IsPicked s first picked → AreOf (is_due s first) (length s.forest.entries) picked
+picked_of s first picked h =
+    let n = length s.forest.entries in
+    let all = filter_of (is_due s first) n (indices s) (range_below n 0 n (omega arith)) in
+    let sorted = All-permutation (λ i. (i < n) × (is_due s first i ≡ true)) (due s first) h.sorted h.all all in
+    subst (AreOf (is_due s first) n) (sym h.front) (All-take (λ i. (i < n) × (is_due s first i ≡ true)) s.width h.sorted sorted)
+
+pub picked_once : (s : State) (first : Bool) (picked : List ℕ) (i : ℕ) → IsPicked s first picked → times i picked ≤ 1
+picked_once s first picked i h =
+    let few = (times_range (length s.forest.entries) 0 i).1 in
+    let kept = times_filter (is_due s first) i (indices s) in
+    let same = sum_by-IsPermutation (λ j. cond (j == i) 1 0) (due s first) h.sorted h.all in
+    let front = sum_by-take-le (λ j. cond (j == i) 1 0) h.sorted s.width in
+    let is : times i picked ≡ times i (take s.width h.sorted) = ap (times i) h.front in
+    omega arith
+
+-- the request of i in a slice
+abbrev pub sent_of : State → ℕ → Sent
+sent_of s i = record { operation = operation_of (attempt_at s i); at = s.clocks.at }
+
+-- nothing goes out of i, or one request, which was due
+abbrev pub SendsOne : State → (ℕ → Bool) → ℕ → List Sent → Type 0
+SendsOne s p i xs = (xs ≡ []) ⊎ ((xs ≡ sent_of s i ∷ []) × ((i < length s.forest.entries) × (p i ≡ true)))
+
+-- what goes out of i, where j is picked before js: by the test whether j is i
+abbrev sent_by : State → ℕ → ℕ → ℕ → List ℕ → Bool → List Sent
+sent_by s at i j js b = map (λ r. record { operation = r.operation; at = at }) (cond b (record { entry = j; operation = operation_of (attempt_at s j) } ∷ filter (λ r. r.entry == i) (map (request s) js)) (filter (λ r. r.entry == i) (map (request s) js)))
+
+none_sent : (s : State) (at i : ℕ) (picked : List ℕ) → times i picked ≡ 0 → sent_at i at (map (request s) picked) ≡ []
+unfolding request
+none_sent s at i [] none = refl
+none_sent s at i (j ∷ js) none =
+    elim (cases_Bool (j == i)) as (λ _. sent_at i at (map (request s) (j ∷ js)) ≡ []) [
+      | inl same ↦ (let more = counts i j js same in absurd (omega arith))
+      | inr other ↦
+          let more = skips i j js other in
+          ap (sent_by s at i j js) other
+          ∙ none_sent s at i js (omega arith)
+    ]
+
+pub sends_one : (s : State) (p : ℕ → Bool) (i : ℕ) (picked : List ℕ) → AreOf p (length s.forest.entries) picked → times i picked ≤ 1 → SendsOne s p i (sent_at i s.clocks.at (map (request s) picked))
+unfolding request
+sends_one s p i [] all once = inl refl
+sends_one s p i (j ∷ js) all once =
+    elim (cases_Bool (j == i)) as (λ _. SendsOne s p i (sent_at i s.clocks.at (map (request s) (j ∷ js)))) [
+      | inl same ↦
+          let more = counts i j js same in
+          let is : j ≡ i = grind (arith, nat_tests) in
+          let head = All-head (λ k. (k < length s.forest.entries) × (p k ≡ true)) j js all in
+          let rest = none_sent s s.clocks.at i js (omega arith) in
+          inr (ap (sent_by s s.clocks.at i j js) same ∙ ap (λ xs. sent_of s j ∷ xs) rest ∙ ap (λ k. sent_of s k ∷ []) is, subst (λ k. (k < length s.forest.entries) × (p k ≡ true)) is head)
+      | inr other ↦
+          let more = skips i j js other in
+          let rest = sends_one s p i js (All-tail (λ k. (k < length s.forest.entries) × (p k ≡ true)) j js all) (omega arith) in
+          subst (SendsOne s p i) (sym (ap (sent_by s s.clocks.at i j js) other)) rest
+    ]

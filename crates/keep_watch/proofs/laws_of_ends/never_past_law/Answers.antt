@@ -1,0 +1,5 @@
+use Rattle.keep_watch.proofs.Ends.{never_past}
+use Rattle.keep_watch.proofs.laws_of_ends.never_past_law.Goals as goal
+
+pub returns : goal.returns
+returns c = never_past

@@ -1,0 +1,5 @@
+use Rattle.keep_watch.proofs.Early.{early}
+use Rattle.keep_watch.proofs.laws_of_time.early_law.Goals as goal
+
+pub returns : goal.returns
+returns c = early

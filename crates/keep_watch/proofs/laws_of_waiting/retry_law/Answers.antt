@@ -1,0 +1,5 @@
+use Rattle.keep_watch.proofs.Retried.{retried}
+use Rattle.keep_watch.proofs.laws_of_waiting.retry_law.Goals as goal
+
+pub returns : goal.returns
+returns c = retried

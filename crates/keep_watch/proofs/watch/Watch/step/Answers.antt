@@ -1,0 +1,34 @@
+use Rattle.std.proofs.Common.{◌≡◌, ◌∙◌, None, ap, sym}
+use Rattle.keep_watch.specs.declared.event.Event.TheVariants.{Looked, Renewed, Need, Known}
+use Rattle.keep_watch.specs.declared.event.Operation.TheVariants.{Look, Renew}
+use Rattle.keep_watch.specs.Refusal.{refusal, unless_closed}
+use Rattle.keep_watch.proofs.Within.{asked_none, within_none}
+use Rattle.keep_watch.proofs.watch.Watch.step.Goals as goal
+
+pub looked-requires : goal.looked-requires
+unfolding refusal
+looked-requires c =
+    let s = c.args.self.now in
+    let none : refusal s (Looked c.in-Looked.entry c.in-Looked.reply c.in-Looked.terms) ≡ None = ap (refusal s) (sym c.in-Looked.is) ∙ sym c.in_default.ensures in
+    asked_none s c.in-Looked.entry Look none
+
+pub renewed-requires : goal.renewed-requires
+unfolding refusal
+renewed-requires c =
+    let s = c.args.self.now in
+    let none : refusal s (Renewed c.in-Renewed.entry c.in-Renewed.reply) ≡ None = ap (refusal s) (sym c.in-Renewed.is) ∙ sym c.in_default.ensures in
+    asked_none s c.in-Renewed.entry Renew none
+
+pub need-requires : goal.need-requires
+unfolding refusal
+need-requires c =
+    let s = c.args.self.now in
+    let none : refusal s (Need c.in-Need.entry c.in-Need.until) ≡ None = ap (refusal s) (sym c.in-Need.is) ∙ sym c.in_default.ensures in
+    within_none s c.in-Need.entry (unless_closed s) none
+
+pub know-requires : goal.know-requires
+unfolding refusal
+know-requires c =
+    let s = c.args.self.now in
+    let none : refusal s (Known c.in-Known.entry c.in-Known.end c.in-Known.renewable) ≡ None = ap (refusal s) (sym c.in-Known.is) ∙ sym c.in_default.ensures in
+    within_none s c.in-Known.entry (unless_closed s) none

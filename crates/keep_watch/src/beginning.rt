@@ -1,0 +1,144 @@
+ghost use Rattle.std.specs.Prelude.{◌≡◌, false, length};
+ghost use Rattle.keep_watch.specs.Beginning.{hastened};
+ghost use Rattle.keep_watch.specs.code.Tracks.{is_open_for, owed_for};
+
+use crate::book::Book;
+use crate::clocks::second;
+use crate::event::Operation;
+use crate::notes::Why;
+use crate::track::{Track, Try};
+use crate::wanted::believed;
+use crate::watch::DAY;
+use keep_needs::Carried;
+
+impl Book {
+    /// Why everything is looked up anew, `None` where it is not; `jumped` says that a clock has stepped.
+    pub(crate) fn beginning(&self, jumped: bool) -> Option<Why> {
+        if self.begun.is_none() {
+            Some(Why::Start)
+        } else if jumped {
+            Some(Why::Jump)
+        } else if self.asked {
+            Some(Why::Asked)
+        } else if self.is_day_old() && is_idle(&self.tracks) {
+            Some(Why::Day)
+        } else {
+            None
+        }
+    }
+
+    /// Whether the last beginning is a day ago.
+    fn is_day_old(&self) -> bool {
+        match self.begun {
+            None => false,
+            Some(begun) => begun.saturating_add(DAY) <= self.clocks.at,
+        }
+    }
+
+    /// Everything is looked up anew: each entry that is needed and has not ended owes a lookup. `needs` has what the entries
+    /// carry, `written` what they carry by their needs as they are written.
+    pub(crate) fn begin_anew(&mut self, count: u32, needs: &Carried, written: &Carried)
+        requires count { count ≡ length self.old.tracks.items }
+        requires needs { length needs.now ≡ length self.old.tracks.items }
+        requires written { length written.now ≡ length self.old.tracks.items }
+        ensures count { length self.new.tracks.items ≡ length self.old.tracks.items }
+        ensures clocks { self.new.clocks ≡ self.old.clocks }
+    {
+        let at = self.clocks.at;
+        let dated = self.clocks.dated;
+        for entry in 0..count {
+            let called = needs.need(entry) > 0 || (!dated && written.need(entry) > 0);
+            let track = self.track(entry);
+            self.set_track(entry, owing(track, called, at));
+        }
+        self.begun = Some(at);
+        self.asked = false;
+    }
+}
+
+/// Whether nobody has a try.
+fn is_idle(tracks: &[Track]) -> bool {
+    tracks.iter().all(|track| track.attempt.is_none())
+}
+
+/// Nobody is at the top any more.
+pub(crate) fn clear_tops(tracks: &mut [Track])
+    ensures { length tracks.new ≡ length tracks.old }
+{
+    for index in 0..tracks.len() {
+        tracks[index] = untopped(tracks[index]);
+    }
+}
+
+/// A track that is not at the top.
+fn untopped(track: Track) -> Track
+    ensures { result ≡ record track { top = false } }
+{
+    Track {
+        top: false,
+        ..track
+    }
+}
+
+/// The moment from which an entry may be asked again: a second after its last answer.
+pub(crate) fn rested(last: Option<u64>) -> u64 {
+    match last {
+        None => 0,
+        Some(last) => last.saturating_add(1000),
+    }
+}
+
+/// Now, but no sooner than that.
+pub(crate) fn soon(at: u64, last: Option<u64>) -> u64 {
+    at.max(rested(last))
+}
+
+/// A lookup that is only owed, from a moment on.
+pub(crate) fn owed(now: u64, at: u64) -> Try
+    ensures { result ≡ owed_for now at }
+{
+    Try {
+        at,
+        operation: Operation::Look,
+        pressed: false,
+        base: now,
+        fails: 0,
+        lost: false,
+        failed: false,
+    }
+}
+
+/// A try that goes out no later than `at`.
+pub(crate) fn hastened(attempt: Try, at: u64) -> Try
+    ensures { result ≡ hastened attempt at }
+{
+    Try {
+        at: attempt.at.min(at),
+        ..attempt
+    }
+}
+
+/// Whether the end is ahead or unknown.
+pub(crate) fn is_open_ended(track: Track, now: u64) -> bool
+    ensures { result ≡ is_open_for now track }
+{
+    track.end.is_none() || track.endless || now < believed(track)
+}
+
+/// An entry at a beginning; where it is called and has not ended it owes a lookup, at once.
+fn owing(track: Track, called: bool, at: u64) -> Track {
+    let now = second(at);
+    if !called || !is_open_ended(track, now) {
+        return track;
+    }
+    let soon = soon(at, track.last);
+    let attempt = match track.attempt {
+        None => owed(now, soon),
+        Some(attempt) => hastened(attempt, soon),
+    };
+    Track {
+        owes: true,
+        attempt: Some(attempt),
+        ..track
+    }
+}

@@ -1,0 +1,271 @@
+ghost use Rattle.std.specs.Prelude.{◌≡◌, ◌<◌, ◌≤◌, ◌&&◌, not, is_some, option_map, length, min, IfErr, OnErr, IfSome};
+ghost use Rattle.keep_tree.specs.declared.forest.TheConstants.{END_MAX};
+ghost use Rattle.keep_tree.specs.Push.{is_lease};
+ghost use Rattle.keep_watch.specs.declared.fault.WatchFault.TheVariants.{OutOfMemory};
+ghost use Rattle.keep_watch.specs.Looked.{step_told};
+ghost use Rattle.keep_watch.specs.code.Tracks.{at_once_for, behind_look_for, not_told_track, refused_for, status_of, told_try};
+
+use crate::answers::{busied, failing};
+use crate::beginning::is_open_ended;
+use crate::clocks::{moment_at, second};
+use crate::event::{Operation, Reply, Terms};
+use crate::fault::WatchFault;
+use crate::margins::has_come;
+use crate::notes::Notes;
+use crate::press::is_alive;
+use crate::track::{Track, Try};
+use crate::wanted::{carried_need, is_wanted, most, write_view};
+use crate::watch::Watch;
+use keep_moment::{LAST, Span};
+use keep_tree::{END_MAX, Entry, Forest, Kind};
+
+/// The step of an entry after one was told: that one where it is more than the margin.
+fn step_told(margin: u32, step: u32, told: Option<u32>) -> u32
+    ensures { result ≡ step_told margin step told }
+{
+    match told {
+        None => step,
+        Some(told) => { if margin < told { told } else { step } }
+    }
+}
+
+/// Whether the terms take an entry away from its parent. A lease keeps its token.
+fn is_orphaned(entry: &Entry, terms: Terms) -> bool
+    ensures { result ≡ terms.orphan && (not (is_lease entry.now.kind) && is_some entry.now.parent) }
+{
+    terms.orphan && !is_lease(entry.kind) && entry.parent.is_some()
+}
+
+/// Whether it is a lease.
+fn is_lease(kind: Kind) -> bool
+    ensures { result ≡ is_lease kind }
+{
+    match kind {
+        Kind::Token => false,
+        Kind::Lease => true,
+    }
+}
+
+/// Takes an entry away from its parent where the terms say so. A lease keeps its token.
+fn take_orphan(forest: &mut Forest, index: u32, terms: Terms)
+    requires { index < length forest.old.entries }
+    ensures count { length forest.new.entries ≡ length forest.old.entries }
+    ensures margin { forest.new.margin ≡ forest.old.margin }
+{
+    if !terms.orphan {
+        return;
+    }
+    if is_lease(forest.get(index).kind) {
+        return;
+    }
+    forest.orphan(index);
+}
+
+/// Takes the terms that a lookup told.
+fn take_terms(forest: &mut Forest, index: u32, terms: Terms)
+    requires { index < length forest.old.entries }
+    ensures count { length forest.new.entries ≡ length forest.old.entries }
+    ensures margin { forest.new.margin ≡ forest.old.margin }
+{
+    let step = step_told(forest.margin(), forest.get(index).step, terms.step);
+    forest.set_terms(index, step, most(terms.ceiling));
+    take_orphan(forest, index, terms);
+}
+
+/// A track as a lookup told it.
+fn told_track(track: Track, at: u64, seconds: Span, renewable: bool, endless: bool) -> Track {
+    let end = if endless {
+        None
+    } else {
+        Some(second(at).saturating_add(seconds as u64))
+    };
+    Track {
+        end,
+        renewable,
+        endless,
+        owes: false,
+        last: Some(at),
+        ..track
+    }
+}
+
+/// A renewal at once, in the same try; where that was of an owed lookup, the try begins now.
+#[tactic(auto, unfolding(crate::specs::code::Tracks::at_once_for))]
+fn at_once(attempt: Try, at: u64) -> Try
+    ensures { result ≡ at_once_for at attempt }
+{
+    let next = Try {
+        at: at,
+        operation: Operation::Renew,
+        pressed: true,
+        ..attempt
+    };
+    if attempt.pressed {
+        next
+    } else {
+        Try {
+            base: second(at),
+            fails: 0,
+            ..next
+        }
+    }
+}
+
+/// The try behind a lookup that told of its entry. Where that is to be asked, `is_due`, it is renewed at once; an end that is not
+/// ahead is a failure; else the try ends.
+fn try_told(track: Track, at: u64, is_due: bool) -> Option<Try>
+    ensures { result ≡ told_try at is_due track track.attempt }
+{
+    match track.attempt {
+        None => None,
+        Some(attempt) => {
+            if is_due {
+                Some(at_once(attempt, at))
+            } else if is_alive(track, second(at)) {
+                None
+            } else {
+                Some(failing(attempt, Operation::Look, false))
+            }
+        }
+    }
+}
+
+/// A lookup that was refused: a renewal is tried while the end is ahead or unknown, at once where the lookup was only owed.
+#[tactic(auto, unfolding(crate::specs::code::Tracks::refused_for))]
+fn try_refused(track: Track, attempt: Try, at: u64) -> Try
+    ensures { result ≡ refused_for at track attempt }
+{
+    if !is_open_ended(track, second(at)) {
+        return failing(attempt, Operation::Look, false);
+    }
+    let next = failing(attempt, Operation::Renew, false);
+    if attempt.pressed {
+        next
+    } else {
+        Try {
+            at: at,
+            failed: false,
+            ..next
+        }
+    }
+}
+
+/// What is asked behind a lookup that had no answer: where the entry is pressed a renewal, unless its end is past.
+fn behind_look(track: Track, attempt: Try, now: u64) -> Operation
+    ensures { result ≡ behind_look_for now track attempt }
+{
+    if attempt.pressed && is_open_ended(track, now) {
+        Operation::Renew
+    } else {
+        Operation::Look
+    }
+}
+
+/// A track after a reply to a lookup that told nothing of it.
+#[tactic(auto, unfolding(crate::specs::code::Tracks::not_told_track))]
+fn not_told(track: Track, reply: Reply, at: u64) -> Track
+    ensures { result ≡ not_told_track at reply track }
+{
+    let attempt = match track.attempt {
+        None => None,
+        Some(attempt) => Some(match reply {
+            Reply::Told { .. } => attempt,
+            Reply::Refused { .. } => try_refused(track, attempt, at),
+            Reply::Busy => busied(attempt, behind_look(track, attempt, second(at))),
+            Reply::Lost => failing(attempt, behind_look(track, attempt, second(at)), true),
+        }),
+    };
+    Track {
+        owes: track.owes && status_of(reply).is_none(),
+        last: Some(at),
+        attempt,
+        ..track
+    }
+}
+
+/// The status of a refusal.
+fn status_of(reply: Reply) -> Option<u16>
+    ensures { result ≡ status_of reply }
+{
+    match reply {
+        Reply::Refused { status, .. } => Some(status),
+        Reply::Told { .. } | Reply::Busy | Reply::Lost => None,
+    }
+}
+
+impl Watch {
+    /// Takes the answer to a lookup, and gives what is noted of it.
+    pub(crate) fn looked(
+        &mut self,
+        entry: u32,
+        reply: Reply,
+        terms: Terms,
+    ) -> Result<Notes, WatchFault>
+        requires { entry < length self.old.forest.entries }
+        ensures refused { IfErr result (λ fault. fault ≡ OutOfMemory) }
+        ensures unchanged { OnErr result (self.new ≡ self.old) }
+    {
+        self.book.note_date(reply)?;
+        let before = self.book.track(entry);
+        let mut notes = Notes::none();
+        match reply {
+            Reply::Told {
+                seconds,
+                renewable,
+                ..
+            } => {
+                notes.orphan = is_orphaned(self.forest.get(entry), terms);
+                notes.endless = terms.endless && !before.endless;
+                self.tell(entry, seconds, renewable, terms);
+            }
+            Reply::Refused { .. } | Reply::Busy | Reply::Lost => {
+                notes.gone = status_of(reply);
+                let at = self.book.clocks.at;
+                self.book.set_track(entry, not_told(before, reply, at));
+            }
+        }
+        notes.link = self.book.take_reply(entry, reply);
+        Ok(notes)
+    }
+
+    /// Takes what a lookup told of an entry.
+    fn tell(&mut self, entry: u32, seconds: Span, renewable: bool, terms: Terms)
+        requires { entry < length self.old.forest.entries }
+        ensures { length self.new.tracks ≡ length self.old.tracks }
+    {
+        let at = self.book.clocks.at;
+        take_terms(&mut self.forest, entry, terms);
+        take_orphan(&mut self.view, entry, terms);
+        let before = self.book.track(entry);
+        let track = told_track(before, at, seconds, renewable, terms.endless);
+        self.book.set_track(entry, track);
+        let is_due = self.is_due(entry);
+        self.book.set_track(
+            entry,
+            Track {
+                attempt: try_told(track, at, is_due),
+                ..track
+            },
+        );
+    }
+
+    /// Whether an entry is wanted and its time has come. Where it has not, no other entry is looked at.
+    fn is_due(&mut self, entry: u32) -> bool
+        requires { entry < length self.old.forest.entries }
+        ensures { self.new ≡ self.old }
+    {
+        let now = second(self.book.clocks.at);
+        let track = self.book.track(entry);
+        if !has_come(self.forest.margin(), self.forest.get(entry), track, now) {
+            return false;
+        }
+        write_view(
+            &mut self.view,
+            &self.forest,
+            &self.book.tracks,
+            self.book.clocks,
+        );
+        let need = carried_need(&self.view, moment_at(now.min(LAST)), entry);
+        is_wanted(track, need)
+    }
+}

@@ -1,0 +1,130 @@
+ghost use Rattle.std.specs.Prelude.{◌≡◌, length, nat_lt};
+ghost use Rattle.keep_watch.specs.Press.{is_pressed_try};
+ghost use Rattle.keep_watch.specs.Wanted.{believed};
+ghost use Rattle.keep_watch.specs.code.Tracks.{is_fresh_for};
+
+use crate::beginning::{rested, soon};
+use crate::book::Book;
+use crate::clocks::second;
+use crate::event::Operation;
+use crate::margins::has_come;
+use crate::track::{Track, Try};
+use crate::wanted::{believed, is_wanted};
+use keep_needs::Carried;
+use keep_tree::{Entry, Forest};
+
+/// Whether the entry has a try because its time has come.
+pub(crate) fn is_pressed(track: Track) -> bool
+    ensures { result ≡ is_pressed_try track.attempt }
+{
+    match track.attempt {
+        None => false,
+        Some(attempt) => attempt.pressed,
+    }
+}
+
+/// Whether the end is ahead.
+pub(crate) fn is_alive(track: Track, now: u64) -> bool
+    ensures { result ≡ nat_lt now (believed track) }
+{
+    now < believed(track)
+}
+
+/// Whether an entry that carries that need is wanted, its time has come, and it is not pressed.
+#[tactic(auto, unfolding(crate::specs::code::Tracks::is_fresh_for))]
+pub(crate) fn is_fresh(margin: u32, entry: &Entry, track: Track, need: u64, now: u64) -> bool
+    ensures { result ≡ is_fresh_for margin entry.now track need now }
+{
+    is_wanted(track, need) && has_come(margin, entry, track, now) && !is_pressed(track)
+}
+
+/// The try of an entry that is pressed now: a renewal while its end is ahead, else a lookup.
+fn press(track: Track, at: u64) -> Try {
+    let now = second(at);
+    let operation = if is_alive(track, now) {
+        Operation::Renew
+    } else {
+        Operation::Look
+    };
+    Try {
+        at: soon(at, track.last),
+        operation,
+        pressed: true,
+        base: now,
+        fails: 0,
+        lost: false,
+        failed: false,
+    }
+}
+
+/// What is left of a try of an entry that is wanted no more: the lookup that it owes, if any.
+fn dropped(track: Track, attempt: Try) -> Option<Try> {
+    if !attempt.pressed && track.owes {
+        return Some(attempt);
+    }
+    if !track.owes {
+        return None;
+    }
+    Some(Try {
+        at: attempt.at.max(rested(track.last)),
+        operation: Operation::Look,
+        pressed: false,
+        ..attempt
+    })
+}
+
+/// An entry that a round asks.
+fn asked(track: Track, at: u64) -> Track {
+    Track {
+        attempt: Some(press(track, at)),
+        ..track
+    }
+}
+
+/// An entry that carries that need, after those are pressed whose time has come and others let go.
+fn pressed(margin: u32, entry: &Entry, track: Track, need: u64, at: u64) -> Track {
+    if is_fresh(margin, entry, track, need, second(at)) {
+        return asked(track, at);
+    }
+    if is_wanted(track, need) {
+        return track;
+    }
+    let attempt = match track.attempt {
+        None => None,
+        Some(attempt) => dropped(track, attempt),
+    };
+    Track { attempt, ..track }
+}
+
+impl Book {
+    /// Presses those whose time has come, by the needs that the entries carry, and lets go those who are wanted no more.
+    pub(crate) fn press(&mut self, forest: &Forest, needs: &Carried)
+        requires count { length self.old.tracks.items ≡ length forest.now.entries }
+        requires needs { length needs.now ≡ length forest.now.entries }
+        ensures count { length self.new.tracks.items ≡ length self.old.tracks.items }
+        ensures clocks { self.new.clocks ≡ self.old.clocks }
+    {
+        let at = self.clocks.at;
+        for entry in 0..forest.len() {
+            let track = self.track(entry);
+            let need = needs.need(entry);
+            let track = pressed(forest.margin(), forest.get(entry), track, need, at);
+            self.set_track(entry, track);
+        }
+    }
+
+    /// Presses those of so many entries whom a round asks.
+    pub(crate) fn press_asked(&mut self, count: u32, round: &[u32])
+        requires { count ≡ length self.old.tracks.items }
+        ensures count { length self.new.tracks.items ≡ length self.old.tracks.items }
+        ensures clocks { self.new.clocks ≡ self.old.clocks }
+    {
+        let at = self.clocks.at;
+        for entry in round {
+            if *entry < count {
+                let track = self.track(*entry);
+                self.set_track(*entry, asked(track, at));
+            }
+        }
+    }
+}

@@ -1,0 +1,191 @@
+ghost use Rattle.std.specs.Prelude.{◌≡◌, ◌≤◌, IfErr, IfOk, length};
+ghost use Rattle.keep_watch.specs.declared.fault.WatchFault.TheVariants.{OutOfMemory};
+ghost use Rattle.keep_watch.specs.declared.pauses.TheConstants.{LONGEST};
+ghost use Rattle.keep_watch.specs.declared.clocks.TheConstants.{READING_MAX};
+ghost use Rattle.keep_watch.specs.code.Bounds.{IsClocks};
+
+use crate::book::Book;
+use crate::clocks::{Clocks, reading};
+use crate::fault::WatchFault;
+use crate::pauses::{LONGEST, cap, doubled, pause};
+use crate::slice::Slice;
+use crate::track::{Track, Try};
+use keep_moment::LAST;
+use std::alloc::{AllocError, Global};
+
+/// The clocks at later readings, and whether the wall or the broker has stepped.
+#[derive(Clone, Copy, Debug)]
+pub(crate) struct Timed {
+    pub clocks: Clocks,
+    pub jumped: bool,
+}
+
+impl Book {
+    /// The clocks at these readings, in milliseconds, with the dates of the slice that was answered.
+    pub(crate) fn timed(&self, wall: u64, elapsed: u64) -> Timed
+        requires { IsClocks self.now.clocks }
+        ensures { IsClocks result.clocks }
+    {
+        if self.begun.is_none() {
+            return Timed {
+                clocks: Clocks::first(wall, elapsed),
+                jumped: false,
+            };
+        }
+        let wall = reading(wall);
+        let at = Clocks {
+            at: self.clocks.moment(elapsed),
+            ..self.clocks
+        };
+        let read = at.walled(wall);
+        let dated = dated_by_slice(read, &self.slice);
+        Timed {
+            clocks: dated.clocks,
+            jumped: at.is_stepped(wall) || dated.jumped,
+        }
+    }
+
+    /// The book at these clocks, with the failures of the slice that was answered settled. The only error is want of memory.
+    pub(crate) fn settled(
+        &self,
+        alloc: Global,
+        margin: u32,
+        clocks: Clocks,
+    ) -> Result<Book, WatchFault>
+        requires { IsClocks clocks }
+        ensures count { IfOk result (λ book. length book.tracks.items ≡ length self.now.tracks.items) }
+        ensures clocks { IfOk result (λ book. book.clocks ≡ clocks) }
+        ensures refused { IfErr result (λ fault. fault ≡ OutOfMemory) }
+    {
+        Ok(Book {
+            tracks: settled_tracks(alloc, margin, clocks.at, &self.tracks)?,
+            clocks,
+            begun: self.begun,
+            asked: self.asked,
+            away: self.away,
+            hold: self.hold_at(margin, clocks.at),
+            free: self.free_at(clocks.at),
+            slice: None,
+        })
+    }
+
+    /// Until when later tries are held back.
+    fn hold_at(&self, margin: u32, at: u64) -> u64
+        requires { at ≤ READING_MAX }
+    {
+        if self.slice.is_some() && self.away > 0 {
+            at + held(margin, at, self.away, &self.tracks)
+        } else {
+            self.hold
+        }
+    }
+
+    /// Until when every slice is held back: a second, where someone was busy.
+    fn free_at(&self, at: u64) -> u64
+        requires { at ≤ READING_MAX }
+    {
+        match &self.slice {
+            None => self.free,
+            Some(slice) => { if slice.busy { at + 1000 } else { self.free } }
+        }
+    }
+}
+
+/// The clocks with the dates of a slice.
+fn dated_by_slice(clocks: Clocks, slice: &Option<Slice>) -> Timed
+    requires { IsClocks clocks }
+    ensures { IsClocks result.clocks }
+{
+    match slice {
+        None => Timed {
+            clocks,
+            jumped: false,
+        },
+        Some(slice) => dated_by_all(clocks, reading(slice.at), slice.dates.list()),
+    }
+}
+
+/// The clocks with these dates, as they came, of replies to a slice that went out at `since`; and whether one of them was ahead
+/// of a clock that a reply had told before.
+fn dated_by_all(clocks: Clocks, since: u64, dates: &[u64]) -> Timed
+    requires clocks { IsClocks clocks }
+    requires since { since ≤ READING_MAX }
+    ensures { IsClocks result.clocks }
+{
+    let mut clocks = clocks;
+    let mut jumped = false;
+    for date in dates {
+        let date = LAST.min(*date);
+        jumped |= clocks.dated & clocks.is_ahead(date);
+        clocks = clocks.dated_by(since, date);
+    }
+    Timed { clocks, jumped }
+}
+
+/// The tracks with the pauses of those that failed set. The only error is want of memory.
+fn settled_tracks(
+    alloc: Global,
+    margin: u32,
+    at: u64,
+    tracks: &[Track],
+) -> Result<Vec<Track>, AllocError>
+    requires { at ≤ READING_MAX }
+    ensures { IfOk result (λ settled. length settled.items ≡ length tracks.now) }
+{
+    let mut settled = Vec::new(alloc);
+    for track in tracks {
+        settled.push(settled_track(margin, at, *track))?;
+    }
+    Ok(settled)
+}
+
+/// A track with the pause of a try that failed set.
+fn settled_track(margin: u32, at: u64, track: Track) -> Track
+    requires { at ≤ READING_MAX }
+{
+    let attempt = match track.attempt {
+        None => None,
+        Some(attempt) => Some(paused(margin, at, track, attempt)),
+    };
+    Track { attempt, ..track }
+}
+
+/// A try, with its pause set where it failed.
+fn paused(margin: u32, at: u64, track: Track, attempt: Try) -> Try
+    requires { at ≤ READING_MAX }
+{
+    if !attempt.failed {
+        return attempt;
+    }
+    Try {
+        at: at + pause(margin, at, track.end, attempt),
+        failed: false,
+        ..attempt
+    }
+}
+
+/// How long later tries are held back while the broker is away, in milliseconds: no longer than any entry that is pressed may
+/// wait.
+fn held(margin: u32, at: u64, away: u32, tracks: &[Track]) -> u64
+    ensures { result ≤ LONGEST }
+{
+    let mut least = LONGEST.min(doubled(away));
+    for track in tracks {
+        least = least.min(most_held(margin, at, *track));
+    }
+    least
+}
+
+/// How long this entry may wait: any time where it is not pressed.
+fn most_held(margin: u32, at: u64, track: Track) -> u64 {
+    match track.attempt {
+        None => LONGEST,
+        Some(attempt) => {
+            if attempt.pressed {
+                cap(margin, at, track.end, attempt)
+            } else {
+                LONGEST
+            }
+        }
+    }
+}
