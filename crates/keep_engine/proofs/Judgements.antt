@@ -1,5 +1,5 @@
 -- Judgements: from the line about a certificate to that about its text, for `run_check`.
-use Rattle.std.proofs.Common.{◌≡◌, ℕ, List, Some, Result, Ok, Err, length, inl, inr}
+use Rattle.std.proofs.Common.{◌≡◌, ℕ, List, Option, Some, Result, Ok, Err, length, inl, inr, ◌⊎◌, subst, sym}
 use Rattle.std.proofs.lemmas.Bool.{cases_lt}
 use Rattle.keep_tree.specs.Forest.{Forest}
 use Rattle.keep_rule.specs.Runs.{all_wakes}
@@ -21,8 +21,8 @@ use Rattle.keep_report.specs.declared.exit.Exit.TheVariants as exits
 use Rattle.keep_engine.specs.declared.outcome.Outcome.{Outcome}
 use Rattle.keep_report.specs.declared.stop.Stop.{Stop}
 use Rattle.keep_report.specs.declared.stop.Stop.TheVariants as stops
-use Rattle.keep_engine.specs.CheckAnswers.{IsNamed, IsVerdict, VerdictTexts}
-use Rattle.keep_engine.specs.CheckRun.{CheckTexts, IsJudged, IsUnreadable}
+use Rattle.keep_engine.specs.CheckAnswers.{IsNamed, IsStartVerdict, IsVerdict, StartTexts, VerdictTexts}
+use Rattle.keep_engine.specs.CheckRun.{CheckTexts, IsJudged, IsUnreadable, StartsAsAsked}
 use Rattle.keep_engine.specs.Running.{NoHalts}
 use Rattle.keep_engine.specs.CheckText.{unreadable_line}
 use Rattle.keep_engine.specs.Making.{MakesOf}
@@ -45,27 +45,45 @@ cause_named g c why says = named_in_body g c.start c.body why says
 
 -- ---- the line about a text
 
-pub verdict_judged : (g : Forest) (text : List ℕ) (c : Cert) (exit : Exit) (line : List ℕ) → Writes g.entries text c → IsVerdict g c exit line → IsJudged g text exit line
-verdict_judged g text c exits.Done line writes is = record { cert = c; writes = writes; answer = is.0; holds = is.1.0; spelled = is.1.1 }
-verdict_judged g text c exits.No line writes is = inl (record { cert = c; writes = writes; cause = is.0; answer = is.1; spelled = is.2 })
-verdict_judged g text c exits.Inventory line writes is = absurd is
-verdict_judged g text c exits.CommandLine line writes is = absurd is
-verdict_judged g text c exits.Unkeepable line writes is = absurd is
-verdict_judged g text c exits.TooLong line writes is = absurd is
-verdict_judged g text c exits.Device line writes is = absurd is
-verdict_judged g text c exits.Memory line writes is = absurd is
+verdict_judged : (asked : Option ℕ) (g : Forest) (text : List ℕ) (c : Cert) (exit : Exit) (line : List ℕ) → Writes g.entries text c → StartsAsAsked asked c → IsVerdict g c exit line → IsJudged asked g text exit line
+verdict_judged asked g text c exits.Done line writes starts is = record { cert = c; writes = writes; starts = starts; answer = is.0; holds = is.1.0; spelled = is.1.1 }
+verdict_judged asked g text c exits.No line writes starts is = inl (record { cert = c; writes = writes; starts = starts; cause = is.0; answer = is.1; spelled = is.2 })
+verdict_judged asked g text c exits.Inventory line writes starts is = absurd is
+verdict_judged asked g text c exits.CommandLine line writes starts is = absurd is
+verdict_judged asked g text c exits.Unkeepable line writes starts is = absurd is
+verdict_judged asked g text c exits.TooLong line writes starts is = absurd is
+verdict_judged asked g text c exits.Device line writes starts is = absurd is
+verdict_judged asked g text c exits.Memory line writes starts is = absurd is
 
-pub text_judged : (g : Forest) (text : List ℕ) (c : Cert) (made : Result Outcome Stop) → Writes g.entries text c → MakesOf (VerdictTexts c) NoHalts g made → MakesOf (CheckTexts text) NoHalts g made
-text_judged g text c (Ok outcome) writes judged = verdict_judged g text c outcome.exit outcome.text writes judged
-text_judged g text c (Err stops.Memory) writes judged = tt
-text_judged g text c (Err (stops.Inventory fault)) writes judged = absurd judged
-text_judged g text c (Err (stops.Moments fault)) writes judged = absurd judged
-text_judged g text c (Err (stops.FaultWord position)) writes judged = absurd judged
-text_judged g text c (Err stops.TooLong) writes judged = absurd judged
-text_judged g text c (Err stops.Read) writes judged = absurd judged
-text_judged g text c (Err stops.Write) writes judged = absurd judged
-text_judged g text c (Err (stops.Broker name)) writes judged = absurd judged
-text_judged g text c (Err (stops.Line number)) writes judged = absurd judged
+start_judged : (asked : Option ℕ) (g : Forest) (text : List ℕ) (c : Cert) (exit : Exit) (line : List ℕ) → Writes g.entries text c → IsStartVerdict asked g c exit line → IsJudged asked g text exit line
+start_judged asked g text c exit line writes (inl is) = verdict_judged asked g text c exit line writes is.0 is.1
+start_judged asked g text c exit line writes (inr is) =
+    subst (λ (e : Exit). IsJudged asked g text e line) (sym is.1) (inr (inl (record { cert = c; writes = writes; elsewhere = is.0; spelled = is.2 })))
+
+-- a certificate that starts as it is asked for is judged by what it claims
+pub judged_from : (asked : Option ℕ) (g : Forest) (c : Cert) (made : Result Outcome Stop) → StartsAsAsked asked c → MakesOf (VerdictTexts c) NoHalts g made → MakesOf (StartTexts asked c) NoHalts g made
+judged_from asked g c (Ok outcome) starts judged = inl (starts, judged)
+judged_from asked g c (Err stops.Memory) starts judged = tt
+judged_from asked g c (Err (stops.Inventory fault)) starts judged = absurd judged
+judged_from asked g c (Err (stops.Moments fault)) starts judged = absurd judged
+judged_from asked g c (Err (stops.FaultWord position)) starts judged = absurd judged
+judged_from asked g c (Err stops.TooLong) starts judged = absurd judged
+judged_from asked g c (Err stops.Read) starts judged = absurd judged
+judged_from asked g c (Err stops.Write) starts judged = absurd judged
+judged_from asked g c (Err (stops.Broker name)) starts judged = absurd judged
+judged_from asked g c (Err (stops.Line number)) starts judged = absurd judged
+
+pub text_judged : (asked : Option ℕ) (g : Forest) (text : List ℕ) (c : Cert) (made : Result Outcome Stop) → Writes g.entries text c → MakesOf (StartTexts asked c) NoHalts g made → MakesOf (CheckTexts asked text) NoHalts g made
+text_judged asked g text c (Ok outcome) writes judged = start_judged asked g text c outcome.exit outcome.text writes judged
+text_judged asked g text c (Err stops.Memory) writes judged = tt
+text_judged asked g text c (Err (stops.Inventory fault)) writes judged = absurd judged
+text_judged asked g text c (Err (stops.Moments fault)) writes judged = absurd judged
+text_judged asked g text c (Err (stops.FaultWord position)) writes judged = absurd judged
+text_judged asked g text c (Err stops.TooLong) writes judged = absurd judged
+text_judged asked g text c (Err stops.Read) writes judged = absurd judged
+text_judged asked g text c (Err stops.Write) writes judged = absurd judged
+text_judged asked g text c (Err (stops.Broker name)) writes judged = absurd judged
+text_judged asked g text c (Err (stops.Line number)) writes judged = absurd judged
 
 pub text_unreadable : (g : Forest) (text line : List ℕ) (fault : CertFault) → Fails fault (certificate_of g.entries text) → unreadable_line fault ≡ Some line → IsUnreadable g text line
 unfolding unreadable_line

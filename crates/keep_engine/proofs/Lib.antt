@@ -7,6 +7,9 @@ mod Sizes
 mod OwnText
 pub mod Obeying
 pub mod Reaching
+mod Bounding
+pub mod Renewals
+pub mod Margins
 mod Until
 mod SameRun
 pub mod Unheard

@@ -1,5 +1,5 @@
 -- One text: what `ends`, `plan` and `check` write is a function of the forest, the start, the moments and the certificate.
-use Rattle.std.proofs.Common.{◌≡◌, ◌∙◌, ◌↔◌, Bool, true, false, IsTrue, ℕ, zero, suc, ◌+◌, ◌-◌, ◌<◌, ◌≤◌, ◌++◌, List, [], ◌∷◌, Some, None, length, refl, sym, ap, subst, arith, inl, inr}
+use Rattle.std.proofs.Common.{◌≡◌, ◌∙◌, ◌↔◌, Bool, true, false, IsTrue, ℕ, zero, suc, ◌+◌, ◌-◌, ◌<◌, ◌≤◌, ◌++◌, List, [], ◌∷◌, Option, Some, None, length, refl, sym, ap, subst, arith, inl, inr}
 use Rattle.std.proofs.lemmas.Bool.{cases_lt}
 use Rattle.std.proofs.lemmas.List.{append_cancel_left}
 use Rattle.keep_tree.specs.Carried.{IsFrom}
@@ -22,7 +22,7 @@ use Rattle.keep_check.specs.declared.answer.Answer.TheVariants.{No, Yes}
 use Rattle.keep_check.specs.Answer.{IsAnswer}
 use Rattle.keep_check.proofs.Answers.{one_answer}
 use Rattle.keep_report.specs.declared.exit.Exit.TheVariants as exits
-use Rattle.keep_engine.specs.CheckRun.{IsAccepted, IsJudged, IsRefused, IsUnreadable}
+use Rattle.keep_engine.specs.CheckRun.{IsAccepted, IsJudged, IsRefused, IsUnreadable, StartsAsAsked, StartsElsewhere}
 use Rattle.keep_engine.specs.CheckText.{no_line, unreadable_line}
 use Rattle.keep_engine.specs.EndsText.{IsEndsText, all_asked, end_lines, keeps_line}
 use Rattle.keep_engine.specs.Laws.{OneCheckText, OnePlanText}
@@ -133,21 +133,25 @@ one_plan_text g s exits.Memory exit text other a b = absurd a
 
 -- ---- check
 
-module _ (g : Forest) (forest : IsForest g) (text : List ℕ) where
+module _ (asked : Option ℕ) (g : Forest) (forest : IsForest g) (text : List ℕ) where
   one_cert : (c d : Cert) → Writes g.entries text c → Writes g.entries text d → c ≡ d
   one_cert c d a b =
       let read = written_is_read g forest text c a in
       let read' = written_is_read g forest text d b in
       cc
 
-  one_yes : (line other : List ℕ) → IsAccepted g text line → IsAccepted g text other → line ≡ other
+  one_yes : (line other : List ℕ) → IsAccepted asked g text line → IsAccepted asked g text other → line ≡ other
   one_yes line other a b = a.spelled ∙ sym b.spelled
 
-  yes_or_no : {X : Type 0} (line other : List ℕ) → IsAccepted g text line → IsRefused g text other → X
+  yes_or_no : {X : Type 0} (line other : List ℕ) → IsAccepted asked g text line → IsRefused asked g text other → X
   yes_or_no line other a b =
       let same = one_cert a.cert b.cert a.writes b.writes in
       let answers : Yes ≡ No b.cause = one_answer g b.cert Yes (No b.cause) (subst (λ c. IsAnswer g c Yes) same a.answer) b.answer in
       absurd cc
+
+  -- one certificate does not start as it is asked for and elsewhere
+  one_start : {X : Type 0} (c : Cert) (other : List ℕ) → Writes g.entries text c → StartsAsAsked asked c → StartsElsewhere asked g text other → X
+  one_start c other a starts b = absurd (b.elsewhere (subst (StartsAsAsked asked) (one_cert c b.cert a b.writes) starts))
 
   read_or_not : {X : Type 0} (c : Cert) (other : List ℕ) → Writes g.entries text c → IsUnreadable g text other → X
   read_or_not c other a b =
@@ -155,7 +159,7 @@ module _ (g : Forest) (forest : IsForest g) (text : List ℕ) where
       let fails = b.fails in
       absurd cc
 
-  one_refusal : (line other : List ℕ) → IsRefused g text line → IsRefused g text other → line ≡ other
+  one_refusal : (line other : List ℕ) → IsRefused asked g text line → IsRefused asked g text other → line ≡ other
   one_refusal line other a b =
       let same = one_cert a.cert b.cert a.writes b.writes in
       let answers : No a.cause ≡ No b.cause = one_answer g b.cert (No a.cause) (No b.cause) (subst (λ c. IsAnswer g c (No a.cause)) same a.answer) b.answer in
@@ -170,39 +174,45 @@ module _ (g : Forest) (forest : IsForest g) (text : List ℕ) where
       let lines : Some line ≡ Some other = sym a.spelled ∙ ap unreadable_line fault ∙ b.spelled in
       cc
 
-  one_no : (line other : List ℕ) → IsJudged g text exits.No line → IsJudged g text exits.No other → line ≡ other
-  one_no line other x y =
-      elim x [
-        | inl a ↦ elim y [ inl b ↦ one_refusal line other a b | inr b ↦ read_or_not a.cert other a.writes b ]
-        | inr a ↦ elim y [ inl b ↦ read_or_not b.cert line b.writes a | inr b ↦ one_fault line other a b ]
-      ]
+  one_no : (line other : List ℕ) → IsJudged asked g text exits.No line → IsJudged asked g text exits.No other → line ≡ other
+  one_no line other (inl a) (inl b) = one_refusal line other a b
+  one_no line other (inl a) (inr (inl b)) = one_start a.cert other a.writes a.starts b
+  one_no line other (inl a) (inr (inr b)) = read_or_not a.cert other a.writes b
+  one_no line other (inr (inl a)) (inl b) = one_start b.cert line b.writes b.starts a
+  one_no line other (inr (inl a)) (inr (inl b)) = a.spelled ∙ sym b.spelled
+  one_no line other (inr (inl a)) (inr (inr b)) = read_or_not a.cert other a.writes b
+  one_no line other (inr (inr a)) (inl b) = read_or_not b.cert line b.writes a
+  one_no line other (inr (inr a)) (inr (inl b)) = read_or_not b.cert line b.writes a
+  one_no line other (inr (inr a)) (inr (inr b)) = one_fault line other a b
 
-  yes_and_no : {X : Type 0} (line other : List ℕ) → IsAccepted g text line → IsJudged g text exits.No other → X
-  yes_and_no line other a y = elim y [ inl b ↦ yes_or_no line other a b | inr b ↦ read_or_not a.cert other a.writes b ]
+  yes_and_no : {X : Type 0} (line other : List ℕ) → IsAccepted asked g text line → IsJudged asked g text exits.No other → X
+  yes_and_no line other a (inl b) = yes_or_no line other a b
+  yes_and_no line other a (inr (inl b)) = one_start a.cert other a.writes a.starts b
+  yes_and_no line other a (inr (inr b)) = read_or_not a.cert other a.writes b
 
 pub one_check_text : OneCheckText
-one_check_text g text exits.Done exits.Done line other forest a b = (refl, one_yes g forest text line other a b)
-one_check_text g text exits.No exits.No line other forest a b = (refl, one_no g forest text line other a b)
-one_check_text g text exits.Done exits.No line other forest a b = yes_and_no g forest text line other a b
-one_check_text g text exits.No exits.Done line other forest a b = yes_and_no g forest text other line b a
-one_check_text g text exits.Done exits.Inventory line other forest a b = absurd b
-one_check_text g text exits.Done exits.CommandLine line other forest a b = absurd b
-one_check_text g text exits.Done exits.Unkeepable line other forest a b = absurd b
-one_check_text g text exits.Done exits.TooLong line other forest a b = absurd b
-one_check_text g text exits.Done exits.Device line other forest a b = absurd b
-one_check_text g text exits.Done exits.Memory line other forest a b = absurd b
-one_check_text g text exits.No exits.Inventory line other forest a b = absurd b
-one_check_text g text exits.No exits.CommandLine line other forest a b = absurd b
-one_check_text g text exits.No exits.Unkeepable line other forest a b = absurd b
-one_check_text g text exits.No exits.TooLong line other forest a b = absurd b
-one_check_text g text exits.No exits.Device line other forest a b = absurd b
-one_check_text g text exits.No exits.Memory line other forest a b = absurd b
-one_check_text g text exits.Inventory exit line other forest a b = absurd a
-one_check_text g text exits.CommandLine exit line other forest a b = absurd a
-one_check_text g text exits.Unkeepable exit line other forest a b = absurd a
-one_check_text g text exits.TooLong exit line other forest a b = absurd a
-one_check_text g text exits.Device exit line other forest a b = absurd a
-one_check_text g text exits.Memory exit line other forest a b = absurd a
+one_check_text asked g text exits.Done exits.Done line other forest a b = (refl, one_yes asked g forest text line other a b)
+one_check_text asked g text exits.No exits.No line other forest a b = (refl, one_no asked g forest text line other a b)
+one_check_text asked g text exits.Done exits.No line other forest a b = yes_and_no asked g forest text line other a b
+one_check_text asked g text exits.No exits.Done line other forest a b = yes_and_no asked g forest text other line b a
+one_check_text asked g text exits.Done exits.Inventory line other forest a b = absurd b
+one_check_text asked g text exits.Done exits.CommandLine line other forest a b = absurd b
+one_check_text asked g text exits.Done exits.Unkeepable line other forest a b = absurd b
+one_check_text asked g text exits.Done exits.TooLong line other forest a b = absurd b
+one_check_text asked g text exits.Done exits.Device line other forest a b = absurd b
+one_check_text asked g text exits.Done exits.Memory line other forest a b = absurd b
+one_check_text asked g text exits.No exits.Inventory line other forest a b = absurd b
+one_check_text asked g text exits.No exits.CommandLine line other forest a b = absurd b
+one_check_text asked g text exits.No exits.Unkeepable line other forest a b = absurd b
+one_check_text asked g text exits.No exits.TooLong line other forest a b = absurd b
+one_check_text asked g text exits.No exits.Device line other forest a b = absurd b
+one_check_text asked g text exits.No exits.Memory line other forest a b = absurd b
+one_check_text asked g text exits.Inventory exit line other forest a b = absurd a
+one_check_text asked g text exits.CommandLine exit line other forest a b = absurd a
+one_check_text asked g text exits.Unkeepable exit line other forest a b = absurd a
+one_check_text asked g text exits.TooLong exit line other forest a b = absurd a
+one_check_text asked g text exits.Device exit line other forest a b = absurd a
+one_check_text asked g text exits.Memory exit line other forest a b = absurd a
 
 -- ---- ends
 

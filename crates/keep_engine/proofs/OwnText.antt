@@ -1,5 +1,5 @@
 -- Own texts: what `plan` writes is a certificate that gets Yes, and short enough to be read, so that `check` says `yes`.
-use Rattle.std.proofs.Common.{◌≡◌, ℕ, ◌≤◌, List, None, codes, length, refl, sym, subst, arith}
+use Rattle.std.proofs.Common.{◌≡◌, ◌⊎◌, inl, inr, ℕ, ◌≤◌, List, Option, None, Some, codes, length, refl, sym, subst, arith}
 use Rattle.keep_moment.specs.declared.moment.TheConstants.{LAST}
 use Rattle.keep_tree.specs.Forest.{Forest}
 use Rattle.keep_tree.specs.Push.{IsForest}
@@ -8,6 +8,7 @@ use Rattle.keep_plan.specs.declared.decision.Decision.TheVariants as decision
 use Rattle.keep_plan.specs.Decides.{AreBest}
 use Rattle.keep_cert.specs.declared.cert.Body.{Body}
 use Rattle.keep_cert.specs.declared.cert.Body.TheVariants as body
+use Rattle.keep_cert.specs.declared.cert.Cert.{Cert}
 use Rattle.keep_cert.specs.declared.cert.Version.TheVariants.{Two}
 use Rattle.keep_cert.specs.CertificateText.{IsBody, certificate_text}
 use Rattle.keep_cert.specs.Printing.{certified}
@@ -20,7 +21,7 @@ use Rattle.keep_inventory.proofs.Inventoried.{inventory_law}
 use Rattle.keep_report.specs.declared.exit.Exit.{Exit}
 use Rattle.keep_report.specs.declared.exit.Exit.TheVariants as exits
 use Rattle.keep_cert.specs.declared.cert.TheConstants.{MOST_CERTIFICATE}
-use Rattle.keep_engine.specs.CheckRun.{IsAccepted}
+use Rattle.keep_engine.specs.CheckRun.{IsAccepted, StartsAsAsked}
 use Rattle.keep_engine.specs.Laws.{IsOwnText, OwnTextLaw}
 use Rattle.keep_engine.specs.PlanRun.{IsCertified}
 use Rattle.keep_engine.proofs.OneText.{one_check_text}
@@ -36,24 +37,31 @@ best_is_body g s rs forest best =
     let same = counted_wakes rs in
     (runs_within g forest s None rs best.runs best.forces, (omega arith, omega arith))
 
+-- no start, or its own, is what a certificate starts as
+own_start : (s : ℕ) (c : Cert) → c.start ≡ s → (asked : Option ℕ) → (asked ≡ None) ⊎ (asked ≡ Some s) → StartsAsAsked asked c
+own_start s c is asked (inl none) = subst (λ (o : Option ℕ). StartsAsAsked o c) (sym none) tt
+own_start s c is asked (inr own) = subst (λ (o : Option ℕ). StartsAsAsked o c) (sym own) is
+
 body_accepted : (g : Forest) (s : ℕ) (b : Body) (text : List ℕ) → IsForest g → s ≤ LAST → IsBody Two g.entries b → HasFewRuns g b → IsAnswer g (certified s b) Yes
-    → text ≡ certificate_text g.entries (certified s b) → IsOwnText g text
+    → text ≡ certificate_text g.entries (certified s b) → IsOwnText g s text
 body_accepted g s b text forest start is few right spelled =
     let c = certified s b in
-    let accepted : IsAccepted g text (codes "yes\n") = record {
+    let accepted : (asked : Option ℕ) → StartsAsAsked asked c → IsAccepted asked g text (codes "yes\n") =
+    λ asked starts. record {
       cert = c;
       writes = record { certificate = (start, is); spelled = spelled };
+      starts = starts;
       answer = right;
       holds = yes_holds g c (body_fits g Two b is) right;
       spelled = refl;
     } in
     record {
-      accepted = accepted;
-      alone = λ exit line judged. one_check_text g text exit exits.Done line (codes "yes\n") forest judged accepted;
+      accepted = accepted (Some s) refl;
+      alone = λ asked own exit line judged. one_check_text asked g text exit exits.Done line (codes "yes\n") forest judged (accepted asked (own_start s c refl asked own));
       short = subst (λ t. length t ≤ MOST_CERTIFICATE) (sym spelled) (certificate_size g forest s start b is few);
     }
 
-certified_is_own : (g : Forest) (s : ℕ) (exit : Exit) (text : List ℕ) → IsForest g → s ≤ LAST → IsCertified g s exit text → IsOwnText g text
+certified_is_own : (g : Forest) (s : ℕ) (exit : Exit) (text : List ℕ) → IsForest g → s ≤ LAST → IsCertified g s exit text → IsOwnText g s text
 certified_is_own g s exits.Done text forest start is =
     body_accepted g s (body.Runs is.runs) text forest start (best_is_body g s is.runs forest is.best) is.best.few_runs (best_gets_yes g s is.runs forest is.best) is.spelled
 certified_is_own g s exits.Unkeepable text forest start is =

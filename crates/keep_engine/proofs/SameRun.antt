@@ -26,11 +26,15 @@ use Rattle.keep_report.specs.Told.{Reports}
 use Rattle.keep_report.proofs.Fronts.{whole_front}
 use Rattle.keep_engine.specs.CheckRun.{CheckTexts}
 use Rattle.keep_engine.specs.EndsRun.{EndsHalts, EndsTexts}
+use Rattle.keep_engine.specs.declared.margin.MarginQuery.{MarginQuery}
+use Rattle.keep_engine.specs.MarginRun.{MarginHalts, MarginTexts}
+use Rattle.keep_engine.specs.MarginText.{asked_about}
 use Rattle.keep_engine.specs.PlanRun.{IsCertified, IsPairText, IsPlanText, PlanHalts, PlanTexts}
 use Rattle.keep_engine.specs.Running.{Halted, Halts, NoHalts, RunOf, Texts, line_of}
-use Rattle.keep_engine.specs.Secrecy.{CheckSecrecy, DifferInSecrets, EndsSecrecy, IsWhole, PlanSecrecy, ReachSecrecy, RunAlike, TellSame, WriteFronts, WriteSame}
+use Rattle.keep_engine.specs.Secrecy.{CheckSecrecy, DifferInSecrets, EndsSecrecy, IsWhole, MarginSecrecy, PlanSecrecy, ReachSecrecy, RunAlike, TellSame, WriteFronts, WriteSame}
 use Rattle.keep_engine.proofs.Reaching.{one_reach_text}
 use Rattle.keep_engine.specs.ReachRun.{ReachTexts}
+use Rattle.keep_engine.proofs.Margins.{one_margin_text, one_reason, text_or_reason}
 use Rattle.keep_engine.proofs.OneText.{one_check_text, one_ends_text, one_plan_text}
 
 -- ---- the forest is one
@@ -107,10 +111,10 @@ module _ (Text : Texts) (Halt : Halts) where
       (exit ≡ exit') × WriteSame out out' × TellSame errors errors'
   both_end g exit exit' out out' errors errors' one forest (inl a) (inl b) =
       let same = one.text g exit exit' a.0 b.0 forest a.1 b.1 in
-      (same.0, (a.0, a.2, subst (Appends out'.old out'.new) (sym same.1) b.2), ([], inr (inl a.3), inr (inl b.3)))
+      (same.0, (a.0, a.2, subst (Appends out'.old out'.new) (sym same.1) b.2), inl (a.3, b.3))
   both_end g exit exit' out out' errors errors' one forest (inr a) (inr b) =
       let same = one.reason g a.0 b.0 a.1 b.1 in
-      (a.2 ∙ ap exit_of same ∙ sym b.2, ([], keeps_appends _ _ a.3, keeps_appends _ _ b.3), (line_of a.0, a.4, subst (λ (x : Stop). Reports (line_of x) errors') (sym same) b.4))
+      (a.2 ∙ ap exit_of same ∙ sym b.2, ([], keeps_appends _ _ a.3, keeps_appends _ _ b.3), inr (line_of a.0, a.4, subst (λ (x : Stop). Reports (line_of x) errors') (sym same) b.4))
   both_end g exit exit' out out' errors errors' one forest (inl a) (inr b) = absurd (one.apart g exit a.0 b.0 a.1 b.1)
   both_end g exit exit' out out' errors errors' one forest (inr a) (inl b) = absurd (one.apart g exit' b.0 a.0 b.1 a.1)
 
@@ -192,6 +196,16 @@ one_plan s = record {
 pub plan_secrecy : PlanSecrecy
 plan_secrecy bytes other s exit exit' out out' errors errors' d a b = runs_alike (PlanTexts s) (PlanHalts s) bytes other exit exit' out out' errors errors' (one_plan s) d a b
 
+one_margin : (q : MarginQuery) → IsOne (MarginTexts q) (MarginHalts q)
+one_margin q = record {
+  text = λ g e f t u forest a b. one_margin_text (asked_about q g) q.start q.most_wakes e f t u a b;
+  reason = λ g x y a b. one_reason (asked_about q g) q.start q.most_wakes x y a b;
+  apart = λ g e t x a b. text_or_reason (asked_about q g) q.start q.most_wakes e t x a b;
+}
+
+pub margin_secrecy : MarginSecrecy
+margin_secrecy bytes other q exit exit' out out' errors errors' d a b = runs_alike (MarginTexts q) (MarginHalts q) bytes other exit exit' out out' errors errors' (one_margin q) d a b
+
 one_reach : (s : ℕ) (dates : Bool) → IsOne (ReachTexts s dates) NoHalts
 one_reach s dates = record {
   text = λ g e f t u forest a b. (a.0 ∙ sym b.0, one_reach_text g s dates t u a.1 b.1);
@@ -202,12 +216,12 @@ one_reach s dates = record {
 pub reach_secrecy : ReachSecrecy
 reach_secrecy bytes other s dates exit exit' out out' errors errors' d a b = runs_alike (ReachTexts s dates) NoHalts bytes other exit exit' out out' errors errors' (one_reach s dates) d a b
 
-one_check : (text : List ℕ) → IsOne (CheckTexts text) NoHalts
-one_check text = record {
-  text = λ g e f t u forest a b. one_check_text g text e f t u forest a b;
+one_check : (asked : Option ℕ) (text : List ℕ) → IsOne (CheckTexts asked text) NoHalts
+one_check asked text = record {
+  text = λ g e f t u forest a b. one_check_text asked g text e f t u forest a b;
   reason = λ g x y a b. absurd a;
   apart = λ g e t x a b. b;
 }
 
 pub check_secrecy : CheckSecrecy
-check_secrecy bytes other text exit exit' out out' errors errors' d a b = runs_alike (CheckTexts text) NoHalts bytes other exit exit' out out' errors errors' (one_check text) d a b
+check_secrecy bytes other text asked exit exit' out out' errors errors' d a b = runs_alike (CheckTexts asked text) NoHalts bytes other exit exit' out out' errors errors' (one_check asked text) d a b

@@ -1,5 +1,5 @@
 -- Words for the parts of the run `check`. No public clause cites them.
-use Rattle.std.specs.Prelude.{◌≡◌, ℕ, ◌<◌, List, codes}
+use Rattle.std.specs.Prelude.{◌≡◌, ◌⊎◌, ℕ, ◌<◌, List, Option, codes}
 use Rattle.keep_tree.specs.Forest.{Forest}
 use Rattle.keep_cert.specs.declared.cert.Cert.{Cert}
 use Rattle.keep_check.specs.declared.answer.Answer.TheVariants.{No, Yes}
@@ -9,6 +9,7 @@ use Rattle.keep_check.specs.Answer.{IsAnswer}
 use Rattle.keep_check.specs.Laws.{Holds}
 use Rattle.keep_report.specs.declared.exit.Exit.{Exit}
 use Rattle.keep_report.specs.declared.exit.Exit.TheVariants as exits
+use Rattle.keep_engine.specs.CheckRun.{StartsAsAsked}
 use Rattle.keep_engine.specs.CheckText.{no_line}
 use Rattle.keep_engine.specs.Running.{Texts}
 
@@ -27,3 +28,11 @@ IsVerdict g c exit line = ⊥
 
 abbrev pub VerdictTexts : Cert → Texts
 VerdictTexts c g exit line = IsVerdict g c exit line
+
+-- the line about a certificate and the start that is asked for
+abbrev pub IsStartVerdict : Option ℕ → Forest → Cert → Exit → List ℕ → Type 0
+IsStartVerdict asked g c exit line =
+    (StartsAsAsked asked c × IsVerdict g c exit line) ⊎ ((StartsAsAsked asked c → ⊥) × (exit ≡ exits.No) × (line ≡ codes "no start\n"))
+
+abbrev pub StartTexts : Option ℕ → Cert → Texts
+StartTexts asked c g exit line = IsStartVerdict asked g c exit line

@@ -1,6 +1,6 @@
 -- The run `check`: which line goes with which exit.
 -- Source: this project's own.
-use Rattle.std.specs.Prelude.{◌≡◌, ℕ, ◌⊎◌, List, Some, Err, codes}
+use Rattle.std.specs.Prelude.{◌≡◌, ℕ, ◌⊎◌, List, Option, Some, IfSome, Err, codes}
 use Rattle.keep_tree.specs.Forest.{Forest}
 use Rattle.keep_cert.specs.declared.cert.Cert.{Cert}
 use Rattle.keep_cert.specs.declared.fault.CertFault.{CertFault}
@@ -16,21 +16,35 @@ use Rattle.keep_engine.specs.CheckText.{no_line, unreadable_line}
 use Rattle.keep_report.specs.Sent.{Sent}
 use Rattle.keep_engine.specs.Running.{NoHalts, RunOf, Texts}
 
--- the text writes a certificate that gets Yes: its moments are least and latest, or no plan keeps
-pub record IsAccepted (g : Forest) (text line : List ℕ) : Type 0 where
+-- the certificate's start is the one that is asked for, if one is
+abbrev pub StartsAsAsked : Option ℕ → Cert → Type 0
+StartsAsAsked asked c = IfSome asked (λ s. c.start ≡ s)
+
+-- the text writes a certificate from the start that is asked for that gets Yes: its moments are least and latest and keep, or
+-- no plan keeps
+pub record IsAccepted (asked : Option ℕ) (g : Forest) (text line : List ℕ) : Type 0 where
   pub cert : Cert
   pub writes : Writes g.entries text cert
+  pub starts : StartsAsAsked asked cert
   pub answer : IsAnswer g cert Yes
   pub holds : Holds g cert.start cert.body
   pub spelled : line ≡ codes "yes\n"
 
--- the text writes a certificate that gets No for this cause
-pub record IsRefused (g : Forest) (text line : List ℕ) : Type 0 where
+-- the text writes a certificate from the start that is asked for that gets No for this cause
+pub record IsRefused (asked : Option ℕ) (g : Forest) (text line : List ℕ) : Type 0 where
   pub cert : Cert
   pub writes : Writes g.entries text cert
+  pub starts : StartsAsAsked asked cert
   pub cause : Cause
   pub answer : IsAnswer g cert (No cause)
   pub spelled : line ≡ no_line g.entries cause
+
+-- the text writes a certificate from another start than the one that is asked for
+pub record StartsElsewhere (asked : Option ℕ) (g : Forest) (text line : List ℕ) : Type 0 where
+  pub cert : Cert
+  pub writes : Writes g.entries text cert
+  pub elsewhere : StartsAsAsked asked cert → ⊥
+  pub spelled : line ≡ codes "no start\n"
 
 -- the text writes no certificate: this is its first fault
 pub record IsUnreadable (g : Forest) (text line : List ℕ) : Type 0 where
@@ -38,15 +52,15 @@ pub record IsUnreadable (g : Forest) (text line : List ℕ) : Type 0 where
   pub fails : certificate_of g.entries text ≡ Err fault
   pub spelled : unreadable_line fault ≡ Some line
 
--- the line about a text over a forest that goes with an exit
-abbrev pub IsJudged : Forest → List ℕ → Exit → List ℕ → Type 0
-IsJudged g text exits.Done line = IsAccepted g text line
-IsJudged g text exits.No line = IsRefused g text line ⊎ IsUnreadable g text line
-IsJudged g text exit line = ⊥
+-- the line about a text over a forest, and about the start that is asked for, that goes with an exit
+abbrev pub IsJudged : Option ℕ → Forest → List ℕ → Exit → List ℕ → Type 0
+IsJudged asked g text exits.Done line = IsAccepted asked g text line
+IsJudged asked g text exits.No line = IsRefused asked g text line ⊎ (StartsElsewhere asked g text line ⊎ IsUnreadable g text line)
+IsJudged asked g text exit line = ⊥
 
-abbrev pub CheckTexts : List ℕ → Texts
-CheckTexts text g exit line = IsJudged g text exit line
+abbrev pub CheckTexts : Option ℕ → List ℕ → Texts
+CheckTexts asked text g exit line = IsJudged asked g text exit line
 
--- `check` over the bytes of an inventory and of a certificate
-abbrev pub CheckRun : List ℕ → List ℕ → Exit → Sent → Sent → Type 0
-CheckRun bytes text exit out errors = RunOf (CheckTexts text) NoHalts bytes exit out errors
+-- `check` over the bytes of an inventory and of a certificate, with the start that is asked for, if one is
+abbrev pub CheckRun : List ℕ → List ℕ → Option ℕ → Exit → Sent → Sent → Type 0
+CheckRun bytes text asked exit out errors = RunOf (CheckTexts asked text) NoHalts bytes exit out errors

@@ -1,5 +1,5 @@
 -- Laws of the runs. Each is the contract of a public function without a body.
-use Rattle.std.specs.Prelude.{◌≡◌, ℕ, ◌≤◌, List, Ok, codes, length}
+use Rattle.std.specs.Prelude.{◌≡◌, ◌⊎◌, ℕ, ◌≤◌, List, Option, None, Some, Ok, codes, length}
 use Rattle.keep_moment.specs.declared.moment.TheConstants.{LAST}
 use Rattle.keep_tree.specs.Forest.{Forest}
 use Rattle.keep_tree.specs.Push.{IsForest}
@@ -27,23 +27,26 @@ OwnCertificateLaw =
     (g : Forest) (s : ℕ) (d : Decision) (text : List ℕ) → IsForest g → s ≤ LAST → Decides g s d → Prints g.entries s (claim d) (Ok text) →
     (c : Cert) × (certificate_of g.entries text ≡ Ok c) × CanBeJudged g c.body × ((answer : Answer) → IsAnswer g c answer → answer ≡ Yes)
 
--- a text that `check` accepts with `yes`, with no other line and no other exit, and that is short enough to be read
-pub record IsOwnText (g : Forest) (text : List ℕ) : Type 0 where
-  pub accepted : IsAccepted g text (codes "yes\n")
-  pub alone : (exit : Exit) (line : List ℕ) → IsJudged g text exit line → (exit ≡ exits.Done) × (line ≡ codes "yes\n")
+-- a text that `check` accepts with `yes`, with no other line and no other exit, whether this start is asked for or none; and
+-- that is short enough to be read
+pub record IsOwnText (g : Forest) (s : ℕ) (text : List ℕ) : Type 0 where
+  pub accepted : IsAccepted (Some s) g text (codes "yes\n")
+  pub alone : (asked : Option ℕ) → (asked ≡ None) ⊎ (asked ≡ Some s) → (exit : Exit) (line : List ℕ) → IsJudged asked g text exit line → (exit ≡ exits.Done) × (line ≡ codes "yes\n")
   pub short : length text ≤ MOST_CERTIFICATE
 
--- what `plan` writes of the bytes of an inventory, of whichever exit, is such a text over the inventory's forest
+-- what `plan` writes of the bytes of an inventory and a start, of whichever exit, is such a text over the inventory's forest
 abbrev pub OwnTextLaw : Type 0
 OwnTextLaw =
     (bytes : List ℕ) (inventory : Inventory) (s : ℕ) (exit : Exit) (text : List ℕ) → read_inventory bytes ≡ Ok inventory → s ≤ LAST → IsCertified inventory.forest s exit text →
-    IsForest inventory.forest × IsOwnText inventory.forest text
+    IsForest inventory.forest × IsOwnText inventory.forest s text
 
 -- a forest and a start have one text of `plan`, and one exit: nothing else shows in them
 abbrev pub OnePlanText : Type 0
 OnePlanText = (g : Forest) (s : ℕ) (exit exit' : Exit) (text other : List ℕ) → IsCertified g s exit text → IsCertified g s exit' other → (exit ≡ exit') × (text ≡ other)
 
--- a forest and a certificate's text have one line of `check`, and one exit: nothing else shows in them
+-- a forest, a certificate's text and the start that is asked for have one line of `check`, and one exit: nothing else shows in
+-- them
 abbrev pub OneCheckText : Type 0
 OneCheckText =
-    (g : Forest) (text : List ℕ) (exit exit' : Exit) (line other : List ℕ) → IsForest g → IsJudged g text exit line → IsJudged g text exit' other → (exit ≡ exit') × (line ≡ other)
+    (asked : Option ℕ) (g : Forest) (text : List ℕ) (exit exit' : Exit) (line other : List ℕ) → IsForest g → IsJudged asked g text exit line → IsJudged asked g text exit' other →
+    (exit ≡ exit') × (line ≡ other)

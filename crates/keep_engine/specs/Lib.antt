@@ -5,6 +5,10 @@ pub mod PlanRun
 pub mod ReachText
 pub mod ReachRun
 pub mod ReachLaws
+pub mod Renewed
+pub mod MarginText
+pub mod MarginRun
+pub mod MarginMaking
 pub mod CheckText
 pub mod CheckRun
 pub mod CheckAnswers

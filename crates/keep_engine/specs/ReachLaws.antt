@@ -1,9 +1,26 @@
--- Laws of what binds an entry: until when some plan keeps it, and that no need plays a part in it.
-use Rattle.std.specs.Prelude.{◌≡◌, ℕ, ◌<◌, ◌≤◌, Option, Some, None}
-use Rattle.keep_tree.specs.Forest.{Forest, entry_at}
+-- Laws of what binds an entry: which entry it is, until when some plan keeps it, and that no need plays a part in it.
+use Rattle.std.specs.Prelude.{◌≡◌, ◌≢◌, ℕ, ◌<◌, ◌≤◌, Option, Some, None, length}
+use Rattle.keep_tree.specs.Forest.{Forest, end_of, entry_at}
+use Rattle.keep_tree.specs.Over.{Over}
 use Rattle.keep_tree.specs.Push.{IsForest}
+use Rattle.keep_core.specs.Shorten.{least_reach}
+use Rattle.keep_rule.specs.Reach.{reach}
+use Rattle.keep_engine.specs.declared.bound.Bound.{Bound}
 use Rattle.keep_plan.specs.Decides.{NoneKeeps, SomeKeeps}
 use Rattle.keep_engine.specs.ReachText.{bound}
+
+-- the entry `by` is over i, its reach from s is the least reach of i, and none nearer the root has that reach; where nothing
+-- limits i, it is i itself
+pub record Binds (g : Forest) (s i : ℕ) (b : Bound) : Type 0 where
+  pub least : b.most ≡ least_reach g s i
+  pub over : Over g.entries b.by i
+  pub reaches : reach g.entries g.margin s (end_of g.entries) b.by ≡ b.most
+  pub nearest : (a : ℕ) → Over g.entries a b.by → a ≢ b.by → b.most ≢ None → reach g.entries g.margin s (end_of g.entries) a ≢ b.most
+  pub itself : b.most ≡ None → b.by ≡ i
+
+-- of each line, UNTIL is `most` and BY is `by`
+abbrev pub BoundLaw : Type 0
+BoundLaw = (g : Forest) (s i : ℕ) → IsForest g → i < length g.entries → Binds g s i (bound g s i)
 
 -- the entry i is needed after s, and no other is
 pub record IsNeededAlone (g : Forest) (s i : ℕ) : Type 0 where

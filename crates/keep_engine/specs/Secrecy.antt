@@ -1,5 +1,5 @@
 -- Secrecy: of two inventories that differ in their credentials alone a run writes the same.
-use Rattle.std.specs.Prelude.{◌≡◌, ℕ, Bool, List, Ok}
+use Rattle.std.specs.Prelude.{◌≡◌, ◌⊎◌, ℕ, Bool, List, Option, Ok}
 use Rattle.std.specs.Io.KnownBytes.{Appends}
 use Rattle.keep_device.specs.Front.{AppendsFront}
 use Rattle.keep_inventory.specs.Bare.{AreAlike}
@@ -9,8 +9,10 @@ use Rattle.keep_report.specs.declared.exit.Exit.{Exit}
 use Rattle.keep_report.specs.declared.exit.Exit.TheVariants as exits
 use Rattle.keep_engine.specs.CheckRun.{CheckRun}
 use Rattle.keep_engine.specs.EndsRun.{EndsRun}
+use Rattle.keep_engine.specs.declared.margin.MarginQuery.{MarginQuery}
+use Rattle.keep_engine.specs.MarginRun.{MarginRun}
 use Rattle.keep_report.specs.Told.{Reports}
-use Rattle.keep_report.specs.Sent.{Sent}
+use Rattle.keep_report.specs.Sent.{IsUntouched, Sent}
 use Rattle.keep_engine.specs.PlanRun.{PlanRun}
 use Rattle.keep_engine.specs.ReachRun.{ReachRun}
 
@@ -38,7 +40,7 @@ WriteFronts out other = (text : List ℕ) × AppendsFront out.old out.new text �
 
 -- two runs reported by one fault line, or both by none
 abbrev pub TellSame : Sent → Sent → Type 0
-TellSame errors other = (line : List ℕ) × Reports line errors × Reports line other
+TellSame errors other = (IsUntouched errors × IsUntouched other) ⊎ ((line : List ℕ) × Reports line errors × Reports line other)
 
 -- two runs: on `out` they write fronts of one text; and where both come to their end they have one exit, write one text,
 -- and report by one line
@@ -56,6 +58,11 @@ PlanSecrecy =
     (bytes other : List ℕ) (s : ℕ) (exit exit' : Exit) (out out' errors errors' : Sent) → DifferInSecrets bytes other →
     PlanRun bytes s exit out errors → PlanRun other s exit' out' errors' → RunAlike exit exit' out out' errors errors'
 
+abbrev pub MarginSecrecy : Type 0
+MarginSecrecy =
+    (bytes other : List ℕ) (q : MarginQuery) (exit exit' : Exit) (out out' errors errors' : Sent) → DifferInSecrets bytes other →
+    MarginRun bytes q exit out errors → MarginRun other q exit' out' errors' → RunAlike exit exit' out out' errors errors'
+
 abbrev pub ReachSecrecy : Type 0
 ReachSecrecy =
     (bytes other : List ℕ) (s : ℕ) (dates : Bool) (exit exit' : Exit) (out out' errors errors' : Sent) → DifferInSecrets bytes other →
@@ -63,5 +70,5 @@ ReachSecrecy =
 
 abbrev pub CheckSecrecy : Type 0
 CheckSecrecy =
-    (bytes other text : List ℕ) (exit exit' : Exit) (out out' errors errors' : Sent) → DifferInSecrets bytes other →
-    CheckRun bytes text exit out errors → CheckRun other text exit' out' errors' → RunAlike exit exit' out out' errors errors'
+    (bytes other text : List ℕ) (asked : Option ℕ) (exit exit' : Exit) (out out' errors errors' : Sent) → DifferInSecrets bytes other →
+    CheckRun bytes text asked exit out errors → CheckRun other text asked exit' out' errors' → RunAlike exit exit' out out' errors errors'

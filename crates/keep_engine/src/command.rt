@@ -5,6 +5,7 @@ ghost use Rattle.keep_engine.specs.From.{RunFrom};
 ghost use Rattle.keep_engine.specs.Running.{line_of};
 ghost use Rattle.keep_engine.specs.CheckRun.{CheckRun};
 ghost use Rattle.keep_engine.specs.EndsRun.{EndsRun};
+ghost use Rattle.keep_engine.specs.MarginRun.{MarginRun};
 ghost use Rattle.keep_engine.specs.Obeys.{Obeys};
 ghost use Rattle.keep_engine.specs.PlanRun.{PlanRun};
 ghost use Rattle.keep_engine.specs.ReachRun.{ReachRun};
@@ -14,6 +15,7 @@ use crate::check::run_check;
 use crate::deliver::PROGRAM;
 use crate::ends::run_ends;
 use crate::inputs::Inputs;
+use crate::margin::{MarginQuery, run_margin};
 use crate::plan::run_plan;
 use crate::reach::run_reach;
 use crate::rehearse::rehearse;
@@ -38,6 +40,11 @@ pub enum Command {
         file: String,
         start: Moment,
     },
+    /// The widest margin of an inventory for so many wake-ups.
+    Margin {
+        file: String,
+        query: MarginQuery,
+    },
     /// Until when each entry can live, from a start on; moments as dates, or as numbers.
     Reach {
         file: String,
@@ -50,14 +57,15 @@ pub enum Command {
         start: Moment,
         words: Vec<Text>,
     },
-    /// The judgement of a certificate by an inventory.
+    /// The judgement of a certificate by an inventory, and by the start that is asked for, if one is.
     Check {
         file: String,
         certificate: String,
+        start: Option<Moment>,
     },
 }
 
-/// Does what a command asks: [`run_ends`], [`run_plan`], [`run_reach`], [`run_rehearse`](keep_run::run_rehearse) or [`run_check`] over the bytes of its files.
+/// Does what a command asks: [`run_ends`], [`run_plan`], [`run_margin`], [`run_reach`], [`run_rehearse`](keep_run::run_rehearse) or [`run_check`] over the bytes of its files.
 ///
 /// The inventory is read first, at most [`MOST_INVENTORY`] bytes, and for `check` the certificate behind it, at most
 /// [`MOST_CERTIFICATE`]. Exit 6, with the line of a read: a file was not read to its end, or is longer. Exit 7: memory for
@@ -78,15 +86,18 @@ pub fn obey<I: Inputs, W: Sink, E: Sink>(
             moments,
         } => ends_from(alloc, file, *start, moments, inputs, out, errors),
         Command::Plan { file, start } => plan_from(alloc, file, *start, inputs, out, errors),
+        Command::Margin { file, query } => margin_from(alloc, file, query, inputs, out, errors),
         Command::Reach { file, start, dates } => {
             reach_from(alloc, file, *start, *dates, inputs, out, errors)
         }
         Command::Rehearse { file, start, words } => {
             rehearse_from(alloc, file, *start, words, inputs, out, errors)
         }
-        Command::Check { file, certificate } => {
-            check_from(alloc, file, certificate, inputs, out, errors)
-        }
+        Command::Check {
+            file,
+            certificate,
+            start,
+        } => check_from(alloc, file, certificate, *start, inputs, out, errors),
     }
 }
 
@@ -103,7 +114,7 @@ fn ends_from<I: Inputs, W: Sink, E: Sink>(
 {
     match inputs.read(alloc, file, MOST_INVENTORY) {
         Ok(inventory) => run_ends(alloc, inventory.list(), start, moments, out, errors),
-        Err(fault) => tell_unread(alloc, fault, errors),
+        Err(fault) => tell_unread(fault, errors),
     }
 }
 
@@ -119,7 +130,23 @@ fn plan_from<I: Inputs, W: Sink, E: Sink>(
 {
     match inputs.read(alloc, file, MOST_INVENTORY) {
         Ok(inventory) => run_plan(alloc, inventory.list(), start, out, errors),
-        Err(fault) => tell_unread(alloc, fault, errors),
+        Err(fault) => tell_unread(fault, errors),
+    }
+}
+
+fn margin_from<I: Inputs, W: Sink, E: Sink>(
+    alloc: Global,
+    file: &str,
+    query: &MarginQuery,
+    inputs: &mut I,
+    out: &mut W,
+    errors: &mut E,
+) -> Exit
+    ensures { RunFrom (I.bytes_at inputs.old file.now) MOST_INVENTORY (λ bytes. MarginRun bytes query.now) result (⟦<W as Watched>⟧.sent out.old out.new) (⟦<E as Watched>⟧.sent errors.old errors.new) }
+{
+    match inputs.read(alloc, file, MOST_INVENTORY) {
+        Ok(inventory) => run_margin(alloc, inventory.list(), query, out, errors),
+        Err(fault) => tell_unread(fault, errors),
     }
 }
 
@@ -136,7 +163,7 @@ fn reach_from<I: Inputs, W: Sink, E: Sink>(
 {
     match inputs.read(alloc, file, MOST_INVENTORY) {
         Ok(inventory) => run_reach(alloc, inventory.list(), start, dates, out, errors),
-        Err(fault) => tell_unread(alloc, fault, errors),
+        Err(fault) => tell_unread(fault, errors),
     }
 }
 
@@ -153,7 +180,7 @@ fn rehearse_from<I: Inputs, W: Sink, E: Sink>(
 {
     match inputs.read(alloc, file, MOST_INVENTORY) {
         Ok(inventory) => rehearse(alloc, inventory.list(), start, words, out, errors),
-        Err(fault) => tell_unread(alloc, fault, errors),
+        Err(fault) => tell_unread(fault, errors),
     }
 }
 
@@ -161,15 +188,24 @@ fn check_from<I: Inputs, W: Sink, E: Sink>(
     alloc: Global,
     file: &str,
     certificate: &str,
+    start: Option<Moment>,
     inputs: &mut I,
     out: &mut W,
     errors: &mut E,
 ) -> Exit
-    ensures { RunFrom (I.bytes_at inputs.old file.now) MOST_INVENTORY (λ bytes. RunFrom (I.bytes_at inputs.old certificate.now) MOST_CERTIFICATE (λ text. CheckRun bytes text)) result (⟦<W as Watched>⟧.sent out.old out.new) (⟦<E as Watched>⟧.sent errors.old errors.new) }
+    ensures { RunFrom (I.bytes_at inputs.old file.now) MOST_INVENTORY (λ bytes. RunFrom (I.bytes_at inputs.old certificate.now) MOST_CERTIFICATE (λ text. CheckRun bytes text start)) result (⟦<W as Watched>⟧.sent out.old out.new) (⟦<E as Watched>⟧.sent errors.old errors.new) }
 {
     match inputs.read(alloc, file, MOST_INVENTORY) {
-        Ok(inventory) => check_text_from(alloc, inventory.list(), certificate, inputs, out, errors),
-        Err(fault) => tell_unread(alloc, fault, errors),
+        Ok(inventory) => check_text_from(
+            alloc,
+            inventory.list(),
+            certificate,
+            start,
+            inputs,
+            out,
+            errors,
+        ),
+        Err(fault) => tell_unread(fault, errors),
     }
 }
 
@@ -178,23 +214,24 @@ fn check_text_from<I: Inputs, W: Sink, E: Sink>(
     alloc: Global,
     inventory: &[u8],
     certificate: &str,
+    start: Option<Moment>,
     inputs: &mut I,
     out: &mut W,
     errors: &mut E,
 ) -> Exit
-    ensures { RunFrom (I.bytes_at inputs.old certificate.now) MOST_CERTIFICATE (λ text. CheckRun inventory.now text) result (⟦<W as Watched>⟧.sent out.old out.new) (⟦<E as Watched>⟧.sent errors.old errors.new) }
+    ensures { RunFrom (I.bytes_at inputs.old certificate.now) MOST_CERTIFICATE (λ text. CheckRun inventory.now text start) result (⟦<W as Watched>⟧.sent out.old out.new) (⟦<E as Watched>⟧.sent errors.old errors.new) }
 {
     match inputs.read(alloc, certificate, MOST_CERTIFICATE) {
-        Ok(text) => run_check(alloc, inventory, text.list(), out, errors),
-        Err(fault) => tell_unread(alloc, fault, errors),
+        Ok(text) => run_check(alloc, inventory, text.list(), start, out, errors),
+        Err(fault) => tell_unread(fault, errors),
     }
 }
 
 /// Writes the line of a file that was not read, and gives the exit.
-fn tell_unread<E: Sink>(alloc: Global, fault: InputFault, errors: &mut E) -> Exit
+fn tell_unread<E: Sink>(fault: InputFault, errors: &mut E) -> Exit
     ensures exit { result ≡ exit_of (stop_of_input fault) }
     ensures told { Reports (line_of (stop_of_input fault)) (⟦<E as Watched>⟧.sent errors.old errors.new) }
 {
     let stop = Stop::from(fault);
-    stop.report(alloc, PROGRAM, errors)
+    stop.report(PROGRAM, errors)
 }

@@ -3,14 +3,12 @@ ghost use Rattle.keep_engine.specs.Making.{Delivers};
 use crate::outcome::Outcome;
 use keep_device::Sink;
 use keep_report::{Exit, Stop, Watched, send};
-use std::alloc::Global;
 
 /// The program's name in front of its fault lines.
 pub const PROGRAM: &str = "leasekeep";
 
 /// Writes a text that was made and flushes, or tells why there is none, or why only a front of it went out.
 pub(crate) fn deliver<W: Sink, E: Sink>(
-    alloc: Global,
     made: Result<Outcome, Stop>,
     out: &mut W,
     errors: &mut E,
@@ -18,10 +16,10 @@ pub(crate) fn deliver<W: Sink, E: Sink>(
     ensures { Delivers made result (⟦<W as Watched>⟧.sent out.old out.new) (⟦<E as Watched>⟧.sent errors.old errors.new) }
 {
     match made {
-        Err(stop) => stop.report(alloc, PROGRAM, errors),
+        Err(stop) => stop.report(PROGRAM, errors),
         Ok(outcome) => match send(out, outcome.text.list()) {
             Ok(()) => outcome.exit,
-            Err(stop) => stop.report(alloc, PROGRAM, errors),
+            Err(stop) => stop.report(PROGRAM, errors),
         },
     }
 }

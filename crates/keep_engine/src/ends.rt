@@ -24,10 +24,5 @@ pub fn run_ends<W: Sink, E: Sink>(
 ) -> Exit
     ensures { EndsRun inventory.now start moments.now result (⟦<W as Watched>⟧.sent out.old out.new) (⟦<E as Watched>⟧.sent errors.old errors.new) }
 {
-    deliver(
-        alloc,
-        ends_text(alloc, inventory, start, moments),
-        out,
-        errors,
-    )
+    deliver(ends_text(alloc, inventory, start, moments), out, errors)
 }

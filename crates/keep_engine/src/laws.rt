@@ -1,8 +1,9 @@
 ghost use Rattle.keep_engine.specs.EndsText.{OneEndsText};
 ghost use Rattle.keep_engine.specs.Laws.{OneCheckText, OnePlanText, OwnCertificateLaw, OwnTextLaw};
-ghost use Rattle.keep_engine.specs.ReachLaws.{UntilLaw, WhateverIsNeeded};
+ghost use Rattle.keep_engine.specs.MarginText.{OneMarginText};
+ghost use Rattle.keep_engine.specs.ReachLaws.{BoundLaw, UntilLaw, WhateverIsNeeded};
 ghost use Rattle.keep_engine.specs.ReachText.{OneReachText};
-ghost use Rattle.keep_engine.specs.Secrecy.{CheckSecrecy, EndsSecrecy, PlanSecrecy, ReachSecrecy};
+ghost use Rattle.keep_engine.specs.Secrecy.{CheckSecrecy, EndsSecrecy, MarginSecrecy, PlanSecrecy, ReachSecrecy};
 
 /// The law that own certificates are accepted. What `print` writes of a decision as `plan` gave it, with the start it was
 /// planned from, is read back over the same forest, and `keep_check::check` can answer nothing but Yes. And what the command
@@ -15,12 +16,14 @@ pub fn own_certificates_are_accepted()
 {}
 
 /// The law that what is written tells nothing but names, numbers and moments: of two inventories with one forest, as those
-/// that differ in the tokens' values and the lease ids alone, `ends`, `plan`, `reach` and `check` each write one text with one exit.
+/// that differ in the tokens' values and the lease ids alone, `ends`, `plan`, `margin`, `reach` and `check` each write one text
+/// with one exit.
 /// So `check` says `yes` exactly where the text is a certificate that gets Yes: for no text is there a right `yes` and a
 /// right other line.
 pub fn no_secret_shows()
     ensures ends { OneEndsText }
     ensures plan { OnePlanText }
+    ensures margin { OneMarginText }
     ensures reach { OneReachText }
     ensures check { OneCheckText }
 {}
@@ -31,8 +34,15 @@ pub fn no_secret_shows()
 pub fn secrets_change_no_run()
     ensures ends { EndsSecrecy }
     ensures plan { PlanSecrecy }
+    ensures margin { MarginSecrecy }
     ensures reach { ReachSecrecy }
     ensures check { CheckSecrecy }
+{}
+
+/// The law of whom `reach` names: BY is over the entry, its reach is UNTIL, which is the least reach over the entry, and no
+/// entry nearer the root has that reach.
+pub fn bound_law()
+    ensures { BoundLaw }
 {}
 
 /// The law of what `reach` shows: an entry that alone is needed is kept by some plan until the moment that the line names,

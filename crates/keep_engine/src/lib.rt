@@ -16,12 +16,16 @@ mod ends;
 mod ends_text;
 mod inputs;
 mod laws;
+mod margin;
+mod margin_text;
+mod no_margin;
 mod outcome;
 mod plan;
 mod plan_text;
 mod reach;
 mod reach_text;
 mod rehearse;
+mod renewed;
 
 pub use check::run_check;
 pub use command::{Command, obey};
@@ -31,8 +35,12 @@ pub use inputs::Inputs;
 pub use keep_exchange::{
     Exchange, ExchangeFault, MemoryExchange, SelfServed, TcpExchange, UnixExchange,
 };
+pub use keep_plan::LIMIT;
 pub use keep_report::{Exit, Stop, tell};
 pub use keep_run::{MOST_WAKES, run_live, run_rehearse};
-pub use laws::{no_secret_shows, own_certificates_are_accepted, secrets_change_no_run, until_law};
+pub use laws::{
+    bound_law, no_secret_shows, own_certificates_are_accepted, secrets_change_no_run, until_law,
+};
+pub use margin::{MarginQuery, run_margin};
 pub use plan::run_plan;
 pub use reach::run_reach;

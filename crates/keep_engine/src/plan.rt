@@ -26,5 +26,5 @@ pub fn run_plan<W: Sink, E: Sink>(
 ) -> Exit
     ensures { PlanRun inventory.now start result (⟦<W as Watched>⟧.sent out.old out.new) (⟦<E as Watched>⟧.sent errors.old errors.new) }
 {
-    deliver(alloc, plan_text(alloc, inventory, start), out, errors)
+    deliver(plan_text(alloc, inventory, start), out, errors)
 }

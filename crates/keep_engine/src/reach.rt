@@ -27,10 +27,5 @@ pub fn run_reach<W: Sink, E: Sink>(
 ) -> Exit
     ensures { ReachRun inventory.now start dates result (⟦<W as Watched>⟧.sent out.old out.new) (⟦<E as Watched>⟧.sent errors.old errors.new) }
 {
-    deliver(
-        alloc,
-        reach_text(alloc, inventory, start, dates),
-        out,
-        errors,
-    )
+    deliver(reach_text(alloc, inventory, start, dates), out, errors)
 }

@@ -29,7 +29,7 @@ pub(crate) fn rehearse<W: Sink, E: Sink>(
         Ok(mut exchange) => {
             run_rehearse(alloc, inventory, start, words, out, errors, &mut exchange)
         }
-        Err(stop) => stop.report(alloc, PROGRAM, errors),
+        Err(stop) => stop.report(PROGRAM, errors),
     }
 }
 

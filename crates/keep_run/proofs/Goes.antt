@@ -75,7 +75,7 @@ ends_go cs behind old new due before after e = (
 -- ---- to the end of the first round
 
 module _ (cs : List (List ℕ)) (behind : Behind) (old k : State) (new : World) (due t : ℕ) (asked before mid after : List ℕ) (next : Option ℕ) (like : IsShaped old.forest k.forest)
-    (o : Opens cs behind old due t asked k before mid) (a : AnswersAll cs t (both k behind) asked next new mid after) where
+    (o : Opens cs behind old due t asked k before mid) (a : AnswersAll 8200 cs t (both k behind) asked next new mid after) where
   s : Inventory
   s = inventory_with cs old.forest
 

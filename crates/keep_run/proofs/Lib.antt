@@ -12,6 +12,8 @@ pub mod OneAnswer
 pub mod Wording
 pub mod Within
 pub mod Texts
+pub mod InForce
+pub mod Opened
 pub mod Opens
 pub mod Goes
 pub mod Rounds

@@ -107,12 +107,12 @@ halts_where port cs number old behind text stops.Memory new P Q out f h = h
 -- by the names that its code has
 pub heard_line :
     (port : ℕ) (cs : List (List ℕ)) (o n : Option Behind) (old new : State) (line before after : List ℕ) (says : Heard) → before ≡ [] → heard_in old.forest line ≡ Some says →
-    (port ≡ 8200 → Between o n (λ b a. (lines : List ℕ) × (IsHeard cs (both old b) says (both new a) lines × (after ≡ before ++ lines)))) → IsLineHeard port cs (side old o) line (side new n) after
+    Between o n (λ b a. (lines : List ℕ) × (IsHeard port cs (both old b) says (both new a) lines × (after ≡ before ++ lines))) → IsLineHeard port cs (side old o) line (side new n) after
 heard_line port cs o n old new line before after says empty is heard = record {
   says = says;
   is = is;
-  heard = λ p. between_as o n (λ b a. (lines : List ℕ) × (IsHeard cs (both old b) says (both new a) lines × (after ≡ before ++ lines))) (λ b a. IsHeard cs (both old b) says (both new a) after)
-      (λ b a h. subst (λ t. IsHeard cs (both old b) says (both new a) t) (sym (h.1.1 ∙ ap (λ l. l ++ h.0) empty)) h.1.0) (heard p);
+  heard = between_as o n (λ b a. (lines : List ℕ) × (IsHeard port cs (both old b) says (both new a) lines × (after ≡ before ++ lines))) (λ b a. IsHeard port cs (both old b) says (both new a) after)
+      (λ b a h. subst (λ t. IsHeard port cs (both old b) says (both new a) t) (sym (h.1.1 ∙ ap (λ l. l ++ h.0) empty)) h.1.0) heard;
 }
 
 -- its text is sent, or why only a front of it is

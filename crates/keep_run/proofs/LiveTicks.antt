@@ -51,14 +51,14 @@ only_idle t old new out.Planned turn no_ask no_sleep = absurd turn.1
 
 -- ---- a tick
 
-module _ (cs : List (List ℕ)) (t : ℕ) (old : State) where
+module _ (port : ℕ) (cs : List (List ℕ)) (t : ℕ) (old : State) where
   s : Inventory
   s = inventory_with cs old.forest
 
   -- that asks nobody
   pub quiet_heard :
       (b : Behind) (new : State) (output : Output) (before mid after : List ℕ) → Ticks t old output new before mid → asked_in output ≡ [] → after ≡ mid ++ last_line output [] →
-      (lines : List ℕ) × (TicksLive cs t (both old b) (both new b) lines × (after ≡ before ++ lines))
+      (lines : List ℕ) × (TicksLive port cs t (both old b) (both new b) lines × (after ≡ before ++ lines))
   unfolding s beat_text
   quiet_heard b new output before mid after ticks none last =
       let beat : Beat = record { at = t; output = output; short = ticks.keeper.shortened; answers = [] } in
@@ -69,13 +69,13 @@ module _ (cs : List (List ℕ)) (t : ℕ) (old : State) where
       ticks.text_is
       ∙ ap (λ l. before ++ (l ++ wake_line new.forest t output)) (same_shorts old.forest new.forest like ticks.keeper.shortened)
       ∙ ap (λ l. before ++ (shorts ++ l)) (same_wake old.forest new.forest like t output ∙ sym (append-nil wake)) in
-      let is : IsBeat 8200 cs (both old b) beat (both new b) = record { keeper = ticks.keeper; turn = ticks.turn; short = refl; asked = sym none; answered = ap (λ k. both k b) ticks.is } in
+      let is : IsBeat port cs (both old b) beat (both new b) = record { keeper = ticks.keeper; turn = ticks.turn; short = refl; asked = sym none; answered = ap (λ k. both k b) ticks.is } in
       (tick_text s beat, ((beat, (refl, (is, refl))), last ∙ ap (λ l. l ++ last_line output []) text ∙ append_assoc before (beat_text s beat) (last_line output [])))
 
   -- that asks these
   pub round_heard :
-      (b : Behind) (k : State) (new : World) (asked : List ℕ) (next : Option ℕ) (before mid told after : List ℕ) → Ticks t old (out.Ask asked) k before mid → AnswersAll cs t (both k b) asked next new mid told →
-      after ≡ told ++ next_line next → (lines : List ℕ) × (TicksLive cs t (both old b) new lines × (after ≡ before ++ lines))
+      (b : Behind) (k : State) (new : World) (asked : List ℕ) (next : Option ℕ) (before mid told after : List ℕ) → Ticks t old (out.Ask asked) k before mid → AnswersAll port cs t (both k b) asked next new mid told →
+      after ≡ told ++ next_line next → (lines : List ℕ) × (TicksLive port cs t (both old b) new lines × (after ≡ before ++ lines))
   unfolding s beat_text
   round_heard b k new asked next before mid told after ticks a last =
       let u = inventory_with cs k.forest in
@@ -92,12 +92,12 @@ module _ (cs : List (List ℕ)) (t : ℕ) (old : State) where
       ∙ ap (λ l. before ++ (shorts ++ l)) (same_wake old.forest k.forest like t (out.Ask asked)))
       ∙ append_assoc before (shorts ++ wake) answers
       ∙ ap (λ l. before ++ l) (append_assoc shorts wake answers) in
-      let is : IsBeat 8200 cs (both old b) beat new = record {
+      let is : IsBeat port cs (both old b) beat new = record {
         keeper = ticks.keeper;
         turn = ticks.turn;
         short = refl;
         asked = a.who;
-        answered = subst (λ q. AreAnswered 8200 cs t (both q b) a.xs new) ticks.is a.answered;
+        answered = subst (λ q. AreAnswered port cs t (both q b) a.xs new) ticks.is a.answered;
       } in (
         tick_text s beat,
         (
@@ -109,26 +109,26 @@ module _ (cs : List (List ℕ)) (t : ℕ) (old : State) where
 -- ---- over an exchange
 
 -- what a tick comes to
-abbrev pub Ticking : List (List ℕ) → ℕ → State → State → List ℕ → List ℕ → Behind → Behind → Type 0
-Ticking cs t old new before after b a =
-    (lines : List ℕ) × ((IsLate t (both old b) (both new a) lines ⊎ TicksLive cs t (both old b) (both new a) lines) × (after ≡ before ++ lines))
+abbrev pub Ticking : ℕ → List (List ℕ) → ℕ → State → State → List ℕ → List ℕ → Behind → Behind → Type 0
+Ticking port cs t old new before after b a =
+    (lines : List ℕ) × ((IsLate t (both old b) (both new a) lines ⊎ TicksLive port cs t (both old b) (both new a) lines) × (after ≡ before ++ lines))
 
 pub late_lines :
-    (o : Option Behind) (cs : List (List ℕ)) (t : ℕ) (old : State) (before after : List ℕ) → t < old.last → after ≡ before ++ codes "fault clock-back\n" → Between o o (Ticking cs t old old before after)
-late_lines o cs t old before after late text = between_none o (Ticking cs t old old before after) (λ b. (codes "fault clock-back\n", (inl (late, (refl, refl)), text)))
+    (o : Option Behind) (port : ℕ) (cs : List (List ℕ)) (t : ℕ) (old : State) (before after : List ℕ) → t < old.last → after ≡ before ++ codes "fault clock-back\n" → Between o o (Ticking port cs t old old before after)
+late_lines o port cs t old before after late text = between_none o (Ticking port cs t old old before after) (λ b. (codes "fault clock-back\n", (inl (late, (refl, refl)), text)))
 
 pub quiet_lines :
-    (o : Option Behind) (cs : List (List ℕ)) (t : ℕ) (old new : State) (output : Output) (before mid after : List ℕ) → Ticks t old output new before mid → asked_in output ≡ [] → after ≡ mid ++ last_line output [] →
-    Between o o (Ticking cs t old new before after)
-quiet_lines o cs t old new output before mid after ticks none last =
-    between_none o (Ticking cs t old new before after) (λ b. let h = quiet_heard cs t old b new output before mid after ticks none last in (h.0, (inr h.1.0, h.1.1)))
+    (o : Option Behind) (port : ℕ) (cs : List (List ℕ)) (t : ℕ) (old new : State) (output : Output) (before mid after : List ℕ) → Ticks t old output new before mid → asked_in output ≡ [] → after ≡ mid ++ last_line output [] →
+    Between o o (Ticking port cs t old new before after)
+quiet_lines o port cs t old new output before mid after ticks none last =
+    between_none o (Ticking port cs t old new before after) (λ b. let h = quiet_heard port cs t old b new output before mid after ticks none last in (h.0, (inr h.1.0, h.1.1)))
 
 pub round_lines :
-    (o new : Option Behind) (cs : List (List ℕ)) (t : ℕ) (old k final : State) (asked : List ℕ) (next : Option ℕ) (before mid told after : List ℕ) → Ticks t old (out.Ask asked) k before mid →
-    Between o new (λ b a. AnswersAll cs t (both k b) asked next (both final a) mid told) → after ≡ told ++ next_line next → Between o new (Ticking cs t old final before after)
-round_lines o new cs t old k final asked next before mid told after ticks answers last =
-    between_as o new (λ b a. AnswersAll cs t (both k b) asked next (both final a) mid told) (Ticking cs t old final before after)
-    (λ b a all. let h = round_heard cs t old b k (both final a) asked next before mid told after ticks all last in (h.0, (inr h.1.0, h.1.1))) answers
+    (o new : Option Behind) (port : ℕ) (cs : List (List ℕ)) (t : ℕ) (old k final : State) (asked : List ℕ) (next : Option ℕ) (before mid told after : List ℕ) → Ticks t old (out.Ask asked) k before mid →
+    Between o new (λ b a. AnswersAll port cs t (both k b) asked next (both final a) mid told) → after ≡ told ++ next_line next → Between o new (Ticking port cs t old final before after)
+round_lines o new port cs t old k final asked next before mid told after ticks answers last =
+    between_as o new (λ b a. AnswersAll port cs t (both k b) asked next (both final a) mid told) (Ticking port cs t old final before after)
+    (λ b a all. let h = round_heard port cs t old b k (both final a) asked next before mid told after ticks all last in (h.0, (inr h.1.0, h.1.1))) answers
 
 -- a tick by the names that its code has for the moment and the output
 pub ticks_as :
@@ -137,18 +137,18 @@ ticks_as at t old new output is before after same says ticks =
     subst (λ n. Ticks n old is new before after) same (subst (λ (o : Output). Ticks at old o new before after) says ticks)
 
 pub round_of :
-    (o new : Option Behind) (cs : List (List ℕ)) (t : ℕ) (k final : State) (lent asked : List ℕ) (next : Option ℕ) (mid told : List ℕ) → lent ≡ asked →
-    Between o new (λ b a. AnswersAll cs t (both k b) lent next (both final a) mid told) → Between o new (λ b a. AnswersAll cs t (both k b) asked next (both final a) mid told)
-round_of o new cs t k final lent asked next mid told same answers = subst (λ (is : List ℕ). Between o new (λ b a. AnswersAll cs t (both k b) is next (both final a) mid told)) same answers
+    (o new : Option Behind) (port : ℕ) (cs : List (List ℕ)) (t : ℕ) (k final : State) (lent asked : List ℕ) (next : Option ℕ) (mid told : List ℕ) → lent ≡ asked →
+    Between o new (λ b a. AnswersAll port cs t (both k b) lent next (both final a) mid told) → Between o new (λ b a. AnswersAll port cs t (both k b) asked next (both final a) mid told)
+round_of o new port cs t k final lent asked next mid told same answers = subst (λ (is : List ℕ). Between o new (λ b a. AnswersAll port cs t (both k b) is next (both final a) mid told)) same answers
 
 -- a need, by the name that its code has for the line
 pub need_lines :
-    {X E : Type 0} (o : Option Behind) (cs : List (List ℕ)) (i until : ℕ) (heard : Heard) (port : ℕ) (old new : State) (before after : List ℕ) (result : Result X E) → heard ≡ Need i until →
+    {X E : Type 0} (o : Option Behind) (port : ℕ) (cs : List (List ℕ)) (i until : ℕ) (heard : Heard) (old new : State) (before after : List ℕ) (result : Result X E) → heard ≡ Need i until →
     OnOk result ((b : Behind) → (lines : List ℕ) × (IsNeeded i until (both old b) (both new b) lines × (after ≡ before ++ lines))) →
-    OnOk result (port ≡ 8200 → Between o o (λ b a. (lines : List ℕ) × (IsHeard cs (both old b) heard (both new a) lines × (after ≡ before ++ lines))))
-need_lines o cs i until heard port old new before after (Err e) is needed = tt
-need_lines o cs i until heard port old new before after (Ok x) is needed = λ port'.
-    between_none o _ (λ b. let n = needed b in (n.0, (subst (λ (h : Heard). IsHeard cs (both old b) h (both new b) n.0) (sym is) n.1.0, n.1.1)))
+    OnOk result (Between o o (λ b a. (lines : List ℕ) × (IsHeard port cs (both old b) heard (both new a) lines × (after ≡ before ++ lines))))
+need_lines o port cs i until heard old new before after (Err e) is needed = tt
+need_lines o port cs i until heard old new before after (Ok x) is needed =
+    between_none o _ (λ b. let n = needed b in (n.0, (subst (λ (h : Heard). IsHeard port cs (both old b) h (both new b) n.0) (sym is) n.1.0, n.1.1)))
 
 -- why the keeper refuses a need, as the stop of a run
 pub need_stops :

@@ -94,7 +94,7 @@ dies_later g t m i le gone = elim (cases_Bool (is_alive g m i)) [
 -- ---- the rows
 
 -- a row, by the names of the entries
-row_by : (ℕ → List ℕ) → Entry → Terms → List ℕ → Row
+unfoldable pub row_by : (ℕ → List ℕ) → Entry → Terms → List ℕ → Row
 row_by names e terms credential = record {
   name = e.name;
   kind = e.kind;
@@ -109,7 +109,7 @@ row_by names e terms credential = record {
   credential = credential;
 }
 
-row_is : (s : Inventory) (i : ℕ) → row_of s i ≡ row_by (λ p. (entry_at s.forest.entries p).name) (entry_at s.forest.entries i) (terms_at s.terms i) (credential_at s.credentials i)
+pub row_is : (s : Inventory) (i : ℕ) → row_of s i ≡ row_by (λ p. (entry_at s.forest.entries p).name) (entry_at s.forest.entries i) (terms_at s.terms i) (credential_at s.credentials i)
 unfolding row_of row_by
 row_is s i = refl
 

@@ -60,13 +60,13 @@ behind_request : Table → ℕ → Served → Request → Behind
 behind_request l t sent r = record { table = (step l t r).table; wire = request_text r ++ sent_of sent }
 
 pub one_answer :
-    (cs : List (List ℕ)) (t i : ℕ) (old : World) (sent : Served) (output : Output) (request : Request) (event : Event) (k new : State) (l : Behind) (before mid after : List ℕ) →
-    request ≡ request_of 8200 cs old.keeper.forest i → Says t (step old.behind.table t request).answer sent → l ≡ record { table = (step old.behind.table t request).table; wire = request_text request ++ sent_of sent } →
+    (port : ℕ) (cs : List (List ℕ)) (t i : ℕ) (old : World) (sent : Served) (output : Output) (request : Request) (event : Event) (k new : State) (l : Behind) (before mid after : List ℕ) →
+    request ≡ request_of port cs old.keeper.forest i → Says t (step old.behind.table t request).answer sent → l ≡ record { table = (step old.behind.table t request).table; wire = request_text request ++ sent_of sent } →
     event ≡ event_for cs old.keeper.forest i (reply_in sent) → Turn old.keeper event (Ok output) k → new ≡ taken k →
     mid ≡ before ++ answer_line old.keeper.forest event (reply_in sent) → after ≡ mid ++ short_lines new.forest k.shortened →
-    Answers cs t old i output (both new l) before after
+    Answers port cs t old i output (both new l) before after
 unfolding event_in answer_text behind_request
-one_answer cs t i old sent output request event k new l before mid after asked says table means turn quiet told short =
+one_answer port cs t i old sent output request event k new l before mid after asked says table means turn quiet told short =
     let like : IsShaped old.keeper.forest new.forest = subst (λ (s : State). IsShaped old.keeper.forest s.forest) (sym quiet) (shape old.keeper k event (Ok output) turn) in
     let line = answer_line old.keeper.forest event (reply_in sent) in
     record {
@@ -109,18 +109,17 @@ pub between_some : (b a : Behind) (P : Behind → Behind → Type 0) → Between
 between_some b a P is = subst (P b) (let same : is.0 ≡ a = (let e = is.1.0 in cc) in same) is.1.1
 
 pub answer_between :
-    (o new : Option Behind) (cs : List (List ℕ)) (t i port : ℕ) (old : State) (reply : Option Reply) (event : Event) (output : Output) (k after' : State) (before mid after : List ℕ) →
-    port ≡ 8200 → IfSome o (λ b. IsAsked b.table t (request_of port cs old.forest i) reply new) → event ≡ event_for cs old.forest i reply → Turn old event (Ok output) k → after' ≡ taken k →
-    mid ≡ before ++ answer_line old.forest event reply → after ≡ mid ++ short_lines after'.forest k.shortened → Between o new (λ b a. Answers cs t (both old b) i output (both after' a) before after)
-answer_between None new cs t i port old reply event output k after' before mid after at asks means turn quiet told short = tt
-answer_between (Some b) new cs t i port old reply event output k after' before mid after at asks means turn quiet told short =
-    let e = subst (λ p. IsAsked b.table t (request_of p cs old.forest i) reply new) at asks in
-    let request = request_of 8200 cs old.forest i in
-    let a : Behind = record { table = (step b.table t request).table; wire = request_text request ++ sent_of e.sent } in (
+    (o new : Option Behind) (port : ℕ) (cs : List (List ℕ)) (t i : ℕ) (old : State) (reply : Option Reply) (event : Event) (output : Output) (k after' : State) (before mid after : List ℕ) →
+    IfSome o (λ b. IsAsked b.table t (request_of port cs old.forest i) reply new) → event ≡ event_for cs old.forest i reply → Turn old event (Ok output) k → after' ≡ taken k →
+    mid ≡ before ++ answer_line old.forest event reply → after ≡ mid ++ short_lines after'.forest k.shortened → Between o new (λ b a. Answers port cs t (both old b) i output (both after' a) before after)
+answer_between None new port cs t i old reply event output k after' before mid after asks means turn quiet told short = tt
+answer_between (Some b) new port cs t i old reply event output k after' before mid after asks means turn quiet told short =
+    let request = request_of port cs old.forest i in
+    let a : Behind = record { table = (step b.table t request).table; wire = request_text request ++ sent_of asks.sent } in (
       a,
       (
-        e.is,
-        one_answer cs t i (both old b) e.sent output request event k after' a before mid after refl e.says refl
-            (means ∙ ap (event_for cs old.forest i) e.reply_is) turn quiet (told ∙ ap (λ r. before ++ answer_line old.forest event r) e.reply_is) short,
+        asks.is,
+        one_answer port cs t i (both old b) asks.sent output request event k after' a before mid after refl asks.says refl
+            (means ∙ ap (event_for cs old.forest i) asks.reply_is) turn quiet (told ∙ ap (λ r. before ++ answer_line old.forest event r) asks.reply_is) short,
       ),
     )

@@ -9,14 +9,14 @@ use Rattle.keep_run.specs.Text.{answer_text}
 use Rattle.keep_run.proofs.Loops.{answer_more}
 use Rattle.keep_run.proofs.Texts.{same_answer_text}
 
-pub none_answered : (cs : List (List ℕ)) (t : ℕ) (old : World) (text : List ℕ) → AnswersAll cs t old [] None old text text
-none_answered cs t old text = record { xs = []; who = refl; answered = refl; next_is = refl; text_is = sym (append-nil text) }
+pub none_answered : (port : ℕ) (cs : List (List ℕ)) (t : ℕ) (old : World) (text : List ℕ) → AnswersAll port cs t old [] None old text text
+none_answered port cs t old text = record { xs = []; who = refl; answered = refl; next_is = refl; text_is = sym (append-nil text) }
 
 pub answers_more :
-    (cs : List (List ℕ)) (t : ℕ) (old mid new : World) (done : List ℕ) (i : ℕ) (next : Option ℕ) (output : Output) (before middle after : List ℕ) → IsShaped old.keeper.forest mid.keeper.forest →
-    AnswersAll cs t old done next mid before middle → Answers cs t mid i output new middle after → AnswersAll cs t old (done ++ i ∷ []) (told_next next output) new before after
-answers_more cs t old mid new done i next output before middle after like a one =
-    let more = answer_more 8200 cs t old mid new a.xs one.x a.answered one.answered in
+    (port : ℕ) (cs : List (List ℕ)) (t : ℕ) (old mid new : World) (done : List ℕ) (i : ℕ) (next : Option ℕ) (output : Output) (before middle after : List ℕ) → IsShaped old.keeper.forest mid.keeper.forest →
+    AnswersAll port cs t old done next mid before middle → Answers port cs t mid i output new middle after → AnswersAll port cs t old (done ++ i ∷ []) (told_next next output) new before after
+answers_more port cs t old mid new done i next output before middle after like a one =
+    let more = answer_more port cs t old mid new a.xs one.x a.answered one.answered in
     let s = inventory_with cs old.keeper.forest in
     record {
       xs = a.xs ++ one.x ∷ [];

@@ -42,7 +42,7 @@ use Rattle.keep_run.specs.Closed.{Beat, IsOpening, World, requests_of, rounds, t
 use Rattle.keep_run.specs.Renewing.{event_for}
 use Rattle.keep_run.specs.Text.{beat_text, course_text, done_text, short_lines}
 use Rattle.keep_run.specs.Stops.{IsTaken}
-use Rattle.keep_run.specs.Laws.{AnswersTakenLaw, LeastLaw, PlannedRunLaw, RehearsalLaw, SoFarLaw, StandsLaw}
+use Rattle.keep_run.specs.Laws.{AnswersTakenLaw, PlannedRunLaw, RehearsalLaw, SoFarLaw, StandsLaw}
 use Rattle.mini_broker.specs.Listed.{is_alive, listed}
 use Rattle.keep_run.specs.Listed.{with_forest}
 use Rattle.keep_run.proofs.Midway.{settled}
@@ -185,14 +185,6 @@ rehearsal inventory start ts supplied late plan few course final run =
       sym (goes.moments ∙ ap (λ xs. map (λ (b : Beat). b.at) (rounds course.beats) ++ xs) none ∙ append-nil (map (λ (b : Beat). b.at) (rounds course.beats))),
       (goes.asked refl, (all.0, goes.quiet)),
     )
-
-pub least : LeastLaw
-least inventory start ts supplied late plan few course final run other in_order keeps =
-    let is = rehearsal inventory start ts supplied late plan few course final run in
-    let count = length-map (rounds course.beats) (λ (b : Beat). b.at) in
-    let same = ap length is.0 in
-    let fewest = plan.least other in_order keeps in
-    omega arith
 
 pub answers_taken : AnswersTakenLaw
 answers_taken inventory start ts supplied late plan few short opening final beats t o played asked keeper ticked xs now i others who answers sent result new says turn =

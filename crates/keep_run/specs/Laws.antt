@@ -26,6 +26,7 @@ use Rattle.keep_core.specs.declared.event.Output.TheVariants as out
 use Rattle.keep_core.specs.declared.fault.StepFault.{StepFault}
 use Rattle.keep_core.specs.declared.shortened.ShortNeed.{ShortNeed}
 use Rattle.keep_core.specs.Replan.{IsPlanOf}
+use Rattle.keep_core.specs.Shorten.{pairs, shorten}
 use Rattle.keep_core.specs.History.{Turn}
 use Rattle.keep_core.specs.State.{State}
 use Rattle.keep_run.specs.declared.playing.TheConstants.{MOST_WAKES}
@@ -77,12 +78,15 @@ RehearsalLaw =
     × ((requests_of course.beats ≡ requests (with_asks inventory.forest.entries inventory.forest.margin start (end_of inventory.forest.entries) ts))
     × ((course.short ≡ []) × All (IsQuiet inventory) course.beats))
 
--- and no plan that keeps has fewer wake-ups than the rehearsal made
+-- of any inventory: the opening shortens the needs that no plan keeps; the rounds are at the moments of the least and latest
+-- plan for the forest that has the needs then in force, and no plan that keeps it has fewer wake-ups than the rehearsal made
 abbrev pub LeastLaw : Type 0
 LeastLaw =
-    (inventory : Inventory) (start : ℕ) (ts : List ℕ) → IsInventory inventory → start ≤ LAST → IsPlanOf inventory.forest start ts → length ts ≤ MOST_WAKES →
-    (course : Course) (final : World) → IsClosedRun inventory [] start course final →
-    (plan : List Wake) → IsPlan start plan → Keeps inventory.forest.entries inventory.forest.margin start (end_of inventory.forest.entries) plan → length (rounds course.beats) ≤ length plan
+    (inventory : Inventory) (start : ℕ) → IsInventory inventory → start ≤ LAST → (course : Course) (final : World) → IsClosedRun inventory [] start course final →
+    (course.short ≡ pairs inventory.forest start)
+    × (IsPlanOf (shorten inventory.forest start) start (map (λ b. b.at) (rounds course.beats))
+    × ((plan : List Wake) → IsPlan start plan → Keeps (shorten inventory.forest start).entries (shorten inventory.forest start).margin start (end_of (shorten inventory.forest start).entries) plan →
+    length (rounds course.beats) ≤ length plan))
 
 -- nor is any answer of a round refused: the round at t was opened, some of the asked have answered, and i is the next
 abbrev pub AnswersTakenLaw : Type 0

@@ -22,12 +22,12 @@ use Rattle.keep_run.specs.Stops.{both}
 
 -- ---- lines
 
--- a line says an event in the forest of its moment; the event is heard and has this text, where what stands behind the exchange
--- is known (its requests then name the port 8200)
+-- a line says an event in the forest of its moment; the event is heard, by requests that name this port, and has this text, where
+-- what stands behind the exchange is known
 pub record IsLineHeard (port : ℕ) (cs : List (List ℕ)) (old : Side) (line : List ℕ) (new : Side) (text : List ℕ) : Type 0 where
   pub says : Heard
   pub is : heard_in old.keeper.forest line ≡ Some says
-  pub heard : port ≡ 8200 → Between old.behind new.behind (λ b a. IsHeard cs (both old.keeper b) says (both new.keeper a) text)
+  pub heard : Between old.behind new.behind (λ b a. IsHeard port cs (both old.keeper b) says (both new.keeper a) text)
 
 -- lines are heard, one after another, and their texts stand one behind another
 abbrev pub AreHeard : ℕ → List (List ℕ) → Side → List (List ℕ) → Side → List ℕ → Type 0

@@ -45,9 +45,9 @@ tick_text s b = beat_text s b ++ last_line b.output b.answers
 
 -- ---- what is heard
 
--- a tick that is told at t, with its answers
-abbrev pub TicksLive : List (List ℕ) → ℕ → World → World → List ℕ → Type 0
-TicksLive cs t old new text = (b : Beat) × ((b.at ≡ t) × (IsBeat 8200 cs old b new × (text ≡ tick_text (inventory_with cs old.keeper.forest) b)))
+-- a tick that is told at t, with its answers, to requests that name this port
+abbrev pub TicksLive : ℕ → List (List ℕ) → ℕ → World → World → List ℕ → Type 0
+TicksLive port cs t old new text = (b : Beat) × ((b.at ≡ t) × (IsBeat port cs old b new × (text ≡ tick_text (inventory_with cs old.keeper.forest) b)))
 
 -- a tick before the last moment is refused
 abbrev pub IsLate : ℕ → World → World → List ℕ → Type 0
@@ -60,11 +60,11 @@ pub record IsNeeded (i until : ℕ) (old : World) (new : World) (text : List ℕ
   pub is : new ≡ both (taken keeper) old.behind
   pub text_is : text ≡ short_lines keeper.forest keeper.shortened ++ codes "planned\n"
 
--- what an event line comes to
-abbrev pub IsHeard : List (List ℕ) → World → Heard → World → List ℕ → Type 0
-IsHeard cs old (Tick t) new text = IsLate t old new text ⊎ TicksLive cs t old new text
-IsHeard cs old (Need i until) new text = IsNeeded i until old new text
-IsHeard cs old Unknown new text = (new ≡ old) × (text ≡ codes "fault unknown-name\n")
+-- what an event line comes to; its requests name this port
+abbrev pub IsHeard : ℕ → List (List ℕ) → World → Heard → World → List ℕ → Type 0
+IsHeard port cs old (Tick t) new text = IsLate t old new text ⊎ TicksLive port cs t old new text
+IsHeard port cs old (Need i until) new text = IsNeeded i until old new text
+IsHeard port cs old Unknown new text = (new ≡ old) × (text ≡ codes "fault unknown-name\n")
 
 -- ---- over an exchange
 

@@ -75,18 +75,18 @@ stop_of fault = stops.Memory
 -- ---- what a run comes to
 
 -- one answer and its text, which follows before
-pub record Answers (cs : List (List ℕ)) (t : ℕ) (old : World) (i : ℕ) (output : Output) (new : World) (before after : List ℕ) : Type 0 where
+pub record Answers (port : ℕ) (cs : List (List ℕ)) (t : ℕ) (old : World) (i : ℕ) (output : Output) (new : World) (before after : List ℕ) : Type 0 where
   pub x : Exchanged
   pub entry : x.entry ≡ i
   pub output_is : x.output ≡ output
-  pub answered : IsAnswered 8200 cs t old x new
+  pub answered : IsAnswered port cs t old x new
   pub text_is : after ≡ before ++ answer_text (inventory_with cs old.keeper.forest) x
 
 -- the answers of these, one after another, and their text
-pub record AnswersAll (cs : List (List ℕ)) (t : ℕ) (old : World) (asked : List ℕ) (next : Option ℕ) (new : World) (before after : List ℕ) : Type 0 where
+pub record AnswersAll (port : ℕ) (cs : List (List ℕ)) (t : ℕ) (old : World) (asked : List ℕ) (next : Option ℕ) (new : World) (before after : List ℕ) : Type 0 where
   pub xs : List Exchanged
   pub who : map (λ x. x.entry) xs ≡ asked
-  pub answered : AreAnswered 8200 cs t old xs new
+  pub answered : AreAnswered port cs t old xs new
   pub next_is : next ≡ closing None xs
   pub text_is : after ≡ before ++ flat_map (answer_text (inventory_with cs old.keeper.forest)) xs
 

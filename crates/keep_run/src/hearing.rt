@@ -36,7 +36,7 @@ pub fn hear<E: Exchange>(
     requires ready { IsReady credentials.now keeper.old }
     requires within { IsWithin (length keeper.old.forest.entries) heard }
     ensures stops { IfErr result (λ stop. StopsHearing (side keeper.old (E.behind exchange.old)) heard stop (side keeper.new (E.behind exchange.new))) }
-    ensures heard { OnOk result (port ≡ 8200 → Between (E.behind exchange.old) (E.behind exchange.new) (λ b a. (lines : List ℕ) × (IsHeard credentials.now (both keeper.old b) heard (both keeper.new a) lines × (text.new.items ≡ text.old.items ++ lines)))) }
+    ensures heard { OnOk result (Between (E.behind exchange.old) (E.behind exchange.new) (λ b a. (lines : List ℕ) × (IsHeard port credentials.now (both keeper.old b) heard (both keeper.new a) lines × (text.new.items ≡ text.old.items ++ lines)))) }
     ensures ready { OnOk result (IsReady credentials.now keeper.new) }
 {
     match heard {
@@ -91,7 +91,7 @@ fn hear_tick<E: Exchange>(
 ) -> Result<(), Stop>
     requires ready { IsReady credentials.now keeper.old }
     ensures memory { IfErr result (λ stop. stop ≡ stops.Memory) }
-    ensures heard { OnOk result (port ≡ 8200 → Between (E.behind exchange.old) (E.behind exchange.new) (λ b a. (lines : List ℕ) × ((IsLate t (both keeper.old b) (both keeper.new a) lines ⊎ TicksLive credentials.now t (both keeper.old b) (both keeper.new a) lines) × (text.new.items ≡ text.old.items ++ lines)))) }
+    ensures heard { OnOk result (Between (E.behind exchange.old) (E.behind exchange.new) (λ b a. (lines : List ℕ) × ((IsLate t (both keeper.old b) (both keeper.new a) lines ⊎ TicksLive port credentials.now t (both keeper.old b) (both keeper.new a) lines) × (text.new.items ≡ text.old.items ++ lines)))) }
     ensures ready { OnOk result (IsReady credentials.now keeper.new) }
 {
     if t.get() < keeper.now().get() {

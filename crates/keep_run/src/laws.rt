@@ -1,6 +1,8 @@
 //! Laws of the Closed run without faults.
 ghost use Rattle.std.specs.Prelude.{◌≡◌};
+ghost use Rattle.keep_run.specs.declared.event_line.TheConstants.{MOST_LINE};
 ghost use Rattle.keep_run.specs.declared.fault_words.TheConstants.{MOST_NUMBER};
+ghost use Rattle.keep_run.specs.declared.listening.TheConstants.{MOST_EVENTS, MOST_EVENT_READS};
 ghost use Rattle.keep_run.specs.declared.playing.TheConstants.{MOST_WAKES};
 ghost use Rattle.keep_run.specs.Laws.{AnswersTakenLaw, LeastLaw, PlannedRunLaw, RehearsalLaw, SoFarLaw, StandsLaw};
 ghost use Rattle.keep_run.specs.PlannedRehearsal.{PlannedRehearsalLaw};
@@ -17,7 +19,8 @@ pub fn rehearsal_law()
     ensures { RehearsalLaw }
 {}
 
-/// The law of the least run: no plan that keeps has fewer wake-ups than the rehearsal made.
+/// The law of the least run, of any inventory: its rounds are the least and latest plan for the needs that the opening leaves
+/// in force, and no plan that keeps those has fewer wake-ups than the rehearsal made.
 pub fn least_law()
     ensures { LeastLaw }
 {}
@@ -73,4 +76,12 @@ pub fn planned_rehearsal_law()
 pub fn limits_of_rehearsals()
     ensures wakes { MOST_WAKES ≡ 100000 }
     ensures number { MOST_NUMBER ≡ 1000000 }
+{}
+
+/// The limits of live runs as numbers: the bytes of one event line with its line feed, the bytes of all of them, and the reads
+/// that are made for them. It does nothing.
+pub fn limits_of_live_runs()
+    ensures line { MOST_LINE ≡ 256 }
+    ensures events { MOST_EVENTS ≡ 1048576 }
+    ensures reads { MOST_EVENT_READS ≡ 65536 }
 {}

@@ -39,7 +39,7 @@ pub fn run_live<R: Source, E: Exchange, W: Sink, F: Sink>(
 {
     match live(alloc, inventory, start, events, exchange, out) {
         Ok(()) => Exit::Done,
-        Err(stop) => stop.report(alloc, "leasekeep", errors),
+        Err(stop) => stop.report("leasekeep", errors),
     }
 }
 
@@ -88,7 +88,8 @@ fn begin<E: Exchange, W: Sink>(
     let mut inventory = inventory;
     look_all_up(alloc, &mut inventory, start, port, exchange, out)?;
     let (forest, credentials) = inventory.into_parts();
-    let mut keeper = opened(alloc, forest, start)?;
+    let made = Keeper::new(alloc, forest, start);
+    let mut keeper = opened(made)?;
     let short = keeper.take_shortened();
     let mut text = Vec::new(alloc);
     push_short_lines(alloc, keeper.forest(), short.list(), &mut text)?;

@@ -1,15 +1,12 @@
-ghost use Rattle.std.specs.Prelude.{◌≡◌, ◌⊎◌, IfOk};
-ghost use Rattle.std.specs.Result.{IfErr};
-ghost use Rattle.keep_core.specs.Replan.{Replan, ReplanTooLong};
-ghost use Rattle.keep_core.specs.State.{unplanned};
-ghost use Rattle.keep_report.specs.declared.stop.Stop.TheVariants as stops;
+ghost use Rattle.std.specs.Prelude.{◌≡◌, Err, IfErr, IfOk, Ok};
+ghost use Rattle.keep_run.specs.Playing.{IsPlanFault, stop_of};
 ghost use Rattle.keep_run.specs.Rehearse.{RehearseRun, RehearseTold, Rehearses};
 
 use crate::fault_words::set_faults;
 use crate::lines::push_short_lines;
 use crate::playing::play;
 use crate::refused::stop_of;
-use keep_core::Keeper;
+use keep_core::{Keeper, StepFault};
 use keep_device::Sink;
 use keep_exchange::MemoryExchange;
 use keep_inventory::read;
@@ -49,7 +46,7 @@ pub fn run_rehearse<W: Sink, F: Sink>(
 {
     match rehearse(alloc, inventory, start, words, out, exchange) {
         Ok(()) => Exit::Done,
-        Err(stop) => stop.report(alloc, "leasekeep", errors),
+        Err(stop) => stop.report("leasekeep", errors),
     }
 }
 
@@ -69,7 +66,8 @@ fn rehearse<W: Sink>(
     set_faults(&mut table, words)?;
     exchange.give(table);
     let (forest, credentials) = inventory.into_parts();
-    let mut keeper = opened(alloc, forest, start)?;
+    let made = Keeper::new(alloc, forest, start);
+    let mut keeper = opened(made)?;
     let short = keeper.take_shortened();
     let mut lines = Vec::new(alloc);
     push_short_lines(alloc, keeper.forest(), short.list(), &mut lines)?;
@@ -84,12 +82,13 @@ fn rehearse<W: Sink>(
     )
 }
 
-/// The keeper of a forest from `start` on.
-pub(crate) fn opened(alloc: Global, forest: Forest, start: Moment) -> Result<Keeper, Stop>
-    ensures opened { IfOk result (λ keeper. Replan (unplanned forest) start keeper) }
-    ensures long { IfErr result (λ stop. (stop ≡ stops.Memory) ⊎ ((stop ≡ stops.TooLong) × ReplanTooLong forest start)) }
+/// The keeper that was opened; or what stops a run for which none could be: its plan is too long, or memory was refused.
+pub(crate) fn opened(made: Result<Keeper, (StepFault, Forest)>) -> Result<Keeper, Stop>
+    requires { IfErr made (λ refused. IsPlanFault refused.0) }
+    ensures keeper { IfOk made (λ keeper. result ≡ Ok keeper) }
+    ensures stop { IfErr made (λ refused. result ≡ Err (stop_of refused.0)) }
 {
-    match Keeper::new(alloc, forest, start) {
+    match made {
         Ok(keeper) => Ok(keeper),
         Err((fault, _)) => Err(stop_of(fault)),
     }

@@ -34,7 +34,7 @@ pub(crate) fn answer<E: Exchange>(
     requires quiet { keeper.old.shortened ≡ [] }
     ensures memory { IfErr result (λ stop. stop ≡ stops.Memory) }
     ensures hears { IfOk result (λ output. Hears i keeper.old output keeper.new) }
-    ensures answers { IfOk result (λ output. port ≡ 8200 → Between (E.behind exchange.old) (E.behind exchange.new) (λ b a. Answers credentials.now t (both keeper.old b) i output (both keeper.new a) text.old.items text.new.items)) }
+    ensures answers { IfOk result (λ output. Between (E.behind exchange.old) (E.behind exchange.new) (λ b a. Answers port credentials.now t (both keeper.old b) i output (both keeper.new a) text.old.items text.new.items)) }
 {
     let kind = keeper.forest().get(i).kind;
     let reply = ask(alloc, exchange, t, port, credentials, keeper.forest(), i)?;

@@ -81,7 +81,7 @@ pub(crate) fn round<E: Exchange>(
     requires count { length credentials.now ≡ length keeper.old.forest.entries }
     requires quiet { keeper.old.shortened ≡ [] }
     ensures memory { IfErr result (λ stop. stop ≡ stops.Memory) }
-    ensures answers { IfOk result (λ next. port ≡ 8200 → Between (E.behind exchange.old) (E.behind exchange.new) (λ b a. AnswersAll credentials.now t (both keeper.old b) asked.now next (both keeper.new a) text.old.items text.new.items)) }
+    ensures answers { IfOk result (λ next. Between (E.behind exchange.old) (E.behind exchange.new) (λ b a. AnswersAll port credentials.now t (both keeper.old b) asked.now next (both keeper.new a) text.old.items text.new.items)) }
     ensures shaped { IfOk result (λ _. IsShaped keeper.old.forest keeper.new.forest) }
     ensures ready { IfOk result (λ _. IsReady credentials.now keeper.new) }
     ensures comes { IfOk result (λ next. Comes keeper.new.last next) }

@@ -42,7 +42,7 @@ pub fn keep<R: Files + AllocGlobal + Print + Net, I: Read + Drop, E: Sink>(
     let alloc = rt.alloc();
     let text = match read_file(rt, &live.file, MOST_INVENTORY) {
         Ok(text) => text,
-        Err(fault) => return Stop::from(fault).report(alloc, PROGRAM, errors),
+        Err(fault) => return Stop::from(fault).report(PROGRAM, errors),
     };
     let mut events = Counted::new(input);
     let mut out = Counted::new(io::writer(rt));

@@ -1,16 +1,17 @@
 use clap::error::ErrorKind;
 use clap::{Arg, ArgAction, ArgMatches, Command, Error};
+use keep_engine::LIMIT;
 use keep_moment::LAST;
 use std::alloc::{AllocError, Global};
 
 const ABOUT: &str = "Keeps Vault tokens and leases alive with the fewest wake-ups.";
 
 const ENDS_ABOUT: &str =
-    "Asks every entry of an inventory at each moment, and shows the ends and whether every need is kept";
+    "Shows when each entry ends if all are asked to renew at each moment, and whether every need is kept";
 
 const ENDS_AFTER: &str = "\
-The inventory is a TOML document; docs/inventory.md describes its keys and what each fault means.
-Moments are whole seconds since 1970-01-01T00:00:00Z.
+The inventory is a TOML document. docs/inventory.md describes its keys and what each fault means.
+Moments are whole seconds since 1970-01-01T00:00:00Z; $(date +%s) is now.
 
 Example:
   leasekeep ends web.toml 1000 1059 1118 1177
@@ -18,25 +19,47 @@ Example:
 Exit status: 0 done, 1 inventory, 2 command line or moments, 6 read or write, 7 memory";
 
 const PLAN_ABOUT: &str =
-    "Plans the fewest wake-ups that keep every need, each as late as can be, and shows them as a certificate";
+    "Plans the fewest wake-ups that keep every need, each as late as possible, and prints them as a certificate";
 
 const PLAN_AFTER: &str = "\
-A line `run FIRST STEP COUNT ENTRY NEEDED` is COUNT wake-ups from FIRST on, STEP seconds apart, each of which no plan can
-put off: ENTRY ends there, and NEEDED needs it longer. A line `unkeepable ENTRY NEEDED` says that no plan keeps NEEDED.
-docs/certificate.md has the whole text.
+A line `run FIRST STEP COUNT ENTRY NEEDED` stands for COUNT wake-ups, the first at FIRST, STEP seconds apart. No plan can put
+any of them off: without it ENTRY would end while NEEDED still needs it. docs/certificate.md describes the whole text.
+
+A line `unkeepable ENTRY NEEDED` says that no plan keeps NEEDED. It takes the place of the whole plan: `leasekeep reach` shows
+every need that cannot be kept, and `rehearse` and `run` go on with the rest.
 
 Example:
   leasekeep plan web.toml 1000 > web.plan
 
 Exit status: 0 done, 1 inventory, 2 command line, 3 unkeepable, 5 more than 10000000 wake-ups, 6 read or write, 7 memory";
 
-const REACH_ABOUT: &str =
-    "Shows until when each entry can live, and whether every need can be kept";
+const MARGIN_ABOUT: &str =
+    "Shows the widest margin that takes no more wake-ups: the longest outage that you survive for the same cost";
+
+const MARGIN_AFTER: &str = "\
+Each line is `MARGIN WAKES`: a margin in seconds, and the fewest wake-ups with it. Without WAKES the first line has the
+inventory's own margin, and the second the widest margin that takes no more wake-ups. With WAKES there is one line: the widest
+margin with which so many are enough. A margin is 1 to 3600 seconds, and less than each increment and period.
+
+An entry that ends soon after START allows no wide margin. For a margin that is to last, ask with --renewed while all entries
+can be renewed: it asks each of them once at START, and answers for the ends that this leaves.
+
+A line `unkeepable ENTRY NEEDED` says that no plan keeps NEEDED, even with a margin of 1; or, without WAKES, with the
+inventory's own. A line `none` says that some plan keeps, but with no margin by so few wake-ups. The inventory is not changed.
+
+Example:
+  leasekeep margin web.toml 1000
+  leasekeep margin --renewed web.toml $(date +%s)
+
+Exit status: 0 done, 1 inventory, 2 command line, 3 unkeepable or none, 5 more than 10000000 wake-ups, 6 read or write,
+7 memory";
+
+const REACH_ABOUT: &str = "Shows how long each entry can live, and whether every need can be kept";
 
 const REACH_AFTER: &str = "\
-A line `NAME UNTIL BY NEED` for each entry: UNTIL is the moment at which it ends at the latest, `always` where nothing limits
-it; BY the entry whose ceiling or end that is, itself or a token over it; NEED until when it is needed, 0 where it is not.
-Then `keeps yes` where some plan from START on keeps every entry until its need, else `keeps no`.
+Each entry has a line `NAME UNTIL BY NEED`. UNTIL is the moment at which it ends at the latest, `always` if nothing limits it.
+BY is the entry whose ceiling or end that is: the entry itself, or a token over it. NEED is the moment until which it is needed,
+0 if it is not. The last line is `keeps yes` if some plan from START on keeps every entry until its need, else `keeps no`.
 
 Example:
   leasekeep reach web.toml 1000
@@ -44,47 +67,48 @@ Example:
 Exit status: 0 done, 1 inventory, 2 command line, 6 read or write, 7 memory";
 
 const REHEARSE_ABOUT: &str =
-    "Plays an inventory from a start on against a broker in memory, with faults if wanted, and shows what happens";
+    "Plays an inventory against a broker in memory, with faults if you like, and shows what happens";
 
 const REHEARSE_AFTER: &str = "\
-A FAULT word is what goes wrong at the renewal request number K: `K=short:SECONDS`, it is granted so many seconds at most;
-`K=drop`, its reply is lost; `K=deny`, it is refused.
+A FAULT word says what goes wrong with renewal request number K: `K=short:SECONDS` grants it that many seconds at most,
+`K=drop` loses its reply, `K=deny` refuses it.
 
-A line `wake T NAME..` is a wake-up at T that asks these entries; then one for each of them: `told NAME SECONDS`, granted so
-many seconds from T on; `refused NAME STATUS`; or `lost NAME`, no reply came. `short NAME NEED` is a need that no plan keeps
-any more, and until when it is kept. The last line is `done WAKES REQUESTS`.
+A line `wake T NAME..` is a wake-up at T that asks these entries. Then each of them has a line: `told NAME SECONDS`, it was
+granted that many seconds from T on; `refused NAME STATUS`; or `lost NAME`, no reply came. `short NAME NEED` says that no plan
+keeps the need of NAME any more, and until when it is kept. The last line is `done WAKES REQUESTS`.
 
 Example:
   leasekeep rehearse web.toml 1000 1=drop
 
 Exit status: 0 done, 1 inventory, 2 command line or FAULT words, 5 more than 100000 wake-ups, 6 read or write, 7 memory";
 
-const CHECK_ABOUT: &str = "Judges a certificate by an inventory, whoever wrote it";
+const CHECK_ABOUT: &str = "Judges a certificate against an inventory, whoever wrote it";
 
 const CHECK_AFTER: &str = "\
-Shows `yes` where what the certificate claims holds, and else `no` with the first test that fails, or `unreadable` with the
-fault of the first line at fault.
+Prints `yes` if what the certificate claims is true: you need not trust the planner. Otherwise prints `no` with the first test
+that fails, or `unreadable` with the fault of the first faulty line. A certificate is true from its own start on: give START to
+have one from any other start answered `no start`.
 
 Example:
-  leasekeep check web.toml web.plan
+  leasekeep check web.toml web.plan 1000
 
 Exit status: 0 yes, 1 inventory, 2 command line, 4 no or unreadable, 6 read or write, 7 memory";
 
 const RUN_ABOUT: &str =
-    "Keeps the entries alive against a broker: looks each of them up, then renews as event lines on standard input say";
+    "Keeps the entries alive against a broker: looks each one up, then renews as event lines on standard input say";
 
 const RUN_AFTER: &str = "\
-Nothing here reads a clock: each line of standard input gives the moment, `tick T`, or a new need, `need NAME T`, in whole
-seconds since 1970-01-01T00:00:00Z. A line is answered before the next is read:
+It reads no clock: each line of standard input gives the moment, `tick T`, or a new need, `need NAME T`, in whole seconds since
+1970-01-01T00:00:00Z. Each line is answered before the next one is read:
   entry NAME END    a lookup: NAME ends at END
   wake T NAME..     these are asked now, and each is answered: `told NAME SECONDS`, `refused NAME STATUS` or `lost NAME`
-  next T            then the next wake-up is due at T; `next none`: there is none
+  next T            the round is over, and the next wake-up is due at T; `next none`: there is none
   sleep T, idle     nothing is due before T, or nothing at all
-  short NAME NEED   NAME cannot be kept longer than NEED, which is now its need
+  short NAME NEED   NAME cannot be kept past NEED, which is now its need
   planned           the new need is in force
   fault clock-back, fault unknown-name    the line was not taken
-docs/running.md says what to do about each. A lost answer is no end: `next` is then the same moment, and a tick at it asks again.
-The broker is asked over plain HTTP on 127.0.0.1, or over a UNIX socket, which keeps strangers out.
+docs/commands/run.md says what to do about each. After a lost answer `next` is the same moment, and a tick at it asks again.
+The broker is asked over plain HTTP, at a port of 127.0.0.1 or at a UNIX socket, which keeps strangers out.
 
 Example (lines that begin with > are typed):
   leasekeep run web.toml 8200 1000
@@ -95,10 +119,10 @@ Example (lines that begin with > are typed):
   next 1118
 
 Exit status: 0 the lines have ended, 1 inventory, 2 command line, 5 more than 10000000 wake-ups, 6 read, write, a lookup or a
-line that is none, 7 memory";
+malformed line, 7 memory";
 
 const START_HELP: &str = "\
-The moment from which entries are kept, in whole seconds since 1970-01-01T00:00:00Z, as `date +%s` writes it";
+The moment from which entries are kept, in whole seconds since 1970-01-01T00:00:00Z; $(date +%s) is now";
 
 /// The command line's words, read.
 pub fn parse<'a>(alloc: Global, words: &'a [String]) -> Result<ArgMatches<'a>, Error> {
@@ -118,6 +142,7 @@ fn leasekeep<'a>(alloc: Global) -> Result<Command<'a>, AllocError> {
         .arg_required_else_help(true)
         .subcommand(ends(alloc)?)?
         .subcommand(plan(alloc)?)?
+        .subcommand(margin(alloc)?)?
         .subcommand(reach(alloc)?)?
         .subcommand(check(alloc)?)?
         .subcommand(rehearse(alloc)?)?
@@ -151,6 +176,30 @@ fn plan<'a>(alloc: Global) -> Result<Command<'a>, AllocError> {
         .arg(start(alloc))
 }
 
+/// `margin FILE START [WAKES] [--renewed]`
+fn margin<'a>(alloc: Global) -> Result<Command<'a>, AllocError> {
+    Command::new(alloc, "margin")
+        .about(MARGIN_ABOUT)
+        .after_help(MARGIN_AFTER)
+        .arg(file(alloc))?
+        .arg(start(alloc))?
+        .arg(
+            Arg::new(alloc, "WAKES")
+                .help(
+                    "How many wake-ups may be spent; as many as with the inventory's own margin unless given",
+                )
+                .value_parser(clap::value_parser!(u64).range(0..=LIMIT as i64)),
+        )?
+        .arg(
+            Arg::new(alloc, "renewed")
+                .long("renewed")
+                .help(
+                    "Asks every entry once at START first, and answers for the ends that this leaves",
+                )
+                .action(ArgAction::SetTrue),
+        )
+}
+
 /// `reach FILE START [--dates]`
 fn reach<'a>(alloc: Global) -> Result<Command<'a>, AllocError> {
     Command::new(alloc, "reach")
@@ -161,7 +210,7 @@ fn reach<'a>(alloc: Global) -> Result<Command<'a>, AllocError> {
         .arg(
             Arg::new(alloc, "dates")
                 .long("dates")
-                .help("Shows moments as dates of RFC 3339, as far as they have one")
+                .help("Shows moments as RFC 3339 dates where they have one")
                 .action(ArgAction::SetTrue),
         )
 }
@@ -175,19 +224,28 @@ fn rehearse<'a>(alloc: Global) -> Result<Command<'a>, AllocError> {
         .arg(start(alloc))?
         .arg(
             Arg::new(alloc, "FAULT")
-                .help("What goes wrong at a renewal request: K=short:SECONDS, K=drop or K=deny")
+                .help("What goes wrong with a renewal request: K=short:SECONDS, K=drop or K=deny")
                 .action(ArgAction::Append)
                 .num_args(0..),
         )
 }
 
-/// `check FILE CERT`
+/// `check FILE CERT [START]`
 fn check<'a>(alloc: Global) -> Result<Command<'a>, AllocError> {
     Command::new(alloc, "check")
         .about(CHECK_ABOUT)
         .after_help(CHECK_AFTER)
         .arg(file(alloc))?
-        .arg(word(alloc, "CERT", "The certificate, at most 16 MiB"))
+        .arg(word(
+            alloc,
+            "CERT",
+            "The certificate, at most 16 MiB; read after FILE",
+        ))?
+        .arg(moment(
+            alloc,
+            "START",
+            "The moment that the certificate has to start from; any, unless given",
+        ))
 }
 
 /// `run FILE PORT START [--timeout SECONDS]`
@@ -199,27 +257,29 @@ fn run<'a>(alloc: Global) -> Result<Command<'a>, AllocError> {
         .arg(word(
             alloc,
             "PORT",
-            "The broker's port of 127.0.0.1; or the path of its UNIX socket, with a `/` in it",
+            "The broker: a port of 127.0.0.1, or the path of a UNIX socket, with a `/` in it",
         ))?
         .arg(moment(
             alloc,
             "START",
-            "The moment of the lookups, from which entries are kept, in seconds as `date +%s` writes it",
+            "The moment of the lookups, from which entries are kept; $(date +%s) is now",
         )
         .required(true))?
         .arg(
             Arg::new(alloc, "timeout")
                 .long("timeout")
                 .value_name("SECONDS")
-                .help(
-                    "How long one connect, read or write may take, 1 to 60 seconds; 5 unless given",
-                )
+                .help("How long one connect, read or write may take, 1 to 60 seconds [default: 5]")
                 .value_parser(clap::value_parser!(u64).range(1..=60)),
         )
 }
 
 fn file<'a>(alloc: Global) -> Arg<'a> {
-    word(alloc, "FILE", "The inventory, at most 1 MiB")
+    word(
+        alloc,
+        "FILE",
+        "The inventory, at most 1 MiB; read first. `leasekeepd lint FILE` shows every fault, its line and its fix",
+    )
 }
 
 // A word that has to be there.

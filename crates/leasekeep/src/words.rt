@@ -3,7 +3,7 @@ use crate::parser::{mistake, parse};
 use clap::error::ErrorKind;
 use clap::{ArgMatches, Error};
 use keep_device::Sink;
-use keep_engine::{Command, Exit, PROGRAM, Stop, tell};
+use keep_engine::{Command, Exit, MarginQuery, PROGRAM, Stop, tell};
 use keep_exchange::PATIENCE;
 use keep_moment::{Moment, Text};
 use std::alloc::{AllocError, AllocFailed, Global};
@@ -14,6 +14,10 @@ const NOT_UTF8: &[u8] = b"error: a word of the command line is not UTF-8\n";
 
 const PORT_MISTAKE: &str =
     "invalid value for '<PORT>': a port is 1 to 65535, and the path of a UNIX socket has a `/` in it";
+
+// What a moment is, after clap's own text: a date there is a common mistake.
+const MOMENT_TIP: &[u8] =
+    b"\ntip: a moment is a whole number of seconds since 1970-01-01T00:00:00Z; $(date +%s) is now\n";
 
 const UNREADABLE: &[u8] = b"error: a value of the command line is unreadable\n";
 
@@ -58,7 +62,7 @@ pub fn read_command<R: Env + AllocGlobal + Print + Eprint, E: Sink>(
     let words = match words(rt) {
         Ok(words) => words,
         Err(error) if error.kind() == io::ErrorKind::OutOfMemory => {
-            return Err(Stop::Memory.report(alloc, PROGRAM, errors));
+            return Err(Stop::Memory.report(PROGRAM, errors));
         }
         Err(_) => return Err(refuse(NOT_UTF8, errors)),
     };
@@ -70,10 +74,10 @@ pub fn read_command<R: Env + AllocGlobal + Print + Eprint, E: Sink>(
         Ok(job) => Ok(job),
         Err(Unread::Port) => match mistake(alloc, PORT_MISTAKE) {
             Ok(error) => Err(show(rt, &error, errors)),
-            Err(_) => Err(Stop::Memory.report(alloc, PROGRAM, errors)),
+            Err(_) => Err(Stop::Memory.report(PROGRAM, errors)),
         },
         Err(Unread::Value) => Err(refuse(UNREADABLE, errors)),
-        Err(Unread::Memory) => Err(Stop::Memory.report(alloc, PROGRAM, errors)),
+        Err(Unread::Memory) => Err(Stop::Memory.report(PROGRAM, errors)),
     }
 }
 
@@ -91,15 +95,33 @@ fn refuse<E: Sink>(line: &[u8], errors: &mut E) -> Exit {
 /// output, which is exit 0 unless it could not be written.
 fn show<R: AllocGlobal + Print + Eprint, E: Sink>(rt: &R, error: &Error, errors: &mut E) -> Exit {
     if error.kind() == ErrorKind::OutOfMemory {
-        return Stop::Memory.report(rt.alloc(), PROGRAM, errors);
+        return Stop::Memory.report(PROGRAM, errors);
     }
     let shown = error.print(rt);
+    if is_of_a_moment(rt.alloc(), error) {
+        tell(errors, MOMENT_TIP);
+    }
     if error.exit_code() != 0 {
         Exit::CommandLine
     } else if shown.is_ok() {
         Exit::Done
     } else {
-        Stop::Write.report(rt.alloc(), PROGRAM, errors)
+        Stop::Write.report(PROGRAM, errors)
+    }
+}
+
+/// Whether the mistake is a moment that cannot be read. If memory for its text is refused, the answer is no.
+fn is_of_a_moment(alloc: Global, error: &Error) -> bool {
+    if error.kind() != ErrorKind::ValueValidation {
+        return false;
+    }
+    match format!(in alloc; "{error}") {
+        Ok(text) => {
+            text.contains("for '<START>'")
+                || text.contains("for '[START]'")
+                || text.contains("for '[MOMENT]")
+        }
+        Err(_) => false,
     }
 }
 
@@ -149,6 +171,14 @@ fn command_of(alloc: Global, matches: &ArgMatches<'_>) -> Result<Command, Unread
             file: word(alloc, matches, "FILE")?,
             start: start(matches)?,
         }),
+        Some(("margin", matches)) => Ok(Command::Margin {
+            file: word(alloc, matches, "FILE")?,
+            query: MarginQuery {
+                start: start(matches)?,
+                most_wakes: most_wakes(matches)?,
+                renewed: matches.get_flag("renewed"),
+            },
+        }),
         Some(("reach", matches)) => Ok(Command::Reach {
             file: word(alloc, matches, "FILE")?,
             start: start(matches)?,
@@ -162,6 +192,7 @@ fn command_of(alloc: Global, matches: &ArgMatches<'_>) -> Result<Command, Unread
         Some(("check", matches)) => Ok(Command::Check {
             file: word(alloc, matches, "FILE")?,
             certificate: word(alloc, matches, "CERT")?,
+            start: start_if_any(matches)?,
         }),
         _ => Err(Unread::Value),
     }
@@ -177,6 +208,22 @@ fn word(alloc: Global, matches: &ArgMatches<'_>, name: &str) -> Result<String, U
 fn start(matches: &ArgMatches<'_>) -> Result<Moment, Unread> {
     let seconds = matches.get_one::<u64>("START").ok_or(Unread::Value)?;
     Moment::new(seconds).ok_or(Unread::Value)
+}
+
+/// The start, where one is given. One that is given and unreadable is a fault.
+fn start_if_any(matches: &ArgMatches<'_>) -> Result<Option<Moment>, Unread> {
+    match matches.try_get_one::<u64>("START") {
+        Ok(Some(seconds)) => Ok(Some(Moment::new(seconds).ok_or(Unread::Value)?)),
+        Ok(None) => Ok(None),
+        Err(_) => Err(Unread::Value),
+    }
+}
+
+/// The number of wake-ups, `None` where it is not given. One that is given and unreadable is a fault.
+fn most_wakes(matches: &ArgMatches<'_>) -> Result<Option<u64>, Unread> {
+    matches
+        .try_get_one::<u64>("WAKES")
+        .map_err(|_| Unread::Value)
 }
 
 fn moments(alloc: Global, matches: &ArgMatches<'_>) -> Result<Vec<Moment>, Unread> {

@@ -3,18 +3,18 @@ use clap::{Arg, ArgAction, ArgMatches, Command, Error};
 use std::alloc::{AllocError, Global};
 
 const ABOUT: &str =
-    "Serves the tokens and leases of an inventory, in the manner of Vault, on 127.0.0.1 or a UNIX socket.";
+    "Serves the tokens and leases of an inventory as Vault would, on 127.0.0.1 or a UNIX socket.";
 
 const AFTER: &str = "\
-The inventory is a TOML document; docs/inventory.md describes its keys and what each fault means.
-COUNT connections are served one after the other, each with one request. With port 0 the system chooses a port, and a line
-`listening 127.0.0.1:PORT` on standard error tells it. The file of a UNIX socket is made at the start and removed behind the
+The inventory is a TOML document. docs/inventory.md describes its keys and what each fault means.
+It serves COUNT connections one after another, each with one request, and ends. With port 0 the system chooses a port, and a
+line `listening 127.0.0.1:PORT` on standard error names it. The file of a UNIX socket is made at the start and removed after the
 last connection.
 
-With `-` for MOMENT each connection is served at the moment of a line of its own: behind each accept one line is read from
-standard input, a whole number of seconds in decimal digits. Any other line, or none, ends the broker.
+With `-` for MOMENT each connection is served at a moment of its own: after each accept one line is read from standard input, a
+whole number of seconds in decimal digits. Any other line, or none, ends the broker.
 
-A client that sends nothing, or takes nothing, for SECONDS is closed, counts as served, and the next one is taken. One that
+A client that sends nothing, or takes nothing, for SECONDS is closed and counts as served, and the next one is taken. One that
 sends a byte at a time can hold the broker for 4096 times as long.
 
 Examples:
@@ -39,11 +39,15 @@ fn minibroker<'a>(alloc: Global) -> Result<Command<'a>, AllocError> {
         .version("0.1.0")
         .about(ABOUT)
         .after_help(AFTER)
-        .arg(word(alloc, "FILE", "The inventory, at most 1 MiB"))?
+        .arg(word(
+            alloc,
+            "FILE",
+            "The inventory, at most 1 MiB; read first. `leasekeepd lint FILE` shows every fault, its line and its fix",
+        ))?
         .arg(word(
             alloc,
             "PORT",
-            "The port of 127.0.0.1 to listen at, 0 for any; or the path of a UNIX socket, with a `/` in it",
+            "The port of 127.0.0.1 to listen on, 0 for any; or the path of a UNIX socket, with a `/` in it",
         ))?
         .arg(
             Arg::new(alloc, "COUNT")
@@ -54,14 +58,14 @@ fn minibroker<'a>(alloc: Global) -> Result<Command<'a>, AllocError> {
         .arg(word(
             alloc,
             "MOMENT",
-            "The moment at which all requests are served, in seconds since 1970-01-01T00:00:00Z; or `-`, a line for each",
+            "The moment of all requests, in whole seconds since 1970-01-01T00:00:00Z; $(date +%s) is now. Or `-`, a line for each",
         ))?
         .arg(
             Arg::new(alloc, "timeout")
                 .long("timeout")
                 .value_name("SECONDS")
                 .help(
-                    "How long one read or write of a connection may take, 1 to 60 seconds; 5 unless given",
+                    "How long one read or write of a connection may take, 1 to 60 seconds [default: 5]",
                 )
                 .value_parser(clap::value_parser!(u64).range(1..=60)),
         )

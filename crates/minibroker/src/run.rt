@@ -22,7 +22,7 @@ pub fn run<R: Env + Files + AllocGlobal + Print + Eprint + Net, I: Read + Drop, 
     };
     match obey(rt, &command, &mut Counted::new(input), &mut errors) {
         Ok(()) => Exit::Done,
-        Err(stop) => stop.report(rt.alloc(), PROGRAM, &mut errors),
+        Err(stop) => stop.report(PROGRAM, &mut errors),
     }
 }
 

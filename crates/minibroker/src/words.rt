@@ -53,7 +53,7 @@ impl Value {
             Value::File => "FILE is missing",
             Value::Port => "PORT is neither in 0..=65535 nor a path with a `/`",
             Value::Count => "COUNT is not in 0..=1000000",
-            Value::Moment => "MOMENT is neither in 0..=253402300799 nor `-`",
+            Value::Moment => "MOMENT is neither in 0..=253402300799 nor `-`; $(date +%s) is now",
             Value::Seconds => "SECONDS is not in 1..=60",
         }
     }
@@ -89,7 +89,7 @@ pub fn read_command<R: Env + AllocGlobal + Print + Eprint, E: Sink>(
     let words = match words(rt) {
         Ok(words) => words,
         Err(error) if error.kind() == io::ErrorKind::OutOfMemory => {
-            return Err(Stop::Memory.report(alloc, PROGRAM, errors));
+            return Err(Stop::Memory.report(PROGRAM, errors));
         }
         Err(_) => {
             tell(errors, b"error: a word of the command line is not UTF-8\n");
@@ -104,9 +104,9 @@ pub fn read_command<R: Env + AllocGlobal + Print + Eprint, E: Sink>(
         Ok(command) => Ok(command),
         Err(Unread::Value(value)) => match mistake(alloc, value.mistake()) {
             Ok(error) => Err(show(rt, &error, errors)),
-            Err(_) => Err(Stop::Memory.report(alloc, PROGRAM, errors)),
+            Err(_) => Err(Stop::Memory.report(PROGRAM, errors)),
         },
-        Err(Unread::Memory) => Err(Stop::Memory.report(alloc, PROGRAM, errors)),
+        Err(Unread::Memory) => Err(Stop::Memory.report(PROGRAM, errors)),
     }
 }
 
@@ -119,7 +119,7 @@ fn words<R: Env + AllocGlobal>(rt: &R) -> io::Result<Vec<String>> {
 /// output, which is exit 0 unless it could not be written.
 fn show<R: AllocGlobal + Print + Eprint, E: Sink>(rt: &R, error: &Error, errors: &mut E) -> Exit {
     if error.kind() == ErrorKind::OutOfMemory {
-        return Stop::Memory.report(rt.alloc(), PROGRAM, errors);
+        return Stop::Memory.report(PROGRAM, errors);
     }
     let shown = error.print(rt);
     if error.exit_code() != 0 {
@@ -127,7 +127,7 @@ fn show<R: AllocGlobal + Print + Eprint, E: Sink>(rt: &R, error: &Error, errors:
     } else if shown.is_ok() {
         Exit::Done
     } else {
-        Stop::Write.report(rt.alloc(), PROGRAM, errors)
+        Stop::Write.report(PROGRAM, errors)
     }
 }
 

@@ -1,3 +1,4 @@
+use Rattle.keep_engine.proofs.Margins.{one_margin_text}
 use Rattle.keep_engine.proofs.OneText.{one_check_text, one_ends_text, one_plan_text}
 use Rattle.keep_engine.proofs.Reaching.{one_reach_text}
 use Rattle.keep_engine.proofs.laws.no_secret_shows.Goals as goal
@@ -7,6 +8,9 @@ returns-clause-ends c = one_ends_text
 
 pub returns-clause-plan : goal.returns-clause-plan
 returns-clause-plan c = one_plan_text
+
+pub returns-clause-margin : goal.returns-clause-margin
+returns-clause-margin c = one_margin_text
 
 pub returns-clause-reach : goal.returns-clause-reach
 returns-clause-reach c = one_reach_text

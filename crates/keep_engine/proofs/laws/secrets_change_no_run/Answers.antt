@@ -1,4 +1,4 @@
-use Rattle.keep_engine.proofs.SameRun.{check_secrecy, ends_secrecy, plan_secrecy, reach_secrecy}
+use Rattle.keep_engine.proofs.SameRun.{check_secrecy, ends_secrecy, margin_secrecy, plan_secrecy, reach_secrecy}
 use Rattle.keep_engine.proofs.laws.secrets_change_no_run.Goals as goal
 
 pub returns-clause-ends : goal.returns-clause-ends
@@ -6,6 +6,9 @@ returns-clause-ends c = ends_secrecy
 
 pub returns-clause-plan : goal.returns-clause-plan
 returns-clause-plan c = plan_secrecy
+
+pub returns-clause-margin : goal.returns-clause-margin
+returns-clause-margin c = margin_secrecy
 
 pub returns-clause-reach : goal.returns-clause-reach
 returns-clause-reach c = reach_secrecy

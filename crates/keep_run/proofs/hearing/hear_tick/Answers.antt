@@ -35,16 +35,16 @@ returns-in_ok-push_sleep-in-Sleep-clause-ready g c =
 pub returns-in_ok-push_next-in-Ask-clause-heard : goal.returns-in_ok-push_next-in-Ask-clause-heard
 returns-in_ok-push_next-in-Ask-clause-heard g c =
     let ticks = ticks_as c.get-3.result c.args.t c.args.keeper.now c.tick.new.keeper c.in_ok-asked.field-0 (out.Ask c.in-Ask.asked) c.args.text.now.items c.tick.new.text.items c.get-3.ensures.value c.in-Ask.is c.in_ok-asked.ensures.ticks in
-    λ port. round_lines (g.E.Exchange.behind c.args.exchange.now) (g.E.Exchange.behind c.round.new.exchange) c.args.credentials.now c.args.t c.args.keeper.now c.tick.new.keeper c.round.new.keeper c.in-Ask.asked c.in_ok-next-in-Ask.next
+    round_lines (g.E.Exchange.behind c.args.exchange.now) (g.E.Exchange.behind c.round.new.exchange) c.args.port c.args.credentials.now c.args.t c.args.keeper.now c.tick.new.keeper c.round.new.keeper c.in-Ask.asked c.in_ok-next-in-Ask.next
     c.args.text.now.items c.tick.new.text.items c.round.new.text.items c.push_next.new.text.items ticks
-    (round_of (g.E.Exchange.behind c.args.exchange.now) (g.E.Exchange.behind c.round.new.exchange) c.args.credentials.now c.args.t c.tick.new.keeper c.round.new.keeper c.list.result.now c.in-Ask.asked c.in_ok-next-in-Ask.next
-    c.tick.new.text.items c.round.new.text.items c.list.ensures (c.in_ok-next-in-Ask.ensures.answers port))
+    (round_of (g.E.Exchange.behind c.args.exchange.now) (g.E.Exchange.behind c.round.new.exchange) c.args.port c.args.credentials.now c.args.t c.tick.new.keeper c.round.new.keeper c.list.result.now c.in-Ask.asked c.in_ok-next-in-Ask.next
+    c.tick.new.text.items c.round.new.text.items c.list.ensures c.in_ok-next-in-Ask.ensures.answers)
     c.in_ok-push_next-in-Ask.ensures
 
 pub returns-in_ok-push_sleep-in-Sleep-clause-heard : goal.returns-in_ok-push_sleep-in-Sleep-clause-heard
 returns-in_ok-push_sleep-in-Sleep-clause-heard g c =
     let ticks = ticks_as c.get-3.result c.args.t c.args.keeper.now c.tick.new.keeper c.in_ok-asked.field-0 (out.Sleep c.in-Sleep.later) c.args.text.now.items c.tick.new.text.items c.get-3.ensures.value c.in-Sleep.is c.in_ok-asked.ensures.ticks in
-    λ port. quiet_lines (g.E.Exchange.behind c.args.exchange.now) c.args.credentials.now c.args.t c.args.keeper.now c.tick.new.keeper (out.Sleep c.in-Sleep.later) c.args.text.now.items c.tick.new.text.items c.push_sleep.new.text.items ticks refl
+    quiet_lines (g.E.Exchange.behind c.args.exchange.now) c.args.port c.args.credentials.now c.args.t c.args.keeper.now c.tick.new.keeper (out.Sleep c.in-Sleep.later) c.args.text.now.items c.tick.new.text.items c.push_sleep.new.text.items ticks refl
     c.in_ok-push_sleep-in-Sleep.ensures
 
 pub returns-in_ok-extend_from_slice-in_default : goal.returns-in_ok-extend_from_slice-in_default
@@ -54,7 +54,7 @@ returns-in_ok-extend_from_slice-in_default g c =
     let ticks = ticks_as c.get-3.result c.args.t c.args.keeper.now c.tick.new.keeper c.in_ok-asked.field-0 out.Idle c.args.text.now.items c.tick.new.text.items c.get-3.ensures.value idle first in
     record {
       memory = tt;
-      heard = λ port. quiet_lines (g.E.Exchange.behind c.args.exchange.now) c.args.credentials.now c.args.t c.args.keeper.now c.tick.new.keeper out.Idle c.args.text.now.items c.tick.new.text.items c.extend_from_slice-in_default.new.self.items ticks refl
+      heard = quiet_lines (g.E.Exchange.behind c.args.exchange.now) c.args.port c.args.credentials.now c.args.t c.args.keeper.now c.tick.new.keeper out.Idle c.args.text.now.items c.tick.new.text.items c.extend_from_slice-in_default.new.self.items ticks refl
           c.in_ok-extend_from_slice-in_default.ensures.items;
       ready = ticks_ready c.args.credentials.now c.args.t c.args.keeper.now c.tick.new.keeper out.Idle c.args.text.now.items c.tick.new.text.items ticks c.requires.ready
           (leaves_closed c.get-3.result c.in_ok-asked.field-0 c.tick.new.keeper c.in_default.not-Ask c.in_default.not-Sleep c.in_ok-asked.ensures.leaves);

@@ -5,20 +5,21 @@ use Rattle.keep_core.specs.State.{State}
 use Rattle.keep_run.specs.Text.{short_lines}
 use Rattle.keep_run.proofs.Rehearsed.{ready_opened}
 use Rattle.keep_run.proofs.LiveOpening.{for_err, memory_ends, opens, planning_ends, sending_ends}
+use Rattle.keep_run.proofs.Opened.{planned_as, refused_as, stopped_as}
 use Rattle.keep_run.proofs.Within.{AreOf, replan_within}
 use Rattle.keep_run.proofs.live.begin.Goals as goal
 
 pub push_short_lines-requires : goal.push_short_lines-requires
 push_short_lines-requires g c =
     let k = c.in_ok-keeper.keeper in
-    let all = replan_within _ c.args.start k refl c.in_ok-keeper.ensures.opened in
+    let all = replan_within _ c.args.start k refl (planned_as c.into_parts-forest.result.0 c.args.start c.new-made.result c.in_ok-keeper.keeper c.new-made.ensures.opened c.in_ok-keeper.ensures.keeper c.in_ok-keeper.ensures.stop) in
     subst (λ n. AreOf n c.list.result.now) (sym (ap (λ (h : Forest). length h.entries) (c.forest.ensures ∙ ap (λ (s : State). s.forest) c.take_shortened-short.ensures.after)))
     (subst (AreOf (length k.forest.entries)) (sym (c.list.ensures ∙ c.take_shortened-short.ensures.value)) all)
 
 pub returns-clause-ready : goal.returns-clause-ready
 returns-clause-ready g c =
     ready_opened c.look_all_up.new.inventory c.into_parts-forest.result.0 c.into_parts-forest.result.1 c.args.start c.in_ok-keeper.keeper c.take_shortened-short.new.self c.into_parts-forest.ensures.sound
-    c.into_parts-forest.ensures.forest c.into_parts-forest.ensures.credentials c.in_ok-keeper.ensures.opened c.take_shortened-short.ensures.after
+    c.into_parts-forest.ensures.forest c.into_parts-forest.ensures.credentials (planned_as c.into_parts-forest.result.0 c.args.start c.new-made.result c.in_ok-keeper.keeper c.new-made.ensures.opened c.in_ok-keeper.ensures.keeper c.in_ok-keeper.ensures.stop) c.take_shortened-short.ensures.after
 
 pub returns-in_err-keeper-clause-early : goal.returns-in_err-keeper-clause-early
 returns-in_err-keeper-clause-early g c =
@@ -26,7 +27,7 @@ returns-in_err-keeper-clause-early g c =
     (planning_ends c.args.port c.args.start (g.E.Exchange.behind c.args.exchange.now) c.args.inventory c.look_all_up.new.inventory (g.E.Exchange.behind c.look_all_up.new.exchange)
     (g.W.Device.written c.args.out.now) (g.W.Device.written c.look_all_up.new.out) (g.W.Device.written c.look_all_up.new.out) (g.W.Device.failed_calls c.args.out.now) (g.W.Device.failed_calls c.look_all_up.new.out) (g.W.Device.failed_calls c.look_all_up.new.out)
     (g.W.Device.is_flushed c.args.out.now) (g.W.Device.is_flushed c.look_all_up.new.out) (g.W.Device.is_flushed c.look_all_up.new.out) g.W.Device.is_in_memory c.in_ok-look_all_up.ensures.looked
-    c.into_parts-forest.result.0 c.in_err-keeper.field-0.0 c.into_parts-forest.ensures.forest c.in_err-keeper.ensures.long)
+    c.into_parts-forest.result.0 c.in_err-keeper.field-0.0 c.into_parts-forest.ensures.forest (stopped_as c.into_parts-forest.result.0 c.args.start c.new-made.result c.in_err-keeper.field-0.0 c.new-made.ensures.refused c.in_err-keeper.ensures.keeper c.in_err-keeper.ensures.stop))
 
 pub returns-in_err-push_short_lines-clause-early : goal.returns-in_err-push_short_lines-clause-early
 returns-in_err-push_short_lines-clause-early g c =
@@ -47,7 +48,7 @@ returns-in_err-send-clause-early g c =
     (sending_ends c.args.port c.args.start (g.E.Exchange.behind c.args.exchange.now) c.args.inventory c.look_all_up.new.inventory (g.E.Exchange.behind c.look_all_up.new.exchange)
     (g.W.Device.written c.args.out.now) (g.W.Device.written c.look_all_up.new.out) (g.W.Device.written c.send.new.out) (g.W.Device.failed_calls c.args.out.now) (g.W.Device.failed_calls c.look_all_up.new.out) (g.W.Device.failed_calls c.send.new.out)
     (g.W.Device.is_flushed c.args.out.now) (g.W.Device.is_flushed c.look_all_up.new.out) (g.W.Device.is_flushed c.send.new.out) g.W.Device.is_in_memory c.in_ok-look_all_up.ensures.looked
-    c.into_parts-forest.result.0 k c.deref.result.now c.in_err-send.field-0.0 c.into_parts-forest.ensures.forest c.in_ok-keeper.ensures.opened lines c.in_err-send.ensures.sent)
+    c.into_parts-forest.result.0 k c.deref.result.now c.in_err-send.field-0.0 c.into_parts-forest.ensures.forest (planned_as c.into_parts-forest.result.0 c.args.start c.new-made.result c.in_ok-keeper.keeper c.new-made.ensures.opened c.in_ok-keeper.ensures.keeper c.in_ok-keeper.ensures.stop) lines c.in_err-send.ensures.sent)
 
 pub returns-clause-opened : goal.returns-clause-opened
 returns-clause-opened g c =
@@ -60,5 +61,8 @@ returns-clause-opened g c =
     opens c.args.port c.args.start (g.E.Exchange.behind c.args.exchange.now) c.args.inventory c.look_all_up.new.inventory (g.E.Exchange.behind c.look_all_up.new.exchange)
     (g.W.Device.written c.args.out.now) (g.W.Device.written c.look_all_up.new.out) (g.W.Device.written c.send.new.out) (g.W.Device.failed_calls c.args.out.now) (g.W.Device.failed_calls c.look_all_up.new.out) (g.W.Device.failed_calls c.send.new.out)
     (g.W.Device.is_flushed c.args.out.now) (g.W.Device.is_flushed c.look_all_up.new.out) (g.W.Device.is_flushed c.send.new.out) g.W.Device.is_in_memory c.in_ok-look_all_up.ensures.looked
-    c.into_parts-forest.result.0 c.into_parts-forest.result.1 k c.take_shortened-short.new.self c.deref.result.now c.into_parts-forest.ensures.forest c.into_parts-forest.ensures.credentials c.in_ok-keeper.ensures.opened
+    c.into_parts-forest.result.0 c.into_parts-forest.result.1 k c.take_shortened-short.new.self c.deref.result.now c.into_parts-forest.ensures.forest c.into_parts-forest.ensures.credentials (planned_as c.into_parts-forest.result.0 c.args.start c.new-made.result c.in_ok-keeper.keeper c.new-made.ensures.opened c.in_ok-keeper.ensures.keeper c.in_ok-keeper.ensures.stop)
     c.take_shortened-short.ensures.after lines c.in_ok-send.ensures.sent c.in_ok-send.ensures.count
+
+pub opened-requires : goal.opened-requires
+opened-requires g c = refused_as c.into_parts-forest.result.0 c.args.start c.new-made.result c.new-made.ensures.refused

@@ -6,6 +6,7 @@ use Rattle.mini_broker.specs.Table.{Table}
 use Rattle.keep_run.specs.Stops.{both}
 use Rattle.keep_run.specs.Text.{short_lines}
 use Rattle.keep_run.proofs.Rehearsed.{comes_first, ready_opened, memory_stopped, opening_stopped, plays_on, words_stopped}
+use Rattle.keep_run.proofs.Opened.{planned_as, refused_as, stopped_as}
 use Rattle.keep_run.proofs.Within.{AreOf, replan_within}
 use Rattle.keep_run.proofs.rehearsal.rehearse.Goals as goal
 
@@ -20,12 +21,12 @@ returns-in_err-keeper g c =
     let table = sets.2 ∙ ap (λ (t : Table). record t { faults = sets.0 }) c.in_ok-table.ensures in
     let behind = c.give.ensures ∙ ap (λ (t : Table). record { table = t; wire = [] }) table in
     opening_stopped c.args.inventory.now c.args.start c.args.words.now c.in_ok-inventory.inventory sets.0 c.into_parts-forest.result.0 c.from_residual-in_err-keeper.result c.in_err-keeper.field-0.0 _ _ _ _ c.args.exchange.now c.give.new.self
-    c.in_ok-inventory.ensures sets.1 c.into_parts-forest.ensures.forest behind c.from_residual-in_err-keeper.ensures c.in_err-keeper.ensures.long
+    c.in_ok-inventory.ensures sets.1 c.into_parts-forest.ensures.forest behind c.from_residual-in_err-keeper.ensures (stopped_as c.into_parts-forest.result.0 c.args.start c.new-made.result c.in_err-keeper.field-0.0 c.new-made.ensures.refused c.in_err-keeper.ensures.keeper c.in_err-keeper.ensures.stop)
 
 pub push_short_lines-requires : goal.push_short_lines-requires
 push_short_lines-requires g c =
     let k = c.in_ok-keeper.keeper in
-    let all = replan_within _ c.args.start k refl c.in_ok-keeper.ensures.opened in
+    let all = replan_within _ c.args.start k refl (planned_as c.into_parts-forest.result.0 c.args.start c.new-made.result c.in_ok-keeper.keeper c.new-made.ensures.opened c.in_ok-keeper.ensures.keeper c.in_ok-keeper.ensures.stop) in
     subst (λ n. AreOf n c.list.result.now) (sym (ap (λ (h : Forest). length h.entries) (c.forest.ensures ∙ ap (λ (s : State). s.forest) c.take_shortened-short.ensures.after)))
     (subst (AreOf (length k.forest.entries)) (sym (c.list.ensures ∙ c.take_shortened-short.ensures.value)) all)
 
@@ -36,11 +37,11 @@ returns-in_err-push_short_lines g c =
 pub play-requires-clause-ready : goal.play-requires-clause-ready
 play-requires-clause-ready g c =
     ready_opened c.in_ok-inventory.inventory c.into_parts-forest.result.0 c.into_parts-forest.result.1 c.args.start c.in_ok-keeper.keeper c.take_shortened-short.new.self c.into_parts-forest.ensures.sound
-    c.into_parts-forest.ensures.forest c.into_parts-forest.ensures.credentials c.in_ok-keeper.ensures.opened c.take_shortened-short.ensures.after
+    c.into_parts-forest.ensures.forest c.into_parts-forest.ensures.credentials (planned_as c.into_parts-forest.result.0 c.args.start c.new-made.result c.in_ok-keeper.keeper c.new-made.ensures.opened c.in_ok-keeper.ensures.keeper c.in_ok-keeper.ensures.stop) c.take_shortened-short.ensures.after
 
 pub play-requires-clause-comes : goal.play-requires-clause-comes
 play-requires-clause-comes g c =
-    comes_first c.into_parts-forest.result.0 c.args.start c.get.result c.in_ok-keeper.keeper c.take_shortened-short.new.self c.in_ok-keeper.ensures.opened c.take_shortened-short.ensures.after c.get.ensures.value (subst (λ n. n ≤ LAST) c.get.ensures.value c.get.ensures.within)
+    comes_first c.into_parts-forest.result.0 c.args.start c.get.result c.in_ok-keeper.keeper c.take_shortened-short.new.self (planned_as c.into_parts-forest.result.0 c.args.start c.new-made.result c.in_ok-keeper.keeper c.new-made.ensures.opened c.in_ok-keeper.ensures.keeper c.in_ok-keeper.ensures.stop) c.take_shortened-short.ensures.after c.get.ensures.value (subst (λ n. n ≤ LAST) c.get.ensures.value c.get.ensures.within)
 
 pub returns : goal.returns
 returns g c =
@@ -55,5 +56,8 @@ returns g c =
     ∙ ap (λ h. short_lines h c.list.result.now) (c.forest.ensures ∙ ap (λ (s : State). s.forest) c.take_shortened-short.ensures.after)
     ∙ ap (short_lines k.forest) (c.list.ensures ∙ c.take_shortened-short.ensures.value) in
     plays_on c.args.inventory.now c.args.words.now c.in_ok-inventory.inventory sets.0 c.args.start c.get.result c.into_parts-forest.result.0 c.into_parts-forest.result.1 k now c.give.new.self c.deref.result.now c.play.result
-    (both c.play.new.keeper c.play.new.exchange) _ c.args.exchange.now c.in_ok-inventory.ensures sets.1 c.into_parts-forest.ensures.forest c.into_parts-forest.ensures.credentials behind c.in_ok-keeper.ensures.opened
+    (both c.play.new.keeper c.play.new.exchange) _ c.args.exchange.now c.in_ok-inventory.ensures sets.1 c.into_parts-forest.ensures.forest c.into_parts-forest.ensures.credentials behind (planned_as c.into_parts-forest.result.0 c.args.start c.new-made.result c.in_ok-keeper.keeper c.new-made.ensures.opened c.in_ok-keeper.ensures.keeper c.in_ok-keeper.ensures.stop)
     c.take_shortened-short.ensures.after c.get.ensures.value lines c.play.ensures
+
+pub opened-requires : goal.opened-requires
+opened-requires g c = refused_as c.into_parts-forest.result.0 c.args.start c.new-made.result c.new-made.ensures.refused

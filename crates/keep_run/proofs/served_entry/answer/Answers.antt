@@ -47,13 +47,13 @@ returns-clause-answers g c =
     let old = c.args.keeper.now in
     let event = c.in_ok-event.event in
     let reply = c.in_ok-reply.reply in
-    let asks = subst (λ (h : Forest). IfSome (g.E.Exchange.behind c.args.exchange.now) (λ b. IsAsked b.table c.args.t (request_of c.args.port cs h i) reply (g.E.Exchange.behind c.ask.new.exchange))) c.forest-2.ensures c.in_ok-reply.ensures in
+    let asks = subst (λ (h : Forest). IfSome (g.E.Exchange.behind c.args.exchange.now) (λ b. IsAsked b.table c.args.t (request_of c.args.port cs h i) reply (g.E.Exchange.behind c.ask.new.exchange))) c.forest-2.ensures c.in_ok-reply.ensures.asked in
     let means : event ≡ event_for cs old.forest i reply =
     c.in_ok-event.ensures.is
     ∙ ap (λ (q : Entry). event_of q.kind c.get-2.result.now i reply) (c.get.ensures.value ∙ ap (λ (h : Forest). entry_at h.entries i) c.forest.ensures)
     ∙ ap (λ id. event_of (entry_at old.forest.entries i).kind id i reply) c.get-2.ensures.value in
-    λ port. answer_between (g.E.Exchange.behind c.args.exchange.now) (g.E.Exchange.behind c.ask.new.exchange) cs c.args.t i c.args.port old reply event c.in-Ok.output c.step.new.self c.take_shortened-short.new.self
-    c.args.text.now.items c.push_answer_line.new.text.items c.push_short_lines.new.text.items port asks means c.in-Ok.ensures c.take_shortened-short.ensures.after
+    answer_between (g.E.Exchange.behind c.args.exchange.now) (g.E.Exchange.behind c.ask.new.exchange) c.args.port cs c.args.t i old reply event c.in-Ok.output c.step.new.self c.take_shortened-short.new.self
+    c.args.text.now.items c.push_answer_line.new.text.items c.push_short_lines.new.text.items asks means c.in-Ok.ensures c.take_shortened-short.ensures.after
     (c.in_ok-push_answer_line.ensures ∙ ap (λ (h : Forest). c.args.text.now.items ++ answer_line h event reply) c.forest-3.ensures)
     (c.in_ok-push_short_lines.ensures
     ∙ ap (λ (h : Forest). c.push_answer_line.new.text.items ++ short_lines h c.list.result.now) c.forest-4.ensures

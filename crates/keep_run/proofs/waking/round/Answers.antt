@@ -11,7 +11,7 @@ use Rattle.keep_run.proofs.waking.round.Goals as goal
 
 pub loop-i-init : goal.loop-i-init
 loop-i-init g c = record {
-  answers = λ port. between_none (g.E.Exchange.behind c.args.exchange.now) _ (λ b. none_answered c.args.credentials.now c.args.t (both c.args.keeper.now b) c.args.text.now.items);
+  answers = between_none (g.E.Exchange.behind c.args.exchange.now) _ (λ b. none_answered c.args.port c.args.credentials.now c.args.t (both c.args.keeper.now b) c.args.text.now.items);
   shaped = same c.args.keeper.now.forest;
   count = c.requires.count;
   quiet = c.requires.quiet;
@@ -20,6 +20,7 @@ loop-i-init g c = record {
 
 pub loop-i-preserved : goal.loop-i-preserved
 loop-i-preserved g c =
+    let port = c.args.port in
     let cs = c.args.credentials.now in
     let asked = c.args.asked.now in
     let k = c.loop-i.i-index in
@@ -31,15 +32,15 @@ loop-i-preserved g c =
     let waits = stands_now c.args.t k asked c.loop-i.next c.loop-i.keeper c.loop-i-test.true c.loop-i.invariant.stands in
     let like = hears_shaped c.loop-i.keeper c.answer.new.keeper (get_or asked k 0) c.in_ok-output.output hears in
     record {
-      answers = λ port. between_more (g.E.Exchange.behind c.args.exchange.now) (g.E.Exchange.behind c.loop-i.exchange) (g.E.Exchange.behind c.answer.new.exchange)
-          (λ b m. AnswersAll cs c.args.t (both start b) (take k asked) c.loop-i.next (both c.loop-i.keeper m) before middle)
-          (λ m a. Answers cs c.args.t (both c.loop-i.keeper m) (get_or asked k 0) c.in_ok-output.output (both c.answer.new.keeper a) middle after)
+      answers = between_more (g.E.Exchange.behind c.args.exchange.now) (g.E.Exchange.behind c.loop-i.exchange) (g.E.Exchange.behind c.answer.new.exchange)
+          (λ b m. AnswersAll port cs c.args.t (both start b) (take k asked) c.loop-i.next (both c.loop-i.keeper m) before middle)
+          (λ m a. Answers port cs c.args.t (both c.loop-i.keeper m) (get_or asked k 0) c.in_ok-output.output (both c.answer.new.keeper a) middle after)
           _
           (λ b m a first second.
-          subst (λ is. AnswersAll cs c.args.t (both start b) is c.told_next-next.result (both c.answer.new.keeper a) before after) (sym (take_more asked k 0 c.loop-i-test.true))
-          (subst (λ n. AnswersAll cs c.args.t (both start b) (take k asked ++ get_or asked k 0 ∷ []) n (both c.answer.new.keeper a) before after) (sym c.told_next-next.ensures)
-          (answers_more cs c.args.t (both start b) (both c.loop-i.keeper m) (both c.answer.new.keeper a) (take k asked) (get_or asked k 0) c.loop-i.next c.in_ok-output.output before middle after c.loop-i.invariant.shaped first second)))
-          (c.loop-i.invariant.answers port) (c.in_ok-output.ensures.answers port);
+          subst (λ is. AnswersAll port cs c.args.t (both start b) is c.told_next-next.result (both c.answer.new.keeper a) before after) (sym (take_more asked k 0 c.loop-i-test.true))
+          (subst (λ n. AnswersAll port cs c.args.t (both start b) (take k asked ++ get_or asked k 0 ∷ []) n (both c.answer.new.keeper a) before after) (sym c.told_next-next.ensures)
+          (answers_more port cs c.args.t (both start b) (both c.loop-i.keeper m) (both c.answer.new.keeper a) (take k asked) (get_or asked k 0) c.loop-i.next c.in_ok-output.output before middle after c.loop-i.invariant.shaped first second)))
+          c.loop-i.invariant.answers c.in_ok-output.ensures.answers;
       shaped = both_shaped start.forest c.loop-i.keeper.forest c.answer.new.keeper.forest c.loop-i.invariant.shaped like;
       count = c.loop-i.invariant.count ∙ sym like.count;
       quiet = ap (λ s. s.shortened) hears.is;
@@ -58,10 +59,10 @@ answer-requires-clause-waits g c =
     (stands_now c.args.t c.loop-i.i-index c.args.asked.now c.loop-i.next c.loop-i.keeper c.loop-i-test.true c.loop-i.invariant.stands)
 
 pub returns-clause-answers : goal.returns-clause-answers
-returns-clause-answers g c = λ port.
+returns-clause-answers g c =
     subst (λ is. Between (g.E.Exchange.behind c.args.exchange.now) (g.E.Exchange.behind c.loop-i.exchange)
-    (λ b a. AnswersAll c.args.credentials.now c.args.t (both c.args.keeper.now b) is c.loop-i.next (both c.loop-i.keeper a) c.args.text.now.items c.loop-i.text.items))
-    (take_all c.loop-i.i-index c.args.asked.now (let past = c.loop-i-test.false in omega arith)) (c.loop-i.invariant.answers port)
+    (λ b a. AnswersAll c.args.port c.args.credentials.now c.args.t (both c.args.keeper.now b) is c.loop-i.next (both c.loop-i.keeper a) c.args.text.now.items c.loop-i.text.items))
+    (take_all c.loop-i.i-index c.args.asked.now (let past = c.loop-i-test.false in omega arith)) c.loop-i.invariant.answers
 
 pub returns-clause-ready : goal.returns-clause-ready
 returns-clause-ready g c = record {

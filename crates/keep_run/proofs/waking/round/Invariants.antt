@@ -8,8 +8,8 @@ use Rattle.keep_run.proofs.waking.round.Given as goal
 
 abbrev pub invariant-loop-i : goal.invariant-loop-i
 invariant-loop-i g l = record {
-  answers : l.port ≡ 8200 → Between (g.E.Exchange.behind l.fn.exchange) (g.E.Exchange.behind l.exchange)
-      (λ b a. AnswersAll l.credentials l.t (both l.fn.keeper b) (take l.i-index l.asked) l.next (both l.keeper a) l.fn.text.items l.text.items);
+  answers : Between (g.E.Exchange.behind l.fn.exchange) (g.E.Exchange.behind l.exchange)
+      (λ b a. AnswersAll l.port l.credentials l.t (both l.fn.keeper b) (take l.i-index l.asked) l.next (both l.keeper a) l.fn.text.items l.text.items);
   shaped : IsShaped l.fn.keeper.forest l.keeper.forest;
   count : length l.credentials ≡ length l.keeper.forest.entries;
   quiet : l.keeper.shortened ≡ [];

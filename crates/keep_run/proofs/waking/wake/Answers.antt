@@ -1,5 +1,6 @@
 use Rattle.std.specs.Prelude.{◌≢◌}
 use Rattle.std.proofs.Common.{◌≡◌, ap, ◌∙◌, ◌++◌, List, [], ℕ, Some, length, sym, subst, true, false}
+use Rattle.keep_run.specs.Live.{Between}
 use Rattle.keep_run.specs.Playing.{AnswersAll, Goes, LeavesOpen, OpensOrEnds, Waits, inventory_with}
 use Rattle.keep_core.specs.declared.event.Output.TheVariants as out
 use Rattle.keep_run.specs.Stops.{both}
@@ -25,10 +26,11 @@ returns-clause-wakes c =
     let cs = c.args.credentials.now in
     let opens = subst (λ o. OpensOrEnds cs c.args.exchange.now c.args.keeper.now c.args.due o c.open.new.keeper c.args.text.now.items c.open.new.text.items) c.in-Some.is (c.in_ok-opened.ensures.opens cs c.args.exchange.now) in
     let at : c.in-Some-new.at ≡ c.in-Some.opened.at = c.in-Some-new.ensures.value in
-    let answers = subst (λ t. AnswersAll cs t (both c.open.new.keeper c.args.exchange.now) c.in-Some.opened.asked c.in_ok-next.next (both c.round.new.keeper c.round.new.exchange) c.open.new.text.items c.round.new.text.items) at
-    (subst (λ is. AnswersAll cs c.in-Some-new.at (both c.open.new.keeper c.args.exchange.now) is c.in_ok-next.next (both c.round.new.keeper c.round.new.exchange) c.open.new.text.items c.round.new.text.items) c.list.ensures
-    (between_some c.args.exchange.now c.round.new.exchange (λ b a. AnswersAll cs c.in-Some-new.at (both c.open.new.keeper b) c.list.result.now c.in_ok-next.next (both c.round.new.keeper a) c.open.new.text.items c.round.new.text.items)
-    (c.in_ok-next.ensures.answers c.port-port.ensures))) in
+    let answers = subst (λ t. AnswersAll 8200 cs t (both c.open.new.keeper c.args.exchange.now) c.in-Some.opened.asked c.in_ok-next.next (both c.round.new.keeper c.round.new.exchange) c.open.new.text.items c.round.new.text.items) at
+    (subst (λ is. AnswersAll 8200 cs c.in-Some-new.at (both c.open.new.keeper c.args.exchange.now) is c.in_ok-next.next (both c.round.new.keeper c.round.new.exchange) c.open.new.text.items c.round.new.text.items) c.list.ensures
+    (between_some c.args.exchange.now c.round.new.exchange (λ b a. AnswersAll 8200 cs c.in-Some-new.at (both c.open.new.keeper b) c.list.result.now c.in_ok-next.next (both c.round.new.keeper a) c.open.new.text.items c.round.new.text.items)
+    (subst (λ p. Between (Some c.args.exchange.now) (Some c.round.new.exchange) (λ b a. AnswersAll p cs c.in-Some-new.at (both c.open.new.keeper b) c.list.result.now c.in_ok-next.next (both c.round.new.keeper a) c.open.new.text.items c.round.new.text.items))
+    c.port-port.ensures c.in_ok-next.ensures.answers))) in
     let goes = round_goes_on cs c.args.exchange.now c.args.keeper.now c.open.new.keeper (both c.round.new.keeper c.round.new.exchange) c.args.due c.in-Some.opened.at c.in-Some.opened.asked c.args.text.now.items c.open.new.text.items c.round.new.text.items
     c.in_ok-next.next c.in_ok-opened.ensures.shaped opens answers in
     subst (λ n. (text : List ℕ) × (Goes (inventory_with cs c.args.keeper.now.forest) (both c.args.keeper.now c.args.exchange.now) (Some c.args.due) (both c.round.new.keeper c.round.new.exchange) c.in_ok-next.next 1 n text × (c.round.new.text.items ≡ c.args.text.now.items ++ text)))

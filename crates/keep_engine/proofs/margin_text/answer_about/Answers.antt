@@ -1,0 +1,12 @@
+use Rattle.std.proofs.Common.{subst}
+use Rattle.keep_tree.specs.Forest.{Forest}
+use Rattle.keep_engine.specs.Making.{MakesOf}
+use Rattle.keep_engine.specs.MarginMaking.{HaltsFrom, TextsFrom}
+use Rattle.keep_engine.proofs.Margins.{asked_makes}
+use Rattle.keep_engine.proofs.margin_text.answer_about.Goals as goal
+
+pub returns : goal.returns
+returns c =
+    let q = c.args.query.now in
+    asked_makes q c.args.forest c.answer.result
+    (subst (λ (h : Forest). MakesOf (TextsFrom q.start q.most_wakes) (HaltsFrom q.start q.most_wakes) h c.answer.result) c.renew_if_asked.ensures c.answer.ensures)

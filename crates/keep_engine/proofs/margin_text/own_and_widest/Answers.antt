@@ -1,0 +1,12 @@
+use Rattle.std.proofs.Common.{subst, sym}
+use Rattle.keep_plan.specs.Decides.{Decides, IsKept}
+use Rattle.keep_plan.specs.Widest.{IsFewest}
+use Rattle.keep_plan.proofs.Widening.{kept_fewest}
+use Rattle.keep_engine.proofs.margin_text.own_and_widest.Goals as goal
+
+pub two_lines-requires-clause-fewest : goal.two_lines-requires-clause-fewest
+two_lines-requires-clause-fewest c =
+    let g = c.args.forest.now in
+    let s = c.args.start in
+    let kept : IsKept g s c.in-Ok-Keep.plan = subst (Decides g s) c.in-Ok-Keep.field-0-is c.in-Ok-Keep.ensures in
+    subst (IsFewest g s) (sym c.len.ensures.value) (kept_fewest g s c.in-Ok-Keep.plan kept)
