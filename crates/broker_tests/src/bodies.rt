@@ -3,6 +3,7 @@
 
 mod faults;
 mod leases;
+mod never_ending;
 mod renewals;
 mod requests;
 mod shown;

@@ -1,5 +1,6 @@
 //! Rows of bytes with what they are read as or written from.
 
+mod dates;
 mod reads;
 mod refusals;
 mod replies;

@@ -244,3 +244,17 @@ fn lists_hold_what_they_were_made_of(rt: HostRuntime) -> Result<(), Fail> {
     assert!(rt; Forest::new(alloc).is_empty());
     Ok(())
 }
+
+// The least step less one, and an hour where no step is less than that.
+#[test]
+fn a_step_limits_the_margin(rt: HostRuntime) -> Result<(), Fail> {
+    let alloc = rt.alloc();
+    assert!(rt; Forest::new(alloc).most_margin() == 3600);
+    let mut forest = small_forest(alloc)?;
+    assert!(rt; forest.most_margin() == 59);
+    let most = forest.most_margin();
+    forest.set_margin(most);
+    assert!(rt; forest.margin() == 59);
+    assert!(rt; forest.len() == 3);
+    Ok(())
+}

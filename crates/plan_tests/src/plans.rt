@@ -1,6 +1,7 @@
 //! Plans from 1000 on, and why there is none.
 
 mod decisions;
+mod margins;
 mod shortfalls;
 
 use keep_moment::Name;

@@ -1,8 +1,10 @@
 use crate::inventories::{IN_TURN, ONE_DUE, TOKEN_AND_LEASE, WEB, inventory_of};
+use crate::moments::moment;
 use crate::outcomes::Outcome;
 use crate::plans::{OF_ONE_TOKEN, PLANNED, plans};
 use keep_device::MemorySink;
 use keep_engine::{Exit, run_check};
+use keep_moment::Moment;
 use std::alloc::Global;
 use std::process::Abort;
 use std::test::Fail;
@@ -21,12 +23,24 @@ pub(crate) fn checks(
     certificate: &[u8],
     failing: Option<u64>,
 ) -> Outcome {
+    checks_from(alloc, inventory, certificate, None, failing)
+}
+
+// The same of a certificate from the start that is asked for, if one is.
+fn checks_from(
+    alloc: Global,
+    inventory: &str,
+    certificate: &[u8],
+    asked: Option<Moment>,
+    failing: Option<u64>,
+) -> Outcome {
     let mut out = MemorySink::new(alloc, failing);
     let mut errors = MemorySink::new(alloc, None);
     let exit = run_check(
         alloc,
         inventory.as_bytes(),
         certificate,
+        asked,
         &mut out,
         &mut errors,
     );
@@ -244,6 +258,45 @@ fn altered_wake_ups_are_judged(rt: HostRuntime) -> Result<(), Fail> {
 fn altered_runs_are_judged(rt: HostRuntime) -> Result<(), Fail> {
     judges_altered(&rt, "leasekeep-plan 2\n", &OF_EITHER)?;
     judges_altered(&rt, "leasekeep-plan 2\n", &ALTERED_RUNS)
+}
+
+// A certificate of the web example behind its first line, the start that is asked for, and the line about it: what cannot be
+// read is told before the start, and the start before what is claimed.
+const FROM_A_START: [(&str, u64, &str); 7] = [
+    ("start 1000\nrun 1059 59 3 web web\nend 3\n", 1000, "yes\n"),
+    (
+        "start 1000\nrun 1059 59 3 web web\nend 3\n",
+        999,
+        "no start\n",
+    ),
+    ("start 1200\nend 0\n", 1200, "yes\n"),
+    ("start 1200\nend 0\n", 1000, "no start\n"),
+    (
+        "start 1000\nrun 1059 58 3 web web\nend 3\n",
+        1000,
+        "no not-forced 2\n",
+    ),
+    (
+        "start 1000\nrun 1059 58 3 web web\nend 3\n",
+        1001,
+        "no start\n",
+    ),
+    ("start 1200\nend 1\n", 1000, "unreadable bad-number 3\n"),
+];
+
+#[test]
+fn a_certificate_has_the_start_that_is_asked_for(rt: HostRuntime) -> Result<(), Fail> {
+    for (lines, asked, line) in &FROM_A_START {
+        let text = format!(in rt.alloc(); "leasekeep-plan 2\n{lines}")?;
+        let asked = Some(moment(*asked)?);
+        let exit = if *line == "yes\n" {
+            Exit::Done
+        } else {
+            Exit::No
+        };
+        checks_from(rt.alloc(), WEB, text.as_bytes(), asked, None).is(&rt, exit, line, "");
+    }
+    Ok(())
 }
 
 // Each call of the output fails in turn.

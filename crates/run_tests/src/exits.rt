@@ -33,7 +33,7 @@ fn an_input_that_is_not_read_is_reported(rt: HostRuntime) -> Result<(), Fail> {
     for (fault, exit, line) in INPUTS {
         let mut errors = MemorySink::new(alloc, None);
         assert_eq!(rt;
-            Stop::from(fault).report(alloc, PROGRAM, &mut errors),
+            Stop::from(fault).report(PROGRAM, &mut errors),
             exit,
             "{line}"
         );

@@ -1,10 +1,12 @@
 //! The whole way at its full size: an inventory of as many entries as there may be, and a certificate of as many lines. No
 //! contract forbids a call to give up for want of memory past some size: these tests would see it.
 
+use crate::margins::margins;
 use crate::moments::moment;
 use http::Method;
 use keep_check::{Answer, check};
 use keep_core::{Event, Keeper, Output};
+use keep_engine::Exit;
 use keep_inventory::{Inventory, read};
 use keep_moment::{Moment, Text};
 use keep_needs::carry;
@@ -43,7 +45,7 @@ fn push_between(
     Ok(text.push_str(behind)?)
 }
 
-fn fleet(alloc: Global) -> Result<Inventory, Fail> {
+fn fleet_text(alloc: Global) -> Result<String, Fail> {
     let mut text = String::new(alloc);
     for number in 0..ENTRIES {
         push_between(
@@ -54,6 +56,11 @@ fn fleet(alloc: Global) -> Result<Inventory, Fail> {
             BEHIND_NUMBER,
         )?;
     }
+    Ok(text)
+}
+
+fn fleet(alloc: Global) -> Result<Inventory, Fail> {
+    let text = fleet_text(alloc)?;
     Ok(read(alloc, text.as_bytes())?)
 }
 
@@ -78,6 +85,14 @@ fn the_plan_of_every_entry_is_printed(rt: HostRuntime) -> Result<(), Fail> {
     let decision = plan(alloc, forest, start)?;
     let text = keep_cert::print(alloc, forest, start, &decision)?;
     assert!(rt; text.list() == PLAN.as_bytes());
+    Ok(())
+}
+
+#[test]
+fn every_entry_has_its_say_in_a_margin(rt: HostRuntime) -> Result<(), Fail> {
+    let text = fleet_text(rt.alloc())?;
+    let outcome = margins(rt.alloc(), text.as_str(), (None, true), None)?;
+    outcome.is(&rt, Exit::Done, "1 3\n13 3\n", "");
     Ok(())
 }
 

@@ -25,6 +25,8 @@ mod inventories;
 #[cfg(test)]
 mod live;
 #[cfg(test)]
+mod margins;
+#[cfg(test)]
 mod moments;
 #[cfg(test)]
 mod obeyed;

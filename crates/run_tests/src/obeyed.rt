@@ -5,7 +5,7 @@ use crate::inventories::WEB;
 use crate::moments::moment;
 use crate::outcomes::Outcome;
 use keep_device::{InputFault, MemorySink};
-use keep_engine::{Command, Exit, Inputs, obey};
+use keep_engine::{Command, Exit, Inputs, MarginQuery, obey};
 use keep_moment::Text;
 use std::alloc::Global;
 use std::test::Fail;
@@ -36,9 +36,11 @@ impl Inputs for Folder {
 enum Asked {
     Ends,
     Plan,
+    Margin,
     Reach,
     Rehearse,
     Check,
+    CheckFrom(u64),
 }
 
 // What is asked of which files, from 1000 on: the exit, the output and the fault line. The files are read in order, and
@@ -52,7 +54,7 @@ type Obeyed = (
     &'static str,
 );
 
-const OBEYED: [Obeyed; 11] = [
+const OBEYED: [Obeyed; 14] = [
     (
         Asked::Ends,
         "web.toml",
@@ -62,6 +64,7 @@ const OBEYED: [Obeyed; 11] = [
         "",
     ),
     (Asked::Plan, "web.toml", "", Exit::Done, IN_RUNS, ""),
+    (Asked::Margin, "web.toml", "", Exit::Done, "1 3\n13 3\n", ""),
     (
         Asked::Reach,
         "web.toml",
@@ -84,6 +87,22 @@ const OBEYED: [Obeyed; 11] = [
         "web.plan",
         Exit::Done,
         "yes\n",
+        "",
+    ),
+    (
+        Asked::CheckFrom(1000),
+        "web.toml",
+        "web.plan",
+        Exit::Done,
+        "yes\n",
+        "",
+    ),
+    (
+        Asked::CheckFrom(1001),
+        "web.toml",
+        "web.plan",
+        Exit::No,
+        "no start\n",
         "",
     ),
     (
@@ -146,6 +165,14 @@ fn command_of(alloc: Global, asked: Asked, file: &str, certificate: &str) -> Res
             moments: Vec::new(alloc),
         },
         Asked::Plan => Command::Plan { file, start },
+        Asked::Margin => Command::Margin {
+            file,
+            query: MarginQuery {
+                start,
+                most_wakes: None,
+                renewed: false,
+            },
+        },
         Asked::Reach => Command::Reach {
             file,
             start,
@@ -159,6 +186,12 @@ fn command_of(alloc: Global, asked: Asked, file: &str, certificate: &str) -> Res
         Asked::Check => Command::Check {
             file,
             certificate: format!(in alloc; "{certificate}")?,
+            start: None,
+        },
+        Asked::CheckFrom(start) => Command::Check {
+            file,
+            certificate: format!(in alloc; "{certificate}")?,
+            start: Some(moment(start)?),
         },
     })
 }

@@ -1,0 +1,166 @@
+// The watch: the example of its page, refusals, and as many entries as there may be.
+
+use keep_moment::Name;
+use keep_tree::{Entry, Forest, Kind};
+use keep_watch::{
+    Command, Event, Operation, Patience, Reply, Terms, WIDTH_MAX, Watch, WatchFault, Why,
+};
+use std::alloc::Global;
+use std::process::Abort;
+use std::test::Fail;
+
+// A token that is needed until then, with a step of 60 seconds.
+fn token(alloc: Global, number: u32, need: u64) -> Result<Entry, Fail> {
+    let name = format!(in alloc; "e{number}")?;
+    Ok(Entry {
+        name: Name::of(alloc, name.as_bytes())?,
+        kind: Kind::Token,
+        parent: None,
+        end: 0,
+        renewable: true,
+        step: 60,
+        ceiling: None,
+        need,
+    })
+}
+
+// A watch over so many of them, which sends at most `width` requests in a slice.
+fn watch_of(alloc: Global, count: u32, need: u64, width: u32) -> Result<Watch, Fail> {
+    let mut forest = Forest::new(alloc);
+    for number in 0..count {
+        forest.push(token(alloc, number, need)?)?;
+    }
+    Ok(Watch::new(alloc, forest, width)?)
+}
+
+// Both clocks show this.
+fn clock(ms: u64) -> Event {
+    Event::Clock {
+        wall: ms,
+        elapsed: ms,
+    }
+}
+
+fn told(seconds: u32) -> Reply {
+    Reply::Told {
+        seconds,
+        renewable: true,
+        date: None,
+    }
+}
+
+fn looked(entry: u32, reply: Reply) -> Event {
+    Event::Looked {
+        entry,
+        reply,
+        terms: Terms {
+            step: None,
+            ceiling: None,
+            orphan: false,
+            endless: false,
+        },
+    }
+}
+
+fn renewed(entry: u32, seconds: u32) -> Event {
+    Event::Renewed {
+        entry,
+        reply: told(seconds),
+    }
+}
+
+// The only request is this one, with full patience.
+fn asks(command: &Command, entry: u32, operation: Operation) -> bool {
+    match command {
+        Command::Ask { requests, patience } => match requests.list() {
+            [request] => {
+                request.entry == entry
+                    && request.operation == operation
+                    && *patience == Patience::Full
+            }
+            _ => false,
+        },
+        _ => false,
+    }
+}
+
+fn waits<R: Abort>(
+    rt: &R,
+    alloc: Global,
+    watch: &mut Watch,
+    at: u64,
+    until: u64,
+) -> Result<(), Fail> {
+    let output = watch.step(alloc, clock(at))?;
+    match output.command {
+        Command::Wait(moment) => assert_eq!(rt; moment, until),
+        command => assert!(rt; false, "at {at}: {command:?}"),
+    }
+    Ok(())
+}
+
+#[test]
+fn the_example_of_its_page(rt: HostRuntime) -> Result<(), Fail> {
+    let alloc = rt.alloc();
+    let mut watch = watch_of(alloc, 1, 1200, 8)?;
+    let first = watch.step(alloc, clock(1_000_000))?;
+    assert_eq!(rt; first.notes.began, Some(Why::Start));
+    assert!(rt; asks(&first.command, 0, Operation::Look));
+    watch.step(alloc, looked(0, told(60)))?;
+    for round in 0..3 {
+        let opens = 1059 + 59 * round;
+        for second in opens - 59..opens {
+            waits(&rt, alloc, &mut watch, second * 1000, (second + 1) * 1000)?;
+        }
+        let wake = watch.step(alloc, clock(opens * 1000))?;
+        assert!(rt; wake.notes.round.is_some(), "a round at {opens}");
+        assert!(rt;
+            asks(&wake.command, 0, Operation::Renew),
+            "a renewal at {opens}"
+        );
+        watch.step(alloc, renewed(0, 60))?;
+    }
+    waits(&rt, alloc, &mut watch, 1_177_000, 1_178_000)?;
+    waits(&rt, alloc, &mut watch, 1_240_000, 1_241_000)?;
+    Ok(())
+}
+
+#[test]
+fn refusals_leave_it_as_it_was(rt: HostRuntime) -> Result<(), Fail> {
+    let alloc = rt.alloc();
+    let mut watch = watch_of(alloc, 1, 1200, 8)?;
+    let need = Event::Need { entry: 1, until: 0 };
+    assert!(rt; watch.step(alloc, need).err() == Some(WatchFault::BadIndex));
+    assert!(rt; watch.step(alloc, looked(0, told(60))).err() == Some(WatchFault::NotAsked));
+    watch.step(alloc, clock(1_000_000))?;
+    assert!(rt; watch.step(alloc, clock(1_000_000)).err() == Some(WatchFault::SliceOpen));
+    assert!(rt; watch.step(alloc, Event::Begin).err() == Some(WatchFault::SliceOpen));
+    assert!(rt; watch.step(alloc, renewed(0, 60)).err() == Some(WatchFault::NotAsked));
+    assert!(rt; watch.step(alloc, looked(1, told(60))).err() == Some(WatchFault::BadIndex));
+    watch.step(alloc, looked(0, told(60)))?;
+    waits(&rt, alloc, &mut watch, 1_000_000, 1_001_000)
+}
+
+#[test]
+fn as_many_entries_as_there_may_be(rt: HostRuntime) -> Result<(), Fail> {
+    let alloc = rt.alloc();
+    let mut watch = watch_of(alloc, 4096, 1200, WIDTH_MAX)?;
+    let mut slices = 0;
+    loop {
+        let output = watch.step(alloc, clock(1_000_000))?;
+        match output.command {
+            Command::Ask { requests, .. } => {
+                slices += 1;
+                for request in requests.list() {
+                    watch.step(alloc, looked(request.entry, told(60)))?;
+                }
+            }
+            Command::Wait(until) => {
+                assert_eq!(rt; until, 1_001_000);
+                assert_eq!(rt; slices, 128);
+                return Ok(());
+            }
+            Command::Taken => assert!(rt; false, "a clock is taken"),
+        }
+    }
+}
