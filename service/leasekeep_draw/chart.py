@@ -2,20 +2,25 @@
 
 from __future__ import annotations
 
-from dataclasses import dataclass
+from dataclasses import dataclass, replace
 
 from leasekeep_draw.entries import Entry, Inventory
 from leasekeep_draw.history import History, Mark, Sign
 
 
+MANY = 500
+"""From so many entries on those that are not kept are listed first."""
+
+
 @dataclass(frozen=True)
 class Lane:
-    """One entry: how deep it lies under its root, until when it lived, and what happened to it.
+    """One entry: what it stands under, how deep it is set in, until when it lived, and what happened to it.
 
     `needed`: its need as the inventory has it, as far as the lines reach.
     """
 
     entry: Entry
+    parent: str | None
     depth: int
     begin: int
     end: int
@@ -34,7 +39,11 @@ class Lane:
 
 @dataclass(frozen=True)
 class Chart:
-    """The lanes from top to bottom, the wake-ups, and the moments from which and to which the picture goes."""
+    """The lanes from top to bottom, the wake-ups, and the moments from which and to which the picture goes.
+
+    `entries`, `short`: how many entries there are, and how many of them are not kept, whichever lanes are shown. `first`: so
+    many lanes at the top are entries that are not kept, out of their place in the tree.
+    """
 
     lanes: tuple[Lane, ...]
     wakes: tuple[int, ...]
@@ -43,16 +52,36 @@ class Chart:
     stop: int
     is_dated: bool
     is_over: bool
+    entries: int
+    short: int
+    first: int = 0
 
     @property
     def title(self) -> str:
         """What the picture shows, in one line."""
-        short = sum(1 for lane in self.lanes if lane.falls_short)
         return (
-            f"{_counted(len(self.lanes), 'entry', 'entries')}, {_counted(len(self.wakes), 'wake-up', 'wake-ups')}, "
+            f"{_counted(self.entries, 'entry', 'entries')}, {_counted(len(self.wakes), 'wake-up', 'wake-ups')}, "
             f"{_counted(self.requests, 'request', 'requests')}{'' if self.is_over else ' so far'}: "
-            f"{_counted(short, 'need', 'needs') + ' not kept' if short else 'every need is kept'}"
+            f"{_counted(self.short, 'need', 'needs') + ' not kept' if self.short else 'every need is kept'}"
         )
+
+    def heading(self, row: int) -> str | None:
+        """What stands above the lane of that row, where a group of lanes begins with it."""
+        if self.first and row == 0:
+            return f"not kept: {self.first:,}"
+        if self.first and row == self.first:
+            return f"the others: {len(self.lanes) - self.first:,}"
+        return None
+
+    def arranged(self, only_unkept: bool) -> Chart:
+        """With the entries that are not kept first, where there are MANY; or with these alone."""
+        unkept = tuple(replace(lane, depth=0) for lane in self.lanes if lane.falls_short)
+        if only_unkept:
+            return replace(self, lanes=unkept, first=len(unkept))
+        if len(self.lanes) < MANY or not unkept:
+            return self
+        others = tuple(lane for lane in self.lanes if not lane.falls_short)
+        return replace(self, lanes=unkept + others, first=len(unkept))
 
     def fate(self, lane: Lane) -> str:
         """Whether the lane's need is kept, in a word or two."""
@@ -83,12 +112,17 @@ def chart_of(inventory: Inventory, history: History, start: int) -> Chart:
     for mark in history.marks:
         marks[mark.entry].append(mark)
     lanes = tuple(
-        Lane(entry, depth, max(start, entry.issued), ends[index], min(entry.need, reached), tuple(marks[index]))
+        Lane(entry, _name_over(inventory, entry), depth, max(start, entry.issued), ends[index], min(entry.need, reached), tuple(marks[index]))
         for index, depth in _in_tree_order(inventory.entries)
         for entry in (inventory.entries[index],)
     )
     is_dated = inventory.is_dated or history.begun is not None
-    return Chart(lanes, tuple(history.wakes), history.requests, start, stop, is_dated, history.is_over)
+    short = sum(1 for lane in lanes if lane.falls_short)
+    return Chart(lanes, tuple(history.wakes), history.requests, start, stop, is_dated, history.is_over, len(lanes), short)
+
+
+def _name_over(inventory: Inventory, entry: Entry) -> str | None:
+    return None if entry.parent is None else inventory.entries[entry.parent].name
 
 
 def _ends(inventory: Inventory, history: History) -> list[int]:

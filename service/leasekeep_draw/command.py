@@ -9,7 +9,9 @@ from collections.abc import Iterator
 from pathlib import Path
 
 from leasekeep_draw import entries, history, picture, table, terminal
-from leasekeep_draw.chart import Chart, chart_of, start_of
+from leasekeep_draw.chart import MANY, Chart, chart_of, start_of
+from leasekeepd_lib.clock import LAST
+from leasekeepd_lib.version import version
 
 _EXAMPLE = """
 example:
@@ -17,7 +19,7 @@ example:
   leasekeep-draw fleet.toml fleet.run --start 1000
   leasekeep-draw fleet.toml fleet.run --start 1000 --svg >fleet.svg
 
-exits: 0 done; 1 an inventory, or lines, that can't be drawn; 2 the command line; 6 a read or a write failed
+exit status: 0 done, 1 an inventory or lines that can't be drawn, 2 the command line, 6 a failed read or write
 """
 
 
@@ -46,22 +48,34 @@ def _parser() -> argparse.ArgumentParser:
         epilog=_EXAMPLE,
         formatter_class=argparse.RawDescriptionHelpFormatter,
     )
+    parser.add_argument("--version", action="version", version=f"leasekeep-draw {version()}")
     parser.add_argument("inventory", metavar="FILE", help="the inventory")
-    parser.add_argument("lines", metavar="LINES", nargs="?", default="-", help="the lines; `-`, and no word: standard input")
-    parser.add_argument("--start", type=int, help="the start of the run, as given to it (else a moment near to it is taken, of a log its first)")
+    parser.add_argument("lines", metavar="LINES", nargs="?", default="-", help="the lines; by default, and with `-`, standard input")
+    parser.add_argument("--start", type=_moment, metavar="START", help="the start that the run was given, in whole seconds since 1970"
+                        " (default: a moment near it, or the first moment of a log)")
     shape = parser.add_mutually_exclusive_group()
     shape.add_argument("--svg", action="store_true", help="an SVG picture")
-    shape.add_argument("--table", action="store_true", help="a table, for who reads instead of looking")
-    parser.add_argument("--width", type=int, help="columns of the terminal (else as it is, or 80)")
-    parser.add_argument("--ascii", action="store_true", help="no characters beyond ASCII")
+    shape.add_argument("--table", action="store_true", help="a table, for readers who cannot see a picture")
+    parser.add_argument("--only-unkept", action="store_true", help=f"only the entries that are not kept (from {MANY} entries on they"
+                        " are listed first)")
+    parser.add_argument("--width", type=int, help="columns of the terminal (default: as many as it has, or 80)")
+    parser.add_argument("--ascii", action="store_true", help="ASCII characters only")
     return parser
 
 
+def _moment(word: str) -> int:
+    """The moment that a word writes as `leasekeep` reads START: whole seconds since 1970."""
+    if not (word.isascii() and word.isdigit() and len(word) <= 30 and int(word) <= LAST):
+        raise argparse.ArgumentTypeError("a moment is whole seconds since 1970: $(date +%s) is now")
+    return int(word)
+
+
 def _chart(asked: argparse.Namespace) -> Chart:
-    inventory = entries.read(Path(asked.inventory).read_text(encoding="utf-8"))
+    inventory = entries.read(Path(asked.inventory).read_text(encoding="utf-8-sig"))
     near = start_of(inventory) if asked.start is None else asked.start
     told = history.read(_lines(asked.lines), {entry.name: index for index, entry in enumerate(inventory.entries)}, near)
-    return chart_of(inventory, told, near if asked.start is not None or told.begun is None else told.begun)
+    start = near if asked.start is not None or told.begun is None else told.begun
+    return chart_of(inventory, told, start).arranged(asked.only_unkept)
 
 
 def _lines(name: str) -> Iterator[str]:

@@ -9,6 +9,7 @@ import tomllib
 from dataclasses import dataclass
 from datetime import datetime
 from enum import Enum
+from typing import Any
 
 SYSTEM_MAX = 2_764_800
 """The greatest life of an entry in seconds, where the inventory says nothing else."""
@@ -85,17 +86,17 @@ class _Reader:
         self._indices[entry.name] = len(self._entries)
         self._entries.append(entry)
 
-    def _moment(self, value: object) -> int:
+    def _moment(self, value: Any) -> int:
         if isinstance(value, str):
             self._is_dated = True
             return int(datetime.fromisoformat(value.upper()).timestamp() // 1)
-        return int(value)  # type: ignore[call-overload]
+        return int(value)
 
 
-def _ceiling(kind: Kind, table: dict[str, object], issued: int, system_max: int) -> int | None:
+def _ceiling(kind: Kind, table: dict[str, Any], issued: int, system_max: int) -> int | None:
     """The moment that no renewal goes past: the maximum TTL counted from the issue; of a periodic token its explicit one."""
-    explicit = int(table.get("explicit_max_ttl", 0))  # type: ignore[call-overload]
+    explicit = int(table.get("explicit_max_ttl", 0))
     if kind is Kind.TOKEN and table.get("period", 0):
         return issued + explicit if explicit else None
-    longest = int(table.get("max_ttl", 0)) or system_max  # type: ignore[call-overload]
+    longest = int(table.get("max_ttl", 0)) or system_max
     return issued + (min(longest, explicit) if explicit else longest)

@@ -13,18 +13,15 @@ HEADS = ("entry", "under", "lives until", "need", "ceiling", "renewed", "refused
 
 def rows(chart: Chart) -> Iterator[tuple[str, ...]]:
     """A row for each lane, in the order of the picture, under HEADS."""
-    path: list[str] = []
     for lane in chart.lanes:
-        del path[lane.depth :]
-        yield _row(lane, path[-1] if path else "-", chart)
-        path.append(lane.entry.name)
+        yield _row(lane, chart)
 
 
-def _row(lane: Lane, parent: str, chart: Chart) -> tuple[str, ...]:
+def _row(lane: Lane, chart: Chart) -> tuple[str, ...]:
     entry, is_dated = lane.entry, chart.is_dated
     return (
         entry.name,
-        parent,
+        lane.parent or "-",
         moment_text(lane.end, is_dated),
         moment_text(entry.need, is_dated) if entry.need else "-",
         "-" if entry.ceiling is None else moment_text(entry.ceiling, is_dated),

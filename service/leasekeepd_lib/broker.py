@@ -6,7 +6,7 @@ import asyncio
 import json
 from dataclasses import dataclass
 from enum import Enum
-from typing import Any
+from typing import Any, Callable
 
 from .clock import LAST, Clock
 from .http_client import Request, Response, Transport, TransportFault
@@ -79,6 +79,7 @@ class Broker:
 
     async def look_up(self, inventory: Inventory, entry: Entry) -> Heard:
         token = inventory.root_token(entry)
+        read: Callable[[bytes, str], Facts | None]
         if entry.kind is Kind.TOKEN:
             heard, reply = await self._send(Request("GET", "/v1/auth/token/lookup-self", token, b""))
             read = read_token_lookup

@@ -4,13 +4,18 @@ from __future__ import annotations
 
 import hashlib
 import json
-from dataclasses import dataclass, replace
+import re
+import zlib
+from dataclasses import dataclass
 from enum import Enum
 
-from .inventory import Entry, Inventory, Kind, entry_text
-from .inventory_file import judge, read_tables
+from .clock import LAST
+from .inventory import Entry, Inventory, entry_text
+from .inventory_file import read_tables
+from .values import CREDENTIAL, NAME
 
 ABSENT = "absent"
+_WAS = re.compile(r"absent|\d{1,12}|[0-9a-f]{64}", re.ASCII)
 
 
 class What(Enum):
@@ -19,6 +24,10 @@ class What(Enum):
     ADD = "add"
     DROP = "drop"
     SETTLING = "settling"
+
+
+_WORD = {What.NEED: "until", What.REPLACE: "credential", What.ADD: "table"}
+"""What the record of a change holds besides its name and what the file said."""
 
 
 class ChangeFault(Exception):
@@ -41,25 +50,52 @@ class Change:
         return f"Change({self.what.value} {self.name})"
 
     def line(self) -> bytes:
-        """The record as a line of the journal."""
+        """The record as a line of the journal, with a sum over it: a byte that has changed shows."""
         record: dict[str, object] = {"what": self.what.value, "name": self.name, "was": self.was}
-        if self.what is What.NEED:
-            record["until"] = self.until
-        if self.credential:
-            record["credential"] = self.credential
-        if self.table:
-            record["table"] = self.table
-        return json.dumps(record, separators=(",", ":")).encode() + b"\n"
+        if self.what in _WORD:
+            record[_WORD[self.what]] = getattr(self, _WORD[self.what])
+        return _text({**record, "sum": _sum(record)}).encode() + b"\n"
 
     @staticmethod
     def read(line: bytes) -> Change | None:
-        """The record that the line writes; None where it writes none."""
+        """The record that the line writes; None where it writes none, or one that no command would have written.
+        One without a sum is of an older journal."""
         try:
             record = json.loads(line)
-            return Change(What(record["what"]), str(record["name"]), str(record["was"]), int(record.get("until", 0)),
-                          str(record.get("credential", "")), str(record.get("table", "")))
-        except (ValueError, KeyError, TypeError):
+            if record.pop("sum", None) not in (None, _sum(record)):
+                return None
+            what = What(record.pop("what"))
+            change = Change(what, **record)
+            return change if record.keys() == {"name", "was", *_words(what)} and change.is_sound() else None
+        except (ValueError, KeyError, TypeError, AttributeError, RecursionError, ChangeFault):
             return None
+
+    def is_sound(self) -> bool:
+        """Whether a command may have made it."""
+        if not isinstance(self.was, str) or not isinstance(self.name, str) or not _WAS.fullmatch(self.was):
+            return False
+        match self.what:
+            case What.SETTLING:
+                return self.name == ""
+            case What.NEED if type(self.until) is not int or not 0 <= self.until <= LAST:
+                return False
+            case What.REPLACE if not CREDENTIAL.fullmatch(self.credential):
+                return False
+            case What.ADD if only_entry(self.table).name != self.name:
+                return False
+        return NAME.fullmatch(self.name) is not None
+
+
+def _words(what: What) -> set[str]:
+    return {_WORD[what]} if what in _WORD else set()
+
+
+def _text(record: dict[str, object]) -> str:
+    return json.dumps(record, separators=(",", ":"))
+
+
+def _sum(record: dict[str, object]) -> str:
+    return f"{zlib.crc32(_text(record).encode()):08x}"
 
 
 def fingerprint(data: bytes) -> str:
@@ -78,62 +114,6 @@ def said_by(inventory: Inventory, what: What, name: str) -> str:
     return fingerprint(entry_text(entry).encode())
 
 
-def apply(inventory: Inventory, change: Change) -> Inventory:
-    """The inventory after the change; ChangeFault where it cannot be made."""
-    entry = inventory.find(change.name)
-    if change.what is What.ADD:
-        return _added(inventory, change)
-    if entry is None:
-        raise ChangeFault(f"no entry is named {change.name}")
-    if change.what is What.NEED:
-        return inventory.mapped(lambda other: replace(other, need=change.until) if other is entry else other)
-    if change.what is What.REPLACE:
-        if any(other.secret == change.credential and other.kind is entry.kind and other is not entry
-               for other in inventory.entries):
-            raise ChangeFault(f"another entry has that credential already; {change.name} keeps its own")
-        return inventory.mapped(
-            lambda other: replace(other, credential=change.credential) if other is entry else other)
-    under = [other.name for other in inventory.entries if other.parent == change.name]
-    if under:
-        raise ChangeFault(f"{change.name} has entries under it: drop {', '.join(under)} first")
-    return inventory.mapped(lambda other: None if other is entry else other)
-
-
-def apply_judged(inventory: Inventory, change: Change) -> Inventory:
-    """The inventory after the change; ChangeFault where it cannot be made, or would leave a faulty inventory."""
-    changed = apply(inventory, change)
-    faults = judge(changed)
-    if faults:
-        raise ChangeFault("; ".join(f"{fault.entry} {fault.key}: {fault.problem}" for fault in faults))
-    return changed
-
-
-def compacted(changes: list[Change]) -> list[Change]:
-    """The changes without those that a later one of the same word replaces."""
-    kept: list[Change] = []
-    replaced: set[tuple[What, str, str]] = set()
-    for change in reversed(changes):
-        word = (change.what, change.name, change.was)
-        if change.what in (What.ADD, What.DROP):
-            replaced = {other for other in replaced if other[1] != change.name}
-        elif word in replaced:
-            continue
-        else:
-            replaced.add(word)
-        kept.append(change)
-    return kept[::-1]
-
-
-def _added(inventory: Inventory, change: Change) -> Inventory:
-    entry = only_entry(change.table)
-    if inventory.find(entry.name) is not None:
-        raise ChangeFault(f"an entry is named {entry.name} already")
-    tokens = [other for other in inventory.entries if other.kind is Kind.TOKEN]
-    leases = [other for other in inventory.entries if other.kind is Kind.LEASE]
-    (tokens if entry.kind is Kind.TOKEN else leases).append(entry)
-    return Inventory(tuple(tokens + leases), inventory.margin, inventory.system_max)
-
-
 def only_entry(table: str) -> Entry:
     """The one entry that a text of TOML holds; ChangeFault with its faults where it holds another number."""
     reading, entries = read_tables(table.encode())
@@ -144,24 +124,17 @@ def only_entry(table: str) -> Entry:
     return entries[0]
 
 
-def replay(inventory: Inventory, changes: list[Change]) -> tuple[Inventory, list[str]]:
-    """The file's inventory with the changes that still hold, and notes on those that do not: where the file says
-    something else than it did then, the file wins."""
-    now = inventory
-    notes = []
-    for change in changes:
-        if change.what is What.SETTLING:
-            continue
-        try:
-            changed = apply_judged(now, change)
-        except ChangeFault as fault:
-            changed = None
-            reason = str(fault)
-        if said_by(inventory, change.what, change.name) != change.was:
-            if changed is not None and changed.entries != now.entries:
-                notes.append(f"{change.what.value} {change.name}: the file has changed since, and wins")
-        elif changed is None:
-            notes.append(f"{change.what.value} {change.name}: {reason}")
-        else:
-            now = changed
-    return now, notes
+def compacted(changes: list[Change]) -> list[Change]:
+    """The changes without those that a later one of the same name makes void, whatever the file says: a need or a
+    credential that is given again beside the same words of the file, and all about a name that the file does not have,
+    where that was dropped again."""
+    by_name: dict[str, list[int]] = {}
+    void: set[int] = set()
+    for place, change in enumerate(changes):
+        places = by_name.setdefault(change.name, [])
+        if change.what is What.DROP and change.was == ABSENT:
+            void.update(at for at in (*places, place) if changes[at].was == ABSENT)
+        elif change.what in (What.NEED, What.REPLACE):
+            void.update(at for at in places if (changes[at].what, changes[at].was) == (change.what, change.was))
+        by_name[change.name] = [at for at in (*places, place) if at not in void]
+    return [change for place, change in enumerate(changes) if place not in void]

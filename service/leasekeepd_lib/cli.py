@@ -4,11 +4,10 @@ from __future__ import annotations
 
 import argparse
 import asyncio
-import fcntl
 import getpass
+import grp
 import os
-import random
-import signal
+import shutil
 import stat
 import sys
 from pathlib import Path
@@ -16,23 +15,16 @@ from typing import Sequence
 
 from .broker import Broker
 from .clock import SystemClock
-from .control import ControlFault, ControlServer, send_command
+from .control import ControlFault, send_command
 from .discover import DiscoverFault, discover, read_short_list
-from .events import Alerts, Log
+from .health import KEPT
 from .http_client import Address, HttpTransport
-from .journal import Journal
 from .lint import kinds_of, lint
-from .notify import Notifier
-from .parts import Parts
-from .run_process import ProcessLauncher
-from .service import Service, Surroundings
-from .source import Source, SourceFault
-from .storage import Storage
+from .serving import EXIT_FAULT, SOCKET, serve
+from .version import version
 
-EXIT_FAULT = 1
 EXIT_COMMAND_LINE = 2
 STDIN_MOST = 65536
-SOCKET = "control.sock"
 SYSTEM_RUNTIME = Path("/run/leasekeepd")
 
 
@@ -71,6 +63,20 @@ def _timeout(word: str) -> int:
     return seconds
 
 
+def _alert(word: str) -> str:
+    program = shutil.which(word)
+    if program is None:
+        raise argparse.ArgumentTypeError(f"no program can be run there: {word}")
+    return program
+
+
+def _group(word: str) -> int:
+    try:
+        return grp.getgrnam(word).gr_gid
+    except KeyError:
+        raise argparse.ArgumentTypeError(f"no group is named {word}") from None
+
+
 def _address(word: str) -> Address:
     if "/" not in word and not 1 <= int(word) <= 65535:
         raise ValueError
@@ -80,28 +86,35 @@ def _address(word: str) -> Address:
 def _parser() -> argparse.ArgumentParser:
     parser = argparse.ArgumentParser(
         prog="leasekeepd", description="Keeps Vault tokens and leases alive: drives `leasekeep run` in real time.",
-        epilog="Exits: 0; 1 what may not be served, or went wrong; 2 the command line.")
+        epilog="Exit status: 0 done, 1 an inventory that may not be served or a command that failed, 2 the command line.")
+    parser.add_argument("--version", action="version", version=f"leasekeepd {version()}")
     commands = parser.add_subparsers(dest="command", required=True, metavar="COMMAND")
     runtime = argparse.ArgumentParser(add_help=False)
     runtime.add_argument("--runtime", type=Path, metavar="FOLDER",
                          help=f"folder of the control socket (default: $RUNTIME_DIRECTORY, else"
-                         f" $XDG_RUNTIME_DIR/leasekeepd; for commands {SYSTEM_RUNTIME} where that has none)")
+                         f" $XDG_RUNTIME_DIR/leasekeepd; commands also look in {SYSTEM_RUNTIME})")
     _add_serve(commands, runtime)
     need = commands.add_parser("need", parents=[runtime], help="change until when an entry is needed")
     need.add_argument("name", metavar="NAME")
-    need.add_argument("when", metavar="WHEN", help="a moment, a date, or so long from now: +6h")
+    need.add_argument("when", metavar="WHEN", help="a moment in seconds since 1970, a date, or a time from now such as +6h")
     replaced = commands.add_parser(
         "replace", parents=[runtime], help="give an entry a new secret or lease id, read from standard input")
     replaced.add_argument("name", metavar="NAME")
-    commands.add_parser("add", parents=[runtime], help="add an entry: a table of TOML from standard input")
-    dropped = commands.add_parser("drop", parents=[runtime], help="keep an entry no more")
+    commands.add_parser("add", parents=[runtime], help="add an entry, whose TOML table is read from standard input")
+    dropped = commands.add_parser("drop", parents=[runtime], help="stop keeping an entry")
     dropped.add_argument("name", metavar="NAME")
     commands.add_parser("status", parents=[runtime], help="show how each entry stands")
-    commands.add_parser("settle", parents=[runtime], help="write file and journal as one new file")
-    linted = commands.add_parser("lint", help="tell every fault and doubt of an inventory, with its line")
+    commands.add_parser(
+        "health", parents=[runtime], help="tell whether every needed entry is kept, for health checks",
+        description="Exits with 0 if every needed entry is kept. Otherwise it names those that are not, one on each line, and why.",
+        epilog="Exit status: 0 all are kept, 1 some are not or no service answers, 2 the command line.")
+    commands.add_parser("settle", parents=[runtime], help="write the file and the journal as one new file")
+    linted = commands.add_parser("lint", help="show every fault and doubt of an inventory, with its line and its fix")
     linted.add_argument("file", type=Path, metavar="FILE")
     linted.add_argument("--timeout", type=_timeout, default=5, metavar="SECONDS", help="the time-out of serve")
-    found = commands.add_parser("inventory", help="make an inventory of a short list and lookups at the broker")
+    linted.add_argument("--names-are-secrets", action="store_true",
+                        help="accept entries without a secret or lease_id, as serve does with this option")
+    found = commands.add_parser("inventory", help="make an inventory from a short list and lookups at the broker")
     found.add_argument("file", type=Path, metavar="LIST")
     found.add_argument("address", type=_address, metavar="PORT|SOCKET")
     found.add_argument("--timeout", type=_timeout, default=5, metavar="SECONDS")
@@ -110,27 +123,27 @@ def _parser() -> argparse.ArgumentParser:
 
 def _add_serve(commands: "argparse._SubParsersAction[argparse.ArgumentParser]", runtime: argparse.ArgumentParser,
                ) -> None:
-    serve = commands.add_parser(
+    serving = commands.add_parser(
         "serve", parents=[runtime], help="keep what FILE says alive",
         description="Keeps what FILE says alive: starts `leasekeep run`, sleeps until each wake-up, and logs what it"
-        " prints. SIGTERM ends it, SIGHUP reads FILE anew.",
-        epilog="It refuses a FILE that is faulty, that others may read, with a token without secret or a lease without"
-        " lease_id, or with a margin under four times the time-out: exit 1.")
-    serve.add_argument("file", type=Path, metavar="FILE", help="the inventory")
-    serve.add_argument("address", type=_address, metavar="PORT|SOCKET",
+        " prints. SIGTERM ends it, SIGHUP reads FILE again.",
+        epilog="It refuses a FILE that is faulty or that others may read, a token without secret, a lease without lease_id,"
+        " and a margin of less than four times the time-out: exit 1. `leasekeepd lint FILE` shows all of these beforehand.")
+    serving.add_argument("file", type=Path, metavar="FILE", help="the inventory")
+    serving.add_argument("address", type=_address, metavar="PORT|SOCKET",
                        help="the broker: a port of 127.0.0.1, or the path of a UNIX socket")
-    serve.add_argument("--timeout", type=_timeout, default=5, metavar="SECONDS",
+    serving.add_argument("--timeout", type=_timeout, default=5, metavar="SECONDS",
                        help="the longest that a connect, read or write may take (1 to 60, default: 5)")
-    serve.add_argument("--leasekeep", default=_program(), metavar="PROGRAM",
-                       help="the program (default: that beside leasekeepd, else that in PATH)")
-    serve.add_argument("--log", choices=("text", "json"), default="text", help="the form of log lines")
-    serve.add_argument("--alert", metavar="PROGRAM", help="run PROGRAM with the words of each warning")
-    serve.add_argument("--group", metavar="GROUP", help="the group that may use the control socket")
-    serve.add_argument("--state", type=Path, metavar="FOLDER", default=_state_folder(),
+    serving.add_argument("--leasekeep", default=_program(), metavar="PROGRAM",
+                       help="the program to run (default: the one next to leasekeepd, else the one in PATH)")
+    serving.add_argument("--log", choices=("text", "json"), default="text", help="the format of log lines")
+    serving.add_argument("--alert", type=_alert, metavar="PROGRAM", help="run PROGRAM with the words of each warning and alert")
+    serving.add_argument("--group", type=_group, metavar="GROUP", help="the group that may use the control socket")
+    serving.add_argument("--state", type=Path, metavar="FOLDER", default=_state_folder(),
                        help="folder of the journal and the last good file (default: $STATE_DIRECTORY, else"
                        " $XDG_STATE_HOME/leasekeepd or ~/.local/state/leasekeepd)")
-    serve.add_argument("--metrics", type=Path, metavar="FILE", help="write metrics for Prometheus' node exporter")
-    serve.add_argument("--names-are-secrets", action="store_true",
+    serving.add_argument("--metrics", type=Path, metavar="FILE", help="write metrics for Prometheus' node exporter")
+    serving.add_argument("--names-are-secrets", action="store_true",
                        help="serve entries without a secret or lease_id, for trials")
 
 
@@ -138,7 +151,8 @@ def main(words: Sequence[str] | None = None) -> int:
     """Runs one command; its exit."""
     arguments = _parser().parse_args(words)
     if arguments.command == "serve":
-        return _serve(arguments)
+        arguments.runtime = arguments.runtime or _runtime_folder()
+        return serve(arguments)
     if arguments.command == "lint":
         return _lint(arguments)
     if arguments.command == "inventory":
@@ -153,7 +167,7 @@ def _lint(arguments: argparse.Namespace) -> int:
     except OSError as error:
         print(f"leasekeepd: lint: {arguments.file}: {error.strerror}", file=sys.stderr)
         return EXIT_COMMAND_LINE
-    found = lint(data, mode, arguments.timeout, SystemClock().wall())
+    found = lint(data, mode, arguments.timeout, SystemClock().wall(), arguments.names_are_secrets)
     for finding in found:
         print(finding.text(str(arguments.file)))
     faults, doubts = kinds_of(found)
@@ -192,75 +206,11 @@ def _client(arguments: argparse.Namespace) -> int:
         text = getpass.getpass("secret or lease id: ") if is_asked else sys.stdin.read(STDIN_MOST)
         words.append(text.strip() if arguments.command == "replace" else text)
     try:
-        for line in send_command(_socket(arguments), words):
-            print(line)
+        lines = send_command(_socket(arguments), words)
     except ControlFault as fault:
         print(f"leasekeepd: {arguments.command}: {fault}", file=sys.stderr)
         return EXIT_FAULT
-    return 0
-
-
-def _serve(arguments: argparse.Namespace) -> int:
-    arguments.runtime = arguments.runtime or _runtime_folder()
-    try:
-        arguments.state.mkdir(mode=0o700, parents=True, exist_ok=True)
-        arguments.runtime.mkdir(mode=0o750, parents=True, exist_ok=True)
-    except OSError as error:
-        print(f"leasekeepd: {error.filename}: {error.strerror}", file=sys.stderr)
-        return EXIT_FAULT
-    try:
-        if _lock(arguments.state) is None:
-            print(f"leasekeepd: {arguments.state}: another leasekeepd serves with this state", file=sys.stderr)
-            return EXIT_FAULT
-        return asyncio.run(_serve_until_told(arguments))
-    except SourceFault as fault:
-        print("\n".join(f"leasekeepd: {line}" for line in str(fault).splitlines()), file=sys.stderr)
-    except OSError as error:
-        print(f"leasekeepd: {error.filename or 'control socket'}: {error.strerror}", file=sys.stderr)
-    except KeyError:
-        print(f"leasekeepd: --group: no group is named {arguments.group}", file=sys.stderr)
-    return EXIT_FAULT
-
-
-def _lock(folder: Path) -> int | None:
-    """Holds the state folder for this process alone, up to its end; None where another one holds it."""
-    handle = os.open(folder / "lock", os.O_RDWR | os.O_CREAT | os.O_CLOEXEC, 0o600)
-    try:
-        fcntl.flock(handle, fcntl.LOCK_EX | fcntl.LOCK_NB)
-    except BlockingIOError:
-        os.close(handle)
-        return None
-    return handle
-
-
-async def _serve_until_told(arguments: argparse.Namespace) -> int:
-    service = build(arguments)
-    service.load()
-    control = ControlServer(arguments.runtime / SOCKET, arguments.group, service.command)
-    await control.start()
-    loop = asyncio.get_running_loop()
-    work = asyncio.create_task(service.serve())
-    for number in (signal.SIGTERM, signal.SIGINT):
-        loop.add_signal_handler(number, work.cancel)
-    loop.add_signal_handler(signal.SIGHUP, service.reload)
-    try:
-        await work
-    except asyncio.CancelledError:
-        pass
-    finally:
-        control.stop()
-    return 0
-
-
-def build(arguments: argparse.Namespace) -> Service:
-    """The service that the command line describes, over the machine's clock, sockets and files."""
-    clock, storage = SystemClock(), Storage()
-    log = Log(clock, sys.stdout, arguments.log == "json")
-    broker = Broker(HttpTransport(arguments.address), clock, arguments.timeout)
-    launcher = ProcessLauncher(arguments.leasekeep, arguments.runtime, arguments.address, arguments.timeout)
-    source = Source(arguments.file, arguments.state / "inventory.toml", arguments.timeout,
-                    arguments.names_are_secrets, storage)
-    surroundings = Surroundings(
-        source, Journal(arguments.state / "journal", storage), Notifier(os.environ), storage, arguments.metrics,
-        Alerts(arguments.alert, clock) if arguments.alert else None)
-    return Service(surroundings, Parts(clock, broker, launcher, log, random.Random()))
+    is_health = arguments.command == "health"
+    for line in lines or ([KEPT] if is_health else []):
+        print(line)
+    return EXIT_FAULT if is_health and lines else 0

@@ -4,10 +4,10 @@ from __future__ import annotations
 
 import asyncio
 import contextlib
-import grp
 import json
 import os
 import socket
+import struct
 from pathlib import Path
 from typing import Awaitable, Callable
 
@@ -16,23 +16,26 @@ from .changes import ChangeFault
 LINE_MOST = 65536
 TALK_SECONDS = 10.0
 CLIENTS_MOST = 32
+ACCEPTED_AT_ONCE = 16
+"""Fewer than there may be clients: so a client that has sent its line is read before others can push it out."""
+CLIENT_SECONDS = 60
 MODE = 0o660
 
-Handler = Callable[[list[str]], Awaitable[list[str]]]
-"""Takes the words of a command and gives the lines of its answer; ChangeFault where it went wrong."""
+Handler = Callable[[list[str], str], Awaitable[list[str]]]
+"""Takes the words of a command, and who gave it, and gives the lines of its answer; ChangeFault where it went wrong."""
 
 
 class ControlServer:
     """Serves commands at a UNIX socket, for its user and a group."""
 
-    def __init__(self, path: Path, group: str | None, handle: Handler) -> None:
+    def __init__(self, path: Path, group: int | None, handle: Handler) -> None:
         self._path, self._group, self._handle = path, group, handle
         self._server: asyncio.Server | None = None
-        self._clients = 0
+        self._clients: dict[asyncio.Task[None], bool] = {}
+        self._inode = -1
 
     async def start(self) -> None:
-        """Listens; OSError or KeyError (no such group) where that fails."""
-        number = None if self._group is None else grp.getgrnam(self._group).gr_gid
+        """Listens; OSError where that fails."""
         self._path.unlink(missing_ok=True)
         listener = socket.socket(socket.AF_UNIX, socket.SOCK_STREAM)
         before = os.umask(0o177)
@@ -40,44 +43,69 @@ class ControlServer:
             listener.bind(str(self._path))
         finally:
             os.umask(before)
-        if number is not None:
-            os.chown(self._path, -1, number)
+        self._inode = self._path.stat().st_ino
+        if self._group is not None:
             with contextlib.suppress(PermissionError):  # A folder of another's is as its owner wants it.
-                os.chown(self._path.parent, -1, number)
+                os.chown(self._path.parent, -1, self._group)
+            os.chown(self._path, -1, self._group)
         os.chmod(self._path, MODE)
-        self._server = await asyncio.start_unix_server(self._talk, sock=listener, limit=LINE_MOST)
+        self._server = await asyncio.start_unix_server(
+            self._talk, sock=listener, limit=LINE_MOST, backlog=ACCEPTED_AT_ONCE)
 
     def stop(self) -> None:
+        """Listens no more, and takes its own socket away."""
         if self._server is not None:
             self._server.close()
-        self._path.unlink(missing_ok=True)
+        with contextlib.suppress(OSError):
+            if self._path.stat().st_ino == self._inode:
+                self._path.unlink()
 
     async def _talk(self, reader: asyncio.StreamReader, writer: asyncio.StreamWriter) -> None:
-        self._clients += 1
+        task = asyncio.current_task()
+        assert task is not None
         try:
-            if self._clients > CLIENTS_MOST:
+            if len(self._clients) >= CLIENTS_MOST and not self._push_out():
                 return
+            self._clients[task] = False
             async with asyncio.timeout(TALK_SECONDS):
                 words = await _read_words(reader)
-            lines = await self._answer(words)
+            self._clients[task] = True
+            lines = await self._answer(words, _who(writer.get_extra_info("socket")))
+            self._clients[task] = False
             async with asyncio.timeout(TALK_SECONDS):
                 writer.write("".join(line + "\n" for line in lines).encode())
                 await writer.drain()
-        except (OSError, TimeoutError):
+        except (OSError, TimeoutError, asyncio.CancelledError):
             pass
         finally:
-            self._clients -= 1
+            self._clients.pop(task, None)
             writer.close()
 
-    async def _answer(self, words: list[str] | None) -> list[str]:
+    def _push_out(self) -> bool:
+        """Ends the talk with the client that has been idle longest, so that no idle ones keep others out; whether one
+        was idle."""
+        idle = next((task for task, is_served in self._clients.items() if not is_served), None)
+        if idle is not None:
+            del self._clients[idle]
+            idle.cancel()
+        return idle is not None
+
+    async def _answer(self, words: list[str] | None, who: str) -> list[str]:
         if words is None:
             return ["error: one line of JSON is wanted: an array of words"]
         try:
-            return ["ok", *await self._handle(words)]
+            return ["ok", *await self._handle(words, who)]
         except ChangeFault as fault:
             return [f"error: {fault}"]
         except OSError as error:
             return [f"error: the change could not be written: {error.strerror}"]
+
+
+def _who(client: socket.socket) -> str:
+    """The user and the process that connected, as the kernel tells."""
+    size = struct.calcsize("3i")
+    process, user, _group = struct.unpack("3i", client.getsockopt(socket.SOL_SOCKET, socket.SO_PEERCRED, size))
+    return f"uid {user} pid {process}"
 
 
 async def _read_words(reader: asyncio.StreamReader) -> list[str] | None:
@@ -100,8 +128,10 @@ def send_command(path: Path, words: list[str]) -> list[str]:
     answer = b""
     try:
         with socket.socket(socket.AF_UNIX, socket.SOCK_STREAM) as talk:
-            talk.settimeout(60.0)
+            # A connect that waits for its turn: with a time-out of Python's own it would fail at once.
+            talk.setsockopt(socket.SOL_SOCKET, socket.SO_SNDTIMEO, struct.pack("@ll", CLIENT_SECONDS, 0))
             talk.connect(str(path))
+            talk.settimeout(CLIENT_SECONDS)
             talk.sendall(json.dumps(words).encode() + b"\n")
             while piece := talk.recv(65536):
                 answer += piece

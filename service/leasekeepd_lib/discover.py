@@ -15,7 +15,9 @@ from typing import Any
 from .broker import Broker, Facts, Verdict
 from .clock import Clock, date_text
 from .inventory import Entry, Inventory, Kind, entry_text, toml_string
-from .inventory_file import CREDENTIAL, KEYS, judge, read_tables
+from .inventory_file import KEYS, judge, read_tables
+from .toml_text import decoded
+from .values import CREDENTIAL
 
 _FILES = {"secret_file": "secret", "lease_id_file": "lease_id"}
 _PLACEHOLDER_INCREMENT = 1
@@ -30,11 +32,11 @@ class DiscoverFault(Exception):
 def read_short_list(path: Path) -> Inventory:
     """The entries of the short list, with placeholders where a lookup is to tell; DiscoverFault where it is faulty."""
     try:
-        top = tomllib.loads(path.read_text("utf-8"))
+        top = tomllib.loads(decoded(path.read_bytes()))
     except OSError as error:
         raise DiscoverFault(f"{path}: {error.strerror}") from None
     except (ValueError, RecursionError):
-        raise DiscoverFault(f"{path}: is no TOML document in UTF-8") from None
+        raise DiscoverFault(f"{path}: is not a TOML document in UTF-8") from None
     unknown = [key for key in top if key not in _TOP]
     if unknown:
         raise DiscoverFault(f"{path}: {unknown[0]} is no key of a short list; the keys are {', '.join(_TOP)}")

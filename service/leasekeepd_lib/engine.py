@@ -4,8 +4,8 @@ from __future__ import annotations
 
 from .assignment import Assignment, assign
 from .book import Book
-from .clock import RunClock
-from .driver import DAY, LOOK_AT_CLOCKS, Driver, Ending
+from .clock import DAY, RunClock
+from .driver import LOOK_AT_CLOCKS, Driver, Ending
 from .inbox import Inbox
 from .inventory import Inventory, inventory_text
 from .link import RunEnded, RunStuck
@@ -183,4 +183,4 @@ class Engine:
                 if standing.run_refusals >= MOST_EXITS:
                     standing.run_refusals = 0
                     standing.held_until = self._parts.clock.elapsed() + HELD
-        return ending.value
+        return str(ending.value)

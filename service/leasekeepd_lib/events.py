@@ -5,8 +5,9 @@ from __future__ import annotations
 import asyncio
 import json
 from collections import deque
+from dataclasses import dataclass
 from enum import Enum
-from typing import Callable, TextIO
+from typing import Callable, Protocol
 
 from .clock import Clock, date_text
 
@@ -22,27 +23,39 @@ class Level(Enum):
         return self in (Level.WARNING, Level.ALERT)
 
 
+class Sink(Protocol):
+    """What takes lines, and never makes anybody wait."""
+
+    def write(self, line: str, /) -> object: ...
+
+
+@dataclass(frozen=True)
+class LineForm:
+    """How an event becomes a line."""
+
+    clock: Clock
+    as_json: bool = False
+
+    def line(self, level: Level, word: str, *words: object) -> str:
+        moment, texts = date_text(self.clock.wall()), [str(part) for part in words]
+        if self.as_json:
+            record = {"moment": moment, "level": level.value, "event": word, "words": texts}
+            return json.dumps(record) + "\n"
+        mark = "" if level is Level.INFO else f"{level.value}: "
+        return f"{moment} {mark}{' '.join([word, *texts])}\n"
+
+
 class Log:
     """Writes events as lines. `word` is the kind of event, `words` what belongs to it: names and numbers, never a
     secret."""
 
-    def __init__(self, clock: Clock, stream: TextIO, as_json: bool = False) -> None:
-        self._clock, self._stream, self._as_json = clock, stream, as_json
+    def __init__(self, form: LineForm, sink: Sink) -> None:
+        self._form, self._sink = form, sink
         self.listeners: list[Callable[[Level, str], None]] = []
 
     def say(self, level: Level, word: str, *words: object) -> None:
+        self._sink.write(self._form.line(level, word, *words))
         text = " ".join([word, *(str(part) for part in words)])
-        moment = date_text(self._clock.wall())
-        if self._as_json:
-            line = json.dumps({"moment": moment, "level": level.value, "event": word,
-                               "words": [str(part) for part in words]})
-        else:
-            line = f"{moment} {text}" if level is Level.INFO else f"{moment} {level.value}: {text}"
-        try:
-            self._stream.write(line + "\n")
-            self._stream.flush()
-        except (OSError, ValueError):
-            pass  # A log that nobody takes must not end what keeps secrets alive.
         for listener in self.listeners:
             listener(level, text)
 
@@ -103,8 +116,12 @@ class Alerts:
         while True:
             await self._came.wait()
             self._came.clear()
-            while self._waiting:
-                await self._run(self._waiting.popleft().split(" "))
+            await self.run_waiting()
+
+    async def run_waiting(self) -> None:
+        """Runs the program for each warning that waits."""
+        while self._waiting:
+            await self._run(self._waiting.popleft().split(" "))
 
     async def _run(self, words: list[str]) -> None:
         try:

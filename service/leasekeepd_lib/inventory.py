@@ -4,7 +4,7 @@ from __future__ import annotations
 
 from dataclasses import dataclass
 from enum import Enum
-from functools import cached_property
+from functools import cached_property, lru_cache
 from typing import Callable, Iterable, Iterator
 
 SYSTEM_MAX = 2764800
@@ -130,6 +130,7 @@ def toml_string(text: str) -> str:
     return '"' + "".join(out) + '"'
 
 
+@lru_cache(2 * MAX_ENTRIES)
 def entry_text(entry: Entry) -> str:
     """The entry's table."""
     lines = [f"[[{entry.kind.value}]]", f"name = {toml_string(entry.name)}"]

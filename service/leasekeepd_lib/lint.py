@@ -4,14 +4,15 @@ from __future__ import annotations
 
 import math
 
+from .clock import date_text
 from .findings import Finding, Severity
 from .inventory import Entry, Inventory
-from .inventory_file import TOKEN_VALUE, Reading, read_inventory, shown
-from .source import refusals
+from .inventory_file import Reading, read_inventory
+from .source import refusals, room_of
+from .tree import TOKEN_VALUE, shown
 
 _YEAR_3000 = 32503680000
 _LONG_STEP = 90 * 86400
-PART_OF_STEP = 3, 4
 
 
 class _Doubts:
@@ -26,40 +27,49 @@ class _Doubts:
         self.found.append(Finding(Severity.DOUBT, line, shown(name), key, problem, mend))
 
 
-def lint(data: bytes, mode: int, timeout: int, now: float) -> list[Finding]:
-    """Everything that is wrong or doubtful: faults first to last line, doubts among them."""
+def lint(data: bytes, mode: int, timeout: int, now: float, names_are_secrets: bool = False) -> list[Finding]:
+    """Everything that is wrong or doubtful: faults first to last line, doubts among them. What is said of the whole
+    inventory is said where no entry is at fault."""
     reading = read_inventory(data)
-    found = reading.findings + refusals(reading, timeout, False, mode)
-    inventory = reading.inventory
-    if inventory is not None:
-        doubts = _Doubts(reading)
-        _doubt_the_whole(inventory, doubts, timeout, now)
-        for entry in inventory.entries:
-            _doubt_entry(inventory, entry, doubts, now)
-        found += doubts.found
+    found = reading.findings + refusals(reading, timeout, names_are_secrets, mode)
+    doubts = _Doubts(reading)
+    is_past = False
+    if reading.inventory is not None:
+        is_past = _doubt_the_whole(reading.inventory, doubts, now)
+    _doubt_margin(reading, doubts, timeout, now)
+    for entry in reading.sound.entries:
+        _doubt_entry(reading.sound, entry, doubts, now)
+        _doubt_time(entry, doubts, now, is_past)
+        _doubt_need(reading.sound, entry, doubts, now)
+    found += doubts.found
     return sorted(found, key=lambda finding: (finding.line, finding.severity is Severity.DOUBT))
 
 
-def _doubt_the_whole(inventory: Inventory, doubts: _Doubts, timeout: int, now: float) -> None:
+def _doubt_the_whole(inventory: Inventory, doubts: _Doubts, now: float) -> bool:
+    """Doubts about all entries together; whether all needs are past."""
+    needs = [entry.need for entry in inventory.entries if entry.need]
     if not inventory.entries:
         doubts.doubt("", "", "there are no entries", "add [[token]] and [[lease]] tables: nothing is kept now")
-        return
-    needs = [entry.need for entry in inventory.entries if entry.need]
-    if not needs:
-        doubts.doubt("", "", "no entry has a need", "give the entries that are to be kept a need")
+    elif not needs:
+        doubts.doubt("", "", "no entry has a need", "add a need to each entry that has to be kept")
     elif max(needs) <= now:
-        doubts.doubt("", "", "all needs are past", "set needs that are to come")
-    shortest = min((entry for entry in inventory.entries), key=lambda entry: entry.step)
-    most = shortest.step * PART_OF_STEP[0] // PART_OF_STEP[1]
-    if inventory.margin > most:
-        whose = f"{shortest.step} s of {shown(shortest.name)}"
-        doubts.doubt("", "margin", f"is over three quarters of the shortest step ({whose})",
-                     f"{most} s is served in its place: ask for longer steps, or lower margin to that")
-    fullest = _fullest_round(inventory, now)
-    if fullest * timeout > inventory.margin:
+        doubts.doubt("", "", "all needs are past", "set needs in the future: nothing is kept now")
+        return True
+    return False
+
+
+def _doubt_margin(reading: Reading, doubts: _Doubts, timeout: int, now: float) -> None:
+    margin, room = reading.margin, room_of(reading)
+    if margin is None or not reading.rows:
+        return
+    if room.most < margin:
+        doubts.doubt("", "margin", f"is over three quarters of the shortest step ({room.step} s of {room.whose})",
+                     f"{room.most} s is used instead: {room.for_timeout(timeout, margin)}")
+    fullest = _fullest_round(reading.sound, now)
+    if fullest * timeout > margin:
         doubts.doubt("", "margin",
                      f"the fullest round times the time-out is over the margin ({fullest} entries, {timeout} s each)",
-                     f"a broker as slow as that loses the last ones: raise margin towards {fullest * timeout} s")
+                     f"a slower broker loses the last ones: {room.for_round(fullest, timeout, margin)}")
 
 
 def _fullest_round(inventory: Inventory, now: float) -> int:
@@ -73,7 +83,7 @@ def _doubt_entry(inventory: Inventory, entry: Entry, doubts: _Doubts, now: float
     if TOKEN_VALUE.fullmatch(name):
         doubts.doubt(name, "name", "looks like a token's value", "names are printed in logs: give it another name")
     if entry.issued > entry.end:
-        doubts.doubt(name, "issued", "is after its end", "look for two moments that are swapped")
+        doubts.doubt(name, "issued", "is after its end", "were two moments swapped?")
     for key, moment in (("issued", entry.issued), ("end", entry.end), ("need", entry.need)):
         if moment > _YEAR_3000:
             doubts.doubt(name, key, "is past the year 3000", "are these milliseconds? moments are whole seconds")
@@ -82,13 +92,22 @@ def _doubt_entry(inventory: Inventory, entry: Entry, doubts: _Doubts, now: float
             doubts.doubt(name, key, f"is {seconds} s, over {seconds // 86400} days",
                          "are these milliseconds? durations are whole seconds")
     if entry.increment and entry.period and entry.increment != entry.period:
-        doubts.doubt(name, "increment", "has no effect beside a period", "take one of the two out")
-    _doubt_need(inventory, entry, doubts, now)
+        doubts.doubt(name, "increment", "has no effect next to a period", "remove one of the two")
+
+
+def _doubt_time(entry: Entry, doubts: _Doubts, now: float, all_are_past: bool) -> None:
+    """Moments that have passed. An old end does the service no harm, which asks the broker; a plan goes by it."""
+    if entry.issued <= entry.end <= now:
+        doubts.doubt(entry.name, "end", f"is past ({date_text(entry.end)})",
+                     "if it is alive, write its present end: plans count it as ended, the service looks it up")
+    if 0 < entry.need <= now and not all_are_past:
+        doubts.doubt(entry.name, "need", f"is past ({date_text(entry.need)})",
+                     "set one in the future, or remove the entry: it is no longer kept for its own sake")
 
 
 def _doubt_need(inventory: Inventory, entry: Entry, doubts: _Doubts, now: float) -> None:
     if not inventory.carried[entry.name] and any(inventory.carried.values()):
-        doubts.doubt(entry.name, "need", "is not set, here or under it", "it is not renewed: add until when it is needed")
+        doubts.doubt(entry.name, "need", "is not set, here or under it", "it is not renewed: add the moment until which it is needed")
     if entry.need <= now:
         return
     for over in inventory.over(entry.name):
@@ -96,10 +115,11 @@ def _doubt_need(inventory: Inventory, entry: Entry, doubts: _Doubts, now: float)
         whose = "its" if over is entry else f"{shown(over.name)}'s"
         if ceiling is not None and max(ceiling, over.end) < entry.need:
             past = _long(entry.need - max(ceiling, over.end))
-            doubts.doubt(entry.name, "need", f"is {past} past {whose} maximum TTL", "no renewal leads there: lower it, or issue anew before")
+            doubts.doubt(entry.name, "need", f"is {past} past {whose} maximum TTL",
+                         "no renewal leads there: lower it, or issue the secret afresh before then")
             return
         if not over.renewable and over.end < entry.need:
-            doubts.doubt(entry.name, "need", f"is past {whose} end, which cannot be renewed", "issue anew before")
+            doubts.doubt(entry.name, "need", f"is past {whose} end, which cannot be renewed", "issue the secret afresh before then")
             return
 
 

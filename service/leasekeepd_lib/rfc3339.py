@@ -2,6 +2,7 @@
 
 from __future__ import annotations
 
+import calendar
 import re
 from datetime import datetime, timedelta, timezone
 
@@ -27,3 +28,20 @@ def read_rfc3339(text: str) -> int | None:
     offset = timedelta(hours=int(match[9] or 0), minutes=int(match[10] or 0))
     seconds = (local - _EPOCH) // timedelta(seconds=1) - (-1 if match[8] == "-" else 1) * int(offset.total_seconds())
     return seconds if 0 <= seconds <= LAST else None
+
+
+def date_mend(text: str) -> str:
+    """What to write in the place of a text that `read_rfc3339` does not read."""
+    match = _FORM.fullmatch(text)
+    if match is None:
+        return "write day, T, hours:minutes:seconds, and Z or an offset such as +01:00"
+    year, month = int(match[1]), int(match[2])
+    if not 1 <= month <= 12:
+        return f"months are 01 to 12, and this one is {match[2]}"
+    days = calendar.monthrange(max(year, 1), month)[1]
+    if not 1 <= int(match[3]) <= days:
+        return f"days of {match[1]}-{match[2]} are 01 to {days}, and this one is {match[3]}"
+    for group, words, most in ((4, "hours", 23), (5, "minutes", 59), (6, "seconds", 59)):
+        if int(match[group]) > most:
+            return f"{words} are 00 to {most}, and this one is {match[group]}"
+    return "write a moment from 1970-01-01T00:00:00Z to 9999-12-31T23:59:59Z"

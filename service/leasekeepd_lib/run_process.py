@@ -6,7 +6,6 @@ import asyncio
 import os
 import re
 from dataclasses import dataclass
-from pathlib import Path
 from typing import Protocol
 
 from .http_client import Address
@@ -56,8 +55,8 @@ class LaunchFault(Exception):
 class ProcessRun:
     """A child process."""
 
-    def __init__(self, process: asyncio.subprocess.Process, inventory: Path) -> None:
-        self._process, self._inventory = process, inventory
+    def __init__(self, process: asyncio.subprocess.Process) -> None:
+        self._process = process
         assert process.stdin and process.stdout and process.stderr
         self._in, self._out = process.stdin, process.stdout
         self._faults = asyncio.create_task(_front(process.stderr))
@@ -67,9 +66,6 @@ class ProcessRun:
             line = await self._out.readuntil(b"\n")
         except (asyncio.IncompleteReadError, asyncio.LimitOverrunError):
             return None
-        finally:
-            # Its first line shows that it has read its inventory, which holds secrets.
-            self._inventory.unlink(missing_ok=True)
         return line[:-1].decode("ascii", "replace")
 
     async def write_line(self, line: str) -> None:
@@ -85,7 +81,6 @@ class ProcessRun:
             self._process.kill()
 
     async def end(self) -> RunExit:
-        self._inventory.unlink(missing_ok=True)
         self._in.close()
         try:
             async with asyncio.timeout(END_SECONDS):
@@ -107,29 +102,31 @@ async def _front(stream: asyncio.StreamReader) -> str:
     return "".join(letter if " " <= letter <= "~" else "?" for letter in line)
 
 
+async def start_process(program: str, command: str, inventory: str, *words: str) -> ProcessRun:
+    """Starts a command of `leasekeep` on the inventory, which holds secrets: the process reads it from memory, and it
+    lies in no folder. LaunchFault where it cannot be started."""
+    handle = os.memfd_create("inventory")
+    try:
+        with open(handle, "w", encoding="ascii", closefd=False) as file:
+            file.write(inventory)
+        process = await asyncio.create_subprocess_exec(
+            program, command, f"/proc/self/fd/{handle}", *words, stdin=asyncio.subprocess.PIPE,
+            stdout=asyncio.subprocess.PIPE, stderr=asyncio.subprocess.PIPE, limit=LINE_MOST, pass_fds=(handle,))
+    except OSError as error:
+        raise LaunchFault(f"cannot start {program}: {error.strerror}") from None
+    finally:
+        os.close(handle)
+    return ProcessRun(process)
+
+
 @dataclass(frozen=True)
 class ProcessLauncher:
-    """Starts `leasekeep run` on an inventory that it writes to the runtime folder, for its own user alone."""
+    """Starts `leasekeep run`."""
 
     program: str
-    folder: Path
     address: Address
     timeout: int
 
-    async def launch(self, inventory: str, start: int) -> Run:
-        path = self.folder / "run.toml"
-        try:
-            path.unlink(missing_ok=True)
-            with open(os.open(path, os.O_WRONLY | os.O_CREAT | os.O_EXCL, 0o600), "w", encoding="ascii") as file:
-                file.write(inventory)
-            process = await asyncio.create_subprocess_exec(
-                self.program, "run", str(path), self.address.word, str(start), "--timeout", str(self.timeout),
-                stdin=asyncio.subprocess.PIPE, stdout=asyncio.subprocess.PIPE, stderr=asyncio.subprocess.PIPE,
-                limit=LINE_MOST)
-        except OSError as error:
-            path.unlink(missing_ok=True)
-            raise LaunchFault(f"cannot start {self.program}: {error.strerror}") from None
-        except asyncio.CancelledError:
-            path.unlink(missing_ok=True)
-            raise
-        return ProcessRun(process, path)
+    async def launch(self, inventory: str, start: int) -> ProcessRun:
+        return await start_process(self.program, "run", inventory, self.address.word, str(start), "--timeout",
+                                   str(self.timeout))

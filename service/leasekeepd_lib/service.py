@@ -5,24 +5,27 @@ from __future__ import annotations
 import asyncio
 import re
 import stat
-from dataclasses import dataclass
+from dataclasses import dataclass, replace
 from pathlib import Path
-from typing import Any, Coroutine
+from typing import Any, Callable, Coroutine
 
 from .broker import Verdict
-from .changes import Change, ChangeFault, What, apply_judged, only_entry, replay, said_by
+from .changes import Change, ChangeFault, What, only_entry, said_by
 from .clock import LAST, date_text
+from .draft import changed, replay
 from .engine import Engine
 from .events import Alerts
+from .health import unkept
 from .inventory import Inventory, inventory_text
-from .inventory_file import CREDENTIAL
 from .journal import Journal
+from .metrics import Figures, metrics_text
 from .notify import Notifier
 from .parts import Parts
 from .rfc3339 import read_rfc3339
 from .source import Loaded, Source, SourceFault
-from .status import status_lines, write_metrics
+from .status import FileReading, entries_of, status_lines
 from .storage import Storage
+from .values import CREDENTIAL
 
 TOGETHER = 5.0
 """Seconds within which changes are one beginning."""
@@ -43,6 +46,7 @@ class Surroundings:
     storage: Storage
     metrics: Path | None = None
     alerts: Alerts | None = None
+    dropped_lines: Callable[[], int] = lambda: 0
 
 
 def read_when(word: str, now: float) -> int:
@@ -66,39 +70,57 @@ class Service:
         self._around, self._parts, self._log = surroundings, parts, parts.log
         self._file = Loaded(b"", Inventory())
         self._soon: asyncio.TimerHandle | None = None
+        self._between: asyncio.TimerHandle | None = None
+        self._is_hung_up = False
+        self.reading = FileReading()
         self._metrics_failed = False
         self.engine = Engine(Inventory(), parts)
 
     def load(self) -> None:
         """Reads file and journal; SourceFault where neither the file nor its last good copy can be served."""
-        source = self._around.source
-        try:
-            self._file = source.load()
-            self._keep_copy()
-        except SourceFault as fault:
-            copy = source.load_copy()
+        fault = self._read_file()
+        if fault is not None:
+            copy = self._around.source.load_copy()
             if copy is None:
-                raise
-            self._tell_fault(fault)
+                raise fault
             self._log.alert("file", "is faulty: the last good copy is served")
             self._file = copy
         self.engine.take(self._with_journal())
 
+    def hear_hangup(self) -> None:
+        """Reads the file anew, as SIGHUP asks: at once, but no more than once in five seconds."""
+        self._is_hung_up = True
+        if self._between is None:
+            self._reload_if_asked()
+
+    def _reload_if_asked(self) -> None:
+        self._between = None
+        if self._is_hung_up:
+            self._is_hung_up = False
+            self.reload()
+            self._between = asyncio.get_running_loop().call_later(TOGETHER, self._reload_if_asked)
+
     def reload(self) -> None:
-        """Reads the file anew, as SIGHUP asks; a faulty one is refused and the old run goes on."""
-        try:
-            self._file = self._around.source.load()
-        except SourceFault as fault:
-            self._tell_fault(fault)
+        """Reads the file anew; a faulty one is refused and the old run goes on."""
+        if self._read_file() is not None:
             self._log.alert("file", "is faulty: it is not taken, the old one is kept to")
             return
-        self._keep_copy()
         self.engine.take(self._with_journal())
         self.engine.inbox.begin("the file was read anew")
 
-    def _tell_fault(self, fault: SourceFault) -> None:
-        for line in str(fault).splitlines():
-            self._log.alert("file", line)
+    def _read_file(self) -> SourceFault | None:
+        """Takes the file, and keeps a copy; why not, where it is faulty."""
+        now = self._parts.clock.wall()
+        try:
+            self._file = self._around.source.load()
+        except SourceFault as fault:
+            for line in str(fault).splitlines():
+                self._log.alert("file", line)
+            self.reading = replace(self.reading, is_good=False, at=now)
+            return fault
+        self.reading = FileReading(True, now, now)
+        self._keep_copy()
+        return None
 
     def _keep_copy(self) -> None:
         try:
@@ -107,23 +129,28 @@ class Service:
             self._log.warn("copy", "of the file could not be kept:", error.strerror)
 
     def _with_journal(self) -> Inventory:
-        """The file's inventory with the journal's changes."""
+        """The file's inventory with the journal's changes: with those that are known, where it cannot be read."""
+        journal = self._around.journal
         try:
-            notes = self._around.journal.load(self._file.data)
+            if not journal.is_read:
+                unread = journal.load(self._file.data)
+                if unread:
+                    self._log.alert("journal", unread, "records cannot be read: they go to", journal.set_aside)
+            elif not journal.is_as_written():
+                self._log.alert("journal", "is not as it was written: it is written anew")
+            journal.mend()
         except OSError as error:
-            self._log.alert("journal", "cannot be read:", error.strerror)
-            return self._file.inventory
-        inventory, more = replay(self._file.inventory, self._around.journal.changes)
-        for note in notes + more:
+            self._log.alert("journal", "cannot be used:", error.strerror)
+        inventory, notes = replay(self._file.inventory, journal.changes, self._around.source.names_are_secrets)
+        for note in notes:
             self._log.note(note)
         return inventory
 
     async def serve(self) -> None:
         """Runs until it is cancelled."""
-        works: list[Coroutine[Any, Any, None]] = [self.engine.serve(), self._report()]
+        works = [self.engine.serve(), self._again_and_again(self._report)]
         if self._around.alerts is not None:
-            self._log.listeners.append(self._around.alerts.hear)
-            works.append(self._around.alerts.serve())
+            works.append(self._again_and_again(self._around.alerts.serve))
         self._around.notifier.send("READY=1")
         try:
             async with asyncio.TaskGroup() as group:
@@ -131,8 +158,18 @@ class Service:
                     group.create_task(work)
         finally:
             self._around.notifier.send("STOPPING=1")
-            if self._soon is not None:
-                self._soon.cancel()
+            for timer in (self._soon, self._between):
+                if timer is not None:
+                    timer.cancel()
+
+    async def _again_and_again(self, work: Callable[[], Coroutine[Any, Any, None]]) -> None:
+        """Does what keeps nothing alive, whatever goes wrong with it."""
+        while True:
+            try:
+                await work()
+            except Exception as error:
+                self._log.alert("fault", type(error).__name__, "in what reports on the service")
+            await asyncio.sleep(METRICS_EVERY)
 
     async def _report(self) -> None:
         """Tells the service manager and the metrics file how it stands, again and again."""
@@ -155,41 +192,52 @@ class Service:
         if self._around.metrics is None:
             return
         try:
-            write_metrics(self._around.metrics, self.engine, self._parts.clock, self._around.storage)
+            self._around.storage.replace(self._around.metrics, self.metrics().encode(), mode=0o644, synced=False)
             self._metrics_failed = False
         except OSError as error:
             if not self._metrics_failed:
                 self._log.warn("metrics", "could not be written:", error.strerror)
             self._metrics_failed = True
 
-    async def command(self, words: list[str]) -> list[str]:
-        """One command of the control socket; the lines of its answer."""
+    def metrics(self) -> str:
+        """The figures of the service and its entries at this moment."""
+        engine, clock = self.engine, self._parts.clock
+        figures = Figures(clock.wall(), engine.beginnings, engine.next_wake, engine.inventory.margin, engine.offset,
+                          self._around.dropped_lines(), self.reading)
+        return metrics_text(figures, entries_of(engine, clock))
+
+    async def command(self, words: list[str], who: str) -> list[str]:
+        """One command of the control socket, and who gave it; the lines of its answer."""
         match words:
             case ["status"]:
                 return status_lines(self.engine, self._parts.clock)
+            case ["health"]:
+                return unkept(self.engine, self._parts.clock, self._is_alive())
             case ["need", name, when]:
-                return self._need(name, when)
+                return self._need(name, when, who)
             case ["replace", name, credential]:
-                return await self._replace(name, credential)
+                return await self._replace(name, credential, who)
             case ["add", table]:
-                return self._add(table)
+                return self._change(self._described(Change(What.ADD, only_entry(table).name, table=table)), who)
             case ["drop", name]:
-                return self._change(self._described(Change(What.DROP, name)))
+                return self._change(self._described(Change(What.DROP, name)), who)
             case ["settle"]:
-                return self._settle()
-        raise ChangeFault("the commands are: need NAME WHEN, replace NAME, add, drop NAME, status, settle")
+                return self._settle(who)
+        raise ChangeFault("the commands are: need NAME WHEN, replace NAME, add, drop NAME, status, health, settle")
 
     def _described(self, change: Change) -> Change:
         """The change beside what the file says now."""
-        was = said_by(self._file.inventory, change.what, change.name)
-        return Change(change.what, change.name, was, change.until, change.credential, change.table)
+        return replace(change, was=said_by(self._file.inventory, change.what, change.name))
 
-    def _change(self, change: Change) -> list[str]:
+    def _changed(self, change: Change) -> Inventory:
+        return changed(self.engine.inventory, change, self._around.source.names_are_secrets)
+
+    def _change(self, change: Change, who: str) -> list[str]:
         """Writes a change, and makes it within five seconds."""
-        changed = apply_judged(self.engine.inventory, change)
+        inventory = self._changed(change)
         self._around.journal.add(change)
-        self.engine.take(changed)
-        self._log.info(change.what.value, change.name)
+        self.engine.take(inventory)
+        self._log.info(change.what.value, change.name, "by", who)
         self._begin_soon(f"{change.what.value} {change.name}")
         return []
 
@@ -201,39 +249,33 @@ class Service:
         self._soon = None
         self.engine.inbox.begin(reason)
 
-    def _need(self, name: str, when: str) -> list[str]:
+    def _need(self, name: str, when: str, who: str) -> list[str]:
         until = read_when(when, self._parts.clock.wall())
         change = self._described(Change(What.NEED, name, until=until))
-        changed = apply_judged(self.engine.inventory, change)
+        inventory = self._changed(change)
         self._around.journal.add(change)
-        self._log.info("need", name, date_text(until))
-        if self._soon is not None or not self.engine.change_need(changed, name, until):
-            self.engine.take(changed)
+        self._log.info("need", name, date_text(until), "by", who)
+        if self._soon is not None or not self.engine.change_need(inventory, name, until):
+            self.engine.take(inventory)
             self._begin_soon(f"need {name}")
         return [f"{name} is needed until {date_text(until)}"]
 
-    async def _replace(self, name: str, credential: str) -> list[str]:
+    async def _replace(self, name: str, credential: str, who: str) -> list[str]:
         if not CREDENTIAL.fullmatch(credential):
             raise ChangeFault("a secret or lease id is 1 to 256 printable ASCII characters without a space")
         change = self._described(Change(What.REPLACE, name, credential=credential))
-        changed = apply_judged(self.engine.inventory, change)
-        entry = changed.find(name)
+        inventory = self._changed(change)
+        entry = inventory.find(name)
         assert entry is not None
-        heard = await self._parts.broker.look_up(changed, entry)
+        heard = await self._parts.broker.look_up(inventory, entry)
         if heard.verdict is Verdict.REFUSED or heard.status == 400:
             raise ChangeFault(f"the broker answers {heard.status} to its lookup: {name} keeps the old one")
         if heard.facts is not None and heard.facts.never_ends:
             raise ChangeFault(f"it never ends (ttl 0) and needs no keeping: {name} keeps the old one")
-        self._change(self._described(change))
+        self._change(self._described(change), who)
         return [] if heard.verdict is Verdict.GOOD else [f"it could not be looked up ({heard.why}), and is taken"]
 
-    def _add(self, table: str) -> list[str]:
-        entry = only_entry(table)
-        if entry.credential is None and not self._around.source.names_are_secrets:
-            raise ChangeFault(f"{entry.name} has no {'secret' if entry.kind.value == 'token' else 'lease_id'}")
-        return self._change(self._described(Change(What.ADD, entry.name, table=table)))
-
-    def _settle(self) -> list[str]:
+    def _settle(self, who: str) -> list[str]:
         path = self._around.source.path
         if path.read_bytes() != self._file.data:
             raise ChangeFault(f"{path} has changed since it was read: read it anew first (SIGHUP)")
@@ -242,5 +284,5 @@ class Service:
         self._around.journal.settle(path, data, mode)
         self._file = Loaded(data, self.engine.inventory)
         self._keep_copy()
-        self._log.info("settle")
+        self._log.info("settle", "by", who)
         return [f"{path} holds every change"]

@@ -1,22 +1,46 @@
-"""How each entry stands, for `status` and for metrics."""
+"""How the service and each entry stand, as `status` shows it and as metrics tell it."""
 
 from __future__ import annotations
 
 from dataclasses import dataclass
-from pathlib import Path
+from enum import Enum
 
+from .book import CLOSE
 from .clock import Clock, date_text
 from .engine import Engine
-from .storage import Storage
+
+
+class State(Enum):
+    """What an operator has to know of an entry, the gravest first: the broker knows it no more; its end is past; it
+    cannot be kept as long as it is needed; the last request about it, or about what is over it, failed and is tried
+    again; nothing is wrong."""
+
+    GONE = "gone"
+    ENDED = "ended"
+    SHORT = "short"
+    TRYING = "trying"
+    KEPT = "kept"
+
+
+@dataclass(frozen=True)
+class FileReading:
+    """How the inventory's file was last read: moments of the wall clock, None where it never was, or never well."""
+
+    is_good: bool = False
+    at: float | None = None
+    good_at: float | None = None
 
 
 @dataclass(frozen=True)
 class EntryStatus:
-    """One entry: moments are seconds since 1970, None where they are not known."""
+    """One entry: moments are seconds since 1970, None where they are not known. `wanted` is its own need, `carried` the
+    greatest of its own and those of all under it."""
 
     name: str
+    state: State
     end: float | None
     wanted: int
+    carried: int
     in_force: int
     last_success: float | None
     renewals: int
@@ -24,28 +48,36 @@ class EntryStatus:
     lost: int
     trouble: str
 
-    @property
-    def is_short(self) -> bool:
-        return self.in_force < self.wanted
-
     def text(self) -> str:
         def moment(value: float | None) -> str:
             return "-" if not value else date_text(value)
-        return (f"{self.name} end {moment(self.end)} need {moment(self.wanted)} in-force {moment(self.in_force)}"
-                f" last-success {moment(self.last_success)} wrong {self.trouble or '-'}")
+        return (f"{self.name} {self.state.value} end {moment(self.end)} need {moment(self.wanted)} in-force"
+                f" {moment(self.in_force)} last-success {moment(self.last_success)} wrong {self.trouble or '-'}")
 
 
 def entries_of(engine: Engine, clock: Clock) -> list[EntryStatus]:
     found = []
-    now = clock.elapsed()
+    elapsed, moment = clock.elapsed(), engine.moment()
     for entry in engine.inventory.entries:
         standing = engine.book[entry.name]
-        end = None if standing.end is None else engine.moment() + standing.end - now
-        cut = standing.cut_to
-        in_force = entry.need if cut is None else min(entry.need, cut)
-        trouble = standing.trouble or ("short" if in_force < entry.need else "")
-        found.append(EntryStatus(entry.name, end, entry.need, in_force, standing.last_success, standing.renewals,
-                                 standing.refused, standing.lost, trouble))
+        never_ends = standing.facts is not None and standing.facts.never_ends
+        end = None if standing.end is None or never_ends else moment + standing.end - elapsed
+        cut, told = standing.cut_to, standing.short_told
+        # A cut that is not told yet is one of the plan alone: the entry is still tried.
+        is_cut = cut is not None and told is not None and abs(cut - told) <= CLOSE
+        in_force = min(entry.need, cut) if cut is not None and is_cut else entry.need
+        if standing.trouble == "gone":
+            state, in_force = State.GONE, 0
+        elif never_ends:
+            state = State.KEPT
+        elif end is not None and end <= moment:
+            state, in_force = State.ENDED, 0
+        elif in_force < entry.need:
+            state = State.SHORT
+        else:
+            state = State.TRYING if standing.trouble or end is None else State.KEPT
+        found.append(EntryStatus(entry.name, state, end, entry.need, engine.inventory.carried[entry.name], in_force,
+                                 standing.last_success, standing.renewals, standing.refused, standing.lost, standing.trouble))
     return found
 
 
@@ -53,40 +85,3 @@ def status_lines(engine: Engine, clock: Clock) -> list[str]:
     wake = engine.next_wake
     head = f"next-wake {'-' if wake is None else date_text(wake)} beginnings {engine.beginnings}"
     return [head, *(entry.text() for entry in entries_of(engine, clock))]
-
-
-_GAUGES = (
-    ("end_seconds", "The end of the entry, in seconds since 1970.", lambda entry: entry.end),
-    ("need_wanted_seconds", "The moment until which the entry is needed.", lambda entry: entry.wanted),
-    ("need_in_force_seconds", "The moment until which it can be kept.", lambda entry: entry.in_force),
-    ("last_success_seconds", "When the entry was last renewed.", lambda entry: entry.last_success),
-    ("short", "Whether the entry cannot be kept as long as it is needed.", lambda entry: int(entry.is_short)),
-)
-_COUNTERS = (
-    ("renewals_total", "Renewals granted.", lambda entry: entry.renewals),
-    ("refused_total", "Renewals refused.", lambda entry: entry.refused),
-    ("lost_total", "Renewals without an answer.", lambda entry: entry.lost),
-)
-
-
-def metrics_text(engine: Engine, clock: Clock) -> str:
-    """The textfile format of Prometheus' node exporter."""
-    lines = []
-
-    def family(name: str, kind: str, words: str, values: list[tuple[str, float | None]]) -> None:
-        lines.append(f"# HELP leasekeepd_{name} {words}")
-        lines.append(f"# TYPE leasekeepd_{name} {kind}")
-        lines.extend(f"leasekeepd_{name}{label} {value:.0f}" for label, value in values if value is not None)
-    family("up", "gauge", "Whether the service runs.", [("", 1)])
-    family("restarts_total", "counter", "Beginnings of leasekeep run.", [("", engine.beginnings)])
-    family("next_wake_seconds", "gauge", "The next wake-up, in seconds since 1970.", [("", engine.next_wake)])
-    entries = entries_of(engine, clock)
-    for families, kind in ((_GAUGES, "gauge"), (_COUNTERS, "counter")):
-        for name, words, value in families:
-            family(name, kind, words, [(f'{{entry="{entry.name}"}}', value(entry)) for entry in entries])
-    return "\n".join(lines) + "\n"
-
-
-def write_metrics(path: Path, engine: Engine, clock: Clock, storage: Storage) -> None:
-    """Writes the file whole and renames it; OSError where that fails, and the old file stays."""
-    storage.replace(path, metrics_text(engine, clock).encode(), mode=0o644, synced=False)

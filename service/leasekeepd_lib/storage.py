@@ -52,15 +52,6 @@ class Storage:
         if synced:
             self._sync_folder(path.parent)
 
-    def cut(self, path: Path, length: int) -> None:
-        """Cuts the file to that length."""
-        handle = os.open(path, os.O_WRONLY)
-        try:
-            os.ftruncate(handle, length)
-            self._sync(handle)
-        finally:
-            os.close(handle)
-
     def _write_all(self, handle: int, data: bytes) -> None:
         while data:
             data = data[self._write(handle, data):]

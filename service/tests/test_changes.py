@@ -4,7 +4,6 @@ from __future__ import annotations
 
 import asyncio
 import errno
-import grp
 import io
 import os
 import random
@@ -17,8 +16,7 @@ from typing import Any, Callable, Coroutine
 
 from leasekeepd_lib.broker import Broker
 from leasekeepd_lib.changes import ChangeFault
-from leasekeepd_lib.control import CLIENTS_MOST, ControlFault, ControlServer, send_command
-from leasekeepd_lib.events import Log
+from leasekeepd_lib.events import LineForm, Log
 from leasekeepd_lib.inventory import Entry, Inventory, Kind, inventory_text
 from leasekeepd_lib.inventory_file import read_inventory
 from leasekeepd_lib.journal import Journal
@@ -33,6 +31,7 @@ from .model.vault import Act, Fault, Secret, Vault, VaultTransport
 from .model.world import World, simulate
 
 BEGAN = 1_000_000
+WHO = "uid 1000 pid 4711"
 TABLE = """
 [[lease]]
 name = "fresh"
@@ -138,7 +137,7 @@ class Room:
         around = Surroundings(source, Journal(self.folder / "journal", storage), Notifier({}), storage,
                               self.folder / "metrics")
         parts = Parts(self.world, Broker(VaultTransport(self.vault), self.world, 5.0), self.launcher,
-                      Log(self.world, self.output), random.Random(3))
+                      Log(LineForm(self.world), self.output), random.Random(3))
         service = Service(around, parts)
         service.load()
         return service
@@ -163,7 +162,7 @@ class InRoom(unittest.TestCase):
 
     async def refused(self, service: Service, *words: str) -> str:
         with self.assertRaises(ChangeFault) as caught:
-            await service.command(list(words))
+            await service.command(list(words), WHO)
         return str(caught.exception)
 
 
@@ -179,7 +178,7 @@ class Journals(InRoom):
             room.vault.rows["s.web2"] = Secret("web", Kind.TOKEN, None, BEGAN + 900, BEGAN, None)
             service = room.service()
             for command in COMMANDS:
-                await service.command(command)
+                await service.command(command, WHO)
                 self.assertEqual(room.state(), meaning(service.engine.inventory), command)
             self.assertEqual((room.folder / "journal").stat().st_mode & 0o777, 0o600)
             self.assertEqual(room.state(), {"app": (1_022_400, "s.app"),
@@ -200,7 +199,7 @@ class Journals(InRoom):
                 died = False
                 for command in COMMANDS:
                     try:
-                        await service.command(command)
+                        await service.command(command, WHO)
                     except Killed:
                         died = True
                     after = meaning(room.service(Storage()).engine.inventory)
@@ -209,7 +208,7 @@ class Journals(InRoom):
                         self.assertIn(after, (states[-1], wanted), f"step {steps}, {command}")
                         self.assertEqual(room.state(), after)
                         # What is changed behind the kill holds too.
-                        await room.service().command(["need", "app", "1033333"])
+                        await room.service().command(["need", "app", "1033333"], WHO)
                         self.assertEqual(room.state(), {**after, "app": (1_033_333, after["app"][1])})
                         break
                     states.append(meaning(service.engine.inventory))
@@ -240,20 +239,20 @@ class Journals(InRoom):
             storage = WatchedStorage()
             service = room.service(storage)
             for command in (["need", "app", "1040000"], ["add", TABLE], ["settle"], ["drop", "web"]):
-                await service.command(command)
+                await service.command(command, WHO)
                 self.assertEqual(storage.unsynced, 0, command)
             self.assertGreater(storage.writes, 5)
         self.in_room(work)
 
     def test_a_kill_between_the_writes_of_settle_is_not_even_noted(self) -> None:
         async def work(room: Room) -> None:
-            await room.service().command(["need", "app", "1040000"])
-            await room.service().command(["need", "app", "1050000"])
+            await room.service().command(["need", "app", "1040000"], WHO)
+            await room.service().command(["need", "app", "1050000"], WHO)
             storage = DyingStorage(1_000)
             service = room.service(storage)
             storage.left = 7  # The mark (write, sync), the file (write, sync, rename, sync), one of the journal's.
             with self.assertRaises(Killed):
-                await service.command(["settle"])
+                await service.command(["settle"], WHO)
             self.assertGreater(len((room.folder / "journal").read_bytes()), 0)
             settled = read_inventory(room.file.read_bytes()).inventory or Inventory()
             self.assertEqual(meaning(settled)["app"][0], 1_050_000)
@@ -264,7 +263,7 @@ class Journals(InRoom):
 
     def test_a_moment_stands_in_the_journal_and_never_a_length(self) -> None:
         async def work(room: Room) -> None:
-            await room.service().command(["need", "app", "+6h"])
+            await room.service().command(["need", "app", "+6h"], WHO)
             room.world.suspended += 7200
             self.assertEqual(room.state()["app"][0], BEGAN + 21_600)
         self.in_room(work)
@@ -273,8 +272,8 @@ class Journals(InRoom):
         async def work(room: Room) -> None:
             room.vault.rows["s.web2"] = Secret("web", Kind.TOKEN, None, BEGAN + 900, BEGAN, None)
             service = room.service()
-            await service.command(["replace", "web", "s.web2"])
-            await service.command(["need", "web", "+1h"])
+            await service.command(["replace", "web", "s.web2"], WHO)
+            await service.command(["need", "web", "+1h"], WHO)
             room.write(Inventory((INVENTORY.entries[0], token("web", BEGAN + 80_000, "s.newer")), 30))
             service.reload()
             self.assertEqual(room.state()["web"], (BEGAN + 3600, "s.newer"))
@@ -284,11 +283,11 @@ class Journals(InRoom):
     def test_what_was_added_stays_when_the_file_is_read_anew(self) -> None:
         async def work(room: Room) -> None:
             service = room.service()
-            await service.command(["add", TABLE])
+            await service.command(["add", TABLE], WHO)
             service.reload()
             self.assertIn("fresh", meaning(service.engine.inventory))
             self.assertNotIn("fresh", room.file.read_text())
-            await service.command(["settle"])
+            await service.command(["settle"], WHO)
             self.assertIn("fresh", meaning(read_inventory(room.file.read_bytes()).inventory or Inventory()))
             self.assertEqual((room.folder / "journal").read_bytes(), b"")
             self.assertEqual(room.file.stat().st_mode & 0o777, 0o600)
@@ -298,9 +297,9 @@ class Journals(InRoom):
         async def work(room: Room) -> None:
             service = room.service()
             for command in (["need", "app", "1040000"], ["add", TABLE], ["need", "app", "1050000"]):
-                await service.command(command)
+                await service.command(command, WHO)
             journal = (room.folder / "journal").read_bytes()
-            await service.command(["settle"])
+            await service.command(["settle"], WHO)
             settled = room.state()
             (room.folder / "journal").write_bytes(journal)
             self.assertEqual(room.state(), settled)
@@ -309,30 +308,30 @@ class Journals(InRoom):
     def test_a_file_that_changed_unread_is_not_settled_over(self) -> None:
         async def work(room: Room) -> None:
             service = room.service()
-            await service.command(["need", "app", "1040000"])
+            await service.command(["need", "app", "1040000"], WHO)
             room.write(Inventory(INVENTORY.entries[:1], 30))
             self.assertIn("has changed since it was read", await self.refused(service, "settle"))
             service.reload()
-            await service.command(["settle"])
+            await service.command(["settle"], WHO)
             self.assertEqual(room.state(), {"app": (1_040_000, "s.app")})
         self.in_room(work)
 
     def test_a_change_that_no_longer_fits_the_file_leaves_the_others(self) -> None:
         async def work(room: Room) -> None:
             service = room.service()
-            await service.command(["add", TABLE.replace('"app"', '"web"')])
-            await service.command(["need", "app", "1040000"])
+            await service.command(["add", TABLE.replace('"app"', '"web"')], WHO)
+            await service.command(["need", "app", "1040000"], WHO)
             room.write(Inventory(INVENTORY.entries[:1], 30))
             service.reload()
             self.assertEqual(meaning(service.engine.inventory), {"app": (1_040_000, "s.app")})
-            self.assertIn("note: add fresh: fresh token: names no earlier token", room.output.getvalue())
+            self.assertIn("note: add fresh: fresh token: names no token of this inventory", room.output.getvalue())
         self.in_room(work)
 
     def test_a_long_journal_is_made_short(self) -> None:
         async def work(room: Room) -> None:
             service = room.service()
             for place in range(1100):
-                await service.command(["need", "app", str(1_040_000 + place)])
+                await service.command(["need", "app", str(1_040_000 + place)], WHO)
             self.assertLess(len((room.folder / "journal").read_bytes().splitlines()), 200)
             self.assertEqual(room.state()["app"][0], 1_041_099)
         self.in_room(work)
@@ -341,12 +340,12 @@ class Journals(InRoom):
         async def work(room: Room) -> None:
             storage = FullStorage()
             service = room.service(storage)
-            await service.command(["need", "app", "1040000"])
+            await service.command(["need", "app", "1040000"], WHO)
             before, journal = meaning(service.engine.inventory), (room.folder / "journal").read_bytes()
             storage.is_full = True
             for command in (["need", "app", "1050000"], ["drop", "web"], ["settle"]):
                 with self.assertRaises(OSError):
-                    await service.command(command)
+                    await service.command(command, WHO)
             self.assertEqual(meaning(service.engine.inventory), before)
             self.assertEqual((room.folder / "journal").read_bytes(), journal)
             self.assertEqual(meaning(read_inventory(room.file.read_bytes()).inventory or Inventory()),
@@ -356,7 +355,7 @@ class Journals(InRoom):
             self.assertEqual(room.output.getvalue().count("metrics could not be written"), 1)
             storage.is_full = False
             service._write_metrics()
-            self.assertIn("leasekeepd_up 1", (room.folder / "metrics").read_text())
+            self.assertIn("leasekeepd_margin_seconds 30\n", (room.folder / "metrics").read_text())
         self.in_room(work)
 
 
@@ -367,9 +366,13 @@ class Refused(InRoom):
             words = await self.refused(service, "replace", "web", "s.nobody")
             self.assertEqual(words, "the broker answers 403 to its lookup: web keeps the old one")
             self.assertNotIn("s.nobody", words)
+            for status in (400, 403, 404):
+                room.vault.faults = [Fault(0, 2e9, Act.STATUS, status)]
+                words = await self.refused(service, "replace", "web", "s.later")
+                self.assertEqual(words, f"the broker answers {status} to its lookup: web keeps the old one")
             self.assertEqual(room.state(), meaning(INVENTORY))
-            room.vault.faults.append(Fault(0, 2e9, Act.REFUSE))
-            await service.command(["replace", "web", "s.later"])
+            room.vault.faults = [Fault(0, 2e9, Act.REFUSE)]
+            await service.command(["replace", "web", "s.later"], WHO)
             self.assertEqual(room.state()["web"][1], "s.later")
         self.in_room(work)
 
@@ -383,19 +386,30 @@ class Refused(InRoom):
                 (["drop", "nobody"], "no entry is named nobody"),
                 (["replace", "web", "a b"], "1 to 256 printable"),
                 (["replace", "web", "s.app"], "another entry has that credential already"),
-                (["add", "x"], "is no TOML document"),
+                (["add", "x"], "is not a TOML document"),
                 (["add", ""], "one table [[token]] or [[lease]] is wanted, and 0 came"),
                 (["add", TABLE.replace("fresh", "web")], "an entry is named web already"),
-                (["add", TABLE.replace('"app"', '"nobody"')], "names no earlier token"),
+                (["add", TABLE.replace('"app"', '"nobody"')], "names no token of this inventory"),
                 (["add", TABLE.replace("600", '"1h"')], "write 3600"),
                 (["add", TABLE.replace('lease_id = "db/creds/fresh"', "")], "fresh has no lease_id"),
                 (["shutdown"], "the commands are"),
             ):
                 with self.subTest(words=words):
                     self.assertIn(expected, await self.refused(service, *words))
-            await service.command(["add", TABLE])
+            await service.command(["add", TABLE], WHO)
             self.assertIn("app has entries under it: drop fresh first", await self.refused(service, "drop", "app"))
             self.assertEqual(set(room.state()), {"app", "web", "fresh"})
+        self.in_room(work)
+
+    def test_a_need_that_no_run_keeps_calls_for_a_beginning(self) -> None:
+        async def work(room: Room) -> None:
+            service = room.service()
+            await service.command(["need", "app", "1040000"], WHO)
+            await room.world.until(BEGAN + 4.9)
+            self.assertEqual(service.engine.inbox.reason, "")
+            await room.world.until(BEGAN + 5.1)
+            self.assertEqual(service.engine.inbox.reason, "need app")
+            self.assertEqual(meaning(service.engine.inventory)["app"][0], 1_040_000)
         self.in_room(work)
 
     def test_changes_within_five_seconds_are_one_beginning(self) -> None:
@@ -404,15 +418,15 @@ class Refused(InRoom):
             service = room.service()
             task = asyncio.create_task(service.engine.serve())
             await room.world.until(BEGAN + 10)
-            await service.command(["add", TABLE])
+            await service.command(["add", TABLE], WHO)
             await asyncio.sleep(3)
-            await service.command(["drop", "web"])
-            await service.command(["need", "app", "+8h"])
+            await service.command(["drop", "web"], WHO)
+            await service.command(["need", "app", "+8h"], WHO)
             await room.world.until(BEGAN + 100)
             self.assertEqual(service.engine.beginnings, 2)
             self.assertEqual({entry.name for entry in service.engine.assignment.kept.entries}, {"app", "fresh"})
             self.assertEqual(service.engine.assignment.kept.carried["app"], 1_080_000)
-            await service.command(["need", "app", "1085000"])
+            await service.command(["need", "app", "1085000"], WHO)
             await room.world.until(BEGAN + 110)
             self.assertEqual(service.engine.beginnings, 2)
             self.assertIn("need app 1085000", room.launcher.runs[-1].events)
@@ -439,13 +453,17 @@ class Watchdog(InRoom):
         async def work(room: Room) -> None:
             service = room.service()
             sent: list[str] = []
-            service._around.notifier.send = lambda *words: sent.extend(words)  # type: ignore[method-assign]
+            setattr(service._around.notifier, "send", lambda *words: sent.extend(words))
             tasks = [asyncio.create_task(service.engine.serve()), asyncio.create_task(service._report())]
             await room.world.until(BEGAN + 400)
             self.assertGreater(sent.count("WATCHDOG=1"), 20)
             self.assertTrue(any(words.startswith("STATUS=next wake-up 1970-01-12T") for words in sent))
             tasks[0].cancel()
-            await room.world.until(BEGAN + 1400)
+            await room.world.until(BEGAN + 1270)
+            sent.clear()
+            await room.world.until(BEGAN + 1290)  # Its last sign of life is up to 900 seconds old.
+            self.assertIn("WATCHDOG=1", sent)
+            await room.world.until(BEGAN + 1310)
             sent.clear()
             await room.world.until(BEGAN + 1500)
             self.assertEqual(sent, [])
@@ -454,12 +472,53 @@ class Watchdog(InRoom):
         self.in_room(work)
 
 
+class Reports(InRoom):
+    def test_a_fault_in_a_report_ends_nothing(self) -> None:
+        async def work(room: Room) -> None:
+            service = room.service()
+            faults: list[Exception] = [ValueError("s.app")] * 3
+            metrics = service.metrics
+
+            def faulty() -> str:
+                if faults:
+                    raise faults.pop()
+                return metrics()
+            setattr(service, "metrics", faulty)
+            task = asyncio.create_task(service.serve())
+            await room.world.until(BEGAN + 100)
+            self.assertFalse(task.done())
+            self.assertEqual(room.output.getvalue().count("alert: fault ValueError in what reports"), 3)
+            self.assertNotIn("s.app", room.output.getvalue())
+            self.assertIn("leasekeepd_margin_seconds 30\n", (room.folder / "metrics").read_text())
+            task.cancel()
+            await asyncio.gather(task, return_exceptions=True)
+        self.in_room(work)
+
+    def test_metrics_are_written_every_quarter_of_a_minute_or_third_of_the_watchdogs(self) -> None:
+        cases: tuple[tuple[dict[str, str], int], ...] = (({}, 5), ({"WATCHDOG_USEC": "30000000"}, 7))
+        for environment, writes in cases:
+            async def work(room: Room) -> None:
+                service = room.service()
+                service._around.notifier = Notifier(environment)
+                told = set()
+                task = asyncio.create_task(service._report())
+                while room.world.now() < BEGAN + 60:
+                    await room.world.until(room.world.now() + 1)
+                    told.add((room.folder / "metrics").read_text())
+                self.assertEqual(len(told), writes)
+                task.cancel()
+                await asyncio.gather(task, return_exceptions=True)
+            self.in_room(work)
+
+
 class Files(InRoom):
     def test_the_last_good_file_is_kept_and_served(self) -> None:
         async def work(room: Room) -> None:
             room.service()
             self.assertEqual((room.folder / "copy.toml").stat().st_mode & 0o777, 0o600)
-            for spoil in (lambda: room.file.write_text("x"), lambda: room.file.chmod(0o644), room.file.unlink):
+            spoils: tuple[Callable[[], object], ...] = (
+                lambda: room.file.write_text("x"), lambda: room.file.chmod(0o644), room.file.unlink)
+            for spoil in spoils:
                 room.write(INVENTORY)
                 spoil()
                 self.assertEqual(room.state(), meaning(INVENTORY))
@@ -484,53 +543,6 @@ class Files(InRoom):
                 self.assertIn(expected, str(caught.exception))
                 self.assertNotIn("s.app", str(caught.exception))
         self.in_room(work)
-
-
-class Sockets(unittest.TestCase):
-    """Clients of the control socket that mean no good, in real time."""
-
-    def test_garbage_silence_and_a_mebibyte(self) -> None:
-        folder = Path(tempfile.mkdtemp())
-        self.addCleanup(shutil.rmtree, folder, True)
-        path = folder / "control.sock"
-
-        async def handle(words: list[str]) -> list[str]:
-            return [" ".join(words)]
-
-        async def raw(data: bytes) -> bytes:
-            reader, writer = await asyncio.open_unix_connection(str(path))
-            writer.write(data)
-            try:
-                await writer.drain()
-                answer = await asyncio.wait_for(reader.read(), 5)
-            except (ConnectionError, OSError):
-                answer = b""
-            writer.close()
-            return answer
-
-        async def go() -> None:
-            server = ControlServer(path, grp.getgrgid(os.getgid()).gr_name, handle)
-            await server.start()
-            self.assertEqual(path.stat().st_mode & 0o777, 0o660)
-            silent = [await asyncio.open_unix_connection(str(path)) for _ in range(CLIENTS_MOST - 1)]
-            for data in (b"need web\n", b"{}\n", b"[]\n", b"[1]\n", b"\xff\n", b"[" * 60_000 + b"\n",
-                         b'["drop", "\\ud800"]\n'):
-                self.assertTrue((await raw(data)).startswith(b"error: one line of JSON"), data[:20])
-            await raw(b'"' + b"x" * (1 << 20))
-            answer = await asyncio.to_thread(send_command, path, ["need", "web", "+6h"])
-            self.assertEqual(answer, ["need web +6h"])
-            silent.append(await asyncio.open_unix_connection(str(path)))
-            self.assertEqual(await raw(b'["status"]\n'), b"")
-            for _, writer in silent:
-                writer.close()
-            await asyncio.sleep(0.1)
-            self.assertEqual(await raw(b'["status"]\n'), b"ok\nstatus\n")
-            server.stop()
-            with self.assertRaises(KeyError):
-                await ControlServer(path, "no such group", handle).start()
-            with self.assertRaises(ControlFault):
-                await asyncio.to_thread(send_command, path, ["status"])
-        asyncio.run(go())
 
 
 if __name__ == "__main__":

@@ -2,6 +2,8 @@
 
 from __future__ import annotations
 
+import math
+import re
 import subprocess
 import sys
 import tempfile
@@ -194,6 +196,122 @@ class Pictures(unittest.TestCase):
         self.assertEqual([words for _, words in dated.ticks(3)], ["01-01 00:00", "01-01 01:00", "01-01 02:00"])
 
 
+SPACED = "{http://www.w3.org/2000/svg}"
+
+
+def many(count: int, short: int = 3) -> Chart:
+    """So many pairs of a token and a lease; the leases of the last `short` pairs fall short."""
+    text = "".join(
+        f'[[token]]\nname = "t{n}"\nissued = 1000\nend = 2000\nincrement = 100\nneed = 1500\n' for n in range(count)
+    ) + "".join(
+        f'[[lease]]\nname = "l{n}"\ntoken = "t{n}"\nissued = 1000\nend = {1200 if n >= count - short else 1900}\nincrement = 100\n'
+        "need = 1500\n" for n in range(count)
+    )
+    inventory = entries.read(text)
+    return chart_of(inventory, history.read(["done 0 0\n"], {}, 1000), 1000)
+
+
+class ManyEntries(unittest.TestCase):
+    def test_from_500_on_those_that_are_not_kept_come_first(self) -> None:
+        self.assertEqual(many(249).arranged(False).lanes, many(249).lanes)
+        chart = many(250).arranged(False)
+        self.assertEqual([lane.entry.name for lane in chart.lanes[:5]], ["l247", "l248", "l249", "t0", "l0"])
+        self.assertEqual((len(chart.lanes), chart.first), (500, 3))
+        self.assertEqual(chart.title, "500 entries, 0 wake-ups, 0 requests: 3 needs not kept")
+
+    def test_where_all_are_kept_they_stay_as_they_are(self) -> None:
+        self.assertEqual(many(250, 0).arranged(False).lanes, many(250, 0).lanes)
+
+    def test_only_those_that_are_not_kept(self) -> None:
+        chart = many(4).arranged(True)
+        self.assertEqual([row[:2] for row in table.rows(chart)], [("l1", "t1"), ("l2", "t2"), ("l3", "t3")])
+        self.assertEqual(chart.title, "8 entries, 0 wake-ups, 0 requests: 3 needs not kept")
+        self.assertEqual(many(4, 0).arranged(True).lanes, ())
+
+    def test_each_shape_says_where_they_end(self) -> None:
+        chart = many(250).arranged(False)
+        words = [text.text for text in tree.fromstring(picture.svg(chart)).iter(f"{SPACED}text") if text.get("class") == "heading"]
+        self.assertEqual(words, ["not kept: 3", "the others: 497"])
+        lines = terminal.text(chart, 60, terminal.ASCII).splitlines()
+        self.assertEqual(lines[2], "not kept: 3")
+        self.assertEqual(lines[6], "the others: 497")
+        self.assertIsNone(many(4).arranged(False).heading(0))
+
+
+class Shapes(unittest.TestCase):
+    def of_class(self, chart: Chart, kind: str, word: str) -> list[tree.Element]:
+        """The drawn things of that class in the lanes of that kind (the first of which is the legend's)."""
+        groups = [group for group in tree.fromstring(picture.svg(chart)).iter(f"{SPACED}g") if group.get("class") == kind]
+        return [one for group in groups if group.find(f"{SPACED}title") is not None for one in group if one.get("class") == word]
+
+    def test_tokens_and_leases_differ_by_form(self) -> None:
+        chart = family("wake 1059 T L\ntold T 100\ntold L 60\nnext none\n")
+        for word in ("life", "told"):
+            self.assertEqual({one.tag for one in self.of_class(chart, "token", word)}, {f"{SPACED}rect"})
+            self.assertEqual({one.tag for one in self.of_class(chart, "lease", word)}, {f"{SPACED}path"})
+        for signs in (terminal.UNICODE, terminal.ASCII):
+            lines = terminal.text(chart, 60, signs).splitlines()
+            self.assertIn(signs.token * 3, lines[2])
+            self.assertIn(signs.lease * 3, lines[3])
+            self.assertNotEqual(signs.token, signs.lease)
+
+    def test_wake_ups_fade_by_their_number(self) -> None:
+        def opacity(count: int) -> float:
+            chart = family("".join(f"wake {1001 + 2 * n}\n" for n in range(count)) + "next none\n")
+            path = next(one for one in tree.fromstring(picture.svg(chart)).iter(f"{SPACED}path") if one.get("stroke-opacity"))
+            return float(path.get("stroke-opacity") or 0)
+        few, some, hundreds = opacity(5), opacity(60), opacity(800)
+        self.assertGreater(few, some)
+        self.assertGreater(some, hundreds)
+        self.assertGreaterEqual(hundreds, 0.1)
+
+    def test_dense_marks_say_how_many_they_stand_for(self) -> None:
+        chart = family("".join(f"wake {1000 + n // 50} U\ntold U 60\n" for n in range(5000)) + "next none\n")
+        counts = [one.text or "" for one in self.of_class(chart, "token", "count")]
+        self.assertEqual(sum(int(text[1:].replace(",", "")) for text in counts), 5000)
+        lost = family("".join(f"wake {1000 + n // 50} U\nlost U\n" for n in range(120)) + "next none\n")
+        self.assertIn("×120", [one.text for one in self.of_class(lost, "token", "count")])
+
+    def test_marks_apart_from_each_other_have_no_number(self) -> None:
+        self.assertEqual(self.of_class(family("wake 1050 T\ntold T 100\nwake 1140 T\ntold T 100\nnext none\n"), "token", "count"), [])
+
+    def test_in_a_terminal_too(self) -> None:
+        for count, shown in ((1, "o"), (2, "2"), (9, "9"), (10, "+"), (500, "+")):
+            chart = family("".join("wake 1100 U\ntold U 60\n" for _ in range(count)) + "next none\n")
+            line = next(line for line in terminal.text(chart, 60, terminal.ASCII).splitlines() if line.startswith("U "))
+            self.assertEqual(line.count(shown), 1, line)
+        chart = family("".join("wake 1100 U\nlost U\n" for _ in range(7)) + "next none\n")
+        lines = terminal.text(chart, 60, terminal.ASCII).splitlines()
+        self.assertTrue(any(line.startswith("U ") and line.endswith(" ?7") for line in lines), lines)
+        self.assertLessEqual(max(map(len, lines)), 60)
+
+    def test_a_dark_page_gets_a_dark_picture(self) -> None:
+        drawn = picture.svg(family())
+        style = drawn.partition("<style>")[2].partition("</style>")[0]
+        light, _, rest = style.partition("@media (prefers-color-scheme: dark) {")
+        dark = rest.partition("}\n}")[0]
+        names = re.findall(r"(--[a-z-]+): (#[0-9a-f]{6})", light)
+        self.assertEqual([name for name, _ in names], re.findall(r"(--[a-z-]+): #[0-9a-f]{6}", dark))
+        self.assertEqual(re.findall(r"#[0-9a-f]{6}", drawn.replace(style, "")), [])
+        for colours, is_dark in ((dict(names), False), (dict(re.findall(r"(--[a-z-]+): (#[0-9a-f]{6})", dark)), True)):
+            self.assertEqual(brightness(colours["--page"]) < brightness(colours["--ink"]), is_dark)
+            for name in ("--ink", "--faint", "--bad", "--token-mark", "--lease-mark"):
+                self.assertGreater(contrast(colours["--page"], colours[name]), 4.5, (is_dark, name))
+
+
+def brightness(colour: str) -> float:
+    """Relative luminance, as WCAG 2 defines it."""
+    parts = [int(colour[at:at + 2], 16) / 255 for at in (1, 3, 5)]
+    red, green, blue = (part / 12.92 if part <= 0.03928 else float(((part + 0.055) / 1.055) ** 2.4) for part in parts)
+    return 0.2126 * red + 0.7152 * green + 0.0722 * blue
+
+
+def contrast(one: str, other: str) -> float:
+    """The contrast ratio, as WCAG 2 defines it."""
+    dark, light = sorted((brightness(one), brightness(other)))
+    return (light + 0.05) / (dark + 0.05)
+
+
 class Command(unittest.TestCase):
     def run_it(self, *words: str, given: str = LINES) -> subprocess.CompletedProcess[str]:
         with tempfile.NamedTemporaryFile("w", suffix=".toml") as file:
@@ -226,6 +344,23 @@ class Command(unittest.TestCase):
                 stderr=subprocess.PIPE, text=True, timeout=30, check=False,
             )
         self.assertEqual((ran.returncode, ran.stderr.count("\n")), (6, 1))
+
+
+class Words(unittest.TestCase):
+    """The command line."""
+
+    def ran(self, *words: str) -> subprocess.CompletedProcess[str]:
+        return subprocess.run([sys.executable, str(SERVICE / "leasekeep-draw"), *words], capture_output=True, text=True, timeout=60)
+
+    def test_a_start_is_whole_seconds(self) -> None:
+        for word in ("2026-11-22T09:00:00Z", "1000.5", "-1", "253402300800", "9" * 40, "now"):
+            with self.subTest(word=word):
+                ran = self.ran("inventory.toml", f"--start={word}")
+                self.assertEqual(ran.returncode, 2)
+                self.assertIn("--start: a moment is whole seconds since 1970: $(date +%s) is now", ran.stderr)
+
+    def test_the_version_is_that_of_the_file(self) -> None:
+        self.assertEqual(self.ran("--version").stdout, f"leasekeep-draw {(SERVICE.parent / 'VERSION').read_text()}")
 
 
 if __name__ == "__main__":

@@ -67,13 +67,14 @@ def mutated(text: bytes, chance: random.Random) -> bytes:
     """The text with a few changes."""
     for _ in range(chance.choice((1, 1, 2, 4))):
         first, last = sorted(chance.randint(0, len(text)) for _ in range(2))
-        text = chance.choice((
+        changes: tuple[Callable[[], bytes], ...] = (
             lambda: text[:first] + chance.choice(PIECES) + text[first:],
             lambda: text[:first] + chance.choice(PIECES) + text[min(last, first + 8):],
             lambda: text[:first] + text[min(last, first + 30):],
             lambda: text[:first],
             lambda: text[:first] + bytes([chance.randrange(256)]) + text[first + 1:],
-        ))()
+        )
+        text = chance.choice(changes)()
     return text
 
 
@@ -128,7 +129,7 @@ class Hostile(unittest.TestCase):
     def test_inventories_that_python_cannot_read(self) -> None:
         for text in (b"x = " + b"[" * 60_000, b"margin = " + DIGITS, b"x = " + b"{a=" * 20_000):
             (fault,) = read_inventory(text).faults
-            self.assertEqual(fault.problem, "the file is no TOML document")
+            self.assertTrue(fault.problem.startswith("the file is not a TOML document: "), fault.problem)
 
     def test_short_lists(self) -> None:
         with tempfile.TemporaryDirectory() as folder:

@@ -7,7 +7,7 @@ import json
 import math
 import unittest
 from dataclasses import replace
-from typing import AsyncIterator
+from typing import Any, AsyncIterator
 
 from leasekeepd_lib.http_client import Request, Response, TransportFault
 from leasekeepd_lib.inventory import Entry, Inventory, Kind, inventory_text
@@ -20,12 +20,12 @@ from .model.world import World, simulate
 START = 1000
 
 
-def token(name: str, end: int, increment: int | None = 60, **more: object) -> Entry:
-    return replace(Entry(name, Kind.TOKEN, None, START, end, increment=increment, max_ttl=9000), **more)  # type: ignore
+def token(name: str, end: int, increment: int | None = 60, **more: Any) -> Entry:
+    return replace(Entry(name, Kind.TOKEN, None, START, end, increment=increment, max_ttl=9000), **more)
 
 
-def lease(name: str, above: str, end: int, **more: object) -> Entry:
-    return replace(Entry(name, Kind.LEASE, above, START, end, increment=60, max_ttl=9000), **more)  # type: ignore
+def lease(name: str, above: str, end: int, **more: Any) -> Entry:
+    return replace(Entry(name, Kind.LEASE, above, START, end, increment=60, max_ttl=9000), **more)
 
 
 WEB = Inventory((token("web", 1060, need=1200),))
@@ -45,7 +45,8 @@ def moments(inventory: Inventory) -> list[int]:
 
 class Plans(unittest.TestCase):
     def test_moments(self) -> None:
-        need = lambda until: Inventory((token("web", 1060, need=until),))
+        def need(until: int) -> Inventory:
+            return Inventory((token("web", 1060, need=until),))
         two = Inventory((token("two", 1002, 2, need=1010),))
         short_step = Inventory((token("web", 1060, 11, need=1070),), 10)
         for inventory, expected in (

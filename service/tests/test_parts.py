@@ -10,6 +10,7 @@ import tempfile
 import time
 import unittest
 from pathlib import Path
+from typing import Any, cast
 from unittest import mock
 
 from leasekeepd_lib import events
@@ -17,7 +18,7 @@ from leasekeepd_lib import link as link_module
 from leasekeepd_lib.book import Standing
 from leasekeepd_lib.broker import Broker, Verdict, read_grant, read_lease_lookup, read_token_lookup
 from leasekeepd_lib.clock import SystemClock
-from leasekeepd_lib.events import Alerts, Level, Log
+from leasekeepd_lib.events import Alerts, Level, LineForm, Log
 from leasekeepd_lib.http_client import (
     Address, HttpTransport, Request, Response, TransportFault, read_response, request_bytes,
 )
@@ -26,6 +27,9 @@ from leasekeepd_lib.inventory_file import read_inventory
 from leasekeepd_lib.link import Link
 from leasekeepd_lib.rfc3339 import read_rfc3339
 from leasekeepd_lib.run_lines import LineFault, Word, read_line
+from leasekeepd_lib.run_process import LaunchFault, ProcessRun, RunExit, start_process
+
+from .model.world import simulate
 
 BODY = b'{"auth":{"lease_duration":60,"renewable":true}}'
 TOKEN = Entry("web", Kind.TOKEN, None, 1000, 1060, increment=60, credential="hvs.secret")
@@ -52,19 +56,18 @@ class Events(unittest.TestCase):
                    "\n"),
         ):
             stream = io.StringIO()
-            log = Log(FixedClock(), stream, as_json)
+            log = Log(LineForm(FixedClock(), as_json), stream)
             log.info("told", "web", 60)
             log.warn("short", "web", 1060)
             self.assertEqual(stream.getvalue(), expected)
-
-    def test_a_log_that_nobody_takes_ends_nothing(self) -> None:
-        stream = mock.Mock()
-        stream.write.side_effect = OSError(28, "No space left on device")
-        heard: list[str] = []
-        log = Log(FixedClock(), stream)
-        log.listeners.append(lambda level, text: heard.append(text))
-        log.alert("gone", "web")
-        self.assertEqual(heard, ["gone web"])
+            stream.truncate(0)
+            stream.seek(0)
+            log.note("a")
+            log.alert("b", "c")
+            log.quiet().alert("d")
+            levels = [json.loads(line)["level"] for line in stream.getvalue().splitlines()] if as_json else [
+                line.split(" ")[1] for line in stream.getvalue().splitlines()]
+            self.assertEqual(levels, [f"{level}{'' if as_json else ':'}" for level in ("note", "alert", "note")])
 
     def test_alerts_run_one_at_a_time_and_are_bounded(self) -> None:
         with tempfile.TemporaryDirectory() as name:
@@ -98,6 +101,39 @@ class Events(unittest.TestCase):
                 asyncio.run(go())
             self.assertEqual((folder / "alert.log").read_text().splitlines(), [
                 "begin slow", "begin short web 1060", "end", "begin gone db", "end", "begin short web 1060", "end"])
+
+    def heard(self, *said: tuple[float, str]) -> list[str]:
+        """What the program would be run with, of warnings at these moments."""
+        clock, run = FixedClock(), list[str]()
+
+        async def go() -> None:
+            alerts = Alerts("/nowhere/alert", clock)
+
+            async def note(words: list[str]) -> None:
+                run.append(" ".join(words))
+            setattr(alerts, "_run", note)
+            for moment, words in said:
+                clock.now = moment
+                alerts.hear(Level.WARNING, words)
+            await alerts.run_waiting()
+        asyncio.run(go())
+        return run
+
+    def test_the_same_words_once_in_ten_minutes(self) -> None:
+        self.assertEqual(self.heard((1000, "a"), (1599, "a"), (1599, "b"), (1600, "a"), (2199, "a"), (2199, "b")),
+                         ["a", "b", "a", "b"])
+
+    def test_so_many_wait_and_the_oldest_go(self) -> None:
+        run = self.heard(*((1000.0, f"short e{number} 5") for number in range(1500)))
+        self.assertEqual(run, [f"short e{number} 5" for number in range(500, 1500)])
+
+    def test_an_alert_has_half_a_minute(self) -> None:
+        async def go() -> None:
+            alerts = Alerts("sleep", FixedClock())
+            alerts.hear(Level.ALERT, "1000")
+            await alerts.run_waiting()
+            self.assertAlmostEqual(asyncio.get_running_loop().time(), 30.0, delta=0.1)
+        simulate(go())
 
     def test_a_program_that_is_not_there(self) -> None:
         async def go() -> None:
@@ -201,17 +237,18 @@ class Bodies(unittest.TestCase):
         self.assertIsNone(read_grant(own.replace(b"app/1", b"app/2"), LEASE))
 
     def test_lookups(self) -> None:
-        facts = {"creation_time": 900, "explicit_max_ttl": 200, "orphan": True, "period": 60, "renewable": True,
+        facts: dict[str, Any] = {"creation_time": 900, "explicit_max_ttl": 200, "orphan": True, "period": 60, "renewable": True,
                  "ttl": 60}
         read = read_token_lookup(json.dumps({"data": facts}).encode(), "")
         assert read is not None
         self.assertEqual((read.ttl, read.issued, read.explicit_max, read.orphan, read.period, read.never_ends),
                          (60, 900, 200, True, 60, False))
-        root = {**facts, "ttl": 0, "creation_ttl": 0, "expire_time": None}
-        self.assertTrue(read_token_lookup(json.dumps({"data": root}).encode(), "").never_ends)  # type: ignore
-        for ending in ({**facts, "ttl": 0}, {**root, "creation_ttl": 60}, {**root, "expire_time": "2026-11-22T09:00:00Z"}):
-            self.assertFalse(read_token_lookup(json.dumps({"data": ending}).encode(), "").never_ends)  # type: ignore
-        lease = {"id": "db/creds/app/1", "issue_time": "1970-01-01T00:15:00.5Z", "renewable": True, "ttl": 60}
+        root: dict[str, Any] = {**facts, "ttl": 0, "creation_ttl": 0, "expire_time": None}
+        for body, never_ends in ((root, True), ({**facts, "ttl": 0}, False), ({**root, "creation_ttl": 60}, False),
+                                 ({**root, "expire_time": "2026-11-22T09:00:00Z"}, False)):
+            read = read_token_lookup(json.dumps({"data": body}).encode(), "")
+            self.assertEqual(None if read is None else read.never_ends, never_ends)
+        lease: dict[str, Any] = {"id": "db/creds/app/1", "issue_time": "1970-01-01T00:15:00.5Z", "renewable": True, "ttl": 60}
         for body in ({"data": lease}, lease, {**lease, "data": None}):
             found = read_lease_lookup(json.dumps(body).encode(), LEASE.secret)
             self.assertEqual(None if found is None else (found.ttl, found.issued), (60, 900))
@@ -279,7 +316,7 @@ class Links(unittest.TestCase):
 
         async def handed(event: str, times: int) -> bool:
             more_time = mock.AsyncMock(return_value=0.0)
-            link = Link(Run(), 5.0, lambda line: None, lambda: None, more_time)  # type: ignore[arg-type]
+            link = Link(cast(ProcessRun, Run()), 5.0, lambda line: None, lambda: None, more_time)
             for _ in range(times):
                 await link.hand_in(event)
             link.stop()
@@ -287,6 +324,25 @@ class Links(unittest.TestCase):
         with mock.patch.multiple(link_module, LINES_MOST=3, BYTES_MOST=100):
             self.assertEqual([asyncio.run(handed("tick 1", times)) for times in (2, 3)], [False, True])
             self.assertEqual([asyncio.run(handed("x" * 49, times)) for times in (1, 2)], [False, True])
+
+
+class Starts(unittest.TestCase):
+    def test_a_program_that_cannot_be_started(self) -> None:
+        async def go() -> None:
+            await start_process("/nowhere/leasekeep", "run", "secret")
+        before = os.listdir("/proc/self/fd")
+        with self.assertRaises(LaunchFault) as caught:
+            asyncio.run(go())
+        self.assertEqual(str(caught.exception), "cannot start /nowhere/leasekeep: No such file or directory")
+        self.assertEqual(len(os.listdir("/proc/self/fd")), len(before))
+
+    def test_the_inventory_is_handed_over_in_memory(self) -> None:
+        async def go() -> list[str | None]:
+            process = await start_process("cat", "--", "one\ntwo\n")
+            lines = [await process.read_line() for _ in range(3)]
+            self.assertEqual(await process.end(), RunExit(0))
+            return lines
+        self.assertEqual(asyncio.run(go()), ["one", "two", None])
 
 
 class Texts(unittest.TestCase):

@@ -12,12 +12,14 @@ import tempfile
 import time
 import unittest
 from pathlib import Path
+from typing import cast
 
 from leasekeepd_lib.inventory import Entry, Inventory, Kind, inventory_text
 from trial.programs import find_program
 
 from .model.server import RealWorld, VaultServer
 from .model.vault import Vault
+from .model.world import World
 
 PLANNED = " (sleep|next) "
 """A run that has told its next wake-up."""
@@ -26,6 +28,11 @@ BUSY = 1.0
 """Seconds that a busy machine may add."""
 
 SERVICE = Path(__file__).resolve().parents[1]
+
+
+def write_inventory(file: Path, inventory: Inventory) -> None:
+    file.write_text(inventory_text(inventory))
+    file.chmod(0o600)
 
 
 class Daemon:
@@ -43,8 +50,7 @@ class Daemon:
             stdout=self.log, stderr=subprocess.STDOUT, env={**os.environ, **(environment or {})})
 
     def write(self, inventory: Inventory) -> None:
-        self.file.write_text(inventory_text(inventory))
-        self.file.chmod(0o600)
+        write_inventory(self.file, inventory)
 
     def text(self) -> str:
         return (self.folder / "log").read_text()
@@ -71,7 +77,9 @@ class Daemon:
         self.log.close()
 
 
-class Process(unittest.TestCase):
+class WithBroker(unittest.TestCase):
+    """A folder, an inventory of two entries, and a broker that knows them."""
+
     def setUp(self) -> None:
         self.folder = Path(tempfile.mkdtemp())
         self.addCleanup(shutil.rmtree, self.folder, True)
@@ -82,7 +90,7 @@ class Process(unittest.TestCase):
             Entry("db", Kind.LEASE, "app", began, began + 16, increment=16, max_ttl=9000, need=began + 600,
                   credential="db/creds/1"),
         ), 12)
-        vault = Vault(RealWorld())  # type: ignore[arg-type]
+        vault = Vault(cast(World, RealWorld()))
         vault.load(self.inventory)
         self.server = VaultServer(vault).start()
         self.addCleanup(self.server.stop)
@@ -97,6 +105,8 @@ class Process(unittest.TestCase):
         self.server.do(Vault.sweep)
         self.assertEqual([row.name for row in self.server.vault.rows.values() if row.ended is not None], [])
 
+
+class Process(WithBroker):
     def test_a_life(self) -> None:
         notified = socket.socket(socket.AF_UNIX, socket.SOCK_DGRAM)
         self.addCleanup(notified.close)
@@ -111,14 +121,14 @@ class Process(unittest.TestCase):
         daemon.wait_for("wake")
         status = daemon.command("status")
         self.assertEqual(status.returncode, 0, status.stderr)
-        self.assertIn("app end ", status.stdout)
+        self.assertIn("app kept end ", status.stdout)
         until = self.inventory.entries[1].need + 100
         self.assertEqual(daemon.command("need", "db", str(until)).returncode, 0)
         daemon.wait_for("planned")
         wrong = daemon.command("need", "nobody", "+6h")
         self.assertEqual((wrong.returncode, wrong.stderr), (1, "leasekeepd: need: no entry is named nobody\n"))
         time.sleep(2)
-        self.assertIn('leasekeepd_end_seconds{entry="db"}', metrics.read_text())
+        self.assertIn('leasekeepd_state{entry="db",state="kept"} 1', metrics.read_text())
         self.assert_alive()
         self.assertEqual(daemon.terminate(), 0)
         for secret in ("s.app-secret", "db/creds/1"):
@@ -136,11 +146,11 @@ class Process(unittest.TestCase):
         daemon.wait_for("begin the file was read anew")
         second = self.daemon()
         self.assertEqual(second.process.wait(15), 1)
-        self.assertIn("another leasekeepd serves with this state", daemon.text())
+        self.assertIn("another leasekeepd serves with this folder", daemon.text())
         began = time.monotonic()
         self.assertEqual(daemon.terminate(), 0)
         self.assertLess(time.monotonic() - began, 1.0 + BUSY)
-        self.assertFalse((self.folder / "run" / "run.toml").exists())
+        self.assertEqual(sorted(path.name for path in (self.folder / "run").iterdir()), ["lock"])
 
     def test_a_killed_run_and_a_killed_service(self) -> None:
         daemon = self.daemon()

@@ -9,7 +9,7 @@ import os
 import random
 import unittest
 from dataclasses import dataclass, replace
-from typing import Awaitable, Callable
+from typing import Any, Awaitable, Callable
 
 from leasekeepd_lib.inventory import Entry, Inventory, Kind
 
@@ -153,10 +153,10 @@ class RandomScenarios(unittest.TestCase):
                 self.assertEqual(lost, [], f"{happened}\n{stage.output.getvalue()[-3000:]}")
 
 
-def real_terms(plotted: Plot) -> dict[str, dict[str, object]]:
+def real_terms(plotted: Plot) -> dict[str, dict[str, Any]]:
     """What the broker really does with some entries: nearer ceilings, shorter grants, another tree."""
     chance = plotted.chance
-    real: dict[str, dict[str, object]] = {}
+    real: dict[str, dict[str, Any]] = {}
     for entry in plotted.inventory.entries:
         what = chance.random()
         if what < 0.25:
@@ -175,7 +175,7 @@ async def act_out_real(seed: int) -> tuple[Stage, list[str]]:
     plotted = plot(seed)
     stage = Stage(plotted.inventory)
     real = real_terms(plotted)
-    stage.vault.load(plotted.inventory, **real)  # type: ignore[arg-type]
+    stage.vault.load(plotted.inventory, **real)
     shortest = min([int(terms["grants"]) for terms in real.values() if "grants" in terms], default=1 << 30)
     stage.vault.latency = plotted.chance.choice((0.0, 0.01))
     happened = []
@@ -211,7 +211,7 @@ def untold(stage: Stage) -> list[str]:
 def wrongly_lost(stage: Stage, happened: list[str]) -> list[str]:
     """The entries with a need that ended although they, and all over them, could be renewed."""
     revoked = {words.split(" ")[2] for words in happened if " revoked " in words}
-    lost = []
+    lost: list[str] = []
     rows = {row.name: row for row in stage.vault.rows.values()}
     for name in stage.lost():
         row, excused = rows[name], False

@@ -4,6 +4,7 @@ from __future__ import annotations
 
 import unittest
 from dataclasses import replace
+from typing import Any
 from unittest import mock
 
 from leasekeepd_lib import link as link_module
@@ -13,7 +14,7 @@ from leasekeepd_lib.inventory_file import read_inventory
 from leasekeepd_lib.pauses import pause_length, time_left
 
 from .model.stage import Stage, fleet
-from .model.vault import Act, about, both, lookups, renewals
+from .model.vault import Act, Secret, about, both, lookups, renewals
 from .test_scenarios import BEGAN, HOUR, Scenario, fault
 
 START = int(BEGAN)
@@ -337,10 +338,10 @@ class Retries(Scenario):
             root = stage.vault.named("root")
             facts = stage.vault._token_facts
 
-            def endless(row: object) -> dict[str, object]:
-                told = facts(row)  # type: ignore[arg-type]
+            def endless(row: Secret) -> dict[str, Any]:
+                told = facts(row)
                 return {**told, "ttl": 0, "creation_ttl": 0, "expire_time": None} if row is root else told
-            stage.vault._token_facts = endless  # type: ignore[method-assign,assignment]
+            setattr(stage.vault, "_token_facts", endless)
             root.end = 1e12
             await stage.finish(HOUR)
         child = Entry("child", Kind.TOKEN, "root", START, START + 400, increment=600, max_ttl=90000,

@@ -1,4 +1,4 @@
-"""The whole service in real time against minibroker: plain, and behind a front that speaks TLS."""
+"""The whole service in real time against minibroker: plain, and behind a TLS proxy."""
 
 from __future__ import annotations
 
@@ -11,7 +11,7 @@ import unittest
 from pathlib import Path
 
 from leasekeepd_lib.http_client import Address, HttpTransport, Request, TransportFault
-from trial.front import Front, make_authority, make_certificate
+from trial.proxy import Proxy, make_authority, make_certificate
 from trial.programs import find_program
 from trial.relay import Relay
 from trial.stage import Trial, short_leases
@@ -38,37 +38,49 @@ class BuiltPrograms(unittest.TestCase):
 
 
 class Documents(unittest.TestCase):
-    def test_the_front_that_is_tried_is_the_one_that_is_shown(self) -> None:
+    def test_the_proxy_that_is_tried_is_the_one_that_is_shown(self) -> None:
         shown = (SCRIPTS.parents[1] / "docs" / "vault.md").read_text()
-        self.assertIn((SCRIPTS.parent / "front" / "haproxy.cfg").read_text().strip(), shown)
+        self.assertIn((SCRIPTS.parent / "proxy" / "haproxy.cfg").read_text().strip(), shown)
 
 
 class Trials(unittest.IsolatedAsyncioTestCase):
-    """All at the same time, since real time is what they take."""
+    """Those of one test all at the same time, since real time is what they take."""
 
     async def asyncSetUp(self) -> None:
         asyncio.get_running_loop().set_debug(False)
         logging.getLogger("asyncio").setLevel(logging.CRITICAL)  # It tells of each certificate that is refused.
 
-    async def test_plain_and_behind_each_front(self) -> None:
-        fronts = [name for name in ("haproxy", "nginx") if Front.is_installed(name)]
-        await asyncio.gather(self.played(""), *(self.played(name) for name in fronts))
-        if len(fronts) < 2:
-            self.skipTest(f"of the fronts only these and openssl are installed: {fronts}; the rest passed")
+    async def test_plain(self) -> None:
+        await self.played("")
 
-    async def played(self, front: str) -> None:
+    async def test_behind_haproxy_with_and_without_a_namespace(self) -> None:
+        await self.behind_proxy("haproxy")
+
+    async def test_behind_nginx_with_and_without_a_namespace(self) -> None:
+        await self.behind_proxy("nginx")
+
+    async def behind_proxy(self, name: str) -> None:
+        if not Proxy.is_installed(name):
+            self.skipTest(f"{name} or openssl is not installed")
+        await asyncio.gather(self.played(name, "team-a"), self.played(name))
+
+    async def played(self, proxy: str, namespace: str = "") -> None:
         folder = Path(tempfile.mkdtemp())
         self.addCleanup(shutil.rmtree, folder, True)
-        inventory = short_leases(int(time.time()), 3600)
-        trial = Trial(folder, program("leasekeep"), program("minibroker"), inventory)
-        await trial.start_broker(inventory)
+        trial = Trial(folder, program("leasekeep"), program("minibroker"), short_leases(int(time.time()), 3600))
         try:
-            await (self.behind(trial, front) if front else self.plain(trial))
+            await (self.behind(trial, proxy, namespace) if proxy else self.plain(trial))
         finally:
             await trial.stop_daemon(kill=True)
             await trial.stop_broker()
 
+    async def begin(self, trial: Trial) -> None:
+        """The broker with its short leases begins last, since a proxy may take seconds to start."""
+        trial.inventory = short_leases(int(time.time()), 3600)
+        await trial.start_broker(trial.inventory)
+
     async def plain(self, trial: Trial) -> None:
+        await self.begin(trial)
         await trial.start_daemon(trial.folder / "log")
         await self.assert_kept(trial, wakes=2)
         self.assertEqual((trial.folder / "log").read_text().count(" begin "), 1)
@@ -82,32 +94,36 @@ class Trials(unittest.IsolatedAsyncioTestCase):
         self.assertEqual(await trial.dead(), [], log)
         self.assertEqual(await trial.stop_daemon(), 0)
 
-    async def behind(self, trial: Trial, name: str) -> None:
+    async def behind(self, trial: Trial, name: str, namespace: str) -> None:
         make_authority(trial.folder)
         certified = Relay(Path("unused"), make_certificate(trial.folder))
-        certified.broker = trial.relay.broker
         await certified.start()
-        front = Front(name, trial.folder, certified.port)
-        await front.start()
+        proxy = Proxy(name, trial.folder, certified.port, namespace)
+        await proxy.start()
         try:
-            await trial.start_daemon(trial.folder / "log", str(front.socket))
+            await self.begin(trial)
+            certified.broker = trial.relay.broker
+            await trial.start_daemon(trial.folder / "log", str(proxy.socket))
             await self.assert_kept(trial, wakes=1)
             head = certified.last_head.decode().lower()
             self.assertRegex(head, r"\r\nhost: vault\.example\.com(\r\n|$)")
-            self.assertRegex(head, r"\r\nx-vault-namespace: team-a(\r\n|$)")
-            await self.refuses_another_certificate(trial, certified, front)
+            if namespace:
+                self.assertRegex(head, rf"\r\nx-vault-namespace: {namespace}(\r\n|$)")
+            else:
+                self.assertNotIn("x-vault-namespace", head)
+            await self.refuses_another_certificate(trial, certified, proxy)
         finally:
-            await front.stop()
+            await proxy.stop()
             await certified.stop()
 
-    async def refuses_another_certificate(self, trial: Trial, certified: Relay, front: Front) -> None:
+    async def refuses_another_certificate(self, trial: Trial, certified: Relay, proxy: Proxy) -> None:
         """Behind a broker with the certificate of another host, nothing is served."""
         await certified.stop()
         stranger = Relay(Path("unused"), make_certificate(trial.folder, "stranger.example.com"))
         stranger.port, stranger.broker = certified.port, certified.broker
         await stranger.start()
         try:
-            transport = HttpTransport(Address(str(front.socket)))
+            transport = HttpTransport(Address(str(proxy.socket)))
             reply = await transport.request(Request("GET", "/v1/auth/token/lookup-self", "s.app", b""))
             self.assertIn(reply.status, (502, 503))
         except TransportFault:

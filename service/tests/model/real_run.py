@@ -93,7 +93,7 @@ class RealRuns:
         self._serve = serve
         if self._server is None:
             self._server = await asyncio.start_unix_server(self._talk, self._place)
-        launcher = ProcessLauncher(self._program, Path(self._folder.name), Address(self._place), TIMEOUT)
+        launcher = ProcessLauncher(self._program, Address(self._place), TIMEOUT)
         async with self._launching:
             self._run = RealRun(await launcher.launch(text, start), loop, text.count("[["))
         return self._run

@@ -9,7 +9,7 @@ from typing import AsyncIterator, Callable
 
 from leasekeepd_lib.broker import Broker
 from leasekeepd_lib.engine import Engine
-from leasekeepd_lib.events import Log
+from leasekeepd_lib.events import LineForm, Log
 from leasekeepd_lib.http_client import Request, Response, TransportFault
 from leasekeepd_lib.inventory import Entry, Inventory, Kind
 from leasekeepd_lib.parts import Parts
@@ -122,6 +122,7 @@ class StageLauncher:
         if self.is_missing:
             raise LaunchFault("cannot start leasekeep: No such file or directory")
         transport = RunTransport(self._vault, self.refuses)
+        run: ScriptedRun | RealRun
         run = (ScriptedRun(inventory, start, transport, self.prints_at_once) if self._real is None
                else await self._real.launch(inventory, start, transport.request))
         self.runs.append(run)
@@ -148,7 +149,7 @@ class Stage:
         self.engine = self._new_engine()
 
     def _new_engine(self) -> Engine:
-        log = Log(self.world, self.output)
+        log = Log(LineForm(self.world), self.output)
         broker = Broker(VaultTransport(self.vault), self.world, TIMEOUT)
         return Engine(self.inventory, Parts(self.world, broker, self.launcher, log, random.Random(7)))
 

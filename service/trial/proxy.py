@@ -1,4 +1,4 @@
-"""A front that speaks TLS, of the configurations in service/front, before the broker's relay."""
+"""A TLS proxy, of the configurations in service/proxy, before the broker's relay."""
 
 from __future__ import annotations
 
@@ -10,11 +10,10 @@ import ssl
 import subprocess
 from pathlib import Path
 
-FRONTS = Path(__file__).resolve().parents[1] / "front"
+PROXIES = Path(__file__).resolve().parents[1] / "proxy"
 HOST = "vault.example.com"
 START_SECONDS = 10.0
-
-
+NGINX_NAMESPACE = "            proxy_set_header X-Vault-Namespace admin;\n"
 EC = ("-newkey", "ec", "-pkeyopt", "ec_paramgen_curve:P-256", "-nodes")
 
 
@@ -39,12 +38,12 @@ def make_certificate(folder: Path, host: str = HOST) -> ssl.SSLContext:
     return context
 
 
-class Front:
-    """A HAProxy or nginx with the project's configuration."""
+class Proxy:
+    """A HAProxy or nginx with the project's configuration, with or (where it is "") without a namespace."""
 
     def __init__(self, name: str, folder: Path, port: int, namespace: str = "team-a") -> None:
         self.name, self._folder, self._port, self._namespace = name, folder, port, namespace
-        self.socket = folder / "front.sock"
+        self.socket = folder / "proxy.sock"
         self._process: asyncio.subprocess.Process | None = None
 
     @staticmethod
@@ -67,18 +66,23 @@ class Front:
             await self._process.wait()
 
     def _haproxy(self) -> tuple[list[str], dict[str, str]]:
-        return ["haproxy", "-db", "-f", str(FRONTS / "haproxy.cfg")], {
-            "FRONT_SOCKET": str(self.socket), "FRONT_GROUP": grp.getgrgid(os.getgid()).gr_name,
+        environment = {
+            "PROXY_SOCKET": str(self.socket), "PROXY_GROUP": grp.getgrgid(os.getgid()).gr_name,
             "VAULT_ADDRESS": f"127.0.0.1:{self._port}", "VAULT_HOST": HOST,
-            "VAULT_CA": str(self._folder / "ca.pem"), "VAULT_NAMESPACE": self._namespace}
+            "VAULT_CA": str(self._folder / "ca.pem")}
+        if self._namespace:
+            environment["VAULT_NAMESPACE"] = self._namespace
+        return ["haproxy", "-db", "-f", str(PROXIES / "haproxy.cfg")], environment
 
     def _nginx(self) -> tuple[list[str], dict[str, str]]:
-        text = (FRONTS / "nginx.conf").read_text()
+        text = (PROXIES / "nginx.conf").read_text()
         for old, new in (
-            ("/run/vault-front/vault.sock", str(self.socket)), ("https://vault.example.com:8200",
-             f"https://127.0.0.1:{self._port}"), ("/etc/vault-front/ca.pem", str(self._folder / "ca.pem")),
-            ("Namespace admin", f"Namespace {self._namespace}"),
+            ("/run/vault-proxy/vault.sock", str(self.socket)), ("https://vault.example.com:8200",
+             f"https://127.0.0.1:{self._port}"), ("/etc/vault-proxy/ca.pem", str(self._folder / "ca.pem")),
+            (NGINX_NAMESPACE, NGINX_NAMESPACE.replace("admin", self._namespace) if self._namespace else ""),
         ):
+            if old not in text:
+                raise ValueError(f"nginx.conf has no {old!r}")
             text = text.replace(old, new)
         (self._folder / "nginx.conf").write_text(text)
         (self._folder / "logs").mkdir(exist_ok=True)

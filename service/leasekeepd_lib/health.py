@@ -1,0 +1,36 @@
+"""`leasekeepd health`: whether all that is needed is kept, for whoever watches the service."""
+
+from __future__ import annotations
+
+from .clock import Clock, date_text
+from .engine import Engine
+from .status import EntryStatus, State, entries_of
+
+KEPT = "every needed entry is kept"
+
+
+def unkept(engine: Engine, clock: Clock, is_alive: bool) -> list[str]:
+    """A line for each entry that is needed, by itself or by one under it, and not kept; and one where the part of the service
+    that keeps them gives no sign of life. None where all is well: a request that is tried again is, as long as the entry
+    lives."""
+    now = engine.moment()
+    found = [] if is_alive else ["leasekeepd: it answers, and the part of it that keeps the entries gives no sign of life"]
+    for entry in entries_of(engine, clock):
+        why = _why(entry) if entry.carried > now else None
+        if why is not None:
+            found.append(f"{entry.name} {why}, and is needed until {date_text(entry.carried)}")
+    return found
+
+
+def _why(entry: EntryStatus) -> str | None:
+    """Why the entry is not kept; None where it is."""
+    match entry.state:
+        case State.GONE:
+            return "gone: the broker knows it no more, or denies it"
+        case State.ENDED:
+            return f"ended: at {date_text(entry.end or 0)}"
+        case State.SHORT:
+            return f"short: it can be kept until {date_text(entry.in_force)}"
+        case State.TRYING if entry.end is None:
+            return "unknown: the broker has not answered for it yet"
+    return None

@@ -1,0 +1,176 @@
+"""The shell around `leasekeep watch`: it hands in both clocks when they are asked for, changes as they come, and to a new
+process the ends that are known. It decides nothing about an entry."""
+
+from __future__ import annotations
+
+import asyncio
+from collections import deque
+from dataclasses import dataclass
+from typing import Callable, Protocol
+
+from .clock import Clock, Waiter
+from .events import Log
+from .http_client import Address
+from .inventory import Inventory, inventory_text
+from .known_ends import KnownEnds
+from .run_process import LaunchFault, Run, start_process
+from .watch_lines import Said, WatchLine, WatchLineFault, read_watch_line
+
+LONGEST_SILENCE = 15.0
+"""Seconds beyond twice the time-out for which a process may say nothing when it is asked."""
+GOOD_STRETCH = 60.0
+"""Seconds that a process goes on before the next one is started without a pause."""
+LONGEST_PAUSE = 30.0
+TICK = 0.001
+"""The clocks are handed in by the millisecond: nothing is gained by sleeping less."""
+
+
+class WatchLauncher(Protocol):
+    """Starts `leasekeep watch`. `timeout` is its S."""
+
+    @property
+    def timeout(self) -> int: ...
+
+    async def launch(self, inventory: Inventory) -> Run:
+        """Starts one on that inventory; LaunchFault where it cannot be started."""
+
+
+@dataclass(frozen=True)
+class WatchCommand:
+    """`leasekeep watch FILE PORT|SOCKET [--timeout S] [--width K]`."""
+
+    program: str
+    address: Address
+    timeout: int
+    width: int | None = None
+
+    async def launch(self, inventory: Inventory) -> Run:
+        width = [] if self.width is None else ["--width", str(self.width)]
+        return await start_process(self.program, "watch", inventory_text(inventory), self.address.word, "--timeout",
+                                   str(self.timeout), *width)
+
+
+class _Over(Exception):
+    """A process with which nothing more is to be done; the words say why."""
+
+
+class Watch:
+    """One `leasekeep watch` after the other. `heard` is told of each line that is printed."""
+
+    def __init__(self, launcher: WatchLauncher, clock: Clock, ends: KnownEnds, log: Log,
+                 heard: Callable[[WatchLine], None]) -> None:
+        self._launcher, self._clock, self._ends, self._log, self._heard = launcher, clock, ends, log, heard
+        self._inventory = self._wanted = Inventory()
+        self._changes: deque[str] = deque()
+        self._waiter = Waiter()
+        self.starts = 0
+
+    def take(self, inventory: Inventory) -> None:
+        """Goes on with another inventory, be it another entry or another secret: a new process is started on it, which is
+        handed the ends that are known."""
+        self._wanted = inventory
+        self._waiter.ring()
+
+    def need(self, inventory: Inventory, name: str, until: int) -> None:
+        """Goes on with an inventory in which that need alone is another."""
+        is_told = self._wanted is self._inventory
+        self._wanted = inventory
+        if is_told:
+            self._inventory = inventory
+            self._hand_in_soon(f"need {name} {until}")
+
+    def begin(self) -> None:
+        """Has everything looked up again."""
+        self._hand_in_soon("begin")
+
+    def _hand_in_soon(self, line: str) -> None:
+        self._changes.append(line)
+        self._waiter.ring()
+
+    async def serve(self) -> None:
+        """Runs until it is cancelled."""
+        quick = 0
+        while True:
+            began = self._clock.elapsed()
+            self._inventory = self._wanted
+            self._changes.clear()
+            why = await self._one_process()
+            if why is None:
+                continue
+            self._log.warn("watch", why)
+            quick = quick + 1 if self._clock.elapsed() - began < GOOD_STRETCH else 0
+            if quick > 1:
+                await asyncio.sleep(min(2.0 ** (quick - 2), LONGEST_PAUSE))
+
+    async def _one_process(self) -> str | None:
+        """From the start of a process to its end; why it ended, None where another inventory is to be served."""
+        self.starts += 1
+        try:
+            process = await self._launcher.launch(self._inventory)
+        except LaunchFault as fault:
+            return str(fault)
+        try:
+            for line in self._ends.known(self._inventory):
+                await self._hand_in(process, line)
+            while self._wanted is self._inventory:
+                wake = await self._hand_in(process, self._clocks())
+                if wake is not None:
+                    self._write_ends()
+                    await self._sleep(wake)
+                while self._changes and self._wanted is self._inventory:
+                    await self._hand_in(process, self._changes.popleft())
+            return None
+        except _Over as over:
+            return str(over)
+        finally:
+            self._write_ends()
+            ending = await process.end()
+            if ending.fault:
+                self._log.warn("watch", "ended with", ending.code, ending.fault)
+
+    def _clocks(self) -> str:
+        return f"clock {int(self._clock.wall() * 1000)} {self._elapsed()}"
+
+    def _elapsed(self) -> int:
+        return int(self._clock.elapsed() * 1000)
+
+    async def _sleep(self, wake: int) -> None:
+        """Sleeps until the elapsed clock is there, or a change comes."""
+        while not self._changes and self._wanted is self._inventory and self._elapsed() < wake:
+            await self._waiter.sleep(max(wake / 1000 - self._clock.elapsed(), TICK))
+
+    async def _hand_in(self, process: Run, line: str) -> int | None:
+        """Hands a line in and reads to the last that answers it; the moment to wait for, None where there is none."""
+        self._waiter.beat()
+        silence = asyncio.timeout(2 * self._launcher.timeout + LONGEST_SILENCE)
+        try:
+            async with silence:
+                await process.write_line(line)
+                while True:
+                    text = await process.read_line()
+                    if text is None:
+                        raise _Over("leasekeep watch ended")
+                    silence.reschedule(asyncio.get_running_loop().time() + 2 * self._launcher.timeout + LONGEST_SILENCE)
+                    said = read_watch_line(text)
+                    self._hear(said)
+                    if said.said.ends_answer:
+                        return int(said.words[0]) if said.words else None
+        except TimeoutError:
+            raise _Over("leasekeep watch says nothing") from None
+        except WatchLineFault as fault:
+            raise _Over(str(fault)) from None
+
+    def _hear(self, line: WatchLine) -> None:
+        if line.said is Said.END:
+            name, end, is_renewable = line.words
+            entry = self._inventory.find(name)
+            if entry is None:
+                raise WatchLineFault("leasekeep watch tells the end of an entry that it was not given")
+            self._ends.keep(entry, int(end), is_renewable == "yes")
+        self._heard(line)
+
+    def _write_ends(self) -> None:
+        try:
+            self._ends.write()
+        except OSError as error:
+            self._log.note("ends", "could not be kept:", error.strerror)

@@ -1,0 +1,127 @@
+"""What the lines of `leasekeep watch` tell of each entry and of the whole: for the log, for `status` and for metrics."""
+
+from __future__ import annotations
+
+from dataclasses import dataclass
+
+from .clock import PARTED, Clock
+from .events import Level
+from .inventory import Entry, Inventory
+from .status import EntryStatus, State
+from .watch_lines import Said, WatchLine
+
+_LEVELS = {
+    Said.END: None, Said.CLOCK: None, Said.WAIT: None, Said.PLANNED: None,
+    Said.TOP: Level.NOTE, Said.LOST: Level.WARNING, Said.REFUSED: Level.WARNING, Said.SHORT: Level.WARNING,
+    Said.ORPHAN: Level.WARNING, Said.AWAY: Level.WARNING, Said.GONE: Level.ALERT, Said.NEVER: Level.ALERT,
+}
+
+
+def level_of(line: WatchLine) -> Level | None:
+    """How grave a line is in the log; None: it is for the shell alone."""
+    return _LEVELS.get(line.said, Level.INFO)
+
+
+@dataclass
+class _Standing:
+    """One entry: its end in seconds of the elapsed clock, and `short` the moment that it was last said to reach."""
+
+    secret: str
+    end: float | None = None
+    never_ends: bool = False
+    short: int | None = None
+    trouble: str = ""
+    last_success: float | None = None
+    granted: int = 0
+    refused: int = 0
+    lost: int = 0
+
+
+class Standings:
+    """Listens to one watch after the other. `offset` is how far the broker's clock is ahead of this machine's, 0 where
+    by no more than two seconds."""
+
+    def __init__(self, clock: Clock) -> None:
+        self._clock = clock
+        self._by_name: dict[str, _Standing] = {}
+        self._is_renewal = False
+        self._told_end: int | None = None
+        self.beginnings = 0
+        self.next_wake: int | None = None
+        self.offset = 0.0
+
+    def take(self, inventory: Inventory) -> None:
+        """Listens for these entries. What was told of another credential is forgotten."""
+        self._by_name = {entry.name: self._kept(entry) for entry in inventory.entries}
+
+    def _kept(self, entry: Entry) -> _Standing:
+        standing = self._by_name.get(entry.name)
+        return standing if standing is not None and standing.secret == entry.secret else _Standing(entry.secret)
+
+    def hear(self, line: WatchLine) -> None:
+        """Takes one line in."""
+        match line.said, line.words:
+            case Said.BEGIN, _:
+                self.beginnings += 1
+            case (Said.LOOK | Said.RENEW) as said, _:
+                self._is_renewal = said is Said.RENEW
+            case Said.NEXT, (moment, *names):
+                self.next_wake = int(moment) if names else None
+            case said, (name, *rest) if name in self._by_name:
+                self._hear_of(self._by_name[name], said, rest)
+
+    def _hear_of(self, standing: _Standing, said: Said, rest: list[str]) -> None:
+        match said:
+            case Said.ENTRY:
+                standing.trouble, standing.never_ends, self._told_end = "", False, int(rest[0])
+            case Said.TOLD:
+                standing.trouble, standing.last_success = "", self._clock.wall()
+                standing.granted += 1
+            case Said.END:
+                standing.end = int(rest[0]) / 1000
+                self._take_offset(standing.end)
+            case Said.LOST:
+                standing.trouble = standing.trouble if standing.trouble == "gone" else "lost"
+                standing.lost += self._is_renewal
+            case Said.REFUSED:
+                standing.trouble = standing.trouble if standing.trouble == "gone" else "refused"
+                standing.refused += self._is_renewal
+            case Said.GONE:
+                standing.trouble = "gone"
+            case Said.NEVER:
+                standing.never_ends = True
+            case Said.SHORT:
+                standing.short = int(rest[0])
+
+    def _take_offset(self, end: float) -> None:
+        """A lookup's end is told by the broker's clock, and then by the elapsed one."""
+        if self._told_end is not None:
+            apart = self._told_end - end - (self._clock.wall() - self._clock.elapsed())
+            self.offset = apart if abs(apart) > PARTED else 0.0
+            self._told_end = None
+
+    def moment(self) -> float:
+        """The present moment by the broker's clock."""
+        return self._clock.wall() + self.offset
+
+    def entries(self, inventory: Inventory) -> list[EntryStatus]:
+        """How each entry stands."""
+        return [self._status(entry, inventory.carried[entry.name]) for entry in inventory.entries]
+
+    def _status(self, entry: Entry, carried: int) -> EntryStatus:
+        standing, now = self._kept(entry), self.moment()
+        has_end = standing.end is not None and not standing.never_ends
+        end = now + standing.end - self._clock.elapsed() if standing.end is not None and has_end else None
+        # A grant that led beyond what it was said to reach has shown that it reaches further.
+        is_short = standing.short is not None and standing.short < entry.need and (end is None or end <= standing.short + 1)
+        state, in_force = State.KEPT, entry.need
+        if standing.trouble == "gone":
+            state, in_force = State.GONE, 0
+        elif end is not None and end <= now:
+            state, in_force = State.ENDED, 0
+        elif is_short and standing.short is not None:
+            state, in_force = State.SHORT, standing.short
+        elif standing.trouble or (end is None and not standing.never_ends):
+            state = State.TRYING
+        return EntryStatus(entry.name, state, end, entry.need, carried, in_force, standing.last_success, standing.granted,
+                           standing.refused, standing.lost, standing.trouble)

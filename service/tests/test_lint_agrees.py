@@ -1,0 +1,96 @@
+"""`lint` and `leasekeep` judge alike: random inventories with mistakes are refused by both or by neither, and what leasekeep names
+first is among what lint names."""
+
+from __future__ import annotations
+
+import os
+import random
+import subprocess
+import tempfile
+import unittest
+from pathlib import Path
+
+from leasekeepd_lib.findings import Finding, Severity
+from leasekeepd_lib.lint import lint
+from trial.programs import find_program
+
+CASES = int(os.environ.get("CASES", "100"))
+SEED = int(os.environ.get("SEED", "1"))
+NOW = 1500.0
+NAMES = "abcdefgh"
+KEYS = ("name", "parent", "issued", "end", "renewable", "increment", "period", "max_ttl", "explicit_max_ttl", "need", "secret", "token",
+        "lease_id", "nam", "secret_file", "margin")
+VALUES = ('"a"', '"b"', '"c"', "1000", "2000", "0", "-1", "true", "false", '"true"', '"2026-11-22T09:00:00Z"', '"2026-13-01T00:00:00Z"',
+          "2026-11-22T09:00:00Z", "1.5", "4294967295", "4294967296", "253402300799", "253402300800", "257697268094", "257697268095",
+          '"x y"', '""', "[]", "60", "61", "3", '"hvs.x"', '"é"', "{}", "{a=1}")
+
+
+def a_table(chance: random.Random, kind: str, name: str, tokens: str) -> str:
+    """A table that is mostly good, with up to two mistakes."""
+    values = {"name": f'"{name}"', "issued": "1000", "end": "2000", "increment": "100"}
+    above = chance.choice(NAMES if chance.random() < 0.15 or not tokens else tokens)
+    if kind == "lease":
+        values["token"] = f'"{above}"'
+    elif tokens and chance.random() < 0.5:
+        values["parent"] = f'"{above}"'
+    if chance.random() < 0.3:
+        values["secret" if kind == "token" else "lease_id"] = f'"s.{chance.randrange(3)}"'
+    for _ in range(chance.choice((0, 0, 0, 0, 1, 2))):
+        key = chance.choice(KEYS)
+        if chance.random() < 0.3:
+            values.pop(key, None)
+        else:
+            values[key] = chance.choice(VALUES)
+    head = kind if chance.random() < 0.97 else f"{kind}s"
+    return f"[[{head}]]\n" + "".join(f"{key} = {value}\n" for key, value in values.items())
+
+
+def an_inventory(chance: random.Random) -> str:
+    text = "\ufeff" if chance.random() < 0.1 else ""
+    if chance.random() < 0.5:
+        text += f"margin = {chance.choice((1, 20, 60, 99, 100, 3600, 3601, 0, -1))}\n"
+    if chance.random() < 0.1:
+        text += f"{chance.choice(('system_max', 'system_max', 'sytem_max', 'foo'))} = {chance.choice((1, 0, 100, 4294967296))}\n"
+    tokens = ""
+    names = iter(NAMES)
+    for kind, most in (("token", 4), ("lease", 3)):
+        for _ in range(chance.randrange(most)):
+            name = next(names) if chance.random() < 0.9 else chance.choice(NAMES)
+            text += a_table(chance, kind, name, tokens)
+            tokens += name if kind == "token" else ""
+    return text
+
+
+def named(key: str, found: list[Finding]) -> bool:
+    """Whether a fault is about that key, or about a slip that was meant to be it."""
+    return any(fault.key == key or f"did you mean {key}?" in fault.mend or f"write {key}," in fault.mend for fault in found)
+
+
+class Agreement(unittest.TestCase):
+    def test_what_leasekeep_refuses(self) -> None:
+        program = find_program("leasekeep")
+        if program is None:
+            self.skipTest("no built leasekeep")
+        refused = 0
+        chance = random.Random(SEED)
+        with tempfile.TemporaryDirectory() as folder:
+            file = Path(folder) / "inventory.toml"
+            for case in range(CASES):
+                text = an_inventory(chance)
+                file.write_text(text, "utf-8")
+                ran = subprocess.run([program, "ends", str(file), "0"], capture_output=True, text=True, timeout=120)
+                found = [one for one in lint(text.encode(), 0o600, 1, NOW, True)
+                         if one.severity is Severity.FAULT and "under four times the time-out" not in one.problem]
+                said = [one.text("f") for one in found]
+                self.assertEqual(ran.returncode == 1, bool(found), f"case {case}: {ran.stderr}{said}\n{text}")
+                words = ran.stderr.split()
+                if "bad-value" in words or "missing-key" in words:
+                    self.assertTrue(named(words[-1], found), f"case {case}: {ran.stderr}{said}\n{text}")
+                refused += ran.returncode == 1
+        if CASES >= 100:
+            self.assertGreater(refused, CASES // 4)
+            self.assertLess(refused, CASES * 9 // 10)
+
+
+if __name__ == "__main__":
+    unittest.main()

@@ -1,0 +1,183 @@
+"""The alert rules and the dashboard that are shipped: by promtool, and in a real Prometheus beside a real service."""
+
+from __future__ import annotations
+
+import http.server
+import json
+import re
+import subprocess
+import tempfile
+import threading
+import time
+import unittest
+import urllib.parse
+import urllib.request
+from pathlib import Path
+from shutil import which
+from typing import Any
+
+from leasekeepd_lib.inventory import Entry, Kind
+
+from .test_process import SERVICE, Daemon, WithBroker
+from .test_status import EXPECTED
+
+MONITORING = SERVICE / "monitoring"
+RULES, DASHBOARD = MONITORING / "leasekeepd.rules.yml", MONITORING / "dashboard.json"
+PORT_WORDS = re.compile(r"Listening on.*address=127\.0\.0\.1:(\d+)")
+NEED = 'leasekeepd_need_carried_timestamp_seconds{entry="web"}'
+WRITTEN = "leasekeepd_metrics_written_timestamp_seconds"
+
+
+def expressions() -> list[str]:
+    """What the dashboard asks, for every job and instance."""
+    panels = json.loads(DASHBOARD.read_text())["panels"]
+    return [target["expr"].replace("$job", ".*").replace("$instance", ".*") for panel in panels
+            for target in panel["targets"]]
+
+
+def state(name: str) -> str:
+    return f'leasekeepd_state{{entry="web",state="{name}"}}'
+
+
+class Shipped(unittest.TestCase):
+    def test_they_ask_for_what_is_there_and_for_all_of_it(self) -> None:
+        there = set(re.findall(r"# TYPE (\w+)", EXPECTED))
+        rules = set(re.findall(r"leasekeepd_\w+", RULES.read_text()))
+        dashboard = set(re.findall(r"leasekeepd_\w+", " ".join(expressions())))
+        self.assertEqual(rules - there, set())
+        self.assertEqual(dashboard | rules, there)
+
+    def test_panels_stand_beside_each_other(self) -> None:
+        taken: set[tuple[int, int]] = set()
+        panels = json.loads(DASHBOARD.read_text())["panels"]
+        for panel in panels:
+            place = panel["gridPos"]
+            cells = {(x, y) for x in range(place["x"], place["x"] + place["w"])
+                     for y in range(place["y"], place["y"] + place["h"])}
+            self.assertFalse(cells & taken, panel["title"])
+            self.assertLessEqual(max(x for x, _ in cells), 23)
+            taken |= cells
+        self.assertEqual(len({panel["id"] for panel in panels}), len(panels))
+
+
+@unittest.skipIf(which("promtool") is None, "promtool is not installed")
+class Rules(unittest.TestCase):
+    def promtool(self, *words: str) -> None:
+        said = subprocess.run(["promtool", *words], capture_output=True, text=True, timeout=60)
+        self.assertEqual(said.returncode, 0, said.stdout + said.stderr)
+
+    def test_promtool_takes_them(self) -> None:
+        self.promtool("check", "rules", "--lint=all", "--lint-fatal", str(RULES))
+
+    def test_when_each_one_fires(self) -> None:
+        """Times count from 1970-01-01T00:00:00Z on: `web` is needed until 10,000."""
+        def case(series: dict[str, str], *fires: tuple[str, str, int]) -> dict[str, Any]:
+            told: dict[tuple[str, int], list[dict[str, Any]]] = {}
+            for alert, seconds, count in fires:
+                told[alert, int(seconds)] = [{}] * count
+            return {"interval": "15s",
+                    "input_series": [{"series": name, "values": values} for name, values in series.items()],
+                    "promql_expr_test": [
+                        {"expr": f'count(ALERTS{{alertname="{alert}",alertstate="firing"}}) or vector(0)',
+                         "eval_time": f"{seconds}s", "exp_samples": [{"labels": "{}", "value": len(found)}]}
+                        for (alert, seconds), found in told.items()]}
+        up = {WRITTEN: "0+15x100"}
+        needed = {**up, NEED: "10000x100"}
+        tests = [
+            case({WRITTEN: "0+15x4 60x40"}, ("LeasekeepdDown", "105", 0), ("LeasekeepdDown", "135", 1)),
+            case({}, ("LeasekeepdDown", "15", 1)),
+            *(case({**needed, state(name): "0x4 1x10 0x20"}, (alert, "45", 0), (alert, "75", 1), (alert, "300", 0))
+              for name, alert in (("gone", "LeasekeepdEntryGone"), ("ended", "LeasekeepdEntryEnded"),
+                                  ("short", "LeasekeepdEntryShort"))),
+            *(case({**up, NEED: "60x100", state(name): "1x100"}, (alert, "45", 1), (alert, "75", 0))
+              for name, alert in (("gone", "LeasekeepdEntryGone"), ("ended", "LeasekeepdEntryEnded"),
+                                  ("short", "LeasekeepdEntryShort"))),
+            case({**needed, state("trying"): "1x100"}, ("LeasekeepdEntryTried", "285", 0), ("LeasekeepdEntryTried", "315", 1)),
+            case({**up, NEED: "60x100", state("trying"): "1x100"}, ("LeasekeepdEntryTried", "330", 0)),
+            case({**needed, 'leasekeepd_end_timestamp_seconds{entry="web"}': "500x100", "leasekeepd_margin_seconds":
+                  "120x100"}, ("LeasekeepdEndNear", "435", 0), ("LeasekeepdEndNear", "450", 1)),
+            case({**up, NEED: "500x100", 'leasekeepd_end_timestamp_seconds{entry="web"}': "500x100",
+                  "leasekeepd_margin_seconds": "120x100"}, ("LeasekeepdEndNear", "450", 0)),
+            case({**up, "leasekeepd_config_last_reload_successful": "1x4 0x10"}, ("LeasekeepdFileFaulty", "45", 0),
+                 ("LeasekeepdFileFaulty", "75", 1)),
+            *(case({**up, "leasekeepd_clock_offset_seconds": f"{offset}x100"}, ("LeasekeepdClockOff", "330", fires))
+              for offset, fires in ((2, 0), (3, 1), (-3, 1), (0, 0))),
+            case({**up, "leasekeepd_log_dropped_lines_total": "5x10 7x100"}, ("LeasekeepdLogDropped", "135", 0),
+                 ("LeasekeepdLogDropped", "180", 1), ("LeasekeepdLogDropped", "1200", 0)),
+        ]
+        with tempfile.TemporaryDirectory() as folder:
+            file = Path(folder) / "tests.yml"
+            file.write_text(json.dumps({"rule_files": [str(RULES)], "evaluation_interval": "15s", "tests": tests}))
+            self.promtool("test", "rules", str(file))
+
+
+class _Metrics(http.server.BaseHTTPRequestHandler):
+    """The metrics file, as a node exporter hands it on."""
+
+    file: Path
+
+    def do_GET(self) -> None:
+        body = self.file.read_bytes() if self.file.exists() else b""
+        self.send_response(200)
+        self.send_header("Content-Type", "text/plain; version=0.0.4")
+        self.end_headers()
+        self.wfile.write(body)
+
+    def log_message(self, format: str, *words: object) -> None:
+        pass
+
+
+@unittest.skipIf(which("promtool") is None or which("prometheus") is None, "Prometheus is not installed")
+class InPrometheus(WithBroker):
+    def asked(self, path: str) -> Any:
+        with urllib.request.urlopen(f"http://127.0.0.1:{self.port}/api/v1/{path}", timeout=5) as reply:
+            return json.load(reply)["data"]
+
+    def start_prometheus(self, exporter: int) -> None:
+        config = self.folder / "prometheus.yml"
+        config.write_text(json.dumps({
+            "global": {"scrape_interval": "1s", "scrape_timeout": "1s", "evaluation_interval": "1s"},
+            "rule_files": [str(RULES)],
+            "scrape_configs": [{"job_name": "leasekeepd", "static_configs": [{"targets": [f"127.0.0.1:{exporter}"]}]}]}))
+        log = self.folder / "prometheus.log"
+        with open(log, "wb") as output:
+            process = subprocess.Popen(
+                ["prometheus", f"--config.file={config}", f"--storage.tsdb.path={self.folder / 'data'}",
+                 "--web.listen-address=127.0.0.1:0"], stdout=output, stderr=output)
+        self.addCleanup(process.wait)
+        self.addCleanup(process.kill)
+        end = time.monotonic() + 30
+        while not (listens := PORT_WORDS.search(log.read_text())):
+            self.assertLess(time.monotonic(), end, log.read_text())
+            time.sleep(0.1)
+        self.port = int(listens[1])
+
+    def test_a_rule_fires_and_every_panel_has_an_answer(self) -> None:
+        gone = Entry("nobody", Kind.LEASE, "app", 1000, 1060, increment=16, need=self.inventory.entries[0].need,
+                     credential="db/creds/nobody")
+        metrics = self.folder / "leasekeepd.prom"
+        handler = type("Handler", (_Metrics,), {"file": metrics})
+        exporter = http.server.ThreadingHTTPServer(("127.0.0.1", 0), handler)
+        threading.Thread(target=exporter.serve_forever, daemon=True).start()
+        self.addCleanup(exporter.shutdown)
+        self.start_prometheus(exporter.server_address[1])
+        self.inventory = type(self.inventory)((*self.inventory.entries, gone), 12)
+        daemon: Daemon = self.daemon("--metrics", str(metrics), environment={"WATCHDOG_USEC": "1500000"})
+        daemon.wait_for("alert: gone nobody")
+        end = time.monotonic() + 40
+        while not (fired := {(alert["labels"]["alertname"], alert["labels"].get("entry")) for alert in
+                             self.asked("alerts")["alerts"] if alert["state"] == "firing"
+                             if alert["labels"]["alertname"] != "LeasekeepdDown"}):
+            self.assertLess(time.monotonic(), end, "no rule fires")
+            time.sleep(0.2)
+        self.assertEqual(fired, {("LeasekeepdEntryGone", "nobody")})
+        for expression in expressions():
+            while not (found := self.asked("query?" + urllib.parse.urlencode({"query": expression}))["result"]):
+                self.assertLess(time.monotonic(), end, f"no answer to {expression}")
+                time.sleep(0.2)
+            if "state=\"gone\"" in expression and " or vector(0)" in expression:
+                self.assertEqual(found[0]["value"][1], "1")
+
+
+if __name__ == "__main__":
+    unittest.main()

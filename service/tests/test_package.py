@@ -1,0 +1,110 @@
+"""The Debian package and the archive: what is in them, and that they work in a system without the clone."""
+
+from __future__ import annotations
+
+import os
+import shutil
+import stat
+import subprocess
+import tarfile
+import tempfile
+import unittest
+from pathlib import Path
+
+from trial.programs import find_program
+
+TOP = Path(__file__).resolve().parents[2]
+VERSION = (TOP / "VERSION").read_text().strip()
+
+
+def programs(folder: Path) -> Path:
+    """A folder with both built programs; SkipTest where one is not built."""
+    folder.mkdir()
+    for name in ("leasekeep", "minibroker"):
+        found = find_program(name)
+        if found is None:
+            raise unittest.SkipTest(f"no built {name}")
+        shutil.copy(found, folder / name)
+    return folder
+
+
+@unittest.skipIf(shutil.which("dpkg-deb") is None or shutil.which("strip") is None, "dpkg-deb or strip is not installed")
+class Package(unittest.TestCase):
+    folder: Path
+    deb: Path
+    tar: Path
+    root: Path
+
+    @classmethod
+    def setUpClass(cls) -> None:
+        cls.folder = Path(tempfile.mkdtemp())
+        cls.addClassCleanup(shutil.rmtree, cls.folder, True)
+        built = programs(cls.folder / "programs")
+        said = subprocess.run([str(TOP / "scripts" / "package"), "--built", str(built), str(cls.folder / "out")], check=True,
+                              capture_output=True, text=True, timeout=600).stdout
+        cls.deb, cls.tar = (Path(line) for line in said.splitlines())
+        cls.root = cls.folder / "root"
+        subprocess.run(["dpkg-deb", "-R", str(cls.deb), str(cls.root)], check=True, timeout=60)
+
+    def test_what_is_in_it(self) -> None:
+        for file, mode in (
+            ("usr/bin/leasekeep", 0o755), ("usr/bin/minibroker", 0o755), ("usr/lib/leasekeep/leasekeepd", 0o755),
+            ("usr/lib/leasekeep/leasekeep-draw", 0o755), ("lib/systemd/system/leasekeep.service", 0o644),
+            ("usr/lib/sysusers.d/leasekeep.conf", 0o644), ("usr/lib/tmpfiles.d/leasekeep.conf", 0o644),
+            ("usr/share/man/man1/leasekeepd.1.gz", 0o644), ("usr/share/man/man1/leasekeep.1.gz", 0o644),
+            ("usr/share/bash-completion/completions/leasekeepd", 0o644), ("usr/share/zsh/vendor-completions/_leasekeep", 0o644),
+            ("usr/share/fish/vendor_completions.d/minibroker.fish", 0o644), ("usr/share/doc/leasekeep/examples/haproxy.cfg", 0o644),
+            ("usr/share/doc/leasekeep/examples/web.toml", 0o644), ("DEBIAN/postinst", 0o755), ("DEBIAN/prerm", 0o755),
+        ):
+            with self.subTest(file=file):
+                self.assertEqual(stat.S_IMODE((self.root / file).stat().st_mode), mode)
+        self.assertFalse((self.root / "usr/local").exists())
+
+    def test_nothing_in_it_speaks_of_usr_local_or_of_the_clone(self) -> None:
+        unit = (self.root / "lib/systemd/system/leasekeep.service").read_text()
+        self.assertIn("ExecStart=/usr/bin/leasekeepd serve ", unit)
+        self.assertIn("--leasekeep /usr/bin/leasekeep ", unit)
+        for file in self.root.rglob("*"):
+            if file.is_file() and not file.is_symlink() and file.suffix not in (".gz", ".md5sums"):
+                self.assertNotIn(str(TOP).encode(), file.read_bytes(), file)
+
+    def test_its_fields(self) -> None:
+        shown = subprocess.run(["dpkg-deb", "-f", str(self.deb), "Package", "Version", "Depends"], check=True, capture_output=True,
+                               text=True, timeout=60).stdout
+        self.assertIn(f"Package: leasekeep\nVersion: {VERSION}\n", shown)
+        self.assertIn("python3 (>= 3.11)", shown)
+        self.assertIn("libc6", shown)
+
+    def test_the_programs_run_from_where_they_are_unpacked(self) -> None:
+        environment = {"PATH": os.environ["PATH"], "HOME": str(self.folder)}
+        subprocess.run(["tar", "-xzf", str(self.tar), "-C", str(self.folder)], check=True, timeout=60)
+        for folder in (self.root / "usr/bin", self.folder / f"leasekeep-{VERSION}" / "bin"):
+            for program in ("leasekeep", "minibroker", "leasekeepd", "leasekeep-draw"):
+                ran = subprocess.run([str(folder / program), "--version"], capture_output=True, text=True, timeout=60, env=environment)
+                self.assertEqual((ran.returncode, ran.stdout), (0, f"{program} {VERSION}\n"), ran.stderr)
+
+    def test_the_archive_is_for_usr_local(self) -> None:
+        with tarfile.open(self.tar) as archive:
+            names = {member.name for member in archive}
+            owners = {(member.uid, member.gid) for member in archive}
+            unit = archive.extractfile(f"leasekeep-{VERSION}/lib/systemd/system/leasekeep.service")
+            assert unit is not None
+            self.assertIn(b"ExecStart=/usr/local/bin/leasekeepd serve ", unit.read())
+        self.assertEqual(owners, {(0, 0)})
+        for file in ("bin/leasekeep", "bin/leasekeepd", "lib/sysusers.d/leasekeep.conf", "share/man/man1/leasekeep-draw.1",
+                     "share/leasekeep/installed"):
+            self.assertIn(f"leasekeep-{VERSION}/{file}", names)
+
+    @unittest.skipIf(shutil.which("lintian") is None, "lintian is not installed")
+    def test_lintian_has_no_error(self) -> None:
+        said = subprocess.run(["lintian", "--fail-on", "error", "--allow-root", str(self.deb)], capture_output=True, text=True, timeout=300)
+        self.assertEqual(said.returncode, 0, said.stdout + said.stderr)
+
+    def test_its_scripts_are_taken_by_the_shell(self) -> None:
+        for script in ("postinst", "prerm", "postrm"):
+            checked = subprocess.run(["sh", "-n", str(self.root / "DEBIAN" / script)], capture_output=True, text=True, timeout=60)
+            self.assertEqual((checked.returncode, checked.stderr), (0, ""))
+
+
+if __name__ == "__main__":
+    unittest.main()
