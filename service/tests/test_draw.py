@@ -330,7 +330,7 @@ class Command(unittest.TestCase):
 
     def test_its_man_page_begins_with_what_it_is_for(self) -> None:
         ran = subprocess.run(
-            [sys.executable, str(SERVICE.parent / "scripts" / "man"), str(SERVICE / "leasekeep-draw"), "leasekeep-draw"],
+            [sys.executable, str(SERVICE.parent / "tools" / "man"), str(SERVICE / "leasekeep-draw"), "leasekeep-draw"],
             capture_output=True, text=True, timeout=30, check=True,
         )
         self.assertIn("\n.SH NAME\nleasekeep-draw \\- Draws the lives and renewals", ran.stdout)

@@ -21,7 +21,7 @@ from leasekeepd_lib.cli import _parser as daemon_parser
 from trial.programs import find_program
 
 TOP = Path(__file__).resolve().parents[2]
-MAN = TOP / "scripts" / "man"
+MAN = TOP / "tools" / "man"
 
 
 PLACES = {"": "man/man1/{}.1", "bash": "bash-completion/completions/{}", "zsh": "zsh/site-functions/_{}",
@@ -30,7 +30,7 @@ PLACES = {"": "man/man1/{}.1", "bash": "bash-completion/completions/{}", "zsh": 
 
 @functools.cache
 def written(name: str) -> dict[str, str]:
-    """What scripts/man makes of a program: the page as "", the completions by their shell."""
+    """What tools/man makes of a program: the page as "", the completions by their shell."""
     own = TOP / "service" / name
     program = str(own) if own.exists() else find_program(name)
     if program is None:

@@ -53,7 +53,7 @@ def find_program(name: str, may_build: bool = False, may_be_slow: bool = True) -
         if is_live(name, str(build)):
             return str(build)
     if may_build and shutil.which("rt"):
-        built = subprocess.run([str(TOP / "scripts" / "build-unproved"), name], stdout=subprocess.PIPE, text=True,
+        built = subprocess.run([str(TOP / "tools" / "build-unproved"), name], stdout=subprocess.PIPE, text=True,
                                timeout=BUILD_SECONDS)
         program = built.stdout.strip()
         if built.returncode == 0 and is_live(name, program):

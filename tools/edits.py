@@ -1,4 +1,4 @@
-"""What the scripts share that try wrong bodies: edits, and the function that an edit changes.
+"""What the tools share that try wrong bodies: edits, and the function that an edit changes.
 
 An edit is a file of `crates/NAME/must-fail/` or `crates/NAME/also-fail/` with a line `file: src/what.rt` and then pairs
 of lines `old: TEXT` and `new: TEXT`; each old text stands once in that file. One that changes anything outside functions, as a

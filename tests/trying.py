@@ -1,4 +1,4 @@
-"""What the scripts share that try the programs: inventories, runs, an agent that is told each moment, and a broker whose
+"""What the suites share that try the programs: inventories, runs, an agent that is told each moment, and a broker whose
 replies are written by hand."""
 
 from __future__ import annotations
