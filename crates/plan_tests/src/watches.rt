@@ -99,6 +99,36 @@ fn waits<R: Abort>(
     Ok(())
 }
 
+// In each of these seconds it waits for the next.
+fn is_calm<R: Abort>(
+    rt: &R,
+    alloc: Global,
+    watch: &mut Watch,
+    from: u32,
+    until: u32,
+) -> Result<(), Fail> {
+    for second in from..until {
+        let at = u64::from(second) * 1000;
+        waits(rt, alloc, watch, at, at + 1000)?;
+    }
+    Ok(())
+}
+
+// A round opens in this second, which asks the only entry to be renewed.
+fn opens<R: Abort>(rt: &R, alloc: Global, watch: &mut Watch, second: u32) -> Result<(), Fail> {
+    let wake = watch.step(alloc, clock(u64::from(second) * 1000))?;
+    assert!(rt; wake.notes.round.is_some(), "a round at {second}");
+    assert!(rt;
+        asks(&wake.command, 0, Operation::Renew),
+        "a renewal at {second}"
+    );
+    watch.step(alloc, renewed(0, 60))?;
+    Ok(())
+}
+
+// From the start, and from each round, to the next one.
+const ROUNDS: [(u32, u32); 3] = [(1000, 1059), (1059, 1118), (1118, 1177)];
+
 #[test]
 fn the_example_of_its_page(rt: HostRuntime) -> Result<(), Fail> {
     let alloc = rt.alloc();
@@ -107,18 +137,9 @@ fn the_example_of_its_page(rt: HostRuntime) -> Result<(), Fail> {
     assert_eq!(rt; first.notes.began, Some(Why::Start));
     assert!(rt; asks(&first.command, 0, Operation::Look));
     watch.step(alloc, looked(0, told(60)))?;
-    for round in 0..3 {
-        let opens = 1059 + 59 * round;
-        for second in opens - 59..opens {
-            waits(&rt, alloc, &mut watch, second * 1000, (second + 1) * 1000)?;
-        }
-        let wake = watch.step(alloc, clock(opens * 1000))?;
-        assert!(rt; wake.notes.round.is_some(), "a round at {opens}");
-        assert!(rt;
-            asks(&wake.command, 0, Operation::Renew),
-            "a renewal at {opens}"
-        );
-        watch.step(alloc, renewed(0, 60))?;
+    for (from, until) in &ROUNDS {
+        is_calm(&rt, alloc, &mut watch, *from, *until)?;
+        opens(&rt, alloc, &mut watch, *until)?;
     }
     waits(&rt, alloc, &mut watch, 1_177_000, 1_178_000)?;
     waits(&rt, alloc, &mut watch, 1_240_000, 1_241_000)?;
@@ -141,26 +162,25 @@ fn refusals_leave_it_as_it_was(rt: HostRuntime) -> Result<(), Fail> {
     waits(&rt, alloc, &mut watch, 1_000_000, 1_001_000)
 }
 
+// A slice of lookups goes out, as wide as may be, and each is answered.
+fn looks_up(alloc: Global, watch: &mut Watch) -> Result<bool, Fail> {
+    match watch.step(alloc, clock(1_000_000))?.command {
+        Command::Ask { requests, .. } => {
+            for request in requests.list() {
+                watch.step(alloc, looked(request.entry, told(60)))?;
+            }
+            Ok(requests.list().len() == 32)
+        }
+        _ => Ok(false),
+    }
+}
+
 #[test]
 fn as_many_entries_as_there_may_be(rt: HostRuntime) -> Result<(), Fail> {
     let alloc = rt.alloc();
     let mut watch = watch_of(alloc, 4096, 1200, WIDTH_MAX)?;
-    let mut slices = 0;
-    loop {
-        let output = watch.step(alloc, clock(1_000_000))?;
-        match output.command {
-            Command::Ask { requests, .. } => {
-                slices += 1;
-                for request in requests.list() {
-                    watch.step(alloc, looked(request.entry, told(60)))?;
-                }
-            }
-            Command::Wait(until) => {
-                assert_eq!(rt; until, 1_001_000);
-                assert_eq!(rt; slices, 128);
-                return Ok(());
-            }
-            Command::Taken => assert!(rt; false, "a clock is taken"),
-        }
+    for _ in 0..128u32 {
+        assert!(rt; looks_up(alloc, &mut watch)?);
     }
+    waits(&rt, alloc, &mut watch, 1_000_000, 1_001_000)
 }
