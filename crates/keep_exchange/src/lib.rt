@@ -31,7 +31,7 @@ pub use asking::ask;
 pub use exchange::{Exchange, can_carry};
 pub use fault::ExchangeFault;
 pub use heard::{Heard, Terms, hear_lookup, hear_renewal};
-pub use looking::look_up;
+pub use looking::{look_up, lookup_for};
 pub use memory::MemoryExchange;
 pub use patience::PATIENCE;
 pub use requests::request_for;

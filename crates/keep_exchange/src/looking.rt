@@ -48,9 +48,10 @@ pub fn look_up<E: Exchange>(
     }
 }
 
-/// The request that looks an entry up: a token with its own credential, a lease with that of the token it belongs to.
+/// The request that looks an entry up, to a broker at that port: a token with its own credential, a lease with that of the
+/// token it belongs to. The only error is want of memory.
 #[tactic(auto, unfolding(crate::specs::Requests::lookup_of))]
-fn lookup_for(
+pub fn lookup_for(
     alloc: Global,
     port: u16,
     inventory: &Inventory,

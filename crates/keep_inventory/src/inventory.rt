@@ -85,6 +85,14 @@ impl Inventory {
         self.credentials.get(index)
     }
 
+    /// The credentials, one for each entry of the forest.
+    pub fn credentials(&self) -> &Credentials
+        ensures value { result.now ≡ self.now.credentials }
+        ensures sound { IsInventory self.now }
+    {
+        &self.credentials
+    }
+
     /// The terms of the entry at an index.
     pub fn terms(&self, index: u32) -> Terms
         requires { index < length self.now.forest.entries }
@@ -121,7 +129,7 @@ impl Inventory {
 
     /// Why what a broker has said is not applied to an entry, `None` where it is.
     #[tactic(auto, unfolding(crate::specs::Lookup::lookup_fault))]
-    fn lookup_fault(&self, index: u32, lookup: &Lookup) -> Option<LookupFault>
+    pub fn lookup_fault(&self, index: u32, lookup: &Lookup) -> Option<LookupFault>
         requires { index < length self.now.forest.entries }
         ensures { result ≡ lookup_fault self.now index lookup.now }
     {

@@ -29,5 +29,5 @@ pub use laws::{
     secrets_stay_in_credentials,
 };
 pub use limits::{CREDENTIAL_MAX, MOST_INVENTORY, SPAN_MAX, SYSTEM_MAX};
-pub use lookup::LookupFault;
+pub use lookup::{LookupFault, told_terms};
 pub use terms::Terms;

@@ -40,7 +40,7 @@ pub(crate) fn is_lease(kind: Kind) -> bool
 }
 
 /// The terms of an entry as a lookup makes them.
-pub(crate) fn told_terms(lookup: &Lookup, terms: Terms) -> Terms
+pub fn told_terms(lookup: &Lookup, terms: Terms) -> Terms
     ensures { result ≡ told_terms lookup.now terms }
 {
     match lookup {

@@ -23,7 +23,7 @@ pub struct Terms {
 
 impl Terms {
     /// What a renewal asks for: the period where it is not 0, else the increment.
-    pub(crate) fn step(&self) -> Span
+    pub fn step(&self) -> Span
         ensures { result ≡ step_of self.now }
     {
         if self.period == 0 {
@@ -34,7 +34,7 @@ impl Terms {
     }
 
     /// The moment past which no renewal leads, in seconds since 1970-01-01T00:00:00Z; `None` where there is none.
-    pub(crate) fn ceiling(&self) -> Option<u64>
+    pub fn ceiling(&self) -> Option<u64>
         ensures value { result ≡ ceiling_of self.now }
         ensures within { IfSome result (λ c. c ≤ END_MAX) }
     {

@@ -27,6 +27,7 @@ mod waking;
 pub use event_line::{Heard, MOST_LINE, heard_in};
 pub use feeding::Feeding;
 pub use hearing::hear;
+pub use lines::push_numbered;
 pub use listening::{EVENT_ROOM, MOST_EVENT_READS, MOST_EVENTS};
 pub use live::run_live;
 pub use playing::MOST_WAKES;

@@ -116,8 +116,8 @@ pub(crate) fn push_answer_line(
     }
 }
 
-/// Appends these words, a name, a blank, a number and a line feed.
-fn push_numbered(
+/// Appends these words, a name, a blank, a number and a line feed. The only error is want of memory.
+pub fn push_numbered(
     alloc: Global,
     words: &[u8],
     name: &[u8],
