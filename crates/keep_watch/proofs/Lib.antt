@@ -25,3 +25,5 @@ pub mod Retried
 pub mod Examples
 pub mod Steps
 pub mod Within
+pub mod Written
+pub mod Replying

@@ -1,6 +1,9 @@
-ghost use Rattle.std.specs.Prelude.{◌≡◌, false, length};
-ghost use Rattle.keep_watch.specs.Beginning.{hastened};
-ghost use Rattle.keep_watch.specs.code.Tracks.{is_open_for, owed_for};
+ghost use Rattle.std.specs.Prelude.{◌≡◌, ◌≤◌, IfSome, false, length};
+ghost use Rattle.std.specs.List.{All};
+ghost use Rattle.keep_watch.specs.Beginning.{hastened, is_day_old, rested};
+ghost use Rattle.keep_watch.specs.code.Bounds.{IsBook, IsTrack};
+ghost use Rattle.keep_watch.specs.code.Tracks.{each_track, is_open_for, owed_for, owing_track, soon_for, untopped_track};
+ghost use Rattle.keep_watch.specs.declared.clocks.TheConstants.{READING_MAX};
 
 use crate::book::Book;
 use crate::clocks::second;
@@ -13,7 +16,9 @@ use keep_needs::Carried;
 
 impl Book {
     /// Why everything is looked up anew, `None` where it is not; `jumped` says that a clock has stepped.
-    pub(crate) fn beginning(&self, jumped: bool) -> Option<Why> {
+    pub(crate) fn beginning(&self, jumped: bool) -> Option<Why>
+        requires { IsBook self.now }
+    {
         if self.begun.is_none() {
             Some(Why::Start)
         } else if jumped {
@@ -28,10 +33,13 @@ impl Book {
     }
 
     /// Whether the last beginning is a day ago.
-    fn is_day_old(&self) -> bool {
+    fn is_day_old(&self) -> bool
+        requires { IsBook self.now }
+        ensures { result ≡ is_day_old self.now.begun self.now.clocks.at }
+    {
         match self.begun {
             None => false,
-            Some(begun) => begun.saturating_add(DAY) <= self.clocks.at,
+            Some(begun) => begun + DAY <= self.clocks.at,
         }
     }
 
@@ -41,8 +49,10 @@ impl Book {
         requires count { count ≡ length self.old.tracks.items }
         requires needs { length needs.now ≡ length self.old.tracks.items }
         requires written { length written.now ≡ length self.old.tracks.items }
+        requires book { IsBook self.old }
         ensures count { length self.new.tracks.items ≡ length self.old.tracks.items }
         ensures clocks { self.new.clocks ≡ self.old.clocks }
+        ensures book { IsBook self.new }
     {
         let at = self.clocks.at;
         let dated = self.clocks.dated;
@@ -63,7 +73,10 @@ fn is_idle(tracks: &[Track]) -> bool {
 
 /// Nobody is at the top any more.
 pub(crate) fn clear_tops(tracks: &mut [Track])
-    ensures { length tracks.new ≡ length tracks.old }
+    requires { All IsTrack tracks.old }
+    ensures value { tracks.new ≡ each_track untopped_track tracks.old }
+    ensures count { length tracks.new ≡ length tracks.old }
+    ensures bounds { All IsTrack tracks.new }
 {
     for index in 0..tracks.len() {
         tracks[index] = untopped(tracks[index]);
@@ -72,7 +85,9 @@ pub(crate) fn clear_tops(tracks: &mut [Track])
 
 /// A track that is not at the top.
 fn untopped(track: Track) -> Track
-    ensures { result ≡ record track { top = false } }
+    requires { IsTrack track }
+    ensures value { result ≡ untopped_track track }
+    ensures bounds { IsTrack result }
 {
     Track {
         top: false,
@@ -81,15 +96,21 @@ fn untopped(track: Track) -> Track
 }
 
 /// The moment from which an entry may be asked again: a second after its last answer.
-pub(crate) fn rested(last: Option<u64>) -> u64 {
+pub(crate) fn rested(last: Option<u64>) -> u64
+    requires { IfSome last (λ last. last ≤ READING_MAX) }
+    ensures { result ≡ rested last }
+{
     match last {
         None => 0,
-        Some(last) => last.saturating_add(1000),
+        Some(last) => last + 1000,
     }
 }
 
 /// Now, but no sooner than that.
-pub(crate) fn soon(at: u64, last: Option<u64>) -> u64 {
+pub(crate) fn soon(at: u64, last: Option<u64>) -> u64
+    requires { IfSome last (λ last. last ≤ READING_MAX) }
+    ensures { result ≡ soon_for at last }
+{
     at.max(rested(last))
 }
 
@@ -126,7 +147,13 @@ pub(crate) fn is_open_ended(track: Track, now: u64) -> bool
 }
 
 /// An entry at a beginning; where it is called and has not ended it owes a lookup, at once.
-fn owing(track: Track, called: bool, at: u64) -> Track {
+#[tactic(auto, unfolding(crate::specs::code::Tracks::owing_track))]
+fn owing(track: Track, called: bool, at: u64) -> Track
+    requires track { IsTrack track }
+    requires at { at ≤ READING_MAX }
+    ensures value { result ≡ owing_track at called track }
+    ensures bounds { IsTrack result }
+{
     let now = second(at);
     if !called || !is_open_ended(track, now) {
         return track;

@@ -1,5 +1,6 @@
 ghost use Rattle.std.specs.Prelude.{◌≡◌, ◌<◌, length, slice_index_or, slice_set};
 ghost use Rattle.keep_watch.specs.State.{no_track};
+ghost use Rattle.keep_watch.specs.code.Bounds.{IsBook, IsTrack};
 ghost use Rattle.keep_watch.specs.code.Watching.{KeepsRest};
 
 use crate::clocks::Clocks;
@@ -27,17 +28,22 @@ pub(crate) struct Book {
 impl Book {
     /// What is known of an entry.
     pub(crate) fn track(&self, entry: u32) -> Track
-        requires { entry < length self.now.tracks.items }
-        ensures { result ≡ slice_index_or self.now.tracks.items entry no_track }
+        requires within { entry < length self.now.tracks.items }
+        requires book { IsBook self.now }
+        ensures value { result ≡ slice_index_or self.now.tracks.items entry no_track }
+        ensures bounds { IsTrack result }
     {
         self.tracks[entry as usize]
     }
 
     /// Sets what is known of an entry.
     pub(crate) fn set_track(&mut self, entry: u32, track: Track)
-        requires { entry < length self.old.tracks.items }
+        requires within { entry < length self.old.tracks.items }
+        requires book { IsBook self.old }
+        requires track { IsTrack track }
         ensures tracks { self.new.tracks.items ≡ slice_set self.old.tracks.items entry track }
         ensures rest { KeepsRest self.old self.new }
+        ensures book { IsBook self.new }
     {
         self.tracks[entry as usize] = track;
     }

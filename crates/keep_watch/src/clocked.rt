@@ -1,5 +1,5 @@
 ghost use Rattle.std.specs.Prelude.{◌≡◌, IfErr, IfOk, OnErr, length};
-ghost use Rattle.keep_watch.specs.code.Bounds.{IsClocks};
+ghost use Rattle.keep_watch.specs.code.Bounds.{IsBook};
 ghost use Rattle.keep_watch.specs.declared.fault.WatchFault.TheVariants.{OutOfMemory};
 
 use crate::beginning::clear_tops;
@@ -59,10 +59,11 @@ fn begin(
     requires count { length book.old.tracks.items ≡ length forest.now.entries }
     requires view { length view.old.entries ≡ length forest.now.entries }
     requires margin { view.old.margin ≡ forest.now.margin }
-    requires clocks { IsClocks book.old.clocks }
+    requires book { IsBook book.old }
     ensures needs { IfOk result (λ needs. length needs ≡ length forest.now.entries) }
     ensures tracks { length book.new.tracks.items ≡ length book.old.tracks.items }
     ensures clocks { book.new.clocks ≡ book.old.clocks }
+    ensures book { IsBook book.new }
     ensures view { length view.new.entries ≡ length view.old.entries }
     ensures margin { view.new.margin ≡ view.old.margin }
     ensures refused { IfErr result (λ fault. fault ≡ OutOfMemory) }
@@ -90,9 +91,10 @@ fn press(
     requires count { length book.old.tracks.items ≡ length forest.now.entries }
     requires view { length view.old.entries ≡ length forest.now.entries }
     requires needs { length needs.now ≡ length forest.now.entries }
-    requires clocks { IsClocks book.old.clocks }
+    requires book { IsBook book.old }
     ensures tracks { length book.new.tracks.items ≡ length book.old.tracks.items }
     ensures clocks { book.new.clocks ≡ book.old.clocks }
+    ensures book { IsBook book.new }
     ensures view { length view.new.entries ≡ length view.old.entries }
     ensures margin { view.new.margin ≡ view.old.margin }
     ensures refused { IfErr result (λ fault. fault ≡ OutOfMemory) }

@@ -3,7 +3,9 @@ ghost use Rattle.keep_tree.specs.declared.forest.TheConstants.{END_MAX};
 ghost use Rattle.keep_tree.specs.Push.{is_lease};
 ghost use Rattle.keep_watch.specs.declared.fault.WatchFault.TheVariants.{OutOfMemory};
 ghost use Rattle.keep_watch.specs.Looked.{step_told};
-ghost use Rattle.keep_watch.specs.code.Tracks.{at_once_for, behind_look_for, not_told_track, refused_for, status_of, told_try};
+ghost use Rattle.keep_watch.specs.code.Bounds.{IsTrack, IsTry};
+ghost use Rattle.keep_watch.specs.code.Tracks.{at_once_for, behind_look_for, not_told_track, refused_for, status_of, told_track_for, told_try};
+ghost use Rattle.keep_watch.specs.declared.clocks.TheConstants.{READING_MAX};
 
 use crate::answers::{busied, failing};
 use crate::beginning::is_open_ended;
@@ -73,11 +75,17 @@ fn take_terms(forest: &mut Forest, index: u32, terms: Terms)
 }
 
 /// A track as a lookup told it.
-fn told_track(track: Track, at: u64, seconds: Span, renewable: bool, endless: bool) -> Track {
+#[tactic(auto, unfolding(crate::specs::code::Tracks::told_track_for))]
+fn told_track(track: Track, at: u64, seconds: Span, renewable: bool, endless: bool) -> Track
+    requires track { IsTrack track }
+    requires at { at ≤ READING_MAX }
+    ensures value { result ≡ told_track_for at seconds renewable endless track }
+    ensures bounds { IsTrack result }
+{
     let end = if endless {
         None
     } else {
-        Some(second(at).saturating_add(seconds as u64))
+        Some(second(at) + seconds as u64)
     };
     Track {
         end,
@@ -92,21 +100,26 @@ fn told_track(track: Track, at: u64, seconds: Span, renewable: bool, endless: bo
 /// A renewal at once, in the same try; where that was of an owed lookup, the try begins now.
 #[tactic(auto, unfolding(crate::specs::code::Tracks::at_once_for))]
 fn at_once(attempt: Try, at: u64) -> Try
-    ensures { result ≡ at_once_for at attempt }
+    requires attempt { IsTry attempt }
+    requires at { at ≤ READING_MAX }
+    ensures value { result ≡ at_once_for at attempt }
+    ensures bounds { IsTry result }
 {
-    let next = Try {
-        at: at,
-        operation: Operation::Renew,
-        pressed: true,
-        ..attempt
-    };
     if attempt.pressed {
-        next
+        Try {
+            at,
+            operation: Operation::Renew,
+            ..attempt
+        }
     } else {
         Try {
+            at,
+            operation: Operation::Renew,
+            pressed: true,
             base: second(at),
             fails: 0,
-            ..next
+            lost: false,
+            failed: false,
         }
     }
 }
@@ -114,7 +127,10 @@ fn at_once(attempt: Try, at: u64) -> Try
 /// The try behind a lookup that told of its entry. Where that is to be asked, `is_due`, it is renewed at once; an end that is not
 /// ahead is a failure; else the try ends.
 fn try_told(track: Track, at: u64, is_due: bool) -> Option<Try>
-    ensures { result ≡ told_try at is_due track track.attempt }
+    requires track { IsTrack track }
+    requires at { at ≤ READING_MAX }
+    ensures value { result ≡ told_try at is_due track track.attempt }
+    ensures bounds { IfSome result IsTry }
 {
     match track.attempt {
         None => None,
@@ -133,7 +149,9 @@ fn try_told(track: Track, at: u64, is_due: bool) -> Option<Try>
 /// A lookup that was refused: a renewal is tried while the end is ahead or unknown, at once where the lookup was only owed.
 #[tactic(auto, unfolding(crate::specs::code::Tracks::refused_for))]
 fn try_refused(track: Track, attempt: Try, at: u64) -> Try
-    ensures { result ≡ refused_for at track attempt }
+    requires { IsTry attempt }
+    ensures value { result ≡ refused_for at track attempt }
+    ensures bounds { IsTry result }
 {
     if !is_open_ended(track, second(at)) {
         return failing(attempt, Operation::Look, false);
@@ -164,7 +182,10 @@ fn behind_look(track: Track, attempt: Try, now: u64) -> Operation
 /// A track after a reply to a lookup that told nothing of it.
 #[tactic(auto, unfolding(crate::specs::code::Tracks::not_told_track))]
 fn not_told(track: Track, reply: Reply, at: u64) -> Track
-    ensures { result ≡ not_told_track at reply track }
+    requires track { IsTrack track }
+    requires at { at ≤ READING_MAX }
+    ensures value { result ≡ not_told_track at reply track }
+    ensures bounds { IsTrack result }
 {
     let attempt = match track.attempt {
         None => None,

@@ -1,5 +1,6 @@
 ghost use Rattle.std.specs.Prelude.{◌≡◌, IfErr, length};
 ghost use Rattle.keep_watch.specs.Slice.{end_rank, is_first};
+ghost use Rattle.keep_watch.specs.code.Bounds.{IsBook, IsTrack};
 ghost use Rattle.keep_watch.specs.declared.fault.WatchFault.TheVariants.{OutOfMemory};
 
 use crate::beginning::rested;
@@ -52,7 +53,9 @@ fn later_rank(last: Option<u64>, attempt: Try) -> u64 {
 
 impl Book {
     /// The moment from which on a try may go out, in milliseconds.
-    pub(crate) fn ready(&self, track: Track, attempt: Try) -> u64 {
+    pub(crate) fn ready(&self, track: Track, attempt: Try) -> u64
+        requires { IsTrack track }
+    {
         if is_first(attempt) {
             return self.free.max(attempt.at);
         }
@@ -60,7 +63,9 @@ impl Book {
     }
 
     /// The moment of a later try: one that was lost is tried again a second after it, while the broker is away.
-    fn later_at(&self, track: Track, attempt: Try) -> u64 {
+    fn later_at(&self, track: Track, attempt: Try) -> u64
+        requires { IsTrack track }
+    {
         if self.away > 0 && attempt.lost {
             attempt.at.min(rested(track.last))
         } else {
@@ -69,7 +74,9 @@ impl Book {
     }
 
     /// Where a first try, or a later one, stands that may go out now; `None` where it may not.
-    fn due_rank(&self, track: Track, first: bool) -> Option<u64> {
+    fn due_rank(&self, track: Track, first: bool) -> Option<u64>
+        requires { IsTrack track }
+    {
         match track.attempt {
             None => None,
             Some(attempt) => {
@@ -86,7 +93,8 @@ impl Book {
 
     /// The first tries, or the later ones, that may go out now, by index. The only error is want of memory.
     fn due(&self, alloc: Global, count: u32, first: bool) -> Result<Vec<Due>, AllocError>
-        requires { count ≡ length self.now.tracks.items }
+        requires count { count ≡ length self.now.tracks.items }
+        requires book { IsBook self.now }
     {
         let mut due = Vec::new(alloc);
         for entry in 0..count {
@@ -131,7 +139,9 @@ impl Book {
         count: u32,
         width: u32,
     ) -> Result<Option<Command>, WatchFault>
-        requires { count ≡ length self.old.tracks.items }
+        requires count { count ≡ length self.old.tracks.items }
+        requires book { IsBook self.old }
+        ensures book { IsBook self.new }
         ensures tracks { self.new.tracks.items ≡ self.old.tracks.items }
         ensures clocks { self.new.clocks ≡ self.old.clocks }
         ensures refused { IfErr result (λ fault. fault ≡ OutOfMemory) }

@@ -1,7 +1,9 @@
-ghost use Rattle.std.specs.Prelude.{◌≡◌, length, nat_lt};
-ghost use Rattle.keep_watch.specs.Press.{is_pressed_try};
+ghost use Rattle.std.specs.Prelude.{◌≡◌, ◌≤◌, IfSome, Some, length, nat_lt};
+ghost use Rattle.keep_watch.specs.Press.{dropped, is_pressed_try};
 ghost use Rattle.keep_watch.specs.Wanted.{believed};
-ghost use Rattle.keep_watch.specs.code.Tracks.{is_fresh_for};
+ghost use Rattle.keep_watch.specs.code.Bounds.{IsBook, IsTrack, IsTry};
+ghost use Rattle.keep_watch.specs.code.Tracks.{asked_track, is_fresh_for, press_for, pressed_track};
+ghost use Rattle.keep_watch.specs.declared.clocks.TheConstants.{READING_MAX};
 
 use crate::beginning::{rested, soon};
 use crate::book::Book;
@@ -39,7 +41,13 @@ pub(crate) fn is_fresh(margin: u32, entry: &Entry, track: Track, need: u64, now:
 }
 
 /// The try of an entry that is pressed now: a renewal while its end is ahead, else a lookup.
-fn press(track: Track, at: u64) -> Try {
+#[tactic(auto, unfolding(crate::specs::code::Tracks::press_for))]
+fn press(track: Track, at: u64) -> Try
+    requires track { IsTrack track }
+    requires at { at ≤ READING_MAX }
+    ensures value { result ≡ press_for at track }
+    ensures bounds { IsTry result }
+{
     let now = second(at);
     let operation = if is_alive(track, now) {
         Operation::Renew
@@ -58,7 +66,12 @@ fn press(track: Track, at: u64) -> Try {
 }
 
 /// What is left of a try of an entry that is wanted no more: the lookup that it owes, if any.
-fn dropped(track: Track, attempt: Try) -> Option<Try> {
+fn dropped(track: Track, attempt: Try) -> Option<Try>
+    requires track { IsTrack track }
+    requires attempt { IsTry attempt }
+    ensures value { result ≡ dropped track (Some attempt) }
+    ensures bounds { IfSome result IsTry }
+{
     if !attempt.pressed && track.owes {
         return Some(attempt);
     }
@@ -74,7 +87,12 @@ fn dropped(track: Track, attempt: Try) -> Option<Try> {
 }
 
 /// An entry that a round asks.
-fn asked(track: Track, at: u64) -> Track {
+fn asked(track: Track, at: u64) -> Track
+    requires track { IsTrack track }
+    requires at { at ≤ READING_MAX }
+    ensures value { result ≡ asked_track at track }
+    ensures bounds { IsTrack result }
+{
     Track {
         attempt: Some(press(track, at)),
         ..track
@@ -82,7 +100,13 @@ fn asked(track: Track, at: u64) -> Track {
 }
 
 /// An entry that carries that need, after those are pressed whose time has come and others let go.
-fn pressed(margin: u32, entry: &Entry, track: Track, need: u64, at: u64) -> Track {
+#[tactic(auto, unfolding(crate::specs::code::Tracks::pressed_track))]
+fn pressed(margin: u32, entry: &Entry, track: Track, need: u64, at: u64) -> Track
+    requires track { IsTrack track }
+    requires at { at ≤ READING_MAX }
+    ensures value { result ≡ pressed_track margin entry.now need at track }
+    ensures bounds { IsTrack result }
+{
     if is_fresh(margin, entry, track, need, second(at)) {
         return asked(track, at);
     }
@@ -101,8 +125,10 @@ impl Book {
     pub(crate) fn press(&mut self, forest: &Forest, needs: &Carried)
         requires count { length self.old.tracks.items ≡ length forest.now.entries }
         requires needs { length needs.now ≡ length forest.now.entries }
+        requires book { IsBook self.old }
         ensures count { length self.new.tracks.items ≡ length self.old.tracks.items }
         ensures clocks { self.new.clocks ≡ self.old.clocks }
+        ensures book { IsBook self.new }
     {
         let at = self.clocks.at;
         for entry in 0..forest.len() {
@@ -115,9 +141,11 @@ impl Book {
 
     /// Presses those of so many entries whom a round asks.
     pub(crate) fn press_asked(&mut self, count: u32, round: &[u32])
-        requires { count ≡ length self.old.tracks.items }
+        requires count { count ≡ length self.old.tracks.items }
+        requires book { IsBook self.old }
         ensures count { length self.new.tracks.items ≡ length self.old.tracks.items }
         ensures clocks { self.new.clocks ≡ self.old.clocks }
+        ensures book { IsBook self.new }
     {
         let at = self.clocks.at;
         for entry in round {

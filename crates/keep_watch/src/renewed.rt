@@ -1,6 +1,10 @@
-ghost use Rattle.std.specs.Prelude.{◌≡◌, ◌<◌, IfErr, OnErr, length};
+ghost use Rattle.std.specs.Prelude.{◌≡◌, ◌<◌, ◌≤◌, IfErr, IfSome, OnErr, length};
+ghost use Rattle.keep_moment.specs.declared.moment.TheConstants.{LAST};
+ghost use Rattle.keep_tree.specs.declared.forest.TheConstants.{END_MAX};
+ghost use Rattle.keep_watch.specs.code.Bounds.{IsTrack, IsTry};
+ghost use Rattle.keep_watch.specs.declared.clocks.TheConstants.{READING_MAX};
 ghost use Rattle.keep_watch.specs.declared.fault.WatchFault.TheVariants.{OutOfMemory};
-ghost use Rattle.keep_watch.specs.code.Tracks.{behind_renew_for, from_try_for, not_granted_track};
+ghost use Rattle.keep_watch.specs.code.Tracks.{behind_renew_for, from_try_for, granted_track, is_no_further_for, not_granted_track, try_granted_for};
 
 use crate::answers::{busied, failing};
 use crate::beginning::owed;
@@ -16,7 +20,10 @@ use keep_moment::Span;
 
 /// The second from which a grant counts: that in which a first try began, else that of the slice.
 fn from_try(attempt: Option<Try>, now: u64) -> u64
-    ensures { result ≡ from_try_for now attempt }
+    requires now { now ≤ LAST }
+    requires attempt { IfSome attempt IsTry }
+    ensures value { result ≡ from_try_for now attempt }
+    ensures within { result ≤ LAST }
 {
     match attempt {
         None => now,
@@ -26,13 +33,13 @@ fn from_try(attempt: Option<Try>, now: u64) -> u64
 
 /// Whether this grant and the one before it, two seconds apart or more, are both less than the step, and it leads no further than
 /// the one before by more than a second.
-fn is_topped(step: u32, track: Track, at: u64, seconds: Span, end: u64) -> bool {
+fn is_topped(step: u32, track: Track, at: u64, seconds: Span, end: u64) -> bool
+    requires { IsTrack track }
+    ensures { result ≡ is_no_further_for at step seconds track.grant track.end end }
+{
     match (track.grant, track.end) {
         (Some(before), Some(old)) => {
-            before.at.saturating_add(2000) <= at
-                && before.seconds < step
-                && seconds < step
-                && end <= old.saturating_add(1)
+            before.at + 2000 <= at && before.seconds < step && seconds < step && end <= old + 1
         }
         _ => false,
     }
@@ -40,14 +47,19 @@ fn is_topped(step: u32, track: Track, at: u64, seconds: Span, end: u64) -> bool 
 
 /// The try behind a grant that leads to `end`. One whose end is not ahead is a failure; a lookup that is owed follows after half a
 /// minute.
-fn try_granted(track: Track, at: u64, end: u64) -> Option<Try> {
+fn try_granted(track: Track, at: u64, end: u64) -> Option<Try>
+    requires track { IsTrack track }
+    requires at { at ≤ READING_MAX }
+    ensures value { result ≡ try_granted_for at track.owes end track.attempt }
+    ensures bounds { IfSome result IsTry }
+{
     match track.attempt {
         None => None,
         Some(attempt) => {
-            if end <= second(at) {
+            if second(at) >= end {
                 Some(failing(attempt, Operation::Look, false))
             } else if track.owes {
-                Some(owed(second(at), at.saturating_add(30_000)))
+                Some(owed(second(at), at + 30_000))
             } else {
                 None
             }
@@ -56,8 +68,14 @@ fn try_granted(track: Track, at: u64, end: u64) -> Option<Try> {
 }
 
 /// A track after a grant, with that step.
-fn granted(step: u32, track: Track, at: u64, seconds: Span, renewable: bool) -> Track {
-    let end = from_try(track.attempt, second(at)).saturating_add(seconds as u64);
+#[tactic(auto, unfolding(crate::specs::code::Tracks::granted_track))]
+fn granted(step: u32, track: Track, at: u64, seconds: Span, renewable: bool) -> Track
+    requires track { IsTrack track }
+    requires at { at ≤ READING_MAX }
+    ensures value { result ≡ granted_track step at seconds renewable track }
+    ensures bounds { IsTrack result }
+{
+    let end = from_try(track.attempt, second(at)) + seconds as u64;
     Track {
         end: Some(end),
         renewable,
@@ -84,7 +102,10 @@ fn behind_renew(track: Track, now: u64) -> Operation
 /// A track after a reply to a renewal that granted nothing.
 #[tactic(auto, unfolding(crate::specs::code::Tracks::not_granted_track))]
 fn not_granted(track: Track, reply: Reply, at: u64) -> Track
-    ensures { result ≡ not_granted_track at reply track }
+    requires track { IsTrack track }
+    requires at { at ≤ READING_MAX }
+    ensures value { result ≡ not_granted_track at reply track }
+    ensures bounds { IsTrack result }
 {
     let attempt = match track.attempt {
         None => None,

@@ -1,8 +1,12 @@
-ghost use Rattle.std.specs.Prelude.{◌≡◌, ◌≤◌, IfErr, IfOk, length};
+ghost use Rattle.std.specs.Prelude.{◌≡◌, ◌≤◌, IfErr, IfOk, IfSome, Some, length};
+ghost use Rattle.std.specs.List.{All};
+ghost use Rattle.keep_moment.specs.declared.moment.TheConstants.{LAST};
+ghost use Rattle.keep_watch.specs.declared.track.TheConstants.{MOST_FAILS};
 ghost use Rattle.keep_watch.specs.declared.fault.WatchFault.TheVariants.{OutOfMemory};
 ghost use Rattle.keep_watch.specs.declared.pauses.TheConstants.{LONGEST};
 ghost use Rattle.keep_watch.specs.declared.clocks.TheConstants.{READING_MAX};
-ghost use Rattle.keep_watch.specs.code.Bounds.{IsClocks};
+ghost use Rattle.keep_watch.specs.code.Bounds.{IsBook, IsClocks, IsSlice, IsTrack, IsTry};
+ghost use Rattle.keep_watch.specs.code.Tracks.{each_track, held_try, settled_track, settled_try};
 
 use crate::book::Book;
 use crate::clocks::{Clocks, reading};
@@ -10,7 +14,6 @@ use crate::fault::WatchFault;
 use crate::pauses::{LONGEST, cap, doubled, pause};
 use crate::slice::Slice;
 use crate::track::{Track, Try};
-use keep_moment::LAST;
 use std::alloc::{AllocError, Global};
 
 /// The clocks at later readings, and whether the wall or the broker has stepped.
@@ -23,7 +26,7 @@ pub(crate) struct Timed {
 impl Book {
     /// The clocks at these readings, in milliseconds, with the dates of the slice that was answered.
     pub(crate) fn timed(&self, wall: u64, elapsed: u64) -> Timed
-        requires { IsClocks self.now.clocks }
+        requires { IsBook self.now }
         ensures { IsClocks result.clocks }
     {
         if self.begun.is_none() {
@@ -52,7 +55,9 @@ impl Book {
         margin: u32,
         clocks: Clocks,
     ) -> Result<Book, WatchFault>
-        requires { IsClocks clocks }
+        requires book { IsBook self.now }
+        requires clocks { IsClocks clocks }
+        ensures book { IfOk result IsBook }
         ensures count { IfOk result (λ book. length book.tracks.items ≡ length self.now.tracks.items) }
         ensures clocks { IfOk result (λ book. book.clocks ≡ clocks) }
         ensures refused { IfErr result (λ fault. fault ≡ OutOfMemory) }
@@ -71,7 +76,8 @@ impl Book {
 
     /// Until when later tries are held back.
     fn hold_at(&self, margin: u32, at: u64) -> u64
-        requires { at ≤ READING_MAX }
+        requires book { IsBook self.now }
+        requires at { at ≤ READING_MAX }
     {
         if self.slice.is_some() && self.away > 0 {
             at + held(margin, at, self.away, &self.tracks)
@@ -93,7 +99,8 @@ impl Book {
 
 /// The clocks with the dates of a slice.
 fn dated_by_slice(clocks: Clocks, slice: &Option<Slice>) -> Timed
-    requires { IsClocks clocks }
+    requires clocks { IsClocks clocks }
+    requires slice { IfSome slice.now IsSlice }
     ensures { IsClocks result.clocks }
 {
     match slice {
@@ -101,7 +108,7 @@ fn dated_by_slice(clocks: Clocks, slice: &Option<Slice>) -> Timed
             clocks,
             jumped: false,
         },
-        Some(slice) => dated_by_all(clocks, reading(slice.at), slice.dates.list()),
+        Some(slice) => dated_by_all(clocks, slice.at, slice.dates.list()),
     }
 }
 
@@ -110,14 +117,14 @@ fn dated_by_slice(clocks: Clocks, slice: &Option<Slice>) -> Timed
 fn dated_by_all(clocks: Clocks, since: u64, dates: &[u64]) -> Timed
     requires clocks { IsClocks clocks }
     requires since { since ≤ READING_MAX }
+    requires dates { All (λ date. date ≤ LAST) dates.now }
     ensures { IsClocks result.clocks }
 {
     let mut clocks = clocks;
     let mut jumped = false;
     for date in dates {
-        let date = LAST.min(*date);
-        jumped |= clocks.dated & clocks.is_ahead(date);
-        clocks = clocks.dated_by(since, date);
+        jumped |= clocks.dated & clocks.is_ahead(*date);
+        clocks = clocks.dated_by(since, *date);
     }
     Timed { clocks, jumped }
 }
@@ -129,8 +136,11 @@ fn settled_tracks(
     at: u64,
     tracks: &[Track],
 ) -> Result<Vec<Track>, AllocError>
-    requires { at ≤ READING_MAX }
-    ensures { IfOk result (λ settled. length settled.items ≡ length tracks.now) }
+    requires at { at ≤ READING_MAX }
+    requires tracks { All IsTrack tracks.now }
+    ensures value { IfOk result (λ settled. settled.items ≡ each_track (settled_track margin at) tracks.now) }
+    ensures count { IfOk result (λ settled. length settled.items ≡ length tracks.now) }
+    ensures bounds { IfOk result (λ settled. All IsTrack settled.items) }
 {
     let mut settled = Vec::new(alloc);
     for track in tracks {
@@ -140,8 +150,12 @@ fn settled_tracks(
 }
 
 /// A track with the pause of a try that failed set.
+#[tactic(auto, unfolding(crate::specs::code::Tracks::settled_track))]
 fn settled_track(margin: u32, at: u64, track: Track) -> Track
-    requires { at ≤ READING_MAX }
+    requires at { at ≤ READING_MAX }
+    requires track { IsTrack track }
+    ensures value { result ≡ settled_track margin at track }
+    ensures bounds { IsTrack result }
 {
     let attempt = match track.attempt {
         None => None,
@@ -152,7 +166,11 @@ fn settled_track(margin: u32, at: u64, track: Track) -> Track
 
 /// A try, with its pause set where it failed.
 fn paused(margin: u32, at: u64, track: Track, attempt: Try) -> Try
-    requires { at ≤ READING_MAX }
+    requires at { at ≤ READING_MAX }
+    requires track { IsTrack track }
+    requires attempt { IsTry attempt }
+    ensures value { Some result ≡ settled_try margin at track (Some attempt) }
+    ensures bounds { IsTry result }
 {
     if !attempt.failed {
         return attempt;
@@ -167,6 +185,8 @@ fn paused(margin: u32, at: u64, track: Track, attempt: Try) -> Try
 /// How long later tries are held back while the broker is away, in milliseconds: no longer than any entry that is pressed may
 /// wait.
 fn held(margin: u32, at: u64, away: u32, tracks: &[Track]) -> u64
+    requires away { away ≤ MOST_FAILS }
+    requires tracks { All IsTrack tracks.now }
     ensures { result ≤ LONGEST }
 {
     let mut least = LONGEST.min(doubled(away));
@@ -177,7 +197,10 @@ fn held(margin: u32, at: u64, away: u32, tracks: &[Track]) -> u64
 }
 
 /// How long this entry may wait: any time where it is not pressed.
-fn most_held(margin: u32, at: u64, track: Track) -> u64 {
+fn most_held(margin: u32, at: u64, track: Track) -> u64
+    requires { IsTrack track }
+    ensures { result ≡ held_try margin at track track.attempt }
+{
     match track.attempt {
         None => LONGEST,
         Some(attempt) => {

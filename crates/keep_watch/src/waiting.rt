@@ -1,4 +1,5 @@
 ghost use Rattle.std.specs.Prelude.{◌≡◌, length};
+ghost use Rattle.keep_watch.specs.code.Bounds.{IsBook, IsTrack};
 
 use crate::book::Book;
 use crate::margins::time;
@@ -14,6 +15,7 @@ impl Book {
     pub(crate) fn wait(&self, forest: &Forest, needs: &Carried) -> u64
         requires count { length self.now.tracks.items ≡ length forest.now.entries }
         requires needs { length needs.now ≡ length forest.now.entries }
+        requires book { IsBook self.now }
     {
         let latest = self.latest(forest.margin());
         let mut least = latest;
@@ -34,7 +36,9 @@ impl Book {
     }
 
     /// The moment at which an entry that carries that need has something to be done, `None` where it has nothing.
-    fn next_of(&self, margin: u32, entry: &Entry, track: Track, need: u64) -> Option<u64> {
+    fn next_of(&self, margin: u32, entry: &Entry, track: Track, need: u64) -> Option<u64>
+        requires { IsTrack track }
+    {
         match track.attempt {
             None => time_of(margin, entry, track, need),
             Some(attempt) => {

@@ -3,6 +3,8 @@ ghost use Rattle.keep_tree.specs.declared.forest.TheConstants.{END_MAX};
 ghost use Rattle.keep_watch.specs.declared.fault.WatchFault.TheVariants.{OutOfMemory};
 ghost use Rattle.keep_watch.specs.State.{entry_of, fresh_track, opened, track_at};
 ghost use Rattle.keep_watch.specs.Step.{known};
+ghost use Rattle.keep_watch.specs.code.Bounds.{IsTrack};
+ghost use Rattle.std.specs.List.{All};
 ghost use Rattle.keep_moment.specs.declared.moment.TheConstants.{LAST};
 
 use crate::book::Book;
@@ -47,7 +49,8 @@ impl Model for Watch {
 
 /// What is known of an entry that is watched from now on.
 fn fresh_track(entry: &Entry) -> Track
-    ensures { result ≡ fresh_track entry.now }
+    ensures value { result ≡ fresh_track entry.now }
+    ensures bounds { IsTrack result }
 {
     Track {
         end: None,
@@ -63,7 +66,8 @@ fn fresh_track(entry: &Entry) -> Track
 
 /// What is known of the entries of a forest that is watched from now on. The only error is want of memory.
 fn fresh_tracks(alloc: Global, forest: &Forest) -> Result<Vec<Track>, AllocError>
-    ensures { IfOk result (λ tracks. tracks.items ≡ map fresh_track forest.now.entries) }
+    ensures value { IfOk result (λ tracks. tracks.items ≡ map fresh_track forest.now.entries) }
+    ensures bounds { IfOk result (λ tracks. All IsTrack tracks.items) }
 {
     let mut tracks = Vec::new(alloc);
     for index in 0..forest.len() {
@@ -74,7 +78,9 @@ fn fresh_tracks(alloc: Global, forest: &Forest) -> Result<Vec<Track>, AllocError
 
 /// A track with an end that an earlier watch told.
 fn known(track: Track, end: u64, renewable: bool) -> Track
-    ensures { result ≡ record track { end = Some (min END_MAX end); renewable = renewable } }
+    requires { IsTrack track }
+    ensures value { result ≡ record track { end = Some (min END_MAX end); renewable = renewable } }
+    ensures bounds { IsTrack result }
 {
     Track {
         end: Some(END_MAX.min(end)),

@@ -1,5 +1,13 @@
-use Rattle.std.proofs.Common.{◌≡◌, length}
+use Rattle.std.proofs.Common.{slice_index_or}
+use Rattle.std.specs.List.{All}
+use Rattle.keep_watch.specs.State.{no_track}
+use Rattle.keep_watch.specs.code.Bounds.{IsTrack}
+use Rattle.keep_watch.specs.code.Tracks.{untopped_track}
+use Rattle.keep_watch.proofs.Written.{Written}
 use Rattle.keep_watch.proofs.beginning.clear_tops.Given as goal
 
 abbrev pub invariant-loop-index : goal.invariant-loop-index
-invariant-loop-index l = length l.tracks ≡ length l.initial.tracks
+invariant-loop-index l = record {
+  written : Written (λ i. untopped_track (slice_index_or l.initial.tracks i no_track)) l.initial.tracks l.tracks l.index;
+  bounds : All IsTrack l.tracks;
+}

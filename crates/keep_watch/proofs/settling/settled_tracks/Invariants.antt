@@ -1,5 +1,12 @@
-use Rattle.std.proofs.Common.{◌≡◌, length}
+use Rattle.std.proofs.Common.{◌≡◌, map, slice_index_or}
+use Rattle.std.specs.List.{All, range_with_len}
+use Rattle.keep_watch.specs.State.{no_track}
+use Rattle.keep_watch.specs.code.Bounds.{IsTrack}
+use Rattle.keep_watch.specs.code.Tracks.{settled_track}
 use Rattle.keep_watch.proofs.settling.settled_tracks.Given as goal
 
 abbrev pub invariant-loop-track : goal.invariant-loop-track
-invariant-loop-track l = length l.settled.items ≡ l.track-index
+invariant-loop-track l = record {
+  is : l.settled.items ≡ map (λ i. settled_track l.margin l.at (slice_index_or l.tracks i no_track)) (range_with_len 0 l.track-index);
+  bounds : All IsTrack l.settled.items;
+}

@@ -1,7 +1,10 @@
-use Rattle.std.proofs.Common.{◌≡◌, ◌∙◌, ◌<◌, ◌≤◌, ◌++◌, ◌∷◌, [], ap, arith, length, map, sym, take}
+use Rattle.std.proofs.Common.{◌≡◌, ◌∙◌, ◌<◌, ◌≤◌, ◌++◌, ◌∷◌, [], ap, arith, length, map, subst, sym, take}
 use Rattle.std.proofs.lemmas.List.{map_more, take_all}
+use Rattle.std.proofs.lemmas.List.Elements.{All-push}
+use Rattle.std.specs.List.{All}
 use Rattle.keep_tree.specs.Forest.{entry_at, no_entry}
 use Rattle.keep_watch.specs.State.{fresh_track}
+use Rattle.keep_watch.specs.code.Bounds.{IsTrack}
 use Rattle.keep_watch.proofs.watch.fresh_tracks.Goals as goal
 
 pub loop-index-preserved : goal.loop-index-preserved
@@ -10,10 +13,14 @@ loop-index-preserved c =
     let es = c.args.forest.now.entries in
     let i = c.loop-index.index in
     let within : i < length es = omega (arith, c.len-index-end.ensures.value) in
-    c.in_ok-push.ensures.items ∙ ap (λ xs. xs ++ c.fresh_track.result ∷ []) c.loop-index.invariant
-    ∙ ap (λ x. map fresh_track (take i es) ++ x ∷ []) (c.fresh_track.ensures ∙ ap fresh_track c.get.ensures.value) ∙ sym (map_more fresh_track es i no_entry within)
+    record {
+      is =
+          c.in_ok-push.ensures.items ∙ ap (λ xs. xs ++ c.fresh_track.result ∷ []) c.loop-index.invariant.is
+          ∙ ap (λ x. map fresh_track (take i es) ++ x ∷ []) (c.fresh_track.ensures.value ∙ ap fresh_track c.get.ensures.value) ∙ sym (map_more fresh_track es i no_entry within);
+      bounds = subst (All IsTrack) (sym c.in_ok-push.ensures.items) (All-push IsTrack c.loop-index.tracks.items c.fresh_track.result c.loop-index.invariant.bounds c.fresh_track.ensures.bounds);
+    }
 
-pub returns : goal.returns
-returns c =
+pub returns-clause-value : goal.returns-clause-value
+returns-clause-value c =
     let es = c.args.forest.now.entries in
-    c.loop-index.invariant ∙ ap (map fresh_track) (take_all c.loop-index.index es (omega (arith, c.len-index-end.ensures.value)))
+    c.loop-index.invariant.is ∙ ap (map fresh_track) (take_all c.loop-index.index es (omega (arith, c.len-index-end.ensures.value)))

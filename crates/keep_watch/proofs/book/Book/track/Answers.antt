@@ -2,5 +2,5 @@ use Rattle.std.proofs.lemmas.List.{get_or_read}
 use Rattle.keep_watch.specs.State.{no_track}
 use Rattle.keep_watch.proofs.book.Book.track.Goals as goal
 
-pub returns : goal.returns
-returns c = get_or_read c.args.self.now.tracks.items c.args.entry c.index.result.now c.requires c.index.ensures no_track
+pub returns-clause-value : goal.returns-clause-value
+returns-clause-value c = get_or_read c.args.self.now.tracks.items c.args.entry c.index.result.now c.requires.within c.index.ensures no_track

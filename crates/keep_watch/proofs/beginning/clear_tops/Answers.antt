@@ -1,0 +1,28 @@
+use Rattle.std.proofs.Common.{◌∙◌, ◌<◌, ap, arith, length, refl, slice_index_or}
+use Rattle.std.proofs.lemmas.List.Elements.{All-set}
+use Rattle.keep_watch.specs.State.{no_track}
+use Rattle.keep_watch.specs.code.Bounds.{IsTrack}
+use Rattle.keep_watch.specs.code.Tracks.{each_track, untopped_track}
+use Rattle.keep_watch.proofs.Written.{written_all, written_more, written_none, written_read}
+use Rattle.keep_watch.proofs.beginning.clear_tops.Goals as goal
+
+pub loop-index-init : goal.loop-index-init
+loop-index-init c = record { written = written_none (λ i. untopped_track (slice_index_or c.args.tracks.now i no_track)) c.args.tracks.now; bounds = c.requires }
+
+pub loop-index-preserved : goal.loop-index-preserved
+loop-index-preserved c =
+    let old = c.args.tracks.now in
+    let now = c.loop-index.tracks in
+    let k = c.loop-index.index in
+    let so = c.loop-index.invariant.written in
+    let within : k < length old = (let count = so.count in omega (arith, count)) in
+    record {
+      written = written_more (λ i. untopped_track (slice_index_or old i no_track)) old now _ k c.untopped.result so within refl (c.untopped.ensures.value ∙ ap untopped_track (written_read _ old now k _ so within));
+      bounds = All-set IsTrack now k c.untopped.result c.untopped.ensures.bounds c.loop-index.invariant.bounds;
+    }
+
+pub returns-clause-value : goal.returns-clause-value
+unfolding each_track
+returns-clause-value c =
+    let so = c.loop-index.invariant.written in
+    written_all (λ i. untopped_track (slice_index_or c.args.tracks.now i no_track)) c.args.tracks.now c.loop-index.tracks c.loop-index.index so (let count = so.count in omega (arith, count))
