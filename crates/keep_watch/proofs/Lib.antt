@@ -27,3 +27,4 @@ pub mod Steps
 pub mod Within
 pub mod Written
 pub mod Replying
+pub mod Picked

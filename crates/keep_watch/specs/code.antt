@@ -1,3 +1,4 @@
 pub mod Tracks
 pub mod Bounds
 pub mod Watching
+pub mod Picking

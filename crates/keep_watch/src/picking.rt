@@ -1,6 +1,8 @@
-ghost use Rattle.std.specs.Prelude.{◌≡◌, IfErr, length};
-ghost use Rattle.keep_watch.specs.Slice.{end_rank, is_first};
+ghost use Rattle.std.specs.Prelude.{◌≡◌, ◌≤◌, ◌<◌, ◌==◌, ◌&&◌, ◌||◌, Some, IfErr, not, nat_lt, IfOk, if◌then◌else◌, IsPermutation, IsSortedBy, length, map, take};
+ghost use Rattle.keep_tree.specs.Forest.{Forest};
+ghost use Rattle.keep_watch.specs.Slice.{end_rank, is_away, is_due_try, is_first, later_at, later_rank, patience, ready, request, sent};
 ghost use Rattle.keep_watch.specs.code.Bounds.{IsBook, IsTrack};
+ghost use Rattle.keep_watch.specs.code.Picking.{AreRead, IsRead, Sends, bare, due_below, is_before, rank_of_due, state_of};
 ghost use Rattle.keep_watch.specs.declared.fault.WatchFault.TheVariants.{OutOfMemory};
 
 use crate::beginning::rested;
@@ -39,8 +41,10 @@ fn end_rank(end: Option<u64>) -> u64
 }
 
 /// Where a later try stands: the longest unanswered in front, one that only owes a lookup behind all others.
-fn later_rank(last: Option<u64>, attempt: Try) -> u64 {
-    let answered = match last {
+fn later_rank(track: Track, attempt: Try) -> u64
+    ensures { IsRead track → result ≡ later_rank track (Some attempt) }
+{
+    let answered = match track.last {
         None => 0,
         Some(last) => last.saturating_add(1),
     };
@@ -51,10 +55,47 @@ fn later_rank(last: Option<u64>, attempt: Try) -> u64 {
     }
 }
 
+/// Where a try stands, as a first one or a later one.
+fn rank(track: Track, attempt: Try, first: bool) -> u64
+    ensures { IsRead track → result ≡ (if first then end_rank track.end else later_rank track (Some attempt)) }
+{
+    if first {
+        end_rank(track.end)
+    } else {
+        later_rank(track, attempt)
+    }
+}
+
+/// Those that are due, in the order in which they go out.
+fn in_order(due: Vec<Due>) -> Vec<Due>
+    ensures all { IsPermutation due.items result.items }
+    ensures sorted { IsSortedBy is_before result.items }
+{
+    let mut due = due;
+    due.sort_unstable();
+    due
+}
+
+/// The first tries, or the later ones.
+fn either(first: Vec<Due>, later: Vec<Due>, of_first: bool) -> Vec<Due>
+    ensures { result.items ≡ (if of_first then first.items else later.items) }
+{
+    if of_first { first } else { later }
+}
+
 impl Book {
+    /// Whether no answer came to the last slices.
+    fn is_away(&self) -> bool
+        ensures { result ≡ is_away (bare self.now) }
+    {
+        self.away > 0
+    }
+
     /// The moment from which on a try may go out, in milliseconds.
+    #[tactic(auto, unfolding(crate::specs::Slice::ready))]
     pub(crate) fn ready(&self, track: Track, attempt: Try) -> u64
         requires { IsTrack track }
+        ensures { result ≡ ready (bare self.now) track attempt }
     {
         if is_first(attempt) {
             return self.free.max(attempt.at);
@@ -65,27 +106,38 @@ impl Book {
     /// The moment of a later try: one that was lost is tried again a second after it, while the broker is away.
     fn later_at(&self, track: Track, attempt: Try) -> u64
         requires { IsTrack track }
+        ensures { result ≡ later_at (bare self.now) track attempt }
     {
-        if self.away > 0 && attempt.lost {
+        if self.is_away() && attempt.lost {
             attempt.at.min(rested(track.last))
         } else {
             attempt.at
         }
     }
 
-    /// Where a first try, or a later one, stands that may go out now; `None` where it may not.
-    fn due_rank(&self, track: Track, first: bool) -> Option<u64>
+    /// Whether a try may go out now, as a first one or a later one.
+    fn is_due(&self, track: Track, attempt: Try, first: bool) -> bool
         requires { IsTrack track }
+        ensures { result ≡ is_due_try (bare self.now) track first (Some attempt) }
     {
+        is_first(attempt) == first && self.ready(track, attempt) <= self.clocks.at
+    }
+
+    /// Where a first try, or a later one, stands that may go out now; `None` where it may not.
+    #[tactic(auto, unfolding(crate::specs::Slice::is_due, crate::specs::Slice::rank, crate::specs::State::track_at))]
+    fn due_rank(&self, entry: u32, first: bool) -> Option<u64>
+        requires within { entry < length self.now.tracks.items }
+        requires book { IsBook self.now }
+        ensures { AreRead self.now.tracks.items → result ≡ rank_of_due (bare self.now) first entry }
+    {
+        let track = self.track(entry);
         match track.attempt {
             None => None,
             Some(attempt) => {
-                if is_first(attempt) != first || self.clocks.at < self.ready(track, attempt) {
-                    None
-                } else if first {
-                    Some(end_rank(track.end))
+                if self.is_due(track, attempt, first) {
+                    Some(rank(track, attempt, first))
                 } else {
-                    Some(later_rank(track.last, attempt))
+                    None
                 }
             }
         }
@@ -95,10 +147,11 @@ impl Book {
     fn due(&self, alloc: Global, count: u32, first: bool) -> Result<Vec<Due>, AllocError>
         requires count { count ≡ length self.now.tracks.items }
         requires book { IsBook self.now }
+        ensures { IfOk result (λ due. AreRead self.now.tracks.items → due.items ≡ due_below (bare self.now) first count) }
     {
         let mut due = Vec::new(alloc);
         for entry in 0..count {
-            if let Some(rank) = self.due_rank(self.track(entry), first) {
+            if let Some(rank) = self.due_rank(entry, first) {
                 due.push(Due { rank, entry })?;
             }
         }
@@ -106,7 +159,10 @@ impl Book {
     }
 
     /// The request of an entry.
-    fn request(&self, entry: u32) -> Request {
+    #[tactic(auto, unfolding(crate::specs::Slice::request, crate::specs::State::track_at))]
+    fn request(&self, entry: u32) -> Request
+        ensures { result ≡ request (bare self.now) entry }
+    {
         let attempt = match self.tracks.get(entry as usize) {
             None => None,
             Some(track) => track.attempt,
@@ -119,17 +175,48 @@ impl Book {
     }
 
     /// The requests of the first of these, as many as a slice takes. The only error is want of memory.
-    fn requests(
-        &self,
-        alloc: Global,
-        due: &[Due],
-        width: usize,
-    ) -> Result<Vec<Request>, AllocError> {
-        let mut requests = Vec::new(alloc);
-        for index in 0..due.len().min(width) {
-            requests.push(self.request(due[index].entry))?;
+    fn requests(&self, alloc: Global, due: &[Due], width: usize) -> Result<Vec<Request>, AllocError>
+        ensures { IfOk result (λ requests. requests.items ≡ map (λ d. request (bare self.now) d.entry) (take width due.now)) }
+    {
+        due.iter()
+            .take(width)
+            .map(|due| self.request(due.entry))
+            .collect(alloc)
+    }
+
+    /// Whether the next slice is of first tries, where there are so many first and later ones.
+    fn takes_first(&self, first: usize, later: usize) -> bool
+        ensures { result ≡ (nat_lt 0 first && (later == 0 || not (is_away (bare self.now)))) }
+    {
+        first > 0 && (later == 0 || !self.is_away())
+    }
+
+    /// How long the slice may take: one of first tries has little patience while the broker is away.
+    fn patience(&self, of_first: bool) -> Patience
+        ensures { result ≡ patience (bare self.now) of_first }
+    {
+        if of_first && self.is_away() {
+            Patience::Short
+        } else {
+            Patience::Full
         }
-        Ok(requests)
+    }
+
+    /// The slice of these requests as it goes out now. The only error is want of memory.
+    fn sent(&self, alloc: Global, requests: &[Request]) -> Result<Slice, AllocError>
+        ensures { IfOk result (λ slice. slice ≡ sent (bare self.now) requests.now) }
+    {
+        Ok(Slice {
+            at: self.clocks.at,
+            unanswered: Requests {
+                items: Vec::from_slice(alloc, requests)?,
+            },
+            heard: false,
+            busy: false,
+            dates: Dates {
+                items: Vec::with_capacity(alloc, requests.len())?,
+            },
+        })
     }
 
     /// The slice that goes out now, `None` where nobody is due. The only error is want of memory.
@@ -142,6 +229,7 @@ impl Book {
         requires count { count ≡ length self.old.tracks.items }
         requires book { IsBook self.old }
         ensures book { IsBook self.new }
+        ensures sends { IfOk result (λ command. AreRead self.old.tracks.items → (g : Forest) → length g.entries ≡ count → Sends (state_of g width self.old) command (state_of g width self.new)) }
         ensures tracks { self.new.tracks.items ≡ self.old.tracks.items }
         ensures clocks { self.new.clocks ≡ self.old.clocks }
         ensures refused { IfErr result (λ fault. fault ≡ OutOfMemory) }
@@ -151,29 +239,13 @@ impl Book {
         if first.is_empty() && later.is_empty() {
             return Ok(None);
         }
-        let is_away = self.away > 0;
-        let of_first = !first.is_empty() && (later.is_empty() || !is_away);
-        let mut due = if of_first { first } else { later };
-        due.sort_unstable();
+        let of_first = self.takes_first(first.len(), later.len());
+        let due = in_order(either(first, later, of_first));
         let requests = self.requests(alloc, &due, width as usize)?;
-        self.slice = Some(Slice {
-            at: self.clocks.at,
-            unanswered: Requests {
-                items: Vec::from_slice(alloc, &requests)?,
-            },
-            heard: false,
-            busy: false,
-            dates: Dates {
-                items: Vec::with_capacity(alloc, requests.len())?,
-            },
-        });
+        self.slice = Some(self.sent(alloc, &requests)?);
         Ok(Some(Command::Ask {
             requests: Requests { items: requests },
-            patience: if of_first && is_away {
-                Patience::Short
-            } else {
-                Patience::Full
-            },
+            patience: self.patience(of_first),
         }))
     }
 }
