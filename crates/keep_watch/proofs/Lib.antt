@@ -27,4 +27,9 @@ pub mod Steps
 pub mod Within
 pub mod Written
 pub mod Replying
+pub mod Granting
+pub mod Settled
+pub mod Begun
+pub mod Pressed
+pub mod Waited
 pub mod Picked

@@ -2,3 +2,4 @@ pub mod Tracks
 pub mod Bounds
 pub mod Watching
 pub mod Picking
+pub mod Waiting

@@ -1,13 +1,14 @@
-ghost use Rattle.std.specs.Prelude.{◌≡◌, ◌≤◌, ◌+◌, ℕ, if◌then◌else◌, IfErr, None, OnErr, Some, length, min, nat_lt, not};
+ghost use Rattle.std.specs.Prelude.{◌≡◌, ◌≤◌, ◌+◌, ℕ, if◌then◌else◌, IfErr, None, OnErr, OnOk, Some, length, min, nat_lt, not};
 ghost use Rattle.keep_watch.specs.Refusal.{is_open};
 ghost use Rattle.keep_tree.specs.Forest.{Forest};
 ghost use Rattle.std.specs.List.{All};
-ghost use Rattle.keep_watch.specs.code.Bounds.{IsBook, IsTrack, IsTry};
+ghost use Rattle.keep_watch.specs.code.Bounds.{IsBook, IsSlice, IsTrack, IsTry};
 ghost use Rattle.keep_watch.specs.code.Tracks.{each_track, freed_track};
 ghost use Rattle.keep_watch.specs.declared.track.TheConstants.{MOST_FAILS};
 ghost use Rattle.keep_watch.specs.declared.fault.WatchFault.TheVariants.{OutOfMemory};
 ghost use Rattle.keep_watch.specs.Answers.{back, busied, date_of, failing, is_busy, is_heard, silent, without};
-ghost use Rattle.keep_watch.specs.code.Watching.{IsBeside, after_reply, link_after, replied, state_of};
+ghost use Rattle.keep_watch.specs.code.Watching.{IsBeside, after_reply, link_after, noted, noted_in, replied, state_of};
+ghost use Rattle.keep_watch.specs.Step.{IsDated};
 ghost use Rattle.keep_watch.specs.declared.notes.Link.TheVariants.{Away, Back};
 
 use crate::beginning::{hastened, rested};
@@ -91,6 +92,22 @@ fn take_out(requests: &mut Vec<Request>, entry: u32)
 }
 
 impl Slice {
+    /// Notes the date of a reply. The only error is want of memory, and then nothing is noted.
+    #[tactic(auto, unfolding(crate::specs::code::Watching::noted))]
+    fn note_date(&mut self, reply: Reply) -> Result<(), WatchFault>
+        requires { IsSlice self.old }
+        ensures bounds { IsSlice self.new }
+        ensures value { OnOk result (self.new ≡ noted self.old reply) }
+        ensures refused { IfErr result (λ fault. fault ≡ OutOfMemory) }
+        ensures dated { OnErr result (IsDated reply) }
+        ensures unchanged { OnErr result (self.new ≡ self.old) }
+    {
+        if let Some(date) = date_of(reply) {
+            self.dates.items.push(LAST.min(date))?;
+        }
+        Ok(())
+    }
+
     /// Whether every request is answered.
     fn is_answered(&self) -> bool
         ensures { result ≡ not (is_open self.now.unanswered) }
@@ -113,18 +130,16 @@ impl Book {
     /// Notes the date of a reply. The only error is want of memory, and then nothing is noted.
     pub(crate) fn note_date(&mut self, reply: Reply) -> Result<(), WatchFault>
         requires { IsBook self.old }
-        ensures tracks { self.new.tracks.items ≡ self.old.tracks.items }
         ensures book { IsBook self.new }
-        ensures clocks { self.new.clocks ≡ self.old.clocks }
+        ensures value { OnOk result (self.new ≡ record self.old { slice = noted_in self.old.slice reply }) }
         ensures refused { IfErr result (λ fault. fault ≡ OutOfMemory) }
+        ensures dated { OnErr result (IsDated reply) }
         ensures unchanged { OnErr result (self.new ≡ self.old) }
     {
-        if let Some(date) = date_of(reply) {
-            if let Some(slice) = &mut self.slice {
-                slice.dates.items.push(LAST.min(date))?;
-            }
+        match &mut self.slice {
+            None => Ok(()),
+            Some(slice) => slice.note_date(reply),
         }
-        Ok(())
     }
 
     /// Takes a reply to the request of that entry. The slice's last one tells whether the broker is away, and this is what is

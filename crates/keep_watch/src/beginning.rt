@@ -1,8 +1,10 @@
-ghost use Rattle.std.specs.Prelude.{◌≡◌, ◌≤◌, IfSome, false, length};
-ghost use Rattle.std.specs.List.{All};
-ghost use Rattle.keep_watch.specs.Beginning.{hastened, is_day_old, rested};
+ghost use Rattle.std.specs.Prelude.{◌≡◌, ◌≤◌, ℕ, IfSome, false, is_none, length};
+ghost use Rattle.std.specs.List.{All, list_all};
+ghost use Rattle.keep_tree.specs.Forest.{Forest};
+ghost use Rattle.keep_watch.specs.Beginning.{beginning, begun_anew, hastened, is_day_old, is_idle, rested};
+ghost use Rattle.keep_watch.specs.code.Watching.{HasNeeds, HasWritten, IsBeside, state_of};
 ghost use Rattle.keep_watch.specs.code.Bounds.{IsBook, IsTrack};
-ghost use Rattle.keep_watch.specs.code.Tracks.{each_track, is_open_for, owed_for, owing_track, soon_for, untopped_track};
+ghost use Rattle.keep_watch.specs.code.Tracks.{called_for, each_track, is_open_for, owed_for, owing_track, soon_for, untopped_track};
 ghost use Rattle.keep_watch.specs.declared.clocks.TheConstants.{READING_MAX};
 
 use crate::book::Book;
@@ -16,8 +18,10 @@ use keep_needs::Carried;
 
 impl Book {
     /// Why everything is looked up anew, `None` where it is not; `jumped` says that a clock has stepped.
+    #[tactic(auto, unfolding(crate::specs::Beginning::beginning))]
     pub(crate) fn beginning(&self, jumped: bool) -> Option<Why>
         requires { IsBook self.now }
+        ensures { (g : Forest) (width : ℕ) → IsBeside g self.now → result ≡ beginning (state_of g width self.now) jumped }
     {
         if self.begun.is_none() {
             Some(Why::Start)
@@ -25,11 +29,18 @@ impl Book {
             Some(Why::Jump)
         } else if self.asked {
             Some(Why::Asked)
-        } else if self.is_day_old() && is_idle(&self.tracks) {
+        } else if self.is_day_old() && self.is_idle() {
             Some(Why::Day)
         } else {
             None
         }
+    }
+
+    /// Whether nobody has a try.
+    fn is_idle(&self) -> bool
+        ensures { (g : Forest) (width : ℕ) → IsBeside g self.now → result ≡ is_idle (state_of g width self.now) }
+    {
+        is_idle(&self.tracks)
     }
 
     /// Whether the last beginning is a day ago.
@@ -50,6 +61,7 @@ impl Book {
         requires needs { length needs.now ≡ length self.old.tracks.items }
         requires written { length written.now ≡ length self.old.tracks.items }
         requires book { IsBook self.old }
+        ensures state { (g : Forest) (width : ℕ) → IsBeside g self.old → HasNeeds (state_of g width self.old) needs.now → HasWritten g written.now → state_of g width self.new ≡ begun_anew (state_of g width self.old) }
         ensures count { length self.new.tracks.items ≡ length self.old.tracks.items }
         ensures clocks { self.new.clocks ≡ self.old.clocks }
         ensures book { IsBook self.new }
@@ -57,7 +69,7 @@ impl Book {
         let at = self.clocks.at;
         let dated = self.clocks.dated;
         for entry in 0..count {
-            let called = needs.need(entry) > 0 || (!dated && written.need(entry) > 0);
+            let called = is_called(dated, needs.need(entry), written.need(entry));
             let track = self.track(entry);
             self.set_track(entry, owing(track, called, at));
         }
@@ -67,8 +79,17 @@ impl Book {
 }
 
 /// Whether nobody has a try.
-fn is_idle(tracks: &[Track]) -> bool {
+fn is_idle(tracks: &[Track]) -> bool
+    ensures { result ≡ list_all (λ track. is_none track.attempt) tracks.now }
+{
     tracks.iter().all(|track| track.attempt.is_none())
+}
+
+/// Whether an entry is needed, or may be, by what it carries, and by what it carries by needs as they are written.
+fn is_called(dated: bool, need: u64, written: u64) -> bool
+    ensures { result ≡ called_for dated need written }
+{
+    need > 0 || (!dated && written > 0)
 }
 
 /// Nobody is at the top any more.

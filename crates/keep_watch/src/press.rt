@@ -1,8 +1,10 @@
-ghost use Rattle.std.specs.Prelude.{◌≡◌, ◌≤◌, IfSome, Some, length, nat_lt};
-ghost use Rattle.keep_watch.specs.Press.{dropped, is_pressed_try};
+ghost use Rattle.std.specs.Prelude.{◌≡◌, ◌≤◌, ℕ, [], IfSome, Some, length, map, nat_lt, slice_set};
+ghost use Rattle.std.specs.List.{range_with_len};
+ghost use Rattle.keep_watch.specs.Press.{dropped, is_pressed_try, pressed};
+ghost use Rattle.keep_watch.specs.code.Watching.{HasNeeds, KeepsRest, state_of, track_of};
 ghost use Rattle.keep_watch.specs.Wanted.{believed};
 ghost use Rattle.keep_watch.specs.code.Bounds.{IsBook, IsTrack, IsTry};
-ghost use Rattle.keep_watch.specs.code.Tracks.{asked_track, is_fresh_for, press_for, pressed_track};
+ghost use Rattle.keep_watch.specs.code.Tracks.{asked_in, asked_track, is_fresh_for, press_for, pressed_track};
 ghost use Rattle.keep_watch.specs.declared.clocks.TheConstants.{READING_MAX};
 
 use crate::beginning::{rested, soon};
@@ -126,6 +128,7 @@ impl Book {
         requires count { length self.old.tracks.items ≡ length forest.now.entries }
         requires needs { length needs.now ≡ length forest.now.entries }
         requires book { IsBook self.old }
+        ensures state { (width : ℕ) → HasNeeds (state_of forest.now width self.old) needs.now → state_of forest.now width self.new ≡ pressed (state_of forest.now width self.old) [] }
         ensures count { length self.new.tracks.items ≡ length self.old.tracks.items }
         ensures clocks { self.new.clocks ≡ self.old.clocks }
         ensures book { IsBook self.new }
@@ -143,16 +146,29 @@ impl Book {
     pub(crate) fn press_asked(&mut self, count: u32, round: &[u32])
         requires count { count ≡ length self.old.tracks.items }
         requires book { IsBook self.old }
+        ensures tracks { self.new.tracks.items ≡ map (λ i. asked_in self.old.clocks.at round.now i (track_of self.old i)) (range_with_len 0 count) }
+        ensures rest { KeepsRest self.old self.new }
         ensures count { length self.new.tracks.items ≡ length self.old.tracks.items }
         ensures clocks { self.new.clocks ≡ self.old.clocks }
         ensures book { IsBook self.new }
     {
         let at = self.clocks.at;
         for entry in round {
-            if *entry < count {
-                let track = self.track(*entry);
-                self.set_track(*entry, asked(track, at));
-            }
+            self.ask(*entry, at);
+        }
+    }
+
+    /// Presses an entry that a round asks. One that there is not is left out.
+    fn ask(&mut self, entry: u32, at: u64)
+        requires book { IsBook self.old }
+        requires at { at ≤ READING_MAX }
+        ensures tracks { self.new.tracks.items ≡ slice_set self.old.tracks.items entry (asked_track at (track_of self.old entry)) }
+        ensures rest { KeepsRest self.old self.new }
+        ensures book { IsBook self.new }
+    {
+        if (entry as usize) < self.tracks.len() {
+            let track = self.track(entry);
+            self.set_track(entry, asked(track, at));
         }
     }
 }

@@ -1,10 +1,14 @@
-ghost use Rattle.std.specs.Prelude.{◌≡◌, ◌<◌, ◌≤◌, IfErr, IfSome, OnErr, length};
+ghost use Rattle.std.specs.Prelude.{◌≡◌, ◌<◌, ◌≤◌, IfErr, IfOk, IfSome, OnErr, length};
 ghost use Rattle.keep_moment.specs.declared.moment.TheConstants.{LAST};
 ghost use Rattle.keep_tree.specs.declared.forest.TheConstants.{END_MAX};
 ghost use Rattle.keep_watch.specs.code.Bounds.{IsTrack, IsTry};
 ghost use Rattle.keep_watch.specs.declared.clocks.TheConstants.{READING_MAX};
 ghost use Rattle.keep_watch.specs.declared.fault.WatchFault.TheVariants.{OutOfMemory};
-ghost use Rattle.keep_watch.specs.code.Tracks.{behind_renew_for, from_try_for, granted_track, is_no_further_for, not_granted_track, try_granted_for};
+ghost use Rattle.keep_watch.specs.code.Tracks.{behind_renew_for, from_try_for, granted_track, is_no_further_for, not_granted_track, renewed_track, top_by, try_granted_for};
+ghost use Rattle.keep_watch.specs.code.Watching.{IsRenewed};
+ghost use Rattle.keep_watch.specs.Answers.{with_track};
+ghost use Rattle.keep_watch.specs.State.{entry_of, track_at};
+ghost use Rattle.keep_watch.specs.Step.{IsDated};
 
 use crate::answers::{busied, failing};
 use crate::beginning::owed;
@@ -123,35 +127,65 @@ fn not_granted(track: Track, reply: Reply, at: u64) -> Track
     }
 }
 
+/// A track after the answer to a renewal, with that step.
+#[tactic(auto, unfolding(crate::specs::code::Tracks::renewed_track))]
+fn renewed_track(step: u32, track: Track, reply: Reply, at: u64) -> Track
+    requires track { IsTrack track }
+    requires at { at ≤ READING_MAX }
+    ensures value { result ≡ renewed_track step at reply track }
+    ensures bounds { IsTrack result }
+{
+    match reply {
+        Reply::Told {
+            seconds,
+            renewable,
+            ..
+        } => granted(step, track, at, seconds, renewable),
+        Reply::Refused { .. } | Reply::Busy | Reply::Lost => not_granted(track, reply, at),
+    }
+}
+
+/// The end of an entry that a grant led no further, by its track behind the answer.
+fn top_by(reply: Reply, track: Track) -> Option<u64>
+    ensures { result ≡ top_by reply track }
+{
+    match reply {
+        Reply::Told { .. } => { if track.top { track.end } else { None } }
+        Reply::Refused { .. } | Reply::Busy | Reply::Lost => None,
+    }
+}
+
 impl Watch {
-    /// Takes the answer to a renewal, and gives what is noted of it.
+    /// Takes the answer to a renewal, and gives what is noted of it. The only error is want of memory, where the reply brought a
+    /// date.
     pub(crate) fn renewed(&mut self, entry: u32, reply: Reply) -> Result<Notes, WatchFault>
         requires { entry < length self.old.forest.entries }
+        ensures step { IfOk result (IsRenewed self.old entry reply self.new) }
         ensures refused { IfErr result (λ fault. fault ≡ OutOfMemory) }
+        ensures dated { OnErr result (IsDated reply) }
         ensures unchanged { OnErr result (self.new ≡ self.old) }
     {
         self.book.note_date(reply)?;
+        let top = self.take_renewal(entry, reply);
+        let link = self.book.take_reply(entry, reply);
+        Ok(Notes {
+            top,
+            link,
+            ..Notes::none()
+        })
+    }
+
+    /// Takes the answer to a renewal for its entry, and gives its end where it is led no further.
+    #[tactic(auto, unfolding(crate::specs::State::track_at, crate::specs::State::entry_of))]
+    fn take_renewal(&mut self, entry: u32, reply: Reply) -> Option<u64>
+        requires { entry < length self.old.forest.entries }
+        ensures state { self.new ≡ with_track self.old entry (renewed_track (entry_of self.old entry).step self.old.clocks.at reply (track_at self.old entry)) }
+        ensures top { result ≡ top_by reply (renewed_track (entry_of self.old entry).step self.old.clocks.at reply (track_at self.old entry)) }
+    {
+        let step = self.forest.get(entry).step;
         let at = self.book.clocks.at;
-        let before = self.book.track(entry);
-        let mut notes = Notes::none();
-        match reply {
-            Reply::Told {
-                seconds,
-                renewable,
-                ..
-            } => {
-                let step = self.forest.get(entry).step;
-                let after = granted(step, before, at, seconds, renewable);
-                if after.top {
-                    notes.top = after.end;
-                }
-                self.book.set_track(entry, after);
-            }
-            Reply::Refused { .. } | Reply::Busy | Reply::Lost => {
-                self.book.set_track(entry, not_granted(before, reply, at));
-            }
-        }
-        notes.link = self.book.take_reply(entry, reply);
-        Ok(notes)
+        let track = renewed_track(step, self.book.track(entry), reply, at);
+        self.book.set_track(entry, track);
+        top_by(reply, track)
     }
 }

@@ -1,4 +1,10 @@
-ghost use Rattle.std.specs.Prelude.{◌≡◌, ◌≤◌, IfErr, IfOk, IfSome, Some, length};
+ghost use Rattle.std.specs.Prelude.{◌≡◌, ◌≤◌, ◌&&◌, ℕ, false, IfErr, IfOk, IfSome, Some, is_none, length, map, min};
+ghost use Rattle.keep_tree.specs.Forest.{Forest};
+ghost use Rattle.keep_watch.specs.Clocks.{dated_by_all, is_ahead, jumps};
+ghost use Rattle.keep_watch.specs.Pauses.{doubled};
+ghost use Rattle.keep_watch.specs.Settling.{clocks_after, dates_of, free_after, has_jumped, hold_after, since_of};
+ghost use Rattle.keep_watch.specs.Wanted.{least};
+ghost use Rattle.keep_watch.specs.code.Watching.{IsBeside, IsSettled, state_of};
 ghost use Rattle.std.specs.List.{All};
 ghost use Rattle.keep_moment.specs.declared.moment.TheConstants.{LAST};
 ghost use Rattle.keep_watch.specs.declared.track.TheConstants.{MOST_FAILS};
@@ -6,7 +12,7 @@ ghost use Rattle.keep_watch.specs.declared.fault.WatchFault.TheVariants.{OutOfMe
 ghost use Rattle.keep_watch.specs.declared.pauses.TheConstants.{LONGEST};
 ghost use Rattle.keep_watch.specs.declared.clocks.TheConstants.{READING_MAX};
 ghost use Rattle.keep_watch.specs.code.Bounds.{IsBook, IsClocks, IsSlice, IsTrack, IsTry};
-ghost use Rattle.keep_watch.specs.code.Tracks.{each_track, held_try, settled_track, settled_try};
+ghost use Rattle.keep_watch.specs.code.Tracks.{each_track, held_by, settled_track, settled_try};
 
 use crate::book::Book;
 use crate::clocks::{Clocks, reading};
@@ -25,9 +31,12 @@ pub(crate) struct Timed {
 
 impl Book {
     /// The clocks at these readings, in milliseconds, with the dates of the slice that was answered.
+    #[tactic(auto, unfolding(crate::specs::Settling::clocks_after, crate::specs::Settling::has_jumped))]
     pub(crate) fn timed(&self, wall: u64, elapsed: u64) -> Timed
         requires { IsBook self.now }
-        ensures { IsClocks result.clocks }
+        ensures within { IsClocks result.clocks }
+        ensures clocks { (g : Forest) (width : ℕ) → result.clocks ≡ clocks_after (state_of g width self.now) wall elapsed }
+        ensures jumped { is_none self.now.begun ≡ false → (g : Forest) (width : ℕ) → result.jumped ≡ has_jumped (state_of g width self.now) wall elapsed }
     {
         if self.begun.is_none() {
             return Timed {
@@ -58,6 +67,7 @@ impl Book {
         requires book { IsBook self.now }
         requires clocks { IsClocks clocks }
         ensures book { IfOk result IsBook }
+        ensures state { IfOk result (IsSettled self.now margin clocks) }
         ensures count { IfOk result (λ book. length book.tracks.items ≡ length self.now.tracks.items) }
         ensures clocks { IfOk result (λ book. book.clocks ≡ clocks) }
         ensures refused { IfErr result (λ fault. fault ≡ OutOfMemory) }
@@ -68,31 +78,39 @@ impl Book {
             begun: self.begun,
             asked: self.asked,
             away: self.away,
-            hold: self.hold_at(margin, clocks.at),
-            free: self.free_at(clocks.at),
+            hold: self.hold_at(margin, clocks),
+            free: self.free_at(clocks),
             slice: None,
         })
     }
 
     /// Until when later tries are held back.
-    fn hold_at(&self, margin: u32, at: u64) -> u64
+    fn hold_at(&self, margin: u32, clocks: Clocks) -> u64
         requires book { IsBook self.now }
-        requires at { at ≤ READING_MAX }
+        requires clocks { IsClocks clocks }
+        ensures { (g : Forest) (width : ℕ) → IsBeside g self.now → g.margin ≡ margin → result ≡ hold_after (state_of g width (record self.now { clocks = clocks })) self.now.slice }
     {
         if self.slice.is_some() && self.away > 0 {
-            at + held(margin, at, self.away, &self.tracks)
+            clocks.at + held(margin, clocks.at, self.away, &self.tracks)
         } else {
             self.hold
         }
     }
 
     /// Until when every slice is held back: a second, where someone was busy.
-    fn free_at(&self, at: u64) -> u64
-        requires { at ≤ READING_MAX }
+    fn free_at(&self, clocks: Clocks) -> u64
+        requires { IsClocks clocks }
+        ensures { (g : Forest) (width : ℕ) → result ≡ free_after (state_of g width (record self.now { clocks = clocks })) self.now.slice }
     {
         match &self.slice {
             None => self.free,
-            Some(slice) => { if slice.busy { at + 1000 } else { self.free } }
+            Some(slice) => {
+                if slice.busy {
+                    clocks.at + 1000
+                } else {
+                    self.free
+                }
+            }
         }
     }
 }
@@ -101,7 +119,9 @@ impl Book {
 fn dated_by_slice(clocks: Clocks, slice: &Option<Slice>) -> Timed
     requires clocks { IsClocks clocks }
     requires slice { IfSome slice.now IsSlice }
-    ensures { IsClocks result.clocks }
+    ensures within { IsClocks result.clocks }
+    ensures clocks { result.clocks ≡ dated_by_all (since_of slice.now) clocks (dates_of slice.now) }
+    ensures jumped { result.jumped ≡ jumps (since_of slice.now) clocks (dates_of slice.now) }
 {
     match slice {
         None => Timed {
@@ -118,15 +138,28 @@ fn dated_by_all(clocks: Clocks, since: u64, dates: &[u64]) -> Timed
     requires clocks { IsClocks clocks }
     requires since { since ≤ READING_MAX }
     requires dates { All (λ date. date ≤ LAST) dates.now }
-    ensures { IsClocks result.clocks }
+    ensures within { IsClocks result.clocks }
+    ensures clocks { result.clocks ≡ dated_by_all since clocks dates.now }
+    ensures jumped { result.jumped ≡ jumps since clocks dates.now }
 {
-    let mut clocks = clocks;
+    let mut now = clocks;
     let mut jumped = false;
     for date in dates {
-        jumped |= clocks.dated & clocks.is_ahead(*date);
-        clocks = clocks.dated_by(since, *date);
+        jumped = jumped || is_jump(now, *date);
+        now = now.dated_by(since, *date);
     }
-    Timed { clocks, jumped }
+    Timed {
+        clocks: now,
+        jumped,
+    }
+}
+
+/// Whether a date is ahead of a clock that a reply had told before.
+fn is_jump(clocks: Clocks, date: u64) -> bool
+    requires { IsClocks clocks }
+    ensures { result ≡ (clocks.dated && is_ahead clocks date) }
+{
+    clocks.dated && clocks.is_ahead(date)
 }
 
 /// The tracks with the pauses of those that failed set. The only error is want of memory.
@@ -187,7 +220,8 @@ fn paused(margin: u32, at: u64, track: Track, attempt: Try) -> Try
 fn held(margin: u32, at: u64, away: u32, tracks: &[Track]) -> u64
     requires away { away ≤ MOST_FAILS }
     requires tracks { All IsTrack tracks.now }
-    ensures { result ≤ LONGEST }
+    ensures value { result ≡ least (min LONGEST (doubled away)) (map (held_by margin at) tracks.now) }
+    ensures within { result ≤ LONGEST }
 {
     let mut least = LONGEST.min(doubled(away));
     for track in tracks {
@@ -199,7 +233,7 @@ fn held(margin: u32, at: u64, away: u32, tracks: &[Track]) -> u64
 /// How long this entry may wait: any time where it is not pressed.
 fn most_held(margin: u32, at: u64, track: Track) -> u64
     requires { IsTrack track }
-    ensures { result ≡ held_try margin at track track.attempt }
+    ensures { result ≡ held_by margin at track }
 {
     match track.attempt {
         None => LONGEST,

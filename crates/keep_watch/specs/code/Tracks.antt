@@ -1,7 +1,7 @@
 -- Tracks: what a step makes of one entry, by what is known of it and of no other. No public clause cites it.
 -- Source: this project's own.
 use Rattle.std.specs.Prelude.{ℕ, ◌+◌, ◌*◌, ◌/◌, ◌==◌, Bool, true, false, not, ◌&&◌, ◌||◌, if◌then◌else◌, List, Option, Some, None, is_none, length, map, max, min, nat_le, nat_lt, slice_index_or}
-use Rattle.std.specs.List.{range_with_len}
+use Rattle.std.specs.List.{list_any, range_with_len}
 use Rattle.keep_tree.specs.declared.entry.Entry.{Entry}
 use Rattle.keep_watch.specs.declared.clocks.Clocks.{Clocks}
 use Rattle.keep_watch.specs.declared.event.Operation.{Operation}
@@ -133,6 +133,9 @@ abbrev pub held_try : ℕ → ℕ → Track → Option Try → ℕ
 held_try margin at x None = 300000
 held_try margin at x (Some t) = if t.pressed then cap_for margin at x.end t else 300000
 
+abbrev pub held_by : ℕ → ℕ → Track → ℕ
+held_by margin at x = held_try margin at x x.attempt
+
 abbrev pub untopped_track : Track → Track
 untopped_track x = record x { top = false }
 
@@ -202,3 +205,24 @@ granted_track step at seconds renewable x = record x {
   attempt = try_granted_for at x.owes (from_try_for (sec at) x.attempt + seconds) x.attempt;
   last = Some at;
 }
+
+-- an entry after the answer to a renewal, and its end where it is led no further
+unfoldable pub renewed_track : ℕ → ℕ → Reply → Track → Track
+renewed_track step at (Told seconds renewable date) x = granted_track step at seconds renewable x
+renewed_track step at (Refused status date) x = not_granted_track at (Refused status date) x
+renewed_track step at Busy x = not_granted_track at Busy x
+renewed_track step at Lost x = not_granted_track at Lost x
+
+abbrev pub top_by : Reply → Track → Option ℕ
+top_by (Told seconds renewable date) x = if x.top then x.end else None
+top_by (Refused status date) x = None
+top_by Busy x = None
+top_by Lost x = None
+
+-- needed, or perhaps so, by what it carries and by what it carries as written
+abbrev pub called_for : Bool → ℕ → ℕ → Bool
+called_for dated need written = nat_lt 0 need || (not dated && nat_lt 0 written)
+
+-- an entry that a round asks, or does not
+abbrev pub asked_in : ℕ → List ℕ → ℕ → Track → Track
+asked_in at round i x = if list_any (λ j. j == i) round then asked_track at x else x

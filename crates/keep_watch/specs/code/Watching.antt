@@ -1,14 +1,23 @@
 -- Watching: what a watch holds beside its state. No public clause cites it.
 -- Source: this project's own.
-use Rattle.std.specs.Prelude.{◌≡◌, ℕ, ◌||◌, Option, Some, None, length, slice_index_or}
+use Rattle.std.specs.Prelude.{◌≡◌, ℕ, ◌||◌, ◌++◌, ◌<◌, List, Option, Some, None, length, map, min, option_map, option_to_list, slice_index_or}
+use Rattle.keep_moment.specs.declared.moment.TheConstants.{LAST}
+use Rattle.keep_needs.specs.Carried.{CarriedNeed, load_at}
+use Rattle.keep_tree.specs.Carried.{carried}
 use Rattle.keep_tree.specs.Forest.{Forest}
 use Rattle.keep_watch.specs.declared.book.Book.{Book}
 use Rattle.keep_watch.specs.declared.event.Reply.{Reply}
+use Rattle.keep_watch.specs.declared.clocks.Clocks.{Clocks}
 use Rattle.keep_watch.specs.declared.notes.Link.{Link}
+use Rattle.keep_watch.specs.declared.notes.Notes.{Notes}
+use Rattle.keep_watch.specs.Renewed.{renewed}
+use Rattle.keep_watch.specs.Step.{notes_renewed, with_link}
 use Rattle.keep_watch.specs.declared.slice.Slice.{Slice}
 use Rattle.keep_watch.specs.declared.track.Track.{Track}
-use Rattle.keep_watch.specs.Answers.{is_busy, is_heard, link_of, settled_with, without}
+use Rattle.keep_watch.specs.Answers.{after_answer, date_of, is_busy, is_heard, link, link_of, settled_with, without}
+use Rattle.keep_watch.specs.Settling.{settled}
 use Rattle.keep_watch.specs.State.{State, no_track}
+use Rattle.keep_watch.specs.Wanted.{wanted_need}
 use Rattle.keep_watch.specs.code.Bounds.{IsBook}
 
 -- all but the tracks is as it was
@@ -46,6 +55,14 @@ IsBeside g book = length book.tracks.items ≡ length g.entries
 abbrev pub track_of : Book → ℕ → Track
 track_of book i = slice_index_or book.tracks.items i no_track
 
+-- a slice with the date of a reply, no later than the last second
+unfoldable pub noted : Slice → Reply → Slice
+noted slice reply = record slice { dates = slice.dates ++ option_to_list (option_map (λ date. min LAST date) (date_of reply)) }
+
+abbrev pub noted_in : Option Slice → Reply → Option Slice
+noted_in None reply = None
+noted_in (Some slice) reply = Some (noted slice reply)
+
 -- a slice after a reply to the request of i, whose date is noted
 unfoldable pub replied : Slice → ℕ → Reply → Slice
 replied slice i reply = record slice { unanswered = without i slice.unanswered; heard = slice.heard || is_heard reply; busy = slice.busy || is_busy reply }
@@ -57,3 +74,21 @@ after_reply s (Some slice) i reply = settled_with s (replied slice i reply)
 abbrev pub link_after : State → Option Slice → ℕ → Reply → Option Link
 link_after s None i reply = None
 link_after s (Some slice) i reply = link_of s (replied slice i reply) (replied slice i reply).unanswered
+
+-- what a renewal's answer gives: the notes and the state of the definitions
+abbrev pub IsRenewed : State → ℕ → Reply → State → Notes → Type 0
+IsRenewed old i reply new notes =
+    (notes ≡ with_link (notes_renewed old i reply) (link old old.slice i reply)) × (new ≡ after_answer (renewed old i reply) old.slice i reply)
+
+-- these are what the entries carry in a state
+abbrev pub HasNeeds : State → List CarriedNeed → Type 0
+HasNeeds s loads = (i : ℕ) → i < length s.forest.entries → (load_at loads i).need ≡ wanted_need s i
+
+-- and what they carry by their needs as they are written
+abbrev pub HasWritten : Forest → List CarriedNeed → Type 0
+HasWritten g loads = (i : ℕ) → i < length g.entries → (load_at loads i).need ≡ carried g.entries 0 i
+
+-- a book at those clocks, with the failures of its slice settled
+abbrev pub IsSettled : Book → ℕ → Clocks → Book → Type 0
+IsSettled old margin clocks new =
+    (g : Forest) (width : ℕ) → IsBeside g old → g.margin ≡ margin → state_of g width new ≡ settled (state_of g width (record old { clocks = clocks }))

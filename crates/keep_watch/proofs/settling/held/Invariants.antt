@@ -1,6 +1,11 @@
-use Rattle.std.proofs.Common.{◌≤◌}
+use Rattle.std.proofs.Common.{◌≡◌, ◌≤◌, map, take}
+use Rattle.keep_watch.specs.Wanted.{least}
+use Rattle.keep_watch.specs.code.Tracks.{held_by}
 use Rattle.keep_watch.specs.declared.pauses.TheConstants.{LONGEST}
 use Rattle.keep_watch.proofs.settling.held.Given as goal
 
 abbrev pub invariant-loop-track : goal.invariant-loop-track
-invariant-loop-track l = l.least ≤ LONGEST
+invariant-loop-track l = record {
+  is : l.least ≡ least l.initial.least (map (held_by l.margin l.at) (take l.track-index l.tracks));
+  within : l.least ≤ LONGEST;
+}
