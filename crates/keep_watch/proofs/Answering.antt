@@ -1,7 +1,6 @@
 -- Answering: what an answer leaves of the second that its entry has to rest. For the laws of load.
-use Rattle.std.proofs.Common.{◌≡◌, ◌≢◌, ◌⊎◌, ◌∙◌, ℕ, ◌+◌, ◌<◌, ◌≤◌, Bool, true, false, not, ◌&&◌, ◌||◌, ◌==◌, if◌then◌else◌, List, [], ◌∷◌, Option, Some, None, IfSome, length, nat_lt, set, refl, sym, ap, subst, arith, inl, inr}
+use Rattle.std.proofs.Common.{◌≡◌, ◌≢◌, ◌∙◌, ℕ, ◌+◌, ◌<◌, ◌≤◌, true, false, ◌&&◌, if◌then◌else◌, List, [], ◌∷◌, Option, Some, None, IfSome, length, nat_lt, refl, sym, ap, subst, arith, inl, inr}
 use Rattle.std.proofs.lemmas.List.{length-set}
-use Rattle.keep_watch.specs.declared.event.Operation.{Operation}
 use Rattle.keep_watch.specs.declared.event.Operation.TheVariants.{Look, Renew}
 use Rattle.keep_watch.specs.declared.event.Reply.{Reply}
 use Rattle.keep_watch.specs.declared.event.Reply.TheVariants.{Told, Refused, Busy, Lost}
@@ -10,7 +9,7 @@ use Rattle.keep_watch.specs.declared.event.Terms.{Terms}
 use Rattle.keep_watch.specs.declared.slice.Slice.{Slice}
 use Rattle.keep_watch.specs.declared.track.Track.{Track}
 use Rattle.keep_watch.specs.declared.track.Try.{Try}
-use Rattle.keep_watch.specs.Answers.{after_answer, answered, back, busied, closed, failing, freed, settled_with, silent, with_track}
+use Rattle.keep_watch.specs.Answers.{after_answer, answered, back, closed, failing, freed, settled_with, silent, with_track}
 use Rattle.keep_watch.specs.Beginning.{is_open_ended, owed, rested}
 use Rattle.keep_watch.specs.LawsOfLoad.{Sent}
 use Rattle.keep_watch.specs.Looked.{at_once, looked, told_by, told_state, told_track, try_behind, try_busy, try_lost, try_refused}
@@ -21,7 +20,7 @@ use Rattle.keep_watch.specs.Slice.{is_away}
 use Rattle.keep_watch.specs.State.{State, attempt_at, track_at, with_tracks}
 use Rattle.keep_watch.specs.Wanted.{is_wanted, second}
 use Rattle.keep_watch.proofs.Cases.{if_cases}
-use Rattle.keep_watch.proofs.Resting.{Follows, MayFollow, Rests, freed_rests}
+use Rattle.keep_watch.proofs.Resting.{MayFollow, Rests, freed_rests}
 use Rattle.keep_watch.proofs.Tracks.{track_other, track_same, track_set, track_written}
 
 -- a track that was answered now

@@ -1,5 +1,6 @@
 -- Begun: a book at a beginning has the state of the definitions. For the beginning.
-use Rattle.std.proofs.Common.{◌≡◌, ◌∙◌, ℕ, ◌<◌, Bool, true, false, ◌&&◌, if◌then◌else◌, List, [], ◌∷◌, Option, Some, None, is_none, length, map, refl, slice_index_or, sym, ap}
+use Rattle.std.proofs.Common.{◌≡◌, ◌∙◌, ℕ, Bool, true, false, ◌&&◌, if◌then◌else◌, List, Option, Some, None, is_none, length, map, refl, slice_index_or, sym, ap, inl, inr}
+use Rattle.std.proofs.lemmas.Bool.{cases_Bool, cond-true}
 use Rattle.std.proofs.lemmas.List.{map-id}
 use Rattle.std.proofs.lemmas.List.Folds.{list_all-map}
 use Rattle.std.specs.List.{list_all, range_with_len}
@@ -9,7 +10,9 @@ use Rattle.keep_tree.specs.Forest.{Forest}
 use Rattle.keep_watch.specs.declared.book.Book.{Book}
 use Rattle.keep_watch.specs.declared.track.Track.{Track}
 use Rattle.keep_watch.specs.declared.track.Try.{Try}
-use Rattle.keep_watch.specs.Beginning.{begun_anew, is_called, is_idle, owing, soon, sooner}
+use Rattle.keep_watch.specs.declared.notes.Why.{Why}
+use Rattle.keep_watch.specs.declared.notes.Why.TheVariants.{Start, Asked, Jump, Day}
+use Rattle.keep_watch.specs.Beginning.{beginning, begun_anew, is_day_old, is_called, is_idle, owing, soon, sooner}
 use Rattle.keep_watch.specs.State.{State, attempt_at, indices, no_track, track_at}
 use Rattle.keep_watch.specs.Wanted.{second, wanted_need}
 use Rattle.keep_watch.specs.code.Tracks.{called_for, is_open_for, owing_track, soon_for, sooner_for}
@@ -52,3 +55,14 @@ begun_is g width old needs written tracks beside has wrote is =
     ap (λ xs. record s { tracks = xs; begun = Some old.clocks.at; asked = false })
     (is ∙ ap (λ n. map f (range_with_len 0 n)) beside
     ∙ range_same f (owing s) (length g.entries) (λ i below. sym (owing_is s i (load_at needs i).need (load_at written i).need (has i below) (wrote i below))))
+
+-- at a first clock no jump counts
+pub begins_same : (s : State) (j k : Bool) → (is_none s.begun ≡ false → j ≡ k) → beginning s j ≡ beginning s k
+unfolding beginning
+begins_same s j k same =
+    let rest : Bool → Option Why = λ b.
+    if b then Some Jump else (if s.asked then Some Asked else (if is_day_old s.begun s.clocks.at && is_idle s then Some Day else None)) in
+    elim (cases_Bool (is_none s.begun)) [
+      | inl none ↦ cond-true (is_none s.begun) (Some Start) (rest j) none ∙ sym (cond-true (is_none s.begun) (Some Start) (rest k) none)
+      | inr some ↦ ap (λ b. if is_none s.begun then Some Start else rest b) (same some)
+    ]

@@ -1,6 +1,5 @@
 -- Cases: what holds of both branches holds of the whole, and what an option holds. For every proof about a step.
-use Rattle.std.proofs.Common.{◌≡◌, ℕ, Bool, true, false, cond, if◌then◌else◌, Option, Some, None, IfSome, refl, ap, sym, subst, inl, inr, ⊎_elim}
-use Rattle.std.proofs.lemmas.Bool.{cases_Bool}
+use Rattle.std.proofs.Common.{◌≡◌, Bool, true, false, if◌then◌else◌, Option, Some, None, IfSome, Result, Ok, Err, IfOk, refl, ap, subst}
 
 -- what holds of each branch, where it is taken, holds of the whole
 pub if_cases : {X : Type 0} (P : X → Type 0) (b : Bool) (x y : X) → (b ≡ true → P x) → (b ≡ false → P y) → P (if b then x else y)
@@ -19,3 +18,8 @@ value_is {X} x y same = ap (λ (o : Option X). elim o [ None ↦ x | Some z ↦ 
 pub of_value : {X : Type 0} (P : X → Type 0) (o : Option X) (x : X) → IfSome o P → o ≡ Some x → P x
 of_value P None x h same = absurd cc
 of_value P (Some y) x h same = subst P (value_is y x same) h
+
+-- what holds of what a call gave, if it gave anything, and what follows of that
+pub ok_map : {X E : Type 0} (P Q : X → Type 0) → ((x : X) → P x → Q x) → (r : Result X E) → IfOk r P → IfOk r Q
+ok_map P Q h (Ok x) p = h x p
+ok_map P Q h (Err e) p = tt

@@ -1,17 +1,16 @@
 -- Clocking: what a clock leaves of the second that an entry has to rest, before a slice goes out. For the laws of load.
-use Rattle.std.proofs.Common.{◌≡◌, ◌≢◌, ◌⊎◌, ◌∙◌, ℕ, ◌+◌, ◌<◌, ◌≤◌, max, Bool, true, false, not, ◌&&◌, ◌||◌, if◌then◌else◌, List, [], ◌∷◌, Option, Some, None, IfSome, fold, is_none, length, refl, sym, ap, subst, arith, inl, inr}
+use Rattle.std.proofs.Common.{◌≡◌, ◌∙◌, ℕ, ◌+◌, ◌<◌, ◌≤◌, max, Bool, true, false, ◌||◌, if◌then◌else◌, List, [], ◌∷◌, Option, Some, None, is_none, length, refl, sym, ap, subst, arith, inl, inr}
 use Rattle.std.proofs.Math.Nat.{le-max_left}
 use Rattle.std.proofs.lemmas.Bool.{cases_Bool, cond-true, cond-false}
 use Rattle.keep_watch.specs.declared.clocks.Clocks.{Clocks}
 use Rattle.keep_watch.specs.declared.notes.Why.{Why}
 use Rattle.keep_watch.specs.declared.notes.Why.TheVariants.{Start}
-use Rattle.keep_watch.specs.declared.track.Track.{Track}
-use Rattle.keep_watch.specs.Beginning.{begun, begun_anew, beginning, is_day_old, is_idle, owing, untopped}
+use Rattle.keep_watch.specs.Beginning.{begun, begun_anew, beginning, owing, untopped}
 use Rattle.keep_watch.specs.Clocks.{dated_by, dated_by_all, first_clocks, is_ahead, is_behind, is_stepped, moment, reading, sec, walled}
 use Rattle.keep_watch.specs.LawsOfLoad.{Sent}
 use Rattle.keep_watch.specs.Press.{attempt_after, pressed}
-use Rattle.keep_watch.specs.Settling.{clocks_after, dates_of, has_jumped, hold_after, free_after, paused, read, settled, since_of, timed}
-use Rattle.keep_watch.specs.State.{State, attempt_at, track_at, with_tracks}
+use Rattle.keep_watch.specs.Settling.{clocks_after, dates_of, has_jumped, paused, read, settled, since_of, timed}
+use Rattle.keep_watch.specs.State.{State, attempt_at, track_at}
 use Rattle.keep_watch.specs.Step.{readied, why}
 use Rattle.keep_watch.proofs.Cases.{if_cases}
 use Rattle.keep_watch.proofs.Resting.{IsReady, Rests, owing_ready, paused_follows, pressed_ready}

@@ -1,17 +1,15 @@
 -- Early: over a history each renewal has a reason. For the law of never too early.
-use Rattle.std.proofs.Common.{◌≡◌, ◌≢◌, ◌⊎◌, ◌∙◌, ℕ, ◌+◌, ◌<◌, ◌≤◌, Bool, true, false, cond, not, ◌&&◌, ◌||◌, ◌==◌, if◌then◌else◌, List, [], ◌∷◌, Option, Some, None, Result, Ok, Err, is_none, length, map, refl, sym, ap, subst, arith, inl, inr}
-use Rattle.std.proofs.lemmas.Bool.{cases_Bool, cases_eq, cond-true, cond-false}
+use Rattle.std.proofs.Common.{◌≡◌, ◌≢◌, ◌∙◌, ℕ, ◌<◌, Bool, true, false, ◌||◌, ◌==◌, if◌then◌else◌, List, [], ◌∷◌, Option, Some, None, Result, Ok, Err, length, refl, sym, ap, subst, arith, inl, inr}
+use Rattle.std.proofs.lemmas.Bool.{cases_eq}
 use Rattle.std.proofs.lemmas.Bool.Decides.{nat_tests}
 use Rattle.std.proofs.lemmas.List.{get_or-map, length-set}
 use Rattle.std.specs.List.{list_any}
 use Rattle.keep_tree.specs.Forest.{Forest, no_entry}
-use Rattle.keep_watch.specs.declared.clocks.Clocks.{Clocks}
 use Rattle.keep_watch.specs.declared.command.Command.{Command}
 use Rattle.keep_watch.specs.declared.command.Command.TheVariants.{Ask, Wait, Taken}
 use Rattle.keep_watch.specs.declared.command.Output.{Output}
 use Rattle.keep_watch.specs.declared.event.Event.{Event}
 use Rattle.keep_watch.specs.declared.event.Event.TheVariants.{Clock, Looked, Renewed, Need, Begin, Known}
-use Rattle.keep_watch.specs.declared.event.Operation.{Operation}
 use Rattle.keep_watch.specs.declared.event.Operation.TheVariants.{Look, Renew}
 use Rattle.keep_watch.specs.declared.event.Reply.{Reply}
 use Rattle.keep_watch.specs.declared.event.Reply.TheVariants.{Told, Refused, Busy, Lost}
@@ -20,8 +18,7 @@ use Rattle.keep_watch.specs.declared.event.Terms.{Terms}
 use Rattle.keep_watch.specs.declared.fault.WatchFault.{WatchFault}
 use Rattle.keep_watch.specs.declared.notes.Notes.{Notes}
 use Rattle.keep_watch.specs.declared.track.Track.{Track}
-use Rattle.keep_watch.specs.declared.track.Try.{Try}
-use Rattle.keep_watch.specs.Answers.{after_answer, with_track}
+use Rattle.keep_watch.specs.Answers.{after_answer}
 use Rattle.keep_watch.specs.History.{History, Turn, Turned}
 use Rattle.keep_watch.specs.LawsOfLoad.{asked_by, requests_of}
 use Rattle.keep_watch.specs.LawsOfTime.{AllReasoned, EarlyLaw, is_named, reason, reason_answered, reason_taken, renews}
@@ -29,14 +26,14 @@ use Rattle.keep_watch.specs.Looked.{looked, told_by, told_state, told_track, try
 use Rattle.keep_watch.specs.Margins.{has_come}
 use Rattle.keep_watch.specs.Press.{attempt_after, pressed}
 use Rattle.keep_watch.specs.Refusal.{refusal}
-use Rattle.keep_watch.specs.Renewed.{granted, granted_end, renewed, try_granted}
+use Rattle.keep_watch.specs.Renewed.{granted, granted_end, renewed}
 use Rattle.keep_watch.specs.Round.{asked_by as round_of}
-use Rattle.keep_watch.specs.Slice.{is_of_first, operation_of, request, sent as slice_of}
+use Rattle.keep_watch.specs.Slice.{operation_of, sent as slice_of}
 use Rattle.keep_watch.specs.State.{State, attempt_at, fresh_track, no_track, opened, track_at}
-use Rattle.keep_watch.specs.Step.{Step, StepClock, StepCommand, known, needed, nothing, readied, taken, why}
+use Rattle.keep_watch.specs.Step.{Step, StepClock, StepCommand, known, needed, readied, taken}
 use Rattle.keep_watch.proofs.Cases.{if_cases}
 use Rattle.keep_watch.proofs.Answering.{looked_other, renewed_other}
-use Rattle.keep_watch.proofs.Clocking.{IsCounted, pressed_counted, readied_counted}
+use Rattle.keep_watch.proofs.Clocking.{IsCounted, readied_counted}
 use Rattle.keep_watch.proofs.Reasons.{IsFreed, Reasoned, after_freed, behind_reasoned, come_same, granted_reasoned, pressed_reasoned, readied_reasoned}
 use Rattle.keep_watch.proofs.Spaced.{opened_counted, refused_stays, turned}
 use Rattle.keep_watch.proofs.Spacing.{asked_same}

@@ -1,9 +1,9 @@
 -- Examples: a token of 60 seconds that is needed for 200, computed by the definitions themselves. For the reader of `specs/`.
-use Rattle.std.proofs.Common.{◌≡◌, ℕ, true, false, List, [], ◌∷◌, Some, None, refl}
+use Rattle.std.proofs.Common.{◌≡◌, true, false, [], ◌∷◌, Some, None, refl}
 use Rattle.keep_tree.specs.declared.entry.Entry.{Entry}
 use Rattle.keep_tree.specs.declared.entry.Kind.TheVariants.{Token}
 use Rattle.keep_tree.specs.Carried.{carried, carried_of}
-use Rattle.keep_tree.specs.Forest.{Forest, end_of, entry_at}
+use Rattle.keep_tree.specs.Forest.{end_of, entry_at}
 use Rattle.keep_tree.specs.Over.{chain, chain_of, is_over}
 use Rattle.keep_tree.specs.Renewal.{all_last, capped, is_granted, renewal, renewed as renewed_end}
 use Rattle.keep_rule.specs.Asks.{asks, is_wanted as is_asked}
@@ -13,19 +13,19 @@ use Rattle.keep_watch.specs.declared.event.Reply.TheVariants.{Told}
 use Rattle.keep_watch.specs.declared.event.Terms.{Terms}
 use Rattle.keep_watch.specs.Answers.{after_answer, answered, without}
 use Rattle.keep_watch.specs.Beginning.{beginning, is_called, is_idle, owing, soon}
-use Rattle.keep_watch.specs.Clocks.{dated_by, first_clocks, is_ahead, is_behind, is_stepped, moment, phase_of, sec, to_here, to_there, walled}
+use Rattle.keep_watch.specs.Clocks.{first_clocks, is_stepped, moment, phase_of, sec, to_here, to_there, walled}
 use Rattle.keep_watch.specs.Looked.{at_once, by_terms, looked, told_track}
 use Rattle.keep_watch.specs.Margins.{has_come, is_in_plan, lead, own_margin, time}
 use Rattle.keep_watch.specs.Pauses.{cap, pause}
 use Rattle.keep_watch.specs.Press.{attempt_after, is_fresh, is_pressed, press, pressed}
-use Rattle.keep_watch.specs.Renewed.{granted, granted_end, is_topped, renewed}
+use Rattle.keep_watch.specs.Renewed.{granted_end}
 use Rattle.keep_watch.specs.Round.{is_hoped, opens, plan_view, planned}
 use Rattle.keep_watch.specs.Settling.{clocks_after, has_jumped, held}
 use Rattle.keep_watch.specs.Slice.{due, is_due, is_of_first, is_quiet, ready, request, sent}
 use Rattle.keep_watch.specs.State.{State, entry_of, opened, track_at}
 use Rattle.keep_watch.specs.Step.{readied, why}
 use Rattle.keep_watch.specs.Wait.{latest, next_of, wait}
-use Rattle.keep_watch.specs.Wanted.{is_wanted, limit, need_here, second, seen, wanted_need}
+use Rattle.keep_watch.specs.Wanted.{is_wanted, limit, need_here, seen, wanted_need}
 
 -- `web` ends at 1060, lives 60 seconds after each renewal, and is needed until 1200
 web : Entry

@@ -1,8 +1,7 @@
 -- Granting: what the answer to a renewal makes of one track is what it makes of the state. For the answers.
-use Rattle.std.proofs.Common.{◌≡◌, ◌∙◌, ℕ, ◌+◌, Bool, true, false, if◌then◌else◌, Option, Some, None, ap, refl, sym}
+use Rattle.std.proofs.Common.{◌≡◌, ◌∙◌, ℕ, ◌+◌, Bool, false, if◌then◌else◌, Option, Some, None, ap, refl, sym}
 use Rattle.keep_watch.specs.declared.event.Reply.{Reply}
 use Rattle.keep_watch.specs.declared.event.Reply.TheVariants.{Told, Refused, Busy, Lost}
-use Rattle.keep_watch.specs.declared.notes.Notes.{Notes}
 use Rattle.keep_watch.specs.declared.track.Grant.{Grant}
 use Rattle.keep_watch.specs.declared.track.Track.{Track}
 use Rattle.keep_watch.specs.declared.track.Try.{Try}

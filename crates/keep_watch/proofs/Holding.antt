@@ -1,8 +1,8 @@
 -- Holding: while the broker is away, every clock behind a slice holds later tries back for a second or more, and no turn shortens that.
 -- For the law of holding back.
-use Rattle.std.proofs.Common.{◌≡◌, ◌⊎◌, ◌∙◌, ℕ, zero, suc, ◌+◌, ◌*◌, ◌<◌, ◌≤◌, min, max, Bool, true, false, cond, not, ◌&&◌, ◌||◌, ◌==◌, if◌then◌else◌, List, [], ◌∷◌, ◌++◌, Option, Some, None, Result, Ok, Err, IfSome, All, filter, fold, is_none, length, map, nat_le, nat_lt, refl, sym, ap, subst, arith, inl, inr}
+use Rattle.std.proofs.Common.{◌≡◌, ◌∙◌, ℕ, ◌+◌, ◌*◌, ◌<◌, ◌≤◌, min, max, Bool, true, false, not, ◌&&◌, if◌then◌else◌, List, [], ◌∷◌, ◌++◌, Option, Some, None, Result, Ok, Err, All, filter, is_none, map, nat_le, refl, sym, ap, subst, arith}
 use Rattle.std.proofs.Math.Nat.{le-max_left, le-max_right}
-use Rattle.std.proofs.lemmas.Bool.{cases_Bool, cond-true, cond-false}
+use Rattle.std.proofs.lemmas.Bool.{cond-false}
 use Rattle.std.proofs.lemmas.Bool.Decides.{nat_tests}
 use Rattle.std.proofs.lemmas.List.Elements.{All-head, filter_passes}
 use Rattle.keep_tree.proofs.Carrying.{and_left, and_right}
@@ -10,7 +10,6 @@ use Rattle.keep_watch.specs.declared.clocks.Clocks.{Clocks}
 use Rattle.keep_watch.specs.declared.command.Command.{Command}
 use Rattle.keep_watch.specs.declared.command.Command.TheVariants.{Ask, Wait, Taken}
 use Rattle.keep_watch.specs.declared.command.Output.{Output}
-use Rattle.keep_watch.specs.declared.command.Patience.{Patience}
 use Rattle.keep_watch.specs.declared.command.Patience.TheVariants.{Full, Short}
 use Rattle.keep_watch.specs.declared.event.Event.{Event}
 use Rattle.keep_watch.specs.declared.event.Event.TheVariants.{Clock, Looked, Renewed, Need, Begin, Known}
@@ -24,22 +23,22 @@ use Rattle.keep_watch.specs.declared.notes.Why.{Why}
 use Rattle.keep_watch.specs.declared.slice.Slice.{Slice}
 use Rattle.keep_watch.specs.declared.track.Track.{Track}
 use Rattle.keep_watch.specs.declared.track.Try.{Try}
-use Rattle.keep_watch.specs.Answers.{after_answer, answered, back, closed, freed, settled_with, silent}
+use Rattle.keep_watch.specs.Answers.{after_answer, answered, back, closed, freed, silent}
 use Rattle.keep_watch.specs.Beginning.{begun}
 use Rattle.keep_watch.specs.History.{History, Turn, Turned}
-use Rattle.keep_watch.specs.LawsOfLoad.{AllAway, HeldLaw, IsClock, IsFullAsk, SendsFull, asked_by}
+use Rattle.keep_watch.specs.LawsOfLoad.{AllAway, HeldLaw, IsFullAsk, SendsFull}
 use Rattle.keep_watch.specs.Looked.{looked}
 use Rattle.keep_watch.specs.Pauses.{cap, left_to, ms}
 use Rattle.keep_watch.specs.Press.{is_pressed, pressed}
 use Rattle.keep_watch.specs.Renewed.{renewed}
 use Rattle.keep_watch.specs.Round.{asked_by as round_of}
 use Rattle.keep_watch.specs.Settling.{cap_at, held, hold_after, settled, timed}
-use Rattle.keep_watch.specs.Slice.{IsPicked, due, is_away, is_due, is_due_try, is_empty, is_first, is_of_first, is_quiet, later_at, patience, ready, request, sent as slice_of, takes_first}
+use Rattle.keep_watch.specs.Slice.{due, is_away, is_due, is_due_try, is_empty, is_first, is_of_first, is_quiet, later_at, patience, ready, takes_first}
 use Rattle.keep_watch.specs.State.{State, attempt_at, indices, track_at, with_tracks}
-use Rattle.keep_watch.specs.Step.{Step, StepClock, StepCommand, known, needed, readied, taken, why}
+use Rattle.keep_watch.specs.Step.{Step, StepClock, StepCommand, readied, taken, why}
 use Rattle.keep_watch.specs.Wanted.{least}
 use Rattle.keep_watch.proofs.Cases.{if_cases}
-use Rattle.keep_watch.proofs.Clocking.{clock_rises, readied_begun, readied_clock}
+use Rattle.keep_watch.proofs.Clocking.{clock_rises, readied_begun}
 use Rattle.keep_watch.proofs.Resting.{cap_above, doubled_above}
 use Rattle.keep_watch.proofs.Spaced.{refused_stays}
 

@@ -32,4 +32,11 @@ pub mod Settled
 pub mod Begun
 pub mod Pressed
 pub mod Waited
+pub mod Viewing
+pub mod Taking
 pub mod Picked
+pub mod View
+pub mod Asked
+pub mod Opening
+pub mod Shorting
+pub mod Looking

@@ -1,6 +1,6 @@
 -- Likeness: what an event leaves of a state but for tracks and slice: how many entries and tracks there are, that it has begun, and
 -- its clocks. For the laws of load.
-use Rattle.std.proofs.Common.{◌≡◌, ◌∙◌, ℕ, ◌+◌, Bool, true, false, ◌&&◌, ◌||◌, if◌then◌else◌, List, [], ◌∷◌, Option, Some, None, length, min, refl, sym, ap}
+use Rattle.std.proofs.Common.{◌≡◌, ◌∙◌, ℕ, List, [], ◌∷◌, Option, Some, None, length, min, refl, sym}
 use Rattle.std.proofs.lemmas.List.{length-set}
 use Rattle.keep_moment.specs.declared.moment.TheConstants.{LAST}
 use Rattle.keep_watch.specs.declared.event.Reply.{Reply}

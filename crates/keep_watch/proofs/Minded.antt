@@ -1,7 +1,7 @@
 -- Minded: a wait forgets nobody who is wanted. For the law of nobody forgotten.
-use Rattle.std.proofs.Common.{◌≡◌, ◌≢◌, ◌⊎◌, ◌∙◌, ℕ, zero, suc, ◌+◌, ◌*◌, ◌/◌, ◌<◌, ◌≤◌, min, max, Bool, true, false, cond, not, ◌&&◌, ◌||◌, ◌==◌, if◌then◌else◌, List, [], ◌∷◌, Option, Some, None, Result, Ok, Err, filter, length, map, nat_le, nat_lt, refl, sym, ap, subst, arith, inl, inr}
-use Rattle.std.proofs.Math.Nat.{le-max_left, le-max_right}
-use Rattle.std.proofs.lemmas.Bool.{cases_Bool, cond-true, cond-false}
+use Rattle.std.proofs.Common.{◌≡◌, ◌≢◌, ◌∙◌, ℕ, zero, suc, ◌+◌, ◌*◌, ◌<◌, ◌≤◌, min, Bool, true, false, cond, not, ◌&&◌, ◌||◌, ◌==◌, if◌then◌else◌, List, [], ◌∷◌, Option, Some, None, Result, Ok, Err, filter, length, map, nat_le, refl, sym, ap, subst, arith, inl, inr}
+use Rattle.std.proofs.Math.Nat.{le-max_left}
+use Rattle.std.proofs.lemmas.Bool.{cases_Bool, cond-true}
 use Rattle.std.proofs.lemmas.Bool.Decides.{nat_tests}
 use Rattle.std.specs.List.{list_any, range_with_len}
 use Rattle.keep_tree.specs.Forest.{Forest}
@@ -22,8 +22,8 @@ use Rattle.keep_watch.specs.Pauses.{ms}
 use Rattle.keep_watch.specs.Press.{attempt_after, dropped, is_fresh, is_pressed, is_pressed_try, press, pressed}
 use Rattle.keep_watch.specs.Round.{asked_by}
 use Rattle.keep_watch.specs.Slice.{due, is_due, is_due_try, is_empty, is_first, is_quiet, ready}
-use Rattle.keep_watch.specs.State.{State, attempt_at, indices, opened, track_at}
-use Rattle.keep_watch.specs.Step.{Step, StepClock, StepCommand, readied, taken}
+use Rattle.keep_watch.specs.State.{State, attempt_at, opened, track_at}
+use Rattle.keep_watch.specs.Step.{Step, StepCommand, readied}
 use Rattle.keep_watch.specs.Wait.{latest, next_of, time_at, try_at, wait}
 use Rattle.keep_watch.specs.Wanted.{is_wanted, least, second}
 use Rattle.keep_watch.proofs.Cases.{if_cases}

@@ -1,5 +1,5 @@
 -- Picked: those that are due, sorted by rank and index, are picked as the definition says. For the slice that goes out.
-use Rattle.std.proofs.Common.{◌≡◌, ◌∙◌, ℕ, zero, suc, ◌+◌, ◌<◌, ◌≤◌, Bool, true, false, cond, not, ◌&&◌, ◌||◌, ◌==◌, if◌then◌else◌, List, [], ◌∷◌, ◌++◌, Option, Some, None, All, IsPermutation, IsSortedBy, filter, get_or, length, map, nat_lt, take, refl, sym, ap, subst, arith, inl, inr}
+use Rattle.std.proofs.Common.{◌≡◌, ◌∙◌, ℕ, ◌+◌, ◌<◌, Bool, true, false, cond, not, ◌&&◌, ◌||◌, ◌==◌, if◌then◌else◌, List, [], ◌∷◌, ◌++◌, Some, None, All, IsPermutation, IsSortedBy, filter, get_or, length, map, nat_lt, take, refl, sym, ap, subst, arith, inl, inr}
 use Rattle.std.proofs.lemmas.Bool.{cases_Bool, cond-true, cond-false}
 use Rattle.std.proofs.lemmas.Bool.Decides.{nat_tests}
 use Rattle.std.proofs.lemmas.List.{append-nil, get_or-map, length-map, map-append, take-map}
@@ -15,7 +15,8 @@ use Rattle.keep_watch.specs.declared.event.Request.{Request}
 use Rattle.keep_watch.specs.declared.picking.Due.{Due}
 use Rattle.keep_watch.specs.Slice.{IsPicked, due, goes_before, is_away, is_due, is_empty, is_of_first, is_quiet, patience, rank, ready, request, takes_first}
 use Rattle.keep_watch.specs.State.{State, track_at}
-use Rattle.keep_watch.specs.code.Picking.{bare, due_below, due_of, is_before, rank_of_due, state_of}
+use Rattle.keep_watch.specs.code.Picking.{bare, due_below, due_of, is_before, rank_of_due}
+use Rattle.keep_watch.specs.code.Watching.{state_of}
 use Rattle.keep_watch.proofs.Cases.{value_is}
 
 -- one entry more

@@ -1,6 +1,6 @@
 -- Pressed: a book whose entries are pressed, and those whom a round asks, has the state of the definitions. For the press.
-use Rattle.std.proofs.Common.{◌≡◌, ◌≢◌, ◌∙◌, ℕ, ◌+◌, ◌<◌, Bool, true, false, ◌||◌, ◌==◌, if◌then◌else◌, List, [], ◌∷◌, ◌++◌, Option, Some, None, get_or, length, map, nat_eq, refl, set, slice_index_or, subst, sym, take, ap, arith, inl, inr}
-use Rattle.std.proofs.lemmas.Bool.{cases_Bool, cases_eq, cond-true}
+use Rattle.std.proofs.Common.{◌≡◌, ◌∙◌, ℕ, ◌+◌, ◌<◌, Bool, true, false, ◌||◌, ◌==◌, if◌then◌else◌, List, [], ◌∷◌, Option, Some, get_or, length, map, refl, set, slice_index_or, sym, take, ap, arith, inl, inr}
+use Rattle.std.proofs.lemmas.Bool.{cases_eq}
 use Rattle.std.proofs.lemmas.Bool.Decides.{nat_tests}
 use Rattle.std.proofs.lemmas.List.{get_or-set_other, get_or-set_same, take_more}
 use Rattle.std.proofs.lemmas.List.Folds.{list_any-append}
@@ -14,7 +14,7 @@ use Rattle.keep_watch.specs.Beginning.{soon}
 use Rattle.keep_watch.specs.Margins.{has_come, lead, own_margin, time}
 use Rattle.keep_watch.specs.Press.{attempt_after, dropped, is_fresh, is_pressed, press, pressed}
 use Rattle.keep_watch.specs.State.{State, attempt_at, entry_of, no_track, track_at}
-use Rattle.keep_watch.specs.Wanted.{is_wanted, second, wanted_need}
+use Rattle.keep_watch.specs.Wanted.{is_wanted, wanted_need}
 use Rattle.keep_watch.specs.code.Tracks.{asked_in, asked_track, is_fresh_for, own, press_for, pressed_track, time_of, wants}
 use Rattle.keep_watch.specs.code.Watching.{HasNeeds, IsBeside, state_of}
 use Rattle.keep_watch.proofs.Tracks.{track_written}

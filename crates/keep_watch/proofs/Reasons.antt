@@ -1,40 +1,28 @@
 -- Reasons: every renewal that is to go out has a reason. For the law of never too early.
-use Rattle.std.proofs.Common.{◌≡◌, ◌≢◌, ◌⊎◌, ◌∙◌, ℕ, zero, suc, ◌+◌, ◌-◌, ◌*◌, ◌/◌, ◌<◌, ◌≤◌, min, max, Bool, true, false, cond, not, ◌&&◌, ◌||◌, ◌==◌, if◌then◌else◌, List, [], ◌∷◌, ◌++◌, Option, Some, None, Result, Ok, Err, IfSome, is_none, length, map, nat_le, nat_lt, refl, sym, ap, subst, arith, inl, inr}
-use Rattle.std.proofs.lemmas.Bool.{cases_Bool, cases_eq, cond-true, cond-false}
-use Rattle.std.proofs.lemmas.Bool.Decides.{nat_tests}
+use Rattle.std.proofs.Common.{◌≡◌, ◌∙◌, ℕ, ◌+◌, ◌<◌, max, true, false, not, ◌&&◌, ◌||◌, ◌==◌, if◌then◌else◌, List, [], ◌∷◌, Option, Some, None, length, nat_lt, refl, sym, ap, subst}
 use Rattle.std.specs.List.{list_any}
-use Rattle.keep_tree.specs.Forest.{Forest}
 use Rattle.keep_tree.proofs.Carrying.{and_left, and_right, or_parts}
-use Rattle.keep_watch.specs.declared.clocks.Clocks.{Clocks}
-use Rattle.keep_watch.specs.declared.command.Command.{Command}
-use Rattle.keep_watch.specs.declared.command.Command.TheVariants.{Ask, Wait, Taken}
-use Rattle.keep_watch.specs.declared.command.Output.{Output}
-use Rattle.keep_watch.specs.declared.event.Event.{Event}
-use Rattle.keep_watch.specs.declared.event.Event.TheVariants.{Clock, Looked, Renewed, Need, Begin, Known}
-use Rattle.keep_watch.specs.declared.event.Operation.{Operation}
 use Rattle.keep_watch.specs.declared.event.Operation.TheVariants.{Look, Renew}
 use Rattle.keep_watch.specs.declared.event.Reply.{Reply}
-use Rattle.keep_watch.specs.declared.event.Reply.TheVariants.{Told, Refused, Busy, Lost}
 use Rattle.keep_watch.specs.declared.event.Request.{Request}
-use Rattle.keep_watch.specs.declared.event.Terms.{Terms}
 use Rattle.keep_watch.specs.declared.notes.Why.{Why}
 use Rattle.keep_watch.specs.declared.slice.Slice.{Slice}
 use Rattle.keep_watch.specs.declared.track.Track.{Track}
 use Rattle.keep_watch.specs.declared.track.Try.{Try}
 use Rattle.keep_watch.specs.Answers.{after_answer, answered, back, closed, failing, freed, freed_try, settled_with, silent}
 use Rattle.keep_watch.specs.Beginning.{begun, begun_anew, hastened, is_called, is_open_ended, owed, owing, rested, soon, sooner, untopped}
-use Rattle.keep_watch.specs.Looked.{at_once, looked, told_by, told_state, try_behind}
+use Rattle.keep_watch.specs.Looked.{at_once, try_behind}
 use Rattle.keep_watch.specs.Margins.{has_come, lead, own_margin, time}
 use Rattle.keep_watch.specs.Pauses.{pause}
 use Rattle.keep_watch.specs.Press.{attempt_after, dropped, is_alive, is_fresh, is_pressed, let_go, press, pressed}
-use Rattle.keep_watch.specs.Renewed.{granted, renewed, try_granted}
+use Rattle.keep_watch.specs.Renewed.{try_granted}
 use Rattle.keep_watch.specs.Settling.{paused, settled, timed}
 use Rattle.keep_watch.specs.Slice.{is_away, operation_of}
 use Rattle.keep_watch.specs.State.{State, attempt_at, entry_of, track_at, with_tracks}
 use Rattle.keep_watch.specs.Step.{readied, why}
 use Rattle.keep_watch.specs.Wanted.{is_wanted, second}
 use Rattle.keep_watch.proofs.Cases.{if_cases}
-use Rattle.keep_watch.proofs.Tracks.{track_same, track_set, track_written}
+use Rattle.keep_watch.proofs.Tracks.{track_same, track_written}
 
 -- a try that is to go out, or none, asks for a renewal only where p holds
 abbrev pub Reasoned : Type 0 → Option Try → Type 0

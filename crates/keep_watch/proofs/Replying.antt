@@ -1,5 +1,5 @@
 -- Replying: what the last answer of a slice makes of the state of a book. For the answers.
-use Rattle.std.proofs.Common.{◌≡◌, ◌∙◌, ℕ, ◌<◌, Bool, true, false, if◌then◌else◌, List, [], ◌∷◌, Option, Some, None, ap, arith, map, nat_lt, refl, slice_index_or, subst, sym, inl, inr}
+use Rattle.std.proofs.Common.{◌≡◌, ◌∙◌, ℕ, ◌<◌, true, false, if◌then◌else◌, List, [], ◌∷◌, Option, Some, None, ap, arith, map, nat_lt, refl, slice_index_or, subst, sym, inl, inr}
 use Rattle.std.proofs.lemmas.Bool.{cases_Bool, cond-false, cond-true}
 use Rattle.std.proofs.lemmas.Bool.Decides.{nat_tests}
 use Rattle.std.specs.List.{range_with_len}
@@ -7,7 +7,6 @@ use Rattle.keep_tree.specs.Forest.{Forest}
 use Rattle.keep_watch.specs.declared.book.Book.{Book}
 use Rattle.keep_watch.specs.declared.event.Reply.{Reply}
 use Rattle.keep_watch.specs.declared.event.Request.{Request}
-use Rattle.keep_watch.specs.declared.notes.Link.{Link}
 use Rattle.keep_watch.specs.declared.notes.Link.TheVariants.{Away, Back}
 use Rattle.keep_watch.specs.declared.slice.Slice.{Slice}
 use Rattle.keep_watch.specs.declared.track.Track.{Track}

@@ -1,15 +1,14 @@
 -- Resting: behind a request of an entry its try is a second away, or is the renewal right behind its lookup. What every part of a
 -- step keeps of that. For the laws of load.
-use Rattle.std.proofs.Common.{◌≡◌, ◌⊎◌, ◌∙◌, ℕ, ◌+◌, ◌-◌, ◌*◌, ◌^◌, ◌/◌, ◌<◌, ◌≤◌, min, max, Bool, true, false, not, ◌&&◌, ◌||◌, ◌==◌, if◌then◌else◌, List, [], ◌∷◌, Option, Some, None, IfSome, length, refl, sym, ap, subst, arith, inl, inr, ⊎_elim, true≢false}
+use Rattle.std.proofs.Common.{◌≡◌, ◌⊎◌, ◌∙◌, ℕ, ◌+◌, ◌-◌, ◌*◌, ◌^◌, ◌/◌, ◌<◌, ◌≤◌, min, max, true, false, not, ◌&&◌, ◌||◌, ◌==◌, if◌then◌else◌, List, Option, Some, None, IfSome, sym, arith, inl, inr, true≢false}
 use Rattle.std.proofs.Math.Nat.{le-max_left, le-max_right}
 use Rattle.std.proofs.lemmas.Nat.{pow_pos}
 use Rattle.std.specs.List.{list_any}
-use Rattle.keep_watch.specs.declared.event.Operation.{Operation}
 use Rattle.keep_watch.specs.declared.event.Operation.TheVariants.{Look, Renew}
 use Rattle.keep_watch.specs.declared.track.Track.{Track}
 use Rattle.keep_watch.specs.declared.track.Try.{Try}
-use Rattle.keep_watch.specs.Answers.{busied, failing, freed_try}
-use Rattle.keep_watch.specs.Beginning.{hastened, owed, owing, rested, soon, sooner, is_called, is_open_ended}
+use Rattle.keep_watch.specs.Answers.{freed_try}
+use Rattle.keep_watch.specs.Beginning.{hastened, owing, rested, soon, sooner, is_called, is_open_ended}
 use Rattle.keep_watch.specs.LawsOfLoad.{Sent}
 use Rattle.keep_watch.specs.Pauses.{cap, cap_of, doubled, ms, pause, left_to}
 use Rattle.keep_watch.specs.Press.{attempt_after, dropped, is_fresh, let_go, press}

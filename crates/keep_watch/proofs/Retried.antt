@@ -1,29 +1,25 @@
 -- Retried: over a history, a try that failed may go out again within its longest pause. For the law of retries.
-use Rattle.std.proofs.Common.{◌≡◌, ◌≢◌, ◌⊎◌, ◌∙◌, ℕ, ◌+◌, ◌*◌, ◌<◌, ◌≤◌, min, max, Bool, true, false, cond, not, ◌&&◌, ◌||◌, if◌then◌else◌, List, [], ◌∷◌, Option, Some, None, Result, Ok, Err, IfSome, is_none, length, map, nat_lt, refl, sym, ap, subst, arith, inl, inr}
+use Rattle.std.proofs.Common.{◌≡◌, ◌⊎◌, ◌∙◌, ℕ, ◌+◌, ◌*◌, ◌<◌, ◌≤◌, true, false, ◌&&◌, List, [], ◌∷◌, Option, Some, None, IfSome, length, refl, sym, ap, subst, arith, inl, inr}
 use Rattle.std.proofs.lemmas.Bool.{cases_Bool, cond-true, cond-false}
 use Rattle.std.proofs.lemmas.Bool.Decides.{nat_tests}
 use Rattle.keep_tree.specs.Forest.{Forest}
 use Rattle.keep_watch.specs.declared.clocks.Clocks.{Clocks}
-use Rattle.keep_watch.specs.declared.command.Command.{Command}
 use Rattle.keep_watch.specs.declared.command.Output.{Output}
-use Rattle.keep_watch.specs.declared.event.Event.{Event}
 use Rattle.keep_watch.specs.declared.event.Event.TheVariants.{Clock}
-use Rattle.keep_watch.specs.declared.fault.WatchFault.{WatchFault}
 use Rattle.keep_watch.specs.declared.notes.Why.{Why}
 use Rattle.keep_watch.specs.declared.slice.Slice.{Slice}
 use Rattle.keep_watch.specs.declared.track.Track.{Track}
 use Rattle.keep_watch.specs.declared.track.Try.{Try}
 use Rattle.keep_watch.specs.Beginning.{begun, begun_anew, is_called, is_open_ended, owing, rested, soon, sooner, untopped}
 use Rattle.keep_watch.specs.History.{History, Turn, Turned}
-use Rattle.keep_watch.specs.LawsOfLoad.{IsClock}
 use Rattle.keep_watch.specs.LawsOfWaiting.{AllRetried, Retries, RetryLaw}
-use Rattle.keep_watch.specs.Pauses.{cap, cap_of, left_to, ms, pause}
+use Rattle.keep_watch.specs.Pauses.{cap, ms, pause}
 use Rattle.keep_watch.specs.Press.{attempt_after, pressed}
 use Rattle.keep_watch.specs.Round.{asked_by as round_of}
 use Rattle.keep_watch.specs.Settling.{held, hold_after, paused, settled, timed}
 use Rattle.keep_watch.specs.Slice.{is_away, ready}
 use Rattle.keep_watch.specs.State.{State, attempt_at, opened, track_at}
-use Rattle.keep_watch.specs.Step.{StepClock, StepCommand, readied, why}
+use Rattle.keep_watch.specs.Step.{StepClock, readied, why}
 use Rattle.keep_watch.proofs.Cases.{if_cases, of_value}
 use Rattle.keep_watch.proofs.Clocking.{IsCounted, readied_clock, readied_counted}
 use Rattle.keep_watch.proofs.Retry.{IsSoon, attempt_soon, held_within, most, most_same, owing_soon, ready_soon}

@@ -1,26 +1,21 @@
 -- Retry: behind a clock a try that failed is no later than its longest pause, and so is what holds it back. For the law of retries.
-use Rattle.std.proofs.Common.{◌≡◌, ◌≢◌, ◌⊎◌, ◌∙◌, ℕ, zero, suc, ◌+◌, ◌*◌, ◌/◌, ◌<◌, ◌≤◌, min, max, Bool, true, false, cond, not, ◌&&◌, ◌||◌, ◌==◌, if◌then◌else◌, List, [], ◌∷◌, Option, Some, None, IfSome, filter, is_none, length, map, nat_le, nat_lt, refl, sym, ap, ap₂, subst, arith, inl, inr}
-use Rattle.std.proofs.Math.Nat.{le-max_left, le-max_right}
-use Rattle.std.proofs.lemmas.Bool.{cases_Bool, cond-true, cond-false}
+use Rattle.std.proofs.Common.{◌≡◌, ◌≢◌, ◌⊎◌, ◌∙◌, ℕ, zero, suc, ◌+◌, ◌/◌, ◌<◌, ◌≤◌, min, max, Bool, true, false, cond, not, ◌&&◌, ◌||◌, ◌==◌, if◌then◌else◌, List, ◌∷◌, Option, Some, None, IfSome, filter, length, map, nat_le, nat_lt, refl, sym, ap, ap₂, subst, arith, inl, inr}
+use Rattle.std.proofs.lemmas.Bool.{cases_Bool, cond-true}
 use Rattle.std.proofs.lemmas.Bool.Decides.{nat_tests}
 use Rattle.std.specs.List.{list_any, range_with_len}
-use Rattle.keep_watch.specs.declared.event.Operation.{Operation}
-use Rattle.keep_watch.specs.declared.event.Operation.TheVariants.{Look, Renew}
-use Rattle.keep_watch.specs.declared.notes.Why.{Why}
+use Rattle.keep_watch.specs.declared.event.Operation.TheVariants.{Look}
 use Rattle.keep_watch.specs.declared.track.Track.{Track}
 use Rattle.keep_watch.specs.declared.track.Try.{Try}
-use Rattle.keep_watch.specs.Beginning.{begun, begun_anew, hastened, is_called, is_open_ended, owed, owing, rested, soon, sooner, untopped}
-use Rattle.keep_watch.specs.Pauses.{cap, cap_of, doubled, left_to, ms, pause}
-use Rattle.keep_watch.specs.Press.{attempt_after, dropped, is_fresh, is_pressed, is_pressed_try, let_go, press, pressed}
-use Rattle.keep_watch.specs.Settling.{cap_at, held, paused, settled, timed}
+use Rattle.keep_watch.specs.Beginning.{hastened, is_called, is_open_ended, owed, owing, rested, soon, sooner}
+use Rattle.keep_watch.specs.Pauses.{cap, cap_of, doubled, left_to, ms}
+use Rattle.keep_watch.specs.Press.{attempt_after, dropped, is_fresh, is_pressed, is_pressed_try, let_go, press}
+use Rattle.keep_watch.specs.Settling.{cap_at, held}
 use Rattle.keep_watch.specs.Slice.{is_away, is_first, later_at, ready}
 use Rattle.keep_watch.specs.State.{State, attempt_at, indices, track_at}
-use Rattle.keep_watch.specs.Step.{readied, why}
 use Rattle.keep_watch.specs.Wanted.{is_wanted, least}
-use Rattle.keep_watch.proofs.Cases.{if_cases, of_value}
+use Rattle.keep_watch.proofs.Cases.{if_cases}
 use Rattle.keep_watch.proofs.Minded.{least_start}
 use Rattle.keep_watch.proofs.Resting.{cap_above}
-use Rattle.keep_watch.proofs.Tracks.{track_same, track_written}
 
 -- the longest pause of a try of an entry with that end, at a moment
 abbrev pub most : ℕ → ℕ → Option ℕ → Try → ℕ

@@ -1,7 +1,6 @@
 -- Rounds: a round opens only where an entry has come to its time. For the law of rounds.
-use Rattle.std.proofs.Common.{◌≡◌, ◌≢◌, ◌⊎◌, ◌∙◌, ℕ, zero, suc, ◌+◌, ◌<◌, ◌≤◌, Bool, true, false, not, ◌&&◌, ◌||◌, List, [], ◌∷◌, Option, Some, None, Result, Ok, Err, get_or, length, map, refl, sym, ap, subst, arith, inl, inr}
+use Rattle.std.proofs.Common.{◌≡◌, ◌∙◌, ℕ, zero, suc, ◌+◌, ◌<◌, Bool, true, not, ◌&&◌, List, [], ◌∷◌, Some, None, Result, Ok, Err, length, refl, sym, ap, subst, arith, inl, inr}
 use Rattle.std.proofs.lemmas.Bool.{cases_lt}
-use Rattle.std.proofs.lemmas.List.FromFn.{length-map-range_with_len}
 use Rattle.std.specs.List.{list_any, range_with_len}
 use Rattle.keep_tree.specs.Forest.{Forest}
 use Rattle.keep_tree.proofs.Carrying.{and_left, and_right, or_parts}
@@ -16,13 +15,12 @@ use Rattle.keep_watch.specs.declared.fault.WatchFault.{WatchFault}
 use Rattle.keep_watch.specs.declared.notes.Notes.{Notes}
 use Rattle.keep_watch.specs.declared.track.Track.{Track}
 use Rattle.keep_watch.specs.History.{History, Turn, Turned}
-use Rattle.keep_watch.specs.LawsOfLoad.{requests_of}
 use Rattle.keep_watch.specs.LawsOfTime.{HasOpener, RoundLaw, RoundsOpened, round_of}
 use Rattle.keep_watch.specs.Margins.{has_come, is_in_plan}
 use Rattle.keep_watch.specs.Press.{attempt_after, is_alive, is_fresh, is_pressed, pressed}
 use Rattle.keep_watch.specs.Round.{IsRound, asked_by, opens}
-use Rattle.keep_watch.specs.State.{State, indices, no_track, opened, track_at}
-use Rattle.keep_watch.specs.Step.{Step, StepClock, StepCommand, nothing, notes_looked, notes_renewed, readied, taken}
+use Rattle.keep_watch.specs.State.{State, no_track, opened, track_at}
+use Rattle.keep_watch.specs.Step.{Step, StepClock, StepCommand, notes_looked, notes_renewed, readied}
 use Rattle.keep_watch.specs.Wanted.{is_wanted}
 use Rattle.keep_watch.proofs.Clocking.{IsCounted, pressed_counted, readied_counted}
 use Rattle.keep_watch.proofs.Early.{new_of}

@@ -1,20 +1,17 @@
 -- Settled: a book whose failures are settled has the state of the definitions. For the settling.
-use Rattle.std.proofs.Common.{◌≡◌, ◌∙◌, ℕ, zero, suc, ◌+◌, ◌<◌, ◌≤◌, Bool, true, false, cond, if◌then◌else◌, List, [], ◌∷◌, ◌++◌, Option, Some, None, filter, is_some, nat_lt, length, map, min, take, refl, slice_index_or, subst, sym, ap, arith, inl, inr}
+use Rattle.std.proofs.Common.{◌≡◌, ◌∙◌, ℕ, zero, suc, ◌+◌, ◌<◌, ◌≤◌, true, false, List, [], ◌∷◌, ◌++◌, Option, Some, None, filter, is_some, nat_lt, length, map, min, take, refl, slice_index_or, subst, sym, ap, arith, inl, inr}
 use Rattle.std.proofs.Math.Path.{fun_ext}
 use Rattle.std.proofs.lemmas.Bool.{cases_Bool, cond-false, cond-true}
 use Rattle.std.proofs.lemmas.Bool.Decides.{nat_tests}
 use Rattle.std.proofs.lemmas.List.{map_more, take_all}
 use Rattle.std.proofs.lemmas.List.FromFn.{map-range_with_len_more}
 use Rattle.std.specs.List.{range_with_len}
-use Rattle.keep_tree.specs.Forest.{Forest}
-use Rattle.keep_watch.specs.declared.book.Book.{Book}
 use Rattle.keep_watch.specs.declared.slice.Slice.{Slice}
 use Rattle.keep_watch.specs.declared.track.Track.{Track}
 use Rattle.keep_watch.specs.declared.track.Try.{Try}
 use Rattle.keep_watch.specs.Pauses.{cap, doubled, pause}
 use Rattle.keep_watch.specs.Press.{is_pressed, is_pressed_try}
 use Rattle.keep_watch.specs.Settling.{cap_at, held, hold_after, paused}
-use Rattle.keep_watch.specs.Slice.{is_away}
 use Rattle.keep_watch.specs.State.{State, attempt_at, indices, no_track, track_at}
 use Rattle.keep_watch.specs.Wanted.{least}
 use Rattle.keep_watch.specs.code.Tracks.{cap_for, each_track, held_by, held_try, pause_for, settled_track, settled_try}

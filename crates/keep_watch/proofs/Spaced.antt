@@ -1,6 +1,6 @@
 -- Spaced: a history keeps the second between, and its slices the width. For the laws of load.
-use Rattle.std.proofs.Common.{◌≡◌, ◌≢◌, ◌⊎◌, ◌∙◌, ℕ, zero, suc, ◌+◌, ◌<◌, ◌≤◌, min, Bool, true, false, cond, ◌&&◌, ◌==◌, List, [], ◌∷◌, ◌++◌, Option, Some, None, Result, Ok, Err, IfSome, is_none, length, map, take, refl, sym, ap, subst, arith, inl, inr}
-use Rattle.std.proofs.lemmas.List.{length-take, length-map}
+use Rattle.std.proofs.Common.{◌≡◌, ◌∙◌, ℕ, ◌<◌, ◌≤◌, Bool, true, false, ◌&&◌, ◌==◌, List, [], ◌∷◌, ◌++◌, Option, Some, None, Result, Ok, Err, IfSome, length, map, refl, sym, ap, subst, arith, inl, inr}
+use Rattle.std.proofs.lemmas.List.{length-map}
 use Rattle.std.specs.List.{list_any}
 use Rattle.keep_tree.specs.Forest.{Forest}
 use Rattle.keep_watch.specs.declared.command.Command.{Command}
@@ -10,29 +10,26 @@ use Rattle.keep_watch.specs.declared.event.Event.{Event}
 use Rattle.keep_watch.specs.declared.event.Event.TheVariants.{Clock, Looked, Renewed, Need, Begin, Known}
 use Rattle.keep_watch.specs.declared.event.Operation.{Operation}
 use Rattle.keep_watch.specs.declared.event.Operation.TheVariants.{Look, Renew}
-use Rattle.keep_watch.specs.declared.event.Reply.{Reply}
 use Rattle.keep_watch.specs.declared.event.Request.{Request}
-use Rattle.keep_watch.specs.declared.event.Terms.{Terms}
 use Rattle.keep_watch.specs.declared.fault.WatchFault.{WatchFault}
 use Rattle.keep_watch.specs.declared.fault.WatchFault.TheVariants.{SliceOpen, NotAsked, BadIndex, OutOfMemory}
-use Rattle.keep_watch.specs.declared.track.Track.{Track}
 use Rattle.keep_watch.specs.declared.track.Try.{Try}
-use Rattle.keep_watch.specs.Answers.{after_answer, with_track}
+use Rattle.keep_watch.specs.Answers.{after_answer}
 use Rattle.keep_watch.specs.History.{History, Turn, Turned}
-use Rattle.keep_watch.specs.LawsOfLoad.{AllWithin, AreApart, AreApartFrom, IsApart, Sent, SpacedLaw, WidthLaw, asked_by, requests_of, sent, sent_at}
+use Rattle.keep_watch.specs.LawsOfLoad.{AreApart, AreApartFrom, IsApart, Sent, SpacedLaw, asked_by, requests_of, sent, sent_at}
 use Rattle.keep_watch.specs.Looked.{looked}
 use Rattle.keep_watch.specs.Press.{pressed}
 use Rattle.keep_watch.specs.Refusal.{is_same, refusal, waits_for}
 use Rattle.keep_watch.specs.Renewed.{renewed}
 use Rattle.keep_watch.specs.Round.{asked_by as round_of}
 use Rattle.keep_watch.specs.Slice.{IsPicked, is_due, is_of_first, request, sent as slice_of}
-use Rattle.keep_watch.specs.State.{State, attempt_at, fresh_track, opened, track_at, unanswered_of}
-use Rattle.keep_watch.specs.Step.{Step, StepClock, StepCommand, known, needed, readied}
+use Rattle.keep_watch.specs.State.{State, attempt_at, fresh_track, opened, track_at}
+use Rattle.keep_watch.specs.Step.{Step, StepCommand, known, needed, readied}
 use Rattle.keep_watch.proofs.Answering.{looked_other, looked_rests, renewed_other, renewed_rests}
 use Rattle.keep_watch.proofs.Clocking.{IsCounted}
 use Rattle.keep_watch.proofs.Resting.{Follows, IsReady, MayFollow, Rests}
-use Rattle.keep_watch.proofs.Sending.{SendsOne, picked_of, picked_once, sends_one, sent_of}
-use Rattle.keep_watch.proofs.Spacing.{IsSpaced, Keeps, asked_same, due_is_apart, is_out, none_same, out_of}
+use Rattle.keep_watch.proofs.Sending.{picked_of, picked_once, sends_one, sent_of}
+use Rattle.keep_watch.proofs.Spacing.{IsSpaced, Keeps, asked_same, due_is_apart, none_same, out_of}
 use Rattle.keep_watch.proofs.Tracks.{track_same}
 use Rattle.keep_watch.proofs.Likeness.{IsLike, after_like, like_counted, looked_like, looked_slice, needed_like, renewed_like, renewed_slice, with_track_like}
 use Rattle.keep_watch.proofs.Turning.{IsMid, Outcome, answer_keeps, carried_over, closed_slice, known_rests, known_within, looked_to, mid_keeps, mid_of, nothing_sent, renewed_to}

@@ -1,47 +1,24 @@
 -- Spacing: what every turn keeps of the last request of an entry, and how far from it the next one is. For the law of the second
 -- between.
-use Rattle.std.proofs.Common.{◌≡◌, ◌≢◌, ◌⊎◌, ◌∙◌, ℕ, zero, suc, ◌+◌, ◌<◌, ◌≤◌, min, max, Bool, true, false, cond, not, ◌&&◌, ◌||◌, ◌==◌, if◌then◌else◌, List, [], ◌∷◌, Option, Some, None, Result, Ok, Err, IfSome, filter, is_none, length, map, nat_le, nat_lt, set, take, refl, sym, ap, subst, arith, inl, inr}
-use Rattle.std.proofs.Math.Nat.{le-max_left, le-max_right}
-use Rattle.std.proofs.lemmas.Bool.{cases_Bool, cases_eq, cond-true, cond-false}
+use Rattle.std.proofs.Common.{◌≡◌, ◌≢◌, ◌∙◌, ℕ, ◌+◌, ◌<◌, ◌≤◌, min, max, Bool, true, false, cond, not, ◌&&◌, ◌||◌, ◌==◌, if◌then◌else◌, List, [], ◌∷◌, Option, Some, None, IfSome, filter, is_none, length, map, nat_le, refl, sym, ap, subst, arith, inl, inr}
+use Rattle.std.proofs.Math.Nat.{le-max_right}
+use Rattle.std.proofs.lemmas.Bool.{cases_Bool}
 use Rattle.std.proofs.lemmas.Bool.Decides.{nat_tests}
-use Rattle.std.proofs.lemmas.List.{length-set}
-use Rattle.std.proofs.lemmas.Map.Views.{any-filter_same}
 use Rattle.std.specs.List.{list_any}
-use Rattle.keep_tree.specs.Forest.{Forest}
 use Rattle.keep_tree.proofs.Carrying.{and_left, and_right, or_parts}
-use Rattle.keep_watch.specs.declared.command.Command.{Command}
-use Rattle.keep_watch.specs.declared.command.Command.TheVariants.{Ask, Wait, Taken}
-use Rattle.keep_watch.specs.declared.command.Output.{Output}
-use Rattle.keep_watch.specs.declared.event.Event.{Event}
-use Rattle.keep_watch.specs.declared.event.Event.TheVariants.{Clock, Looked, Renewed, Need, Begin, Known}
 use Rattle.keep_watch.specs.declared.event.Operation.{Operation}
 use Rattle.keep_watch.specs.declared.event.Operation.TheVariants.{Look, Renew}
-use Rattle.keep_watch.specs.declared.event.Reply.{Reply}
-use Rattle.keep_watch.specs.declared.event.Reply.TheVariants.{Told, Refused, Busy, Lost}
 use Rattle.keep_watch.specs.declared.event.Request.{Request}
-use Rattle.keep_watch.specs.declared.event.Terms.{Terms}
-use Rattle.keep_watch.specs.declared.fault.WatchFault.{WatchFault}
-use Rattle.keep_watch.specs.declared.fault.WatchFault.TheVariants.{SliceOpen, NotAsked, BadIndex, OutOfMemory}
 use Rattle.keep_watch.specs.declared.slice.Slice.{Slice}
-use Rattle.keep_watch.specs.declared.track.Track.{Track}
 use Rattle.keep_watch.specs.declared.track.Try.{Try}
-use Rattle.keep_watch.specs.Answers.{after_answer, answered, back, closed, settled_with, silent, with_track, without}
 use Rattle.keep_watch.specs.Beginning.{rested}
-use Rattle.keep_watch.specs.History.{History, Turn, Turned}
-use Rattle.keep_watch.specs.LawsOfLoad.{AreApart, AreApartFrom, IsApart, Sent, asked_by, requests_of, sent, sent_at}
-use Rattle.keep_watch.specs.Looked.{looked}
-use Rattle.keep_watch.specs.Press.{pressed}
-use Rattle.keep_watch.specs.Refusal.{is_open, is_same, refusal, unless_asked, unless_closed, unless_within, waits_for}
-use Rattle.keep_watch.specs.Renewed.{renewed}
-use Rattle.keep_watch.specs.Slice.{IsPicked, is_away, is_due, is_due_try, is_first, is_of_first, later_at, operation_of, ready, request, sent as slice_of}
+use Rattle.keep_watch.specs.LawsOfLoad.{IsApart, Sent, sent_at}
+use Rattle.keep_watch.specs.Refusal.{is_same, waits_for}
+use Rattle.keep_watch.specs.Slice.{is_away, is_due, is_due_try, is_first, later_at, operation_of, ready, request}
 use Rattle.keep_watch.specs.State.{State, attempt_at, track_at, unanswered_of}
-use Rattle.keep_watch.specs.Step.{Step, StepClock, StepCommand, known, needed, readied, taken}
-use Rattle.keep_watch.proofs.Answering.{after_rests, looked_other, looked_rests, renewed_other, renewed_rests}
-use Rattle.keep_watch.proofs.Cases.{if_cases, value_is}
-use Rattle.keep_watch.proofs.Clocking.{IsCounted, clock_rises, pressed_at_ready, pressed_counted, readied_begun, readied_clock, readied_counted, readied_ready}
+use Rattle.keep_watch.proofs.Cases.{if_cases}
 use Rattle.keep_watch.proofs.Resting.{Follows, IsReady, Rests}
-use Rattle.keep_watch.proofs.Sending.{SendsOne, picked_of, picked_once, sends_one, sent_of}
-use Rattle.keep_watch.proofs.Tracks.{track_other, track_same, track_set}
+use Rattle.keep_watch.proofs.Sending.{sent_of}
 
 -- i was asked and has not answered
 abbrev pub is_out : Option Slice → ℕ → Bool

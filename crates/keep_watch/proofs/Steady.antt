@@ -1,10 +1,9 @@
 -- Steady: what every turn keeps of the moments that hold requests back: none is more than a second ahead, unless the broker is away.
 -- For the law of retries.
-use Rattle.std.proofs.Common.{◌≡◌, ◌≢◌, ◌⊎◌, ◌∙◌, ℕ, ◌+◌, ◌<◌, ◌≤◌, min, max, Bool, true, false, cond, not, ◌&&◌, ◌||◌, if◌then◌else◌, List, [], ◌∷◌, Option, Some, None, Result, Ok, Err, is_none, length, map, nat_lt, refl, sym, ap, subst, arith, inl, inr}
-use Rattle.std.proofs.Math.Nat.{le-max_left}
-use Rattle.std.proofs.lemmas.Bool.{cases_Bool, cases_eq, cond-true, cond-false}
+use Rattle.std.proofs.Common.{◌≡◌, ◌⊎◌, ◌∙◌, ℕ, ◌+◌, ◌<◌, ◌≤◌, Bool, true, false, ◌&&◌, List, [], ◌∷◌, Option, Some, None, Result, Ok, Err, is_none, length, refl, sym, ap, subst, arith, inl, inr}
+use Rattle.std.proofs.lemmas.Bool.{cases_Bool, cases_eq, cond-false}
 use Rattle.std.proofs.lemmas.Bool.Decides.{nat_tests}
-use Rattle.std.proofs.lemmas.List.{get_or-map, length-set}
+use Rattle.std.proofs.lemmas.List.{get_or-map}
 use Rattle.keep_tree.specs.Forest.{Forest, no_entry}
 use Rattle.keep_watch.specs.declared.clocks.Clocks.{Clocks}
 use Rattle.keep_watch.specs.declared.command.Command.{Command}
@@ -13,31 +12,30 @@ use Rattle.keep_watch.specs.declared.command.Output.{Output}
 use Rattle.keep_watch.specs.declared.event.Event.{Event}
 use Rattle.keep_watch.specs.declared.event.Event.TheVariants.{Clock, Looked, Renewed, Need, Begin, Known}
 use Rattle.keep_watch.specs.declared.event.Reply.{Reply}
-use Rattle.keep_watch.specs.declared.event.Reply.TheVariants.{Told, Refused, Busy, Lost}
 use Rattle.keep_watch.specs.declared.event.Request.{Request}
 use Rattle.keep_watch.specs.declared.event.Terms.{Terms}
 use Rattle.keep_watch.specs.declared.fault.WatchFault.{WatchFault}
 use Rattle.keep_watch.specs.declared.notes.Why.{Why}
 use Rattle.keep_watch.specs.declared.slice.Slice.{Slice}
 use Rattle.keep_watch.specs.declared.track.Track.{Track}
-use Rattle.keep_watch.specs.Answers.{after_answer, answered, back, closed, freed, settled_with, silent, with_track}
+use Rattle.keep_watch.specs.Answers.{after_answer, answered, back, closed, freed, settled_with, silent}
 use Rattle.keep_watch.specs.Beginning.{begun, begun_anew, is_called, is_open_ended, owing, rested, soon, sooner, untopped}
-use Rattle.keep_watch.specs.History.{History, Turn, Turned}
-use Rattle.keep_watch.specs.Looked.{looked, told_by, told_state, told_track, try_behind}
+use Rattle.keep_watch.specs.History.{Turn}
+use Rattle.keep_watch.specs.Looked.{looked}
 use Rattle.keep_watch.specs.Press.{attempt_after, pressed}
 use Rattle.keep_watch.specs.Refusal.{refusal}
-use Rattle.keep_watch.specs.Renewed.{granted, renewed}
+use Rattle.keep_watch.specs.Renewed.{renewed}
 use Rattle.keep_watch.specs.Round.{asked_by as round_of}
 use Rattle.keep_watch.specs.Settling.{free_after, held, hold_after, paused, settled, timed}
-use Rattle.keep_watch.specs.Slice.{is_away, request, sent as slice_of}
+use Rattle.keep_watch.specs.Slice.{is_away}
 use Rattle.keep_watch.specs.State.{State, attempt_at, fresh_track, no_track, opened, track_at, with_tracks}
 use Rattle.keep_watch.specs.Step.{Step, StepClock, StepCommand, known, needed, readied, why}
 use Rattle.keep_watch.proofs.Answering.{looked_other, renewed_other}
 use Rattle.keep_watch.proofs.Cases.{if_cases}
-use Rattle.keep_watch.proofs.Clocking.{IsCounted, clock_rises, pressed_counted, readied_begun, readied_clock, readied_counted}
+use Rattle.keep_watch.proofs.Clocking.{IsCounted, clock_rises, readied_begun, readied_clock, readied_counted}
 use Rattle.keep_watch.proofs.Likeness.{looked_like, renewed_like}
 use Rattle.keep_watch.proofs.Moments.{looked_away, looked_free, looked_hold, looked_last, renewed_away, renewed_free, renewed_hold, renewed_last}
-use Rattle.keep_watch.proofs.Spaced.{opened_counted, refused_stays, turned}
+use Rattle.keep_watch.proofs.Spaced.{refused_stays}
 use Rattle.keep_watch.proofs.Tracks.{count_written, track_other, track_same, track_set, track_written}
 use Rattle.keep_watch.proofs.Turning.{known_within, looked_to, renewed_to}
 

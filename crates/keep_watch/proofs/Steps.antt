@@ -1,5 +1,5 @@
 -- Steps: a step that is told counts where it is past the margin, so what is taken always is. For `take_terms`.
-use Rattle.std.proofs.Common.{◌≡◌, ◌<◌, ℕ, Bool, true, false, Option, Some, None, arith, inl, inr, nat_lt, subst, sym}
+use Rattle.std.proofs.Common.{◌<◌, ℕ, Option, Some, None, arith, inl, inr, nat_lt, subst, sym}
 use Rattle.std.proofs.lemmas.Bool.{cases_Bool, cond-true, cond-false}
 use Rattle.std.proofs.lemmas.Bool.Decides.{nat_tests}
 use Rattle.keep_watch.specs.Looked.{step_told}

@@ -1,53 +1,38 @@
 -- Turning: one turn keeps what the last request of an entry asks for, and what goes out at it is apart from that. For the law of the
 -- second between.
-use Rattle.std.proofs.Common.{◌≡◌, ◌≢◌, ◌⊎◌, ◌∙◌, ℕ, zero, suc, ◌+◌, ◌<◌, ◌≤◌, Bool, true, false, cond, not, ◌&&◌, ◌||◌, ◌==◌, if◌then◌else◌, List, [], ◌∷◌, Option, Some, None, Result, Ok, Err, IfSome, filter, is_none, length, map, nat_le, set, refl, sym, ap, subst, arith, inl, inr}
+use Rattle.std.proofs.Common.{◌≡◌, ◌≢◌, ◌⊎◌, ◌∙◌, ℕ, ◌<◌, ◌≤◌, Bool, true, false, cond, not, ◌&&◌, ◌||◌, ◌==◌, if◌then◌else◌, List, [], ◌∷◌, Option, Some, None, IfSome, filter, is_none, length, nat_le, refl, sym, ap, subst, arith, inl, inr}
 use Rattle.std.proofs.lemmas.Bool.{cases_Bool, cases_eq}
 use Rattle.std.proofs.lemmas.Bool.Decides.{nat_tests}
-use Rattle.std.proofs.lemmas.List.{length-set}
 use Rattle.std.proofs.lemmas.Map.Views.{any-filter_same}
 use Rattle.std.specs.List.{list_any}
-use Rattle.keep_tree.specs.Forest.{Forest}
 use Rattle.keep_tree.proofs.Carrying.{or_parts}
 use Rattle.keep_watch.specs.declared.clocks.Clocks.{Clocks}
-use Rattle.keep_watch.specs.declared.command.Command.{Command}
-use Rattle.keep_watch.specs.declared.command.Command.TheVariants.{Ask, Wait, Taken}
 use Rattle.keep_watch.specs.declared.command.Output.{Output}
-use Rattle.keep_watch.specs.declared.event.Event.{Event}
-use Rattle.keep_watch.specs.declared.event.Event.TheVariants.{Clock, Looked, Renewed, Need, Begin, Known}
+use Rattle.keep_watch.specs.declared.event.Event.TheVariants.{Clock, Looked, Renewed, Known}
 use Rattle.keep_watch.specs.declared.event.Operation.{Operation}
 use Rattle.keep_watch.specs.declared.event.Operation.TheVariants.{Look, Renew}
 use Rattle.keep_watch.specs.declared.event.Reply.{Reply}
-use Rattle.keep_watch.specs.declared.event.Reply.TheVariants.{Told, Refused, Busy, Lost}
 use Rattle.keep_watch.specs.declared.event.Request.{Request}
 use Rattle.keep_watch.specs.declared.event.Terms.{Terms}
-use Rattle.keep_watch.specs.declared.fault.WatchFault.{WatchFault}
-use Rattle.keep_watch.specs.declared.fault.WatchFault.TheVariants.{SliceOpen, NotAsked, BadIndex, OutOfMemory}
+use Rattle.keep_watch.specs.declared.fault.WatchFault.TheVariants.{SliceOpen, NotAsked, BadIndex}
 use Rattle.keep_watch.specs.declared.notes.Notes.{Notes}
 use Rattle.keep_watch.specs.declared.notes.Why.{Why}
 use Rattle.keep_watch.specs.declared.slice.Slice.{Slice}
-use Rattle.keep_watch.specs.declared.track.Track.{Track}
 use Rattle.keep_watch.specs.declared.track.Try.{Try}
-use Rattle.keep_watch.specs.Answers.{after_answer, answered, back, closed, freed, settled_with, silent, with_track, without}
+use Rattle.keep_watch.specs.Answers.{after_answer, answered, without}
 use Rattle.keep_watch.specs.Beginning.{begun}
-use Rattle.keep_watch.specs.History.{History, Turn, Turned}
-use Rattle.keep_watch.specs.LawsOfLoad.{IsApart, Sent, asked_by, requests_of, sent_at}
-use Rattle.keep_watch.specs.Looked.{by_terms, looked, told_by, told_state, told_track, try_behind}
+use Rattle.keep_watch.specs.LawsOfLoad.{IsApart, Sent, asked_by, sent_at}
 use Rattle.keep_watch.specs.Press.{pressed}
-use Rattle.keep_watch.specs.Refusal.{is_open, is_same, refusal, unless_asked, unless_closed, unless_within, waits_for}
-use Rattle.keep_watch.specs.Renewed.{renewed}
-use Rattle.keep_watch.specs.Round.{asked_by as round_of}
+use Rattle.keep_watch.specs.Refusal.{is_open, is_same, refusal, unless_asked, unless_closed, waits_for}
 use Rattle.keep_watch.specs.Settling.{settled, timed}
-use Rattle.keep_watch.specs.Slice.{IsPicked, is_away, is_due, is_of_first, request, sent as slice_of}
-use Rattle.keep_watch.specs.State.{State, attempt_at, entry_of, track_at, unanswered_of, with_tracks}
-use Rattle.keep_watch.specs.Step.{Step, StepClock, StepCommand, known, needed, readied, taken, why}
-use Rattle.keep_watch.proofs.Answering.{after_rests, looked_other, looked_rests, renewed_other, renewed_rests}
-use Rattle.keep_watch.proofs.Cases.{if_cases}
+use Rattle.keep_watch.specs.State.{State, attempt_at, track_at, unanswered_of}
+use Rattle.keep_watch.specs.Step.{known, readied, taken, why}
+use Rattle.keep_watch.proofs.Answering.{after_rests}
 use Rattle.keep_watch.proofs.Clocking.{IsCounted, clock_rises, pressed_at_ready, pressed_counted, readied_begun, readied_clock, readied_counted, readied_ready}
 use Rattle.keep_watch.proofs.Likeness.{IsLike, after_like}
 use Rattle.keep_watch.proofs.Resting.{Follows, IsReady, MayFollow, Rests}
-use Rattle.keep_watch.proofs.Sending.{SendsOne, picked_of, picked_once, sends_one, sent_of}
-use Rattle.keep_watch.proofs.Spacing.{IsSpaced, Keeps, asked_same, due_is_apart, is_out, none_same, out_of}
-use Rattle.keep_watch.proofs.Tracks.{count_written, track_other, track_same, track_set}
+use Rattle.keep_watch.proofs.Spacing.{IsSpaced, Keeps, is_out}
+use Rattle.keep_watch.proofs.Tracks.{track_other, track_set}
 
 -- what a turn gives, where o is the last request of i before it and xs goes out of i at it
 abbrev pub Outcome : State → ℕ → Option Sent → List Sent → Type 0

@@ -1,5 +1,5 @@
 -- Waited: the moment that a book waits for is that of the definitions. For the wait.
-use Rattle.std.proofs.Common.{◌≡◌, ◌∙◌, ℕ, ◌<◌, ◌≤◌, ◌-◌, IfSome, not, ◌&&◌, if◌then◌else◌, List, Option, Some, None, length, map, min, refl, slice_index_or, sym, ap, arith}
+use Rattle.std.proofs.Common.{◌≡◌, ◌∙◌, ℕ, ◌≤◌, IfSome, List, Option, Some, None, length, map, min, refl, ap, arith}
 use Rattle.std.specs.List.{range_with_len}
 use Rattle.keep_needs.specs.Carried.{CarriedNeed, load_at}
 use Rattle.keep_tree.specs.declared.entry.Entry.{Entry}
@@ -11,7 +11,7 @@ use Rattle.keep_watch.specs.declared.track.Try.{Try}
 use Rattle.keep_watch.specs.Margins.{lead, own_margin, time, time_before}
 use Rattle.keep_watch.specs.Press.{is_pressed}
 use Rattle.keep_watch.specs.Slice.{ready}
-use Rattle.keep_watch.specs.State.{State, attempt_at, entry_of, no_track, track_at}
+use Rattle.keep_watch.specs.State.{State, attempt_at, entry_of, track_at}
 use Rattle.keep_watch.specs.Wait.{latest, next_of, time_at, try_at, wait}
 use Rattle.keep_watch.specs.Wanted.{is_wanted, least, wanted_need}
 use Rattle.keep_watch.specs.code.Picking.{bare}

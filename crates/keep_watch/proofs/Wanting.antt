@@ -1,6 +1,5 @@
 -- Wanting: whether an entry is wanted, and when its time comes, does not depend on tries. For every law of what a clock leaves.
-use Rattle.std.proofs.Common.{◌≡◌, ◌≢◌, ◌⊎◌, ◌∙◌, ℕ, ◌+◌, ◌*◌, ◌/◌, ◌<◌, ◌≤◌, Bool, true, false, not, ◌&&◌, ◌||◌, ◌==◌, is_none, nat_le, nat_lt, if◌then◌else◌, List, [], ◌∷◌, Option, Some, None, filter, fold, length, map, min, get_or, refl, sym, ap, ap₂, subst, arith, inl, inr}
-use Rattle.std.proofs.lemmas.Bool.{cases_lt}
+use Rattle.std.proofs.Common.{◌≡◌, ◌∙◌, ℕ, ◌*◌, ◌/◌, Bool, not, ◌&&◌, ◌||◌, ◌==◌, is_none, nat_le, nat_lt, Option, filter, length, map, min, ap, ap₂}
 use Rattle.std.proofs.Math.Path.{fun_ext}
 use Rattle.std.specs.List.{range_with_len}
 use Rattle.keep_tree.specs.declared.entry.Entry.{Entry}
@@ -14,7 +13,7 @@ use Rattle.keep_watch.specs.Clocks.{sec}
 use Rattle.keep_watch.specs.Margins.{has_come, is_in_plan, lead, lesser, own_margin, time, time_before}
 use Rattle.keep_watch.specs.Press.{is_alive}
 use Rattle.keep_watch.specs.State.{State, entry_of, indices, track_at}
-use Rattle.keep_watch.specs.Wanted.{believed, ceiling_here, is_fixed, is_wanted, least, limit, need_here, second, seen, view, wanted_need}
+use Rattle.keep_watch.specs.Wanted.{believed, is_fixed, is_wanted, least, limit, seen, view, wanted_need}
 
 -- two states that differ in tries and in what is asked of everybody alone
 pub record SameButTries (new old : State) : Type 0 where

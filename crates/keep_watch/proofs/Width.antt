@@ -1,16 +1,9 @@
 -- Width: a slice is no wider than the width. For the law of the width.
-use Rattle.std.proofs.Common.{◌≡◌, ◌⊎◌, ◌∙◌, ℕ, zero, suc, ◌+◌, ◌<◌, ◌≤◌, min, max, Bool, true, false, cond, not, ◌&&◌, ◌||◌, if◌then◌else◌, List, [], ◌∷◌, ◌++◌, Option, Some, None, Result, Ok, Err, IfSome, filter, fold, is_none, length, map, nat_le, nat_lt, take, refl, sym, ap, subst, arith, inl, inr}
-use Rattle.std.proofs.Math.Nat.{le-max_left, le-max_right}
-use Rattle.std.proofs.lemmas.Bool.{cases_Bool, cond-true, cond-false}
-use Rattle.std.proofs.lemmas.Bool.Decides.{nat_tests}
+use Rattle.std.proofs.Common.{◌≡◌, ◌∙◌, ℕ, ◌≤◌, List, [], ◌∷◌, Option, Some, None, Result, Ok, Err, length, refl, ap, subst, arith}
 use Rattle.std.proofs.lemmas.List.{length-map, length-take}
-use Rattle.keep_tree.specs.Forest.{Forest}
-use Rattle.keep_tree.proofs.Carrying.{and_left, and_right}
 use Rattle.keep_watch.specs.declared.command.Command.{Command}
 use Rattle.keep_watch.specs.declared.command.Command.TheVariants.{Ask, Wait, Taken}
 use Rattle.keep_watch.specs.declared.command.Output.{Output}
-use Rattle.keep_watch.specs.declared.command.Patience.{Patience}
-use Rattle.keep_watch.specs.declared.command.Patience.TheVariants.{Full, Short}
 use Rattle.keep_watch.specs.declared.event.Event.{Event}
 use Rattle.keep_watch.specs.declared.event.Event.TheVariants.{Clock, Looked, Renewed, Need, Begin, Known}
 use Rattle.keep_watch.specs.declared.event.Reply.{Reply}
@@ -20,17 +13,17 @@ use Rattle.keep_watch.specs.declared.event.Terms.{Terms}
 use Rattle.keep_watch.specs.declared.fault.WatchFault.{WatchFault}
 use Rattle.keep_watch.specs.declared.notes.Why.{Why}
 use Rattle.keep_watch.specs.declared.slice.Slice.{Slice}
-use Rattle.keep_watch.specs.Answers.{after_answer, answered, back, closed, freed, settled_with, silent}
+use Rattle.keep_watch.specs.Answers.{after_answer, answered, back, closed, freed, silent}
 use Rattle.keep_watch.specs.Beginning.{begun}
 use Rattle.keep_watch.specs.History.{History, Turn, Turned}
-use Rattle.keep_watch.specs.LawsOfLoad.{AllAway, AllWithin, HeldLaw, IsClock, IsFullAsk, SendsFull, WidthLaw, asked_by, requests_of}
+use Rattle.keep_watch.specs.LawsOfLoad.{AllWithin, WidthLaw, asked_by, requests_of}
 use Rattle.keep_watch.specs.Looked.{looked}
 use Rattle.keep_watch.specs.Press.{pressed}
 use Rattle.keep_watch.specs.Renewed.{renewed}
 use Rattle.keep_watch.specs.Round.{asked_by as round_of}
-use Rattle.keep_watch.specs.Slice.{IsPicked, is_away, is_of_first, request, sent as slice_of}
+use Rattle.keep_watch.specs.Slice.{is_away, request}
 use Rattle.keep_watch.specs.State.{State, opened, with_tracks}
-use Rattle.keep_watch.specs.Step.{Step, StepClock, StepCommand, known, needed, readied, why}
+use Rattle.keep_watch.specs.Step.{Step, StepCommand, readied, why}
 use Rattle.keep_watch.specs.Settling.{settled, timed}
 use Rattle.keep_watch.proofs.Cases.{if_cases}
 use Rattle.keep_watch.proofs.Spaced.{refused_stays}

@@ -1,5 +1,5 @@
 -- Within: an event of an entry that is not refused is of an entry of the forest. For `step`.
-use Rattle.std.proofs.Common.{◌≡◌, ◌∙◌, ◌<◌, ◌≤◌, ℕ, if◌then◌else◌, Option, Some, None, true, length, arith, inl, inr, nat_le, sym}
+use Rattle.std.proofs.Common.{◌≡◌, ◌∙◌, ◌<◌, ℕ, if◌then◌else◌, Option, Some, None, true, length, arith, inl, inr, nat_le, sym}
 use Rattle.std.proofs.lemmas.Bool.{cases_lt, cond-true}
 use Rattle.std.proofs.lemmas.Bool.Decides.{nat_tests}
 use Rattle.keep_watch.specs.declared.event.Operation.{Operation}

@@ -1,8 +1,8 @@
 -- Written: what a loop that makes each track anew has made so far, and what it has made in the end. For the loops in place.
-use Rattle.std.proofs.Common.{◌≡◌, ◌≢◌, ◌∙◌, ℕ, ◌+◌, ◌<◌, ◌≤◌, ◌++◌, ◌∷◌, [], List, length, map, get_or, set, take, refl, sym, ap, arith, subst, zero, suc, Bool, Option}
+use Rattle.std.proofs.Common.{◌≡◌, ◌∙◌, ℕ, ◌+◌, ◌<◌, ◌≤◌, ◌++◌, ◌∷◌, [], List, length, map, get_or, set, take, refl, sym, ap, arith, subst, zero, suc, Bool, Option}
 use Rattle.std.proofs.lemmas.List.{get_or_default, get_or-set_other, length-set, take_all, take_more_set}
 use Rattle.std.proofs.lemmas.List.FromFn.{length-map-range_with_len, map-range_with_len_more}
-use Rattle.std.specs.List.{All, range_with_len}
+use Rattle.std.specs.List.{range_with_len}
 use Rattle.keep_watch.specs.declared.track.Track.{Track}
 use Rattle.std.specs.Prelude.{slice_index_or}
 use Rattle.keep_watch.specs.State.{no_track}

@@ -1,9 +1,8 @@
 -- Answers: what a reply makes of a try, whatever it was to, and what the last one of a slice says of the broker.
 -- Source: Vault, HTTP API, "HTTP status codes"; the rest is this project's own.
-use Rattle.std.specs.Prelude.{ℕ, ◌+◌, Bool, true, false, not, ◌&&◌, ◌||◌, ◌==◌, if◌then◌else◌, List, [], ◌∷◌, ◌++◌, Option, Some, None, filter, min, nat_lt, option_map, option_to_list, slice_set}
+use Rattle.std.specs.Prelude.{ℕ, ◌+◌, Bool, true, false, not, ◌||◌, ◌==◌, if◌then◌else◌, List, [], ◌∷◌, ◌++◌, Option, Some, None, filter, min, option_map, option_to_list, slice_set}
 use Rattle.keep_moment.specs.declared.moment.TheConstants.{LAST}
 use Rattle.keep_watch.specs.declared.event.Operation.{Operation}
-use Rattle.keep_watch.specs.declared.event.Operation.TheVariants.{Look, Renew}
 use Rattle.keep_watch.specs.declared.event.Reply.{Reply}
 use Rattle.keep_watch.specs.declared.event.Reply.TheVariants.{Told, Refused, Busy, Lost}
 use Rattle.keep_watch.specs.declared.event.Request.{Request}

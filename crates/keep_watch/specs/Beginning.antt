@@ -1,6 +1,6 @@
 -- Beginning: when everything is looked up anew, and what that makes of the tries.
 -- Source: this project's own.
-use Rattle.std.specs.Prelude.{ℕ, ◌+◌, ◌<◌, Bool, true, false, not, ◌&&◌, ◌||◌, if◌then◌else◌, List, [], ◌∷◌, Option, Some, None, is_none, max, min, nat_le, nat_lt}
+use Rattle.std.specs.Prelude.{ℕ, ◌+◌, Bool, true, false, not, ◌&&◌, ◌||◌, if◌then◌else◌, Option, Some, None, is_none, max, min, nat_le, nat_lt}
 use Rattle.std.specs.List.{list_all}
 use Rattle.keep_tree.specs.Carried.{carried}
 use Rattle.keep_watch.specs.declared.event.Operation.TheVariants.{Look}

@@ -1,6 +1,6 @@
 -- Clocks: the moment of this clock, and how the broker's clock and the wall's go beside it.
 -- Source: this project's own; a reply's date is RFC 9110, 5.6.7 and 6.6.1.
-use Rattle.std.specs.Prelude.{ℕ, ◌+◌, ◌-◌, ◌/◌, ◌%◌, Bool, true, false, not, ◌&&◌, ◌||◌, if◌then◌else◌, List, [], ◌∷◌, fold, max, min, nat_lt}
+use Rattle.std.specs.Prelude.{ℕ, ◌+◌, ◌-◌, ◌/◌, ◌%◌, Bool, true, false, ◌&&◌, ◌||◌, if◌then◌else◌, List, [], ◌∷◌, fold, max, min, nat_lt}
 use Rattle.keep_watch.specs.declared.clocks.Clocks.{Clocks}
 use Rattle.keep_watch.specs.declared.clocks.Offset.{Offset}
 use Rattle.keep_watch.specs.declared.clocks.TheConstants.{READING_MAX}

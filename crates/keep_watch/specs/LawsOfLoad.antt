@@ -1,13 +1,11 @@
 -- Laws of load: how often an entry is asked at most, and how many at once. Each is the contract of a public function without a
 -- body.
-use Rattle.std.specs.Prelude.{◌≡◌, ◌⊎◌, ◌==◌, ℕ, ◌+◌, ◌*◌, ◌<◌, ◌≤◌, Bool, ◌&&◌, List, [], ◌∷◌, ◌++◌, Option, Some, Result, Ok, Err, filter, length, map, nat_le}
+use Rattle.std.specs.Prelude.{◌≡◌, ◌⊎◌, ◌==◌, ℕ, ◌+◌, ◌*◌, ◌<◌, ◌≤◌, Bool, ◌&&◌, List, [], ◌∷◌, ◌++◌, Some, Result, Ok, Err, filter, length, map, nat_le}
 use Rattle.keep_tree.specs.Forest.{Forest}
 use Rattle.keep_watch.specs.declared.command.Command.{Command}
 use Rattle.keep_watch.specs.declared.command.Command.TheVariants.{Ask, Wait, Taken}
 use Rattle.keep_watch.specs.declared.command.Output.{Output}
-use Rattle.keep_watch.specs.declared.command.Patience.{Patience}
 use Rattle.keep_watch.specs.declared.command.Patience.TheVariants.{Full, Short}
-use Rattle.keep_watch.specs.declared.event.Event.{Event}
 use Rattle.keep_watch.specs.declared.event.Event.TheVariants.{Clock}
 use Rattle.keep_watch.specs.declared.event.Operation.{Operation}
 use Rattle.keep_watch.specs.declared.event.Operation.TheVariants.{Look, Renew}

@@ -4,7 +4,7 @@ use Rattle.std.specs.List.{list_any}
 use Rattle.keep_tree.specs.Forest.{Forest}
 use Rattle.keep_watch.specs.declared.command.Output.{Output}
 use Rattle.keep_watch.specs.declared.event.Event.{Event}
-use Rattle.keep_watch.specs.declared.event.Event.TheVariants.{Clock, Looked, Renewed, Need, Begin, Known}
+use Rattle.keep_watch.specs.declared.event.Event.TheVariants.{Clock, Looked, Renewed}
 use Rattle.keep_watch.specs.declared.event.Operation.TheVariants.{Renew}
 use Rattle.keep_watch.specs.declared.event.Reply.{Reply}
 use Rattle.keep_watch.specs.declared.event.Reply.TheVariants.{Told, Refused, Busy, Lost}

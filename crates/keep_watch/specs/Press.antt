@@ -1,14 +1,13 @@
 -- Press: who has to be asked now and is not being asked yet.
 -- Source: this project's own.
-use Rattle.std.specs.Prelude.{ℕ, Bool, true, false, not, ◌&&◌, ◌||◌, ◌==◌, if◌then◌else◌, List, Option, Some, None, filter, max, is_none, nat_lt}
+use Rattle.std.specs.Prelude.{ℕ, Bool, true, false, not, ◌&&◌, ◌||◌, ◌==◌, if◌then◌else◌, List, Option, Some, None, max, nat_lt}
 use Rattle.std.specs.List.{list_any}
-use Rattle.keep_watch.specs.declared.event.Operation.{Operation}
 use Rattle.keep_watch.specs.declared.event.Operation.TheVariants.{Look, Renew}
 use Rattle.keep_watch.specs.declared.track.Track.{Track}
 use Rattle.keep_watch.specs.declared.track.Try.{Try}
 use Rattle.keep_watch.specs.Beginning.{rested, soon}
 use Rattle.keep_watch.specs.Margins.{has_come}
-use Rattle.keep_watch.specs.State.{State, attempt_at, indices, track_at, with_tracks}
+use Rattle.keep_watch.specs.State.{State, attempt_at, track_at, with_tracks}
 use Rattle.keep_watch.specs.Wanted.{believed, is_wanted, second}
 
 -- a try of an entry that has to be asked

@@ -12,7 +12,7 @@ use Rattle.keep_rule.specs.Schedule.{IsNext}
 use Rattle.keep_watch.specs.Margins.{is_in_plan, lead}
 use Rattle.keep_watch.specs.Press.{is_alive, is_fresh, is_pressed}
 use Rattle.keep_watch.specs.State.{State, entry_of, indices, track_at}
-use Rattle.keep_watch.specs.Wanted.{believed, second, seen}
+use Rattle.keep_watch.specs.Wanted.{second, seen}
 
 -- i opens a round: it is pressed now, in the plan, and its end is ahead
 unfoldable pub opens : State → ℕ → Bool

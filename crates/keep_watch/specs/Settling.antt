@@ -1,9 +1,8 @@
 -- Settling: what a clock makes of the slice that was answered: the clocks, and the pauses behind failures.
 -- Source: this project's own.
-use Rattle.std.specs.Prelude.{ℕ, ◌+◌, Bool, true, false, ◌||◌, if◌then◌else◌, List, [], Option, Some, None, filter, is_none, map, min}
+use Rattle.std.specs.Prelude.{ℕ, ◌+◌, Bool, false, ◌||◌, if◌then◌else◌, List, [], Option, Some, None, filter, is_none, map, min}
 use Rattle.keep_watch.specs.declared.clocks.Clocks.{Clocks}
 use Rattle.keep_watch.specs.declared.slice.Slice.{Slice}
-use Rattle.keep_watch.specs.declared.track.Track.{Track}
 use Rattle.keep_watch.specs.declared.track.Try.{Try}
 use Rattle.keep_watch.specs.Clocks.{dated_by_all, first_clocks, is_stepped, jumps, moment, reading, walled}
 use Rattle.keep_watch.specs.Pauses.{cap, doubled, pause}

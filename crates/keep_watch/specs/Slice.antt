@@ -1,6 +1,6 @@
 -- Slice: which requests go out together.
 -- Source: this project's own.
-use Rattle.std.specs.Prelude.{◌≡◌, ◌==◌, ℕ, ◌+◌, ◌*◌, suc, Bool, true, false, not, ◌&&◌, ◌||◌, if◌then◌else◌, List, [], ◌∷◌, Option, Some, None, IsPermutation, IsSortedBy, filter, map, max, min, nat_le, nat_lt, take}
+use Rattle.std.specs.Prelude.{◌≡◌, ◌==◌, ℕ, ◌+◌, ◌*◌, Bool, true, false, not, ◌&&◌, ◌||◌, if◌then◌else◌, List, [], ◌∷◌, Option, Some, None, IsPermutation, IsSortedBy, filter, max, min, nat_le, nat_lt, take}
 use Rattle.keep_tree.specs.declared.forest.TheConstants.{END_MAX}
 use Rattle.keep_watch.specs.declared.clocks.TheConstants.{READING_MAX}
 use Rattle.keep_watch.specs.declared.command.Patience.{Patience}

@@ -1,6 +1,6 @@
 -- Wait: until when nothing is to be done.
 -- Source: this project's own.
-use Rattle.std.specs.Prelude.{ℕ, ◌+◌, ◌*◌, Bool, not, ◌&&◌, if◌then◌else◌, List, Option, Some, None, map, max, min}
+use Rattle.std.specs.Prelude.{ℕ, ◌+◌, ◌*◌, not, ◌&&◌, if◌then◌else◌, Option, Some, None, map, max, min}
 use Rattle.keep_watch.specs.declared.track.Track.{Track}
 use Rattle.keep_watch.specs.declared.track.Try.{Try}
 use Rattle.keep_watch.specs.Margins.{time}

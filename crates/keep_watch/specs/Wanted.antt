@@ -1,11 +1,10 @@
 -- Wanted: until when an entry is needed, on this clock, and whether it is still to be led there.
 -- Source: Vault, "Tokens" (a token's end ends its children and its leases); needs are this project's own.
-use Rattle.std.specs.Prelude.{ℕ, Bool, true, not, ◌&&◌, ◌||◌, ◌==◌, if◌then◌else◌, List, [], ◌∷◌, Option, Some, None, filter, fold, map, max, min, option_map, is_none, is_some, nat_lt, unwrap_or}
+use Rattle.std.specs.Prelude.{ℕ, Bool, not, ◌&&◌, ◌||◌, ◌==◌, if◌then◌else◌, List, Option, filter, fold, map, max, min, option_map, is_none, is_some, nat_lt, unwrap_or}
 use Rattle.keep_moment.specs.declared.moment.TheConstants.{LAST}
 use Rattle.keep_tree.specs.declared.entry.Entry.{Entry}
 use Rattle.keep_tree.specs.declared.forest.TheConstants.{END_MAX}
 use Rattle.keep_tree.specs.Carried.{carried}
-use Rattle.keep_tree.specs.Forest.{Forest, entry_at}
 use Rattle.keep_tree.specs.Over.{chain}
 use Rattle.keep_watch.specs.declared.clocks.Clocks.{Clocks}
 use Rattle.keep_watch.specs.declared.track.Track.{Track}

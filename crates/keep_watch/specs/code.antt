@@ -3,3 +3,6 @@ pub mod Bounds
 pub mod Watching
 pub mod Picking
 pub mod Waiting
+pub mod View
+pub mod Rounds
+pub mod Clocked

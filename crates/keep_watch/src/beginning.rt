@@ -1,7 +1,7 @@
 ghost use Rattle.std.specs.Prelude.{◌≡◌, ◌≤◌, ℕ, IfSome, false, is_none, length};
 ghost use Rattle.std.specs.List.{All, list_all};
 ghost use Rattle.keep_tree.specs.Forest.{Forest};
-ghost use Rattle.keep_watch.specs.Beginning.{beginning, begun_anew, hastened, is_day_old, is_idle, rested};
+ghost use Rattle.keep_watch.specs.Beginning.{beginning, begun_anew, hastened, is_day_old, is_idle, rested, untopped};
 ghost use Rattle.keep_watch.specs.code.Watching.{HasNeeds, HasWritten, IsBeside, state_of};
 ghost use Rattle.keep_watch.specs.code.Bounds.{IsBook, IsTrack};
 ghost use Rattle.keep_watch.specs.code.Tracks.{called_for, each_track, is_open_for, owed_for, owing_track, soon_for, untopped_track};
@@ -34,6 +34,17 @@ impl Book {
         } else {
             None
         }
+    }
+
+    /// Nobody is at the top any more.
+    pub(crate) fn untop(&mut self)
+        requires { IsBook self.old }
+        ensures state { (g : Forest) (width : ℕ) → IsBeside g self.old → state_of g width self.new ≡ untopped (state_of g width self.old) }
+        ensures count { length self.new.tracks.items ≡ length self.old.tracks.items }
+        ensures clocks { self.new.clocks ≡ self.old.clocks }
+        ensures book { IsBook self.new }
+    {
+        clear_tops(&mut self.tracks);
     }
 
     /// Whether nobody has a try.
@@ -93,7 +104,7 @@ fn is_called(dated: bool, need: u64, written: u64) -> bool
 }
 
 /// Nobody is at the top any more.
-pub(crate) fn clear_tops(tracks: &mut [Track])
+fn clear_tops(tracks: &mut [Track])
     requires { All IsTrack tracks.old }
     ensures value { tracks.new ≡ each_track untopped_track tracks.old }
     ensures count { length tracks.new ≡ length tracks.old }

@@ -1,8 +1,13 @@
 ghost use Rattle.std.specs.Prelude.{◌≡◌, IfErr, IfOk, OnErr, length};
 ghost use Rattle.keep_watch.specs.code.Bounds.{IsBook};
+ghost use Rattle.keep_needs.specs.Carried.{IsCarried};
+ghost use Rattle.keep_watch.specs.Clocks.{sec};
+ghost use Rattle.keep_watch.specs.Wanted as wanted;
+ghost use Rattle.keep_watch.specs.code.Clocked.{IsBegun, IsBegunAnew, IsClocked, IsCommanded, IsPressed};
+ghost use Rattle.keep_watch.specs.code.View.{IsView, seen_by};
+ghost use Rattle.keep_watch.specs.code.Watching.{IsBeside};
 ghost use Rattle.keep_watch.specs.declared.fault.WatchFault.TheVariants.{OutOfMemory};
 
-use crate::beginning::clear_tops;
 use crate::book::Book;
 use crate::clocks::{moment_at, second};
 use crate::command::{Command, Output};
@@ -22,6 +27,7 @@ impl Watch {
         wall: u64,
         elapsed: u64,
     ) -> Result<Output, WatchFault>
+        ensures step { IfOk result (IsClocked self.old wall elapsed self.new) }
         ensures refused { IfErr result (λ fault. fault ≡ OutOfMemory) }
         ensures unchanged { OnErr result (self.new ≡ self.old) }
     {
@@ -32,10 +38,7 @@ impl Watch {
         let began = book.beginning(timed.jumped);
         let needs = begin(alloc, &mut self.view, &self.forest, &mut book, began)?;
         let round = press(alloc, &mut self.view, &self.forest, &mut book, &needs)?;
-        let command = match book.send(alloc, self.forest.len(), self.width)? {
-            Some(command) => command,
-            None => Command::Wait(book.wait(&self.forest, &needs)),
-        };
+        let command = book.command(alloc, &self.forest, self.width, &needs)?;
         self.book = book;
         Ok(Output {
             command,
@@ -56,28 +59,61 @@ fn begin(
     book: &mut Book,
     why: Option<Why>,
 ) -> Result<Carried, WatchFault>
-    requires count { length book.old.tracks.items ≡ length forest.now.entries }
-    requires view { length view.old.entries ≡ length forest.now.entries }
-    requires margin { view.old.margin ≡ forest.now.margin }
+    requires count { IsBeside forest.now book.old }
+    requires view { IsView view.old forest.now }
     requires book { IsBook book.old }
-    ensures needs { IfOk result (λ needs. length needs ≡ length forest.now.entries) }
-    ensures tracks { length book.new.tracks.items ≡ length book.old.tracks.items }
-    ensures clocks { book.new.clocks ≡ book.old.clocks }
+    ensures state { IfOk result (IsBegun forest.now why book.old book.new view.new) }
+    ensures count { IsBeside forest.now book.new }
     ensures book { IsBook book.new }
-    ensures view { length view.new.entries ≡ length view.old.entries }
-    ensures margin { view.new.margin ≡ view.old.margin }
+    ensures view { IsView view.new forest.now }
     ensures refused { IfErr result (λ fault. fault ≡ OutOfMemory) }
 {
-    if why.is_some() {
-        clear_tops(&mut book.tracks);
+    match why {
+        None => needs_of(alloc, view, forest, book),
+        Some(_) => begin_anew(alloc, view, forest, book),
     }
-    write_view(view, forest, &book.tracks, book.clocks);
-    let needs = carry(alloc, view, moment_at(second(book.clocks.at)))?;
-    if why.is_some() {
-        let written = carry(alloc, forest, moment_at(0))?;
-        book.begin_anew(forest.len(), &needs, &written);
-    }
+}
+
+/// Looks everything up anew, and gives what the entries carry. The only error is want of memory.
+fn begin_anew(
+    alloc: Global,
+    view: &mut Forest,
+    forest: &Forest,
+    book: &mut Book,
+) -> Result<Carried, WatchFault>
+    requires count { IsBeside forest.now book.old }
+    requires view { IsView view.old forest.now }
+    requires book { IsBook book.old }
+    ensures state { IfOk result (IsBegunAnew forest.now book.old book.new view.new) }
+    ensures count { IsBeside forest.now book.new }
+    ensures book { IsBook book.new }
+    ensures view { IsView view.new forest.now }
+    ensures refused { IfErr result (λ fault. fault ≡ OutOfMemory) }
+{
+    book.untop();
+    let needs = needs_of(alloc, view, forest, book)?;
+    let written = carry(alloc, forest, moment_at(0))?;
+    book.begin_anew(forest.len(), &needs, &written);
     Ok(needs)
+}
+
+/// Writes the view, and gives what the entries carry. The only error is want of memory.
+fn needs_of(
+    alloc: Global,
+    view: &mut Forest,
+    forest: &Forest,
+    book: &Book,
+) -> Result<Carried, WatchFault>
+    requires count { IsBeside forest.now book.now }
+    requires view { IsView view.old forest.now }
+    requires book { IsBook book.now }
+    ensures written { view.new.entries ≡ wanted.view (seen_by forest.now book.now.tracks.items book.now.clocks) }
+    ensures needs { IfOk result (IsCarried view.new (sec book.now.clocks.at)) }
+    ensures view { IsView view.new forest.now }
+    ensures refused { IfErr result (λ fault. fault ≡ OutOfMemory) }
+{
+    write_view(view, forest, &book.tracks, book.clocks);
+    Ok(carry(alloc, view, moment_at(second(book.clocks.at)))?)
 }
 
 /// Presses those whose time has come, and those whom a round asks along. The only error is want of memory.
@@ -88,21 +124,42 @@ fn press(
     book: &mut Book,
     needs: &Carried,
 ) -> Result<Option<Indices>, WatchFault>
-    requires count { length book.old.tracks.items ≡ length forest.now.entries }
-    requires view { length view.old.entries ≡ length forest.now.entries }
+    requires count { IsBeside forest.now book.old }
+    requires view { IsView view.old forest.now }
     requires needs { length needs.now ≡ length forest.now.entries }
     requires book { IsBook book.old }
-    ensures tracks { length book.new.tracks.items ≡ length book.old.tracks.items }
-    ensures clocks { book.new.clocks ≡ book.old.clocks }
+    ensures state { IfOk result (IsPressed forest.now view.old needs.now book.old book.new) }
+    ensures count { IsBeside forest.now book.new }
     ensures book { IsBook book.new }
-    ensures view { length view.new.entries ≡ length view.old.entries }
-    ensures margin { view.new.margin ≡ view.old.margin }
+    ensures view { IsView view.new forest.now }
     ensures refused { IfErr result (λ fault. fault ≡ OutOfMemory) }
 {
     let round = book.round(alloc, view, forest, needs)?;
     book.press(forest, needs);
-    if let Some(asked) = &round {
-        book.press_asked(forest.len(), asked.list());
-    }
+    book.press_round(forest.len(), &round);
     Ok(round)
+}
+
+impl Book {
+    /// The slice that goes out now, or how long there is nothing to be done. The only error is want of memory.
+    fn command(
+        &mut self,
+        alloc: Global,
+        forest: &Forest,
+        width: u32,
+        needs: &Carried,
+    ) -> Result<Command, WatchFault>
+        requires count { IsBeside forest.now self.old }
+        requires needs { length needs.now ≡ length forest.now.entries }
+        requires book { IsBook self.old }
+        ensures state { IfOk result (IsCommanded forest.now width needs.now self.old self.new) }
+        ensures count { IsBeside forest.now self.new }
+        ensures book { IsBook self.new }
+        ensures refused { IfErr result (λ fault. fault ≡ OutOfMemory) }
+    {
+        match self.send(alloc, forest.len(), width)? {
+            Some(command) => Ok(command),
+            None => Ok(Command::Wait(self.wait(forest, needs))),
+        }
+    }
 }

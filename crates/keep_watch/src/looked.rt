@@ -1,8 +1,16 @@
-ghost use Rattle.std.specs.Prelude.{◌≡◌, ◌<◌, ◌≤◌, ◌&&◌, not, is_some, option_map, length, min, IfErr, OnErr, IfSome};
+ghost use Rattle.std.specs.Prelude.{◌≡◌, ◌<◌, ◌≤◌, ◌&&◌, not, is_some, option_map, slice_set, length, min, IfErr, IfOk, OnErr, IfSome};
 ghost use Rattle.keep_tree.specs.declared.forest.TheConstants.{END_MAX};
 ghost use Rattle.keep_tree.specs.Push.{is_lease};
 ghost use Rattle.keep_watch.specs.declared.fault.WatchFault.TheVariants.{OutOfMemory};
-ghost use Rattle.keep_watch.specs.Looked.{step_told};
+ghost use Rattle.keep_tree.specs.Forest.{entry_at};
+ghost use Rattle.keep_watch.specs.Answers.{with_track};
+ghost use Rattle.keep_watch.specs.Looked.{by_terms, looked, step_told, told_by, told_state};
+ghost use Rattle.keep_watch.specs.Margins.{has_come};
+ghost use Rattle.keep_watch.specs.State.{entry_of, track_at};
+ghost use Rattle.keep_watch.specs.Step.{IsDated, nothing, notes_looked};
+ghost use Rattle.keep_watch.specs.Wanted.{is_wanted};
+ghost use Rattle.keep_watch.specs.code.View.{orphaned};
+ghost use Rattle.keep_watch.specs.code.Watching.{IsLooked};
 ghost use Rattle.keep_watch.specs.code.Bounds.{IsTrack, IsTry};
 ghost use Rattle.keep_watch.specs.code.Tracks.{at_once_for, behind_look_for, not_told_track, refused_for, status_of, told_track_for, told_try};
 ghost use Rattle.keep_watch.specs.declared.clocks.TheConstants.{READING_MAX};
@@ -18,7 +26,7 @@ use crate::press::is_alive;
 use crate::track::{Track, Try};
 use crate::wanted::{carried_need, is_wanted, most, write_view};
 use crate::watch::Watch;
-use keep_moment::{LAST, Span};
+use keep_moment::Span;
 use keep_tree::{END_MAX, Entry, Forest, Kind};
 
 /// The step of an entry after one was told: that one where it is more than the margin.
@@ -51,8 +59,7 @@ fn is_lease(kind: Kind) -> bool
 /// Takes an entry away from its parent where the terms say so. A lease keeps its token.
 fn take_orphan(forest: &mut Forest, index: u32, terms: Terms)
     requires { index < length forest.old.entries }
-    ensures count { length forest.new.entries ≡ length forest.old.entries }
-    ensures margin { forest.new.margin ≡ forest.old.margin }
+    ensures { forest.new ≡ record forest.old { entries = slice_set forest.old.entries index (orphaned terms (entry_at forest.old.entries index)) } }
 {
     if !terms.orphan {
         return;
@@ -66,8 +73,7 @@ fn take_orphan(forest: &mut Forest, index: u32, terms: Terms)
 /// Takes the terms that a lookup told.
 fn take_terms(forest: &mut Forest, index: u32, terms: Terms)
     requires { index < length forest.old.entries }
-    ensures count { length forest.new.entries ≡ length forest.old.entries }
-    ensures margin { forest.new.margin ≡ forest.old.margin }
+    ensures { forest.new ≡ record forest.old { entries = slice_set forest.old.entries index (by_terms forest.old.margin terms (entry_at forest.old.entries index)) } }
 {
     let step = step_told(forest.margin(), forest.get(index).step, terms.step);
     forest.set_terms(index, step, most(terms.ceiling));
@@ -215,7 +221,8 @@ fn status_of(reply: Reply) -> Option<u16>
 }
 
 impl Watch {
-    /// Takes the answer to a lookup, and gives what is noted of it.
+    /// Takes the answer to a lookup, and gives what is noted of it. The only error is want of memory, where the reply brought a
+    /// date.
     pub(crate) fn looked(
         &mut self,
         entry: u32,
@@ -223,36 +230,78 @@ impl Watch {
         terms: Terms,
     ) -> Result<Notes, WatchFault>
         requires { entry < length self.old.forest.entries }
+        ensures step { IfOk result (IsLooked self.old entry reply terms self.new) }
         ensures refused { IfErr result (λ fault. fault ≡ OutOfMemory) }
+        ensures dated { OnErr result (IsDated reply) }
         ensures unchanged { OnErr result (self.new ≡ self.old) }
     {
         self.book.note_date(reply)?;
-        let before = self.book.track(entry);
-        let mut notes = Notes::none();
+        let notes = self.take_lookup(entry, reply, terms);
+        let link = self.book.take_reply(entry, reply);
+        Ok(Notes { link, ..notes })
+    }
+
+    /// Takes the answer to a lookup for its entry, and gives what is noted of that.
+    fn take_lookup(&mut self, entry: u32, reply: Reply, terms: Terms) -> Notes
+        requires { entry < length self.old.forest.entries }
+        ensures state { self.new ≡ looked self.old entry reply terms }
+        ensures notes { result ≡ notes_looked self.old entry reply terms }
+    {
         match reply {
             Reply::Told {
                 seconds,
                 renewable,
                 ..
             } => {
-                notes.orphan = is_orphaned(self.forest.get(entry), terms);
-                notes.endless = terms.endless && !before.endless;
+                let notes = self.told_notes(entry, terms);
                 self.tell(entry, seconds, renewable, terms);
+                notes
             }
-            Reply::Refused { .. } | Reply::Busy | Reply::Lost => {
-                notes.gone = status_of(reply);
-                let at = self.book.clocks.at;
-                self.book.set_track(entry, not_told(before, reply, at));
-            }
+            Reply::Refused { .. } | Reply::Busy | Reply::Lost => self.tell_nothing(entry, reply),
         }
-        notes.link = self.book.take_reply(entry, reply);
-        Ok(notes)
+    }
+
+    /// What is noted of a lookup that tells of an entry.
+    #[tactic(auto, unfolding(crate::specs::State::track_at, crate::specs::State::entry_of))]
+    fn told_notes(&self, entry: u32, terms: Terms) -> Notes
+        requires { entry < length self.now.forest.entries }
+        ensures { result ≡ record nothing { orphan = terms.orphan && (not (is_lease (entry_of self.now entry).kind) && is_some (entry_of self.now entry).parent); endless = terms.endless && not (track_at self.now entry).endless } }
+    {
+        Notes {
+            orphan: is_orphaned(self.forest.get(entry), terms),
+            endless: terms.endless && !self.book.track(entry).endless,
+            ..Notes::none()
+        }
+    }
+
+    /// Takes a reply to a lookup that told nothing of its entry, and gives what is noted of it.
+    #[tactic(auto, unfolding(crate::specs::State::track_at))]
+    fn tell_nothing(&mut self, entry: u32, reply: Reply) -> Notes
+        requires { entry < length self.old.forest.entries }
+        ensures state { self.new ≡ with_track self.old entry (not_told_track self.old.clocks.at reply (track_at self.old entry)) }
+        ensures notes { result ≡ record nothing { gone = status_of reply } }
+    {
+        let track = not_told(self.book.track(entry), reply, self.book.clocks.at);
+        self.book.set_track(entry, track);
+        Notes {
+            gone: status_of(reply),
+            ..Notes::none()
+        }
     }
 
     /// Takes what a lookup told of an entry.
     fn tell(&mut self, entry: u32, seconds: Span, renewable: bool, terms: Terms)
         requires { entry < length self.old.forest.entries }
-        ensures { length self.new.tracks ≡ length self.old.tracks }
+        ensures { self.new ≡ told_by (told_state self.old entry seconds renewable terms) entry }
+    {
+        self.take_told(entry, seconds, renewable, terms);
+        self.set_behind(entry);
+    }
+
+    /// Takes what a lookup told of an entry, but for its try.
+    fn take_told(&mut self, entry: u32, seconds: Span, renewable: bool, terms: Terms)
+        requires { entry < length self.old.forest.entries }
+        ensures { self.new ≡ told_state self.old entry seconds renewable terms }
     {
         let at = self.book.clocks.at;
         take_terms(&mut self.forest, entry, terms);
@@ -260,20 +309,25 @@ impl Watch {
         let before = self.book.track(entry);
         let track = told_track(before, at, seconds, renewable, terms.endless);
         self.book.set_track(entry, track);
+    }
+
+    /// Sets the try behind a lookup that told of its entry.
+    fn set_behind(&mut self, entry: u32)
+        requires { entry < length self.old.forest.entries }
+        ensures { self.new ≡ told_by self.old entry }
+    {
         let is_due = self.is_due(entry);
-        self.book.set_track(
-            entry,
-            Track {
-                attempt: try_told(track, at, is_due),
-                ..track
-            },
-        );
+        let at = self.book.clocks.at;
+        let track = self.book.track(entry);
+        let attempt = try_told(track, at, is_due);
+        self.book.set_track(entry, Track { attempt, ..track });
     }
 
     /// Whether an entry is wanted and its time has come. Where it has not, no other entry is looked at.
     fn is_due(&mut self, entry: u32) -> bool
         requires { entry < length self.old.forest.entries }
-        ensures { self.new ≡ self.old }
+        ensures unchanged { self.new ≡ self.old }
+        ensures value { result ≡ is_wanted self.old entry && has_come self.old entry }
     {
         let now = second(self.book.clocks.at);
         let track = self.book.track(entry);
@@ -286,7 +340,7 @@ impl Watch {
             &self.book.tracks,
             self.book.clocks,
         );
-        let need = carried_need(&self.view, moment_at(now.min(LAST)), entry);
+        let need = carried_need(&self.view, moment_at(now), entry);
         is_wanted(track, need)
     }
 }

@@ -2,7 +2,8 @@ ghost use Rattle.std.specs.Prelude.{◌≡◌, ◌≤◌, ◌<◌, ◌==◌, ◌
 ghost use Rattle.keep_tree.specs.Forest.{Forest};
 ghost use Rattle.keep_watch.specs.Slice.{end_rank, is_away, is_due_try, is_first, later_at, later_rank, patience, ready, request, sent};
 ghost use Rattle.keep_watch.specs.code.Bounds.{IsBook, IsTrack};
-ghost use Rattle.keep_watch.specs.code.Picking.{AreRead, IsRead, Sends, bare, due_below, is_before, rank_of_due, state_of};
+ghost use Rattle.keep_watch.specs.code.Picking.{Sends, bare, due_below, is_before, rank_of_due};
+ghost use Rattle.keep_watch.specs.code.Watching.{state_of};
 ghost use Rattle.keep_watch.specs.declared.fault.WatchFault.TheVariants.{OutOfMemory};
 
 use crate::beginning::rested;
@@ -42,7 +43,8 @@ fn end_rank(end: Option<u64>) -> u64
 
 /// Where a later try stands: the longest unanswered in front, one that only owes a lookup behind all others.
 fn later_rank(track: Track, attempt: Try) -> u64
-    ensures { IsRead track → result ≡ later_rank track (Some attempt) }
+    requires { IsTrack track }
+    ensures { result ≡ later_rank track (Some attempt) }
 {
     let answered = match track.last {
         None => 0,
@@ -57,7 +59,8 @@ fn later_rank(track: Track, attempt: Try) -> u64
 
 /// Where a try stands, as a first one or a later one.
 fn rank(track: Track, attempt: Try, first: bool) -> u64
-    ensures { IsRead track → result ≡ (if first then end_rank track.end else later_rank track (Some attempt)) }
+    requires { IsTrack track }
+    ensures { result ≡ (if first then end_rank track.end else later_rank track (Some attempt)) }
 {
     if first {
         end_rank(track.end)
@@ -128,7 +131,7 @@ impl Book {
     fn due_rank(&self, entry: u32, first: bool) -> Option<u64>
         requires within { entry < length self.now.tracks.items }
         requires book { IsBook self.now }
-        ensures { AreRead self.now.tracks.items → result ≡ rank_of_due (bare self.now) first entry }
+        ensures { result ≡ rank_of_due (bare self.now) first entry }
     {
         let track = self.track(entry);
         match track.attempt {
@@ -147,7 +150,7 @@ impl Book {
     fn due(&self, alloc: Global, count: u32, first: bool) -> Result<Vec<Due>, AllocError>
         requires count { count ≡ length self.now.tracks.items }
         requires book { IsBook self.now }
-        ensures { IfOk result (λ due. AreRead self.now.tracks.items → due.items ≡ due_below (bare self.now) first count) }
+        ensures { IfOk result (λ due. due.items ≡ due_below (bare self.now) first count) }
     {
         let mut due = Vec::new(alloc);
         for entry in 0..count {
@@ -229,7 +232,7 @@ impl Book {
         requires count { count ≡ length self.old.tracks.items }
         requires book { IsBook self.old }
         ensures book { IsBook self.new }
-        ensures sends { IfOk result (λ command. AreRead self.old.tracks.items → (g : Forest) → length g.entries ≡ count → Sends (state_of g width self.old) command (state_of g width self.new)) }
+        ensures sends { IfOk result (λ command. (g : Forest) → length g.entries ≡ count → Sends (state_of g width self.old) command (state_of g width self.new)) }
         ensures tracks { self.new.tracks.items ≡ self.old.tracks.items }
         ensures clocks { self.new.clocks ≡ self.old.clocks }
         ensures refused { IfErr result (λ fault. fault ≡ OutOfMemory) }

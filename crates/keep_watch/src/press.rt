@@ -1,6 +1,7 @@
 ghost use Rattle.std.specs.Prelude.{◌≡◌, ◌≤◌, ℕ, [], IfSome, Some, length, map, nat_lt, slice_set};
 ghost use Rattle.std.specs.List.{range_with_len};
 ghost use Rattle.keep_watch.specs.Press.{dropped, is_pressed_try, pressed};
+ghost use Rattle.keep_watch.specs.Round.{asked_by};
 ghost use Rattle.keep_watch.specs.code.Watching.{HasNeeds, KeepsRest, state_of, track_of};
 ghost use Rattle.keep_watch.specs.Wanted.{believed};
 ghost use Rattle.keep_watch.specs.code.Bounds.{IsBook, IsTrack, IsTry};
@@ -15,7 +16,7 @@ use crate::margins::has_come;
 use crate::track::{Track, Try};
 use crate::wanted::{believed, is_wanted};
 use keep_needs::Carried;
-use keep_tree::{Entry, Forest};
+use keep_tree::{Entry, Forest, Indices};
 
 /// Whether the entry has a try because its time has come.
 pub(crate) fn is_pressed(track: Track) -> bool
@@ -143,7 +144,7 @@ impl Book {
     }
 
     /// Presses those of so many entries whom a round asks.
-    pub(crate) fn press_asked(&mut self, count: u32, round: &[u32])
+    fn press_asked(&mut self, count: u32, round: &[u32])
         requires count { count ≡ length self.old.tracks.items }
         requires book { IsBook self.old }
         ensures tracks { self.new.tracks.items ≡ map (λ i. asked_in self.old.clocks.at round.now i (track_of self.old i)) (range_with_len 0 count) }
@@ -155,6 +156,21 @@ impl Book {
         let at = self.clocks.at;
         for entry in round {
             self.ask(*entry, at);
+        }
+    }
+
+    /// Presses those of so many entries whom a round asks, if one opened.
+    pub(crate) fn press_round(&mut self, count: u32, round: &Option<Indices>)
+        requires count { count ≡ length self.old.tracks.items }
+        requires book { IsBook self.old }
+        ensures tracks { self.new.tracks.items ≡ map (λ i. asked_in self.old.clocks.at (asked_by round.now) i (track_of self.old i)) (range_with_len 0 count) }
+        ensures rest { KeepsRest self.old self.new }
+        ensures count { length self.new.tracks.items ≡ length self.old.tracks.items }
+        ensures book { IsBook self.new }
+    {
+        match round {
+            None => {}
+            Some(asked) => self.press_asked(count, asked.list()),
         }
     }
 

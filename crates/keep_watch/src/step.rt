@@ -1,6 +1,9 @@
 ghost use Rattle.std.specs.Prelude.{◌≡◌, None, IfSome, IsOkUnless, Err, OnErr};
 ghost use Rattle.keep_watch.specs.declared.fault.WatchFault.{WatchFault};
+ghost use Rattle.keep_watch.specs.History.{Turn};
 ghost use Rattle.keep_watch.specs.Refusal.{refusal};
+ghost use Rattle.keep_watch.specs.Step.{taken};
+ghost use Rattle.keep_watch.specs.code.Watching.{taken_of};
 
 use crate::command::{Command, Output};
 use crate::event::Event;
@@ -23,9 +26,9 @@ impl Watch {
     /// a beginning or a known end while a request is not answered; `NotAsked`, an answer to no such request. `OutOfMemory` may
     /// come in the place of the answer to a clock, and to a reply that brings a date.
     ///
-    /// So far the contract says when an event is refused, with what, and that the watch is then as it was; what a step does that
-    /// is not refused is defined in `specs/Step` and tested against that definition, not proved.
+    /// What an event gives, and what becomes of the watch, is the turn of the definitions.
     pub fn step(&mut self, alloc: Global, event: Event) -> Result<Output, WatchFault>
+        ensures turn { Turn self.old event result self.new }
         ensures refused { IfSome (refusal self.old event) (λ fault. result ≡ Err fault) }
         ensures memory { refusal self.old event ≡ None → IsOkUnless result WatchFault.OutOfMemory }
         ensures unchanged { OnErr result (self.new ≡ self.old) }
@@ -33,21 +36,21 @@ impl Watch {
         if let Some(fault) = self.refusal(event) {
             return Err(fault);
         }
-        let notes = match event {
-            Event::Clock { wall, elapsed } => return self.clock(alloc, wall, elapsed),
+        match event {
+            Event::Clock { wall, elapsed } => self.clock(alloc, wall, elapsed),
             Event::Looked {
                 entry,
                 reply,
                 terms,
-            } => self.looked(entry, reply, terms)?,
-            Event::Renewed { entry, reply } => self.renewed(entry, reply)?,
+            } => taken_of(self.looked(entry, reply, terms)),
+            Event::Renewed { entry, reply } => taken_of(self.renewed(entry, reply)),
             Event::Need { entry, until } => {
                 self.need(entry, until);
-                Notes::none()
+                Ok(taken(Notes::none()))
             }
             Event::Begin => {
                 self.ask_beginning();
-                Notes::none()
+                Ok(taken(Notes::none()))
             }
             Event::Known {
                 entry,
@@ -55,12 +58,28 @@ impl Watch {
                 renewable,
             } => {
                 self.know(entry, end, renewable);
-                Notes::none()
+                Ok(taken(Notes::none()))
             }
-        };
-        Ok(Output {
-            command: Command::Taken,
-            notes,
-        })
+        }
+    }
+}
+
+/// What is given where an event is taken.
+fn taken(notes: Notes) -> Output
+    ensures { result ≡ taken notes }
+{
+    Output {
+        command: Command::Taken,
+        notes,
+    }
+}
+
+/// The same of an answer, which may have wanted memory.
+fn taken_of(notes: Result<Notes, WatchFault>) -> Result<Output, WatchFault>
+    ensures { result ≡ taken_of notes }
+{
+    match notes {
+        Ok(notes) => Ok(taken(notes)),
+        Err(fault) => Err(fault),
     }
 }

@@ -1,13 +1,16 @@
-ghost use Rattle.std.specs.Prelude.{◌≡◌, ◌<◌, ◌≤◌, IfSome, length, if◌then◌else◌, min, option_map};
-ghost use Rattle.keep_moment.specs.declared.moment.TheConstants.{LAST};
+ghost use Rattle.std.specs.Prelude.{◌≡◌, ◌<◌, ◌≤◌, ◌&&◌, IfSome, length, if◌then◌else◌, max, min, nat_lt, option_map, slice_set};
 ghost use Rattle.keep_tree.specs.declared.forest.TheConstants.{END_MAX};
-ghost use Rattle.keep_watch.specs.Wanted.{believed, is_fixed};
-ghost use Rattle.keep_watch.specs.code.Bounds.{IsClocks};
+ghost use Rattle.std.specs.List.{All};
+ghost use Rattle.keep_tree.specs.Carried.{carried};
+ghost use Rattle.keep_watch.specs.Wanted.{believed, is_fixed, seen};
+ghost use Rattle.keep_watch.specs.Wanted as wanted;
+ghost use Rattle.keep_watch.specs.code.Bounds.{IsClocks, IsTrack};
 ghost use Rattle.keep_watch.specs.code.Tracks.{wants};
+ghost use Rattle.keep_watch.specs.code.View.{IsView, least_over, seen_by};
 
 use crate::clocks::{Clocks, moment_at};
 use crate::track::Track;
-use keep_moment::{LAST, Moment};
+use keep_moment::Moment;
 use keep_tree::{END_MAX, Forest};
 
 /// A ceiling, one past the greatest as the greatest.
@@ -56,6 +59,7 @@ fn limited(limit: u64, track: Track) -> u64
 fn limit(forest: &Forest, tracks: &[Track], index: u32, above: u64) -> u64
     requires within { index < length forest.now.entries }
     requires count { length tracks.now ≡ length forest.now.entries }
+    ensures { result ≡ least_over forest.now.entries tracks.now above index }
 {
     let least = limited(above, tracks[index as usize]);
     match forest.get(index).parent {
@@ -74,47 +78,58 @@ pub(crate) fn write_seen(
 )
     requires within { index < length forest.now.entries }
     requires count { length tracks.now ≡ length forest.now.entries }
-    requires view { length view.old.entries ≡ length forest.now.entries }
-    requires margin { view.old.margin ≡ forest.now.margin }
+    requires bounds { All IsTrack tracks.now }
+    requires view { IsView view.old forest.now }
     requires clocks { IsClocks clocks }
-    ensures view { length view.new.entries ≡ length view.old.entries }
-    ensures margin { view.new.margin ≡ view.old.margin }
+    ensures view { IsView view.new forest.now }
+    ensures written { view.new.entries ≡ slice_set view.old.entries index (seen (seen_by forest.now tracks.now clocks) index) }
 {
     let entry = forest.get(index);
     let track = tracks[index as usize];
     let need = clocks
-        .need_here(entry.need.min(LAST))
+        .need_here(entry.need)
         .min(limit(forest, tracks, index, END_MAX));
-    view.set_terms(index, entry.step, clocks.ceiling_here(most(entry.ceiling)));
-    view.set_end(index, believed(track).min(END_MAX));
+    view.set_terms(index, entry.step, clocks.ceiling_here(entry.ceiling));
+    view.set_end(index, believed(track));
     view.set_renewable(index, track.renewable);
-    view.set_need(index, moment_at(need.min(LAST)));
+    view.set_need(index, moment_at(need));
 }
 
 /// Writes every entry as it is seen on this clock.
 pub(crate) fn write_view(view: &mut Forest, forest: &Forest, tracks: &[Track], clocks: Clocks)
     requires count { length tracks.now ≡ length forest.now.entries }
-    requires view { length view.old.entries ≡ length forest.now.entries }
-    requires margin { view.old.margin ≡ forest.now.margin }
+    requires bounds { All IsTrack tracks.now }
+    requires view { IsView view.old forest.now }
     requires clocks { IsClocks clocks }
-    ensures view { length view.new.entries ≡ length view.old.entries }
-    ensures margin { view.new.margin ≡ view.old.margin }
+    ensures view { IsView view.new forest.now }
+    ensures written { view.new.entries ≡ wanted.view (seen_by forest.now tracks.now clocks) }
 {
     for index in 0..forest.len() {
         write_seen(view, forest, tracks, clocks, index);
     }
 }
 
+/// A greatest need so far, or that of one entry more where it is after `now`, and of an entry that this one is over.
+fn carry_more(most: u64, now: Moment, need: u64, is_over: bool) -> u64
+    ensures { result ≡ (if is_over && nat_lt now need then max most need else most) }
+{
+    if is_over && now.get() < need {
+        most.max(need)
+    } else {
+        most
+    }
+}
+
 /// The greatest need after `now` of an entry that this one is over, 0 where there is none.
+#[tactic(auto, unfolding(keep_tree::specs::Carried::carried))]
 pub(crate) fn carried_need(view: &Forest, now: Moment, index: u32) -> u64
     requires { index < length view.now.entries }
+    ensures { result ≡ carried view.now.entries now index }
 {
     let mut most = 0;
     for below in 0..view.len() {
-        let need = view.get(below).need;
-        if view.is_over(index, below) && now.get() < need {
-            most = need.max(most);
-        }
+        let is_over = view.is_over(index, below);
+        most = carry_more(most, now, view.get(below).need, is_over);
     }
     most
 }

@@ -1,31 +1,18 @@
 -- Picking: what the machine holds of those that are due, by what a book has beside its forest. No public clause cites it.
 -- Source: this project's own.
-use Rattle.std.specs.Prelude.{◌≡◌, ℕ, ◌≤◌, Bool, true, ◌&&◌, ◌||◌, ◌==◌, if◌then◌else◌, List, [], Option, Some, None, All, IfSome, filter, map, nat_lt}
+use Rattle.std.specs.Prelude.{◌≡◌, ℕ, Bool, true, ◌&&◌, ◌||◌, ◌==◌, if◌then◌else◌, List, [], Option, Some, None, filter, map, nat_lt}
 use Rattle.std.specs.List.{range_with_len}
-use Rattle.keep_tree.specs.Forest.{Forest}
 use Rattle.keep_watch.specs.declared.book.Book.{Book}
-use Rattle.keep_watch.specs.declared.clocks.TheConstants.{READING_MAX}
 use Rattle.keep_watch.specs.declared.command.Command.{Command}
 use Rattle.keep_watch.specs.declared.picking.Due.{Due}
-use Rattle.keep_watch.specs.declared.track.Track.{Track}
 use Rattle.keep_watch.specs.Slice.{is_due, is_quiet, rank}
 use Rattle.keep_watch.specs.State.{State}
 use Rattle.keep_watch.specs.Step.{StepCommand}
-
--- the state of a watch over that forest
-abbrev pub state_of : Forest → ℕ → Book → State
-state_of g width b = record { forest = g; tracks = b.tracks.items; width = width; clocks = b.clocks; begun = b.begun; asked = b.asked; away = b.away; hold = b.hold; free = b.free; slice = b.slice }
+use Rattle.keep_watch.specs.code.Watching.{state_of}
 
 -- the state of a watch over no forest: whether an entry is due, and where it stands, is read of its track and the book alone
 abbrev pub bare : Book → State
 bare b = state_of (record { entries = []; margin = 0 }) 0 b
-
--- the last answer came at a reading
-abbrev pub IsRead : Track → Type 0
-IsRead x = IfSome x.last (λ t. t ≤ READING_MAX)
-
-abbrev pub AreRead : List Track → Type 0
-AreRead xs = All IsRead xs
 
 -- where a try stands, as a first one or a later one, None where it is not due
 abbrev pub rank_of_due : State → Bool → ℕ → Option ℕ

@@ -1,17 +1,21 @@
 -- Watching: what a watch holds beside its state. No public clause cites it.
 -- Source: this project's own.
-use Rattle.std.specs.Prelude.{◌≡◌, ℕ, ◌||◌, ◌++◌, ◌<◌, List, Option, Some, None, length, map, min, option_map, option_to_list, slice_index_or}
+use Rattle.std.specs.Prelude.{◌≡◌, ℕ, ◌||◌, ◌++◌, ◌<◌, List, Option, Some, None, Result, Ok, Err, length, min, option_map, option_to_list, slice_index_or}
 use Rattle.keep_moment.specs.declared.moment.TheConstants.{LAST}
 use Rattle.keep_needs.specs.Carried.{CarriedNeed, load_at}
 use Rattle.keep_tree.specs.Carried.{carried}
 use Rattle.keep_tree.specs.Forest.{Forest}
 use Rattle.keep_watch.specs.declared.book.Book.{Book}
 use Rattle.keep_watch.specs.declared.event.Reply.{Reply}
+use Rattle.keep_watch.specs.declared.event.Terms.{Terms}
 use Rattle.keep_watch.specs.declared.clocks.Clocks.{Clocks}
 use Rattle.keep_watch.specs.declared.notes.Link.{Link}
 use Rattle.keep_watch.specs.declared.notes.Notes.{Notes}
+use Rattle.keep_watch.specs.Looked.{looked}
 use Rattle.keep_watch.specs.Renewed.{renewed}
-use Rattle.keep_watch.specs.Step.{notes_renewed, with_link}
+use Rattle.keep_watch.specs.declared.command.Output.{Output}
+use Rattle.keep_watch.specs.declared.fault.WatchFault.{WatchFault}
+use Rattle.keep_watch.specs.Step.{notes_looked, notes_renewed, taken, with_link}
 use Rattle.keep_watch.specs.declared.slice.Slice.{Slice}
 use Rattle.keep_watch.specs.declared.track.Track.{Track}
 use Rattle.keep_watch.specs.Answers.{after_answer, date_of, is_busy, is_heard, link, link_of, settled_with, without}
@@ -19,6 +23,7 @@ use Rattle.keep_watch.specs.Settling.{settled}
 use Rattle.keep_watch.specs.State.{State, no_track}
 use Rattle.keep_watch.specs.Wanted.{wanted_need}
 use Rattle.keep_watch.specs.code.Bounds.{IsBook}
+use Rattle.keep_watch.specs.code.View.{IsView}
 
 -- all but the tracks is as it was
 abbrev pub KeepsRest : Book → Book → Type 0
@@ -26,11 +31,10 @@ KeepsRest old new =
     (new.clocks ≡ old.clocks) × ((new.begun ≡ old.begun) × ((new.asked ≡ old.asked) × ((new.away ≡ old.away) × ((new.hold ≡ old.hold)
     × ((new.free ≡ old.free) × (new.slice ≡ old.slice))))))
 
--- a track for each entry of the forest, a second forest as large, with the same margin, and numbers within bounds
+-- a track for each entry of the forest, a view of it, and numbers within bounds
 pub record IsWatch (forest view : Forest) (book : Book) : Type 0 where
   pub count : length book.tracks.items ≡ length forest.entries
-  pub view_count : length view.entries ≡ length forest.entries
-  pub margin : view.margin ≡ forest.margin
+  pub is_view : IsView view forest
   pub bounds : IsBook book
 
 -- the state of a watch with that forest, width and book
@@ -80,6 +84,11 @@ abbrev pub IsRenewed : State → ℕ → Reply → State → Notes → Type 0
 IsRenewed old i reply new notes =
     (notes ≡ with_link (notes_renewed old i reply) (link old old.slice i reply)) × (new ≡ after_answer (renewed old i reply) old.slice i reply)
 
+-- and what a lookup's answer gives
+abbrev pub IsLooked : State → ℕ → Reply → Terms → State → Notes → Type 0
+IsLooked old i reply terms new notes =
+    (notes ≡ with_link (notes_looked old i reply terms) (link old old.slice i reply)) × (new ≡ after_answer (looked old i reply terms) old.slice i reply)
+
 -- these are what the entries carry in a state
 abbrev pub HasNeeds : State → List CarriedNeed → Type 0
 HasNeeds s loads = (i : ℕ) → i < length s.forest.entries → (load_at loads i).need ≡ wanted_need s i
@@ -92,3 +101,8 @@ HasWritten g loads = (i : ℕ) → i < length g.entries → (load_at loads i).ne
 abbrev pub IsSettled : Book → ℕ → Clocks → Book → Type 0
 IsSettled old margin clocks new =
     (g : Forest) (width : ℕ) → IsBeside g old → g.margin ≡ margin → state_of g width new ≡ settled (state_of g width (record old { clocks = clocks }))
+
+-- what is given of an answer
+abbrev pub taken_of : Result Notes WatchFault → Result Output WatchFault
+taken_of (Ok notes) = Ok (taken notes)
+taken_of (Err fault) = Err fault

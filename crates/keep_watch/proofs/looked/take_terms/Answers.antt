@@ -1,7 +1,11 @@
-use Rattle.std.proofs.Common.{◌≡◌, ◌<◌, ◌+◌, ◌≤◌, ℕ, Option, Some, None, arith, subst, sym}
+use Rattle.std.proofs.Common.{◌≡◌, ap, arith, set, ◌∙◌}
+use Rattle.keep_tree.specs.declared.entry.Entry.{Entry}
+use Rattle.keep_tree.specs.Forest.{entry_at}
 use Rattle.keep_tree.proofs.Placed.{read_step}
-use Rattle.keep_watch.specs.Looked.{step_told}
+use Rattle.keep_watch.specs.Looked.{by_terms, step_told}
+use Rattle.keep_watch.specs.code.View.{orphaned}
 use Rattle.keep_watch.proofs.Steps.{past_margin}
+use Rattle.keep_watch.proofs.View.{set_again}
 use Rattle.keep_watch.proofs.looked.take_terms.Goals as goal
 
 pub set_terms-requires-clause-step : goal.set_terms-requires-clause-step
@@ -12,3 +16,17 @@ set_terms-requires-clause-step c =
     let told = c.step_told-step.ensures in
     let past = past_margin c.margin.result c.get.result.now.step c.args.terms.step (omega (arith, same)) in
     omega (arith, same, told)
+
+pub returns : goal.returns
+unfolding by_terms orphaned
+returns c =
+    let g = c.args.forest.now in
+    let es = g.entries in
+    let i = c.args.index in
+    let e = entry_at es i in
+    let step_is : c.step_told-step.result ≡ step_told g.margin e.step c.args.terms.step =
+    c.step_told-step.ensures ∙ ap (λ m. step_told m c.get.result.now.step c.args.terms.step) c.margin.ensures
+    ∙ ap (λ (x : Entry). step_told g.margin x.step c.args.terms.step) c.get.ensures.value in
+    set_again g c.set_terms.new.self c.take_orphan.new.forest i _ (orphaned c.args.terms) c.requires c.set_terms.ensures c.take_orphan.ensures
+    ∙ ap (λ n. record g { entries = set es i (orphaned c.args.terms (record e { step = n; ceiling = c.most.result })) }) step_is
+    ∙ ap (λ o. record g { entries = set es i (orphaned c.args.terms (record e { step = step_told g.margin e.step c.args.terms.step; ceiling = o })) }) c.most.ensures.value

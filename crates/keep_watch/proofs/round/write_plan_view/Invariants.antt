@@ -1,5 +1,14 @@
-use Rattle.std.proofs.Common.{◌≡◌, length}
+use Rattle.std.proofs.Common.{◌≡◌, ◌<◌, ℕ, length}
+use Rattle.keep_tree.specs.Forest.{entry_at}
+use Rattle.keep_watch.specs.Wanted as wanted
+use Rattle.keep_watch.specs.code.View.{IsView, seen_by}
+use Rattle.keep_watch.proofs.Opening.{halfway}
 use Rattle.keep_watch.proofs.round.write_plan_view.Given as goal
 
+-- those so far are written for the Asks
 abbrev pub invariant-loop-index : goal.invariant-loop-index
-invariant-loop-index l = record { count : length l.view.entries ≡ length l.forest.entries; margin : l.view.margin ≡ l.initial.view.margin }
+invariant-loop-index l = record {
+  view : IsView l.view l.forest;
+  planned : l.fn.view.entries ≡ wanted.view (seen_by l.forest l.tracks l.fn.clocks) → (k : ℕ) → k < length l.forest.entries →
+      entry_at l.view.entries k ≡ halfway (seen_by l.forest l.tracks l.fn.clocks) l.index k;
+}

@@ -1,9 +1,8 @@
-use Rattle.std.proofs.Common.{◌≡◌, ◌∙◌, ◌+◌, ◌<◌, ◌++◌, ◌∷◌, [], ap, arith, length, map, slice_index_or, subst, sym}
+use Rattle.std.proofs.Common.{◌∙◌, ◌++◌, ◌∷◌, [], ap, arith, length, map, slice_index_or, subst, sym}
 use Rattle.std.proofs.lemmas.List.{get_or_default}
 use Rattle.std.proofs.lemmas.List.Elements.{All-push}
 use Rattle.std.proofs.lemmas.List.FromFn.{length-map-range_with_len, map-range_with_len_more}
 use Rattle.std.specs.List.{All, range_with_len}
-use Rattle.keep_watch.specs.declared.track.Track.{Track}
 use Rattle.keep_watch.specs.State.{no_track}
 use Rattle.keep_watch.specs.code.Bounds.{IsTrack}
 use Rattle.keep_watch.specs.code.Tracks.{each_track, settled_track}

@@ -1,4 +1,4 @@
-use Rattle.std.proofs.Common.{◌≡◌, ◌∙◌, List, ap, is_none}
+use Rattle.std.proofs.Common.{◌∙◌, List, ap, is_none}
 use Rattle.std.specs.List.{list_all}
 use Rattle.keep_watch.specs.declared.track.Track.{Track}
 use Rattle.keep_watch.specs.code.Watching.{state_of}

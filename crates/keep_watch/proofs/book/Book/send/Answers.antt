@@ -1,31 +1,32 @@
 use Rattle.std.proofs.Common.{◌≡◌, ◌∙◌, ◌==◌, ◌&&◌, ◌||◌, Some, IsPermutation, if◌then◌else◌, true, false, map, take, not, nat_lt, length, vec_len, subst, refl, ap, sym}
 use Rattle.keep_watch.specs.declared.picking.Due.{Due}
 use Rattle.keep_watch.specs.Slice.{is_away, request, sent}
-use Rattle.keep_watch.specs.code.Picking.{bare, due_below, state_of}
+use Rattle.keep_watch.specs.code.Picking.{bare, due_below}
+use Rattle.keep_watch.specs.code.Watching.{state_of}
 use Rattle.keep_watch.proofs.Picked.{below_bare, quiet_by, requests_bare, slice_is}
 use Rattle.keep_watch.proofs.book.Book.send.Goals as goal
 use Rattle.keep_watch.proofs.book.Book.send.Goals.{else-is_empty-via-then-is_empty+else-is_empty-2, else-is_empty-via-else-is_empty}
 
 pub returns-then-is_empty-2-clause-sends : goal.returns-then-is_empty-2-clause-sends
-returns-then-is_empty-2-clause-sends c = λ read g count.
+returns-then-is_empty-2-clause-sends c = λ g count.
     let b = c.args.self.now in
     let s = state_of g c.args.width b in
     let fs = c.in_ok-first.first.items in
     let ls = c.in_ok-later.later.items in
-    let firsts : fs ≡ due_below s true c.args.count = c.in_ok-first.ensures read ∙ below_bare g c.args.width b true c.args.count in
-    let laters : ls ≡ due_below s false c.args.count = c.in_ok-later.ensures read ∙ below_bare g c.args.width b false c.args.count in
+    let firsts : fs ≡ due_below s true c.args.count = c.in_ok-first.ensures ∙ below_bare g c.args.width b true c.args.count in
+    let laters : ls ≡ due_below s false c.args.count = c.in_ok-later.ensures ∙ below_bare g c.args.width b false c.args.count in
     let none : (length fs == 0) ≡ true = (let len = c.in_ok-first.first.ok.0 in let e = c.if-is_empty.ensures in cc) in
     let none' : (length ls == 0) ≡ true = (let len = c.in_ok-later.later.ok.0 in let e = c.if-is_empty-2.ensures in cc) in
     (quiet_by s c.args.count fs ls (sym count) firsts laters ∙ ap (λ e. e && (length ls == 0)) none ∙ none', refl)
 
 pub returns-clause-sends : goal.returns-clause-sends
-returns-clause-sends c = λ read g count.
+returns-clause-sends c = λ g count.
     let b = c.args.self.now in
     let s = state_of g c.args.width b in
     let fs = c.in_ok-first.first.items in
     let ls = c.in_ok-later.later.items in
-    let firsts : fs ≡ due_below s true c.args.count = c.in_ok-first.ensures read ∙ below_bare g c.args.width b true c.args.count in
-    let laters : ls ≡ due_below s false c.args.count = c.in_ok-later.ensures read ∙ below_bare g c.args.width b false c.args.count in
+    let firsts : fs ≡ due_below s true c.args.count = c.in_ok-first.ensures ∙ below_bare g c.args.width b true c.args.count in
+    let laters : ls ≡ due_below s false c.args.count = c.in_ok-later.ensures ∙ below_bare g c.args.width b false c.args.count in
     let ds = c.in_order-due.result.items in
     let first = c.takes_first-of_first.result in
     let requests = c.in_ok-requests.requests.items in

@@ -1,4 +1,4 @@
-use Rattle.std.proofs.Common.{◌≡◌, ◌∙◌, Option, Some, false, rules, sym, true}
+use Rattle.std.proofs.Common.{◌≡◌, ◌∙◌, false, rules, sym, true}
 use Rattle.keep_watch.specs.Refusal.{is_open}
 use Rattle.keep_watch.specs.code.Bounds.{IsSlice}
 use Rattle.keep_watch.specs.code.Watching.{state_of}

@@ -1,8 +1,7 @@
-use Rattle.std.proofs.Common.{◌≡◌, map, min, slice_index_or}
+use Rattle.std.proofs.Common.{◌≡◌, map, min}
 use Rattle.std.specs.List.{range_with_len}
 use Rattle.keep_needs.specs.Carried.{load_at}
 use Rattle.keep_tree.specs.Forest.{entry_at}
-use Rattle.keep_watch.specs.State.{no_track}
 use Rattle.keep_watch.specs.Wanted.{least}
 use Rattle.keep_watch.specs.code.Picking.{bare}
 use Rattle.keep_watch.specs.code.Waiting.{time_at_for, try_at_for}

@@ -1,7 +1,9 @@
-use Rattle.std.proofs.Common.{◌≡◌, ◌∙◌, None, ap, sym}
+use Rattle.std.proofs.Common.{◌≡◌, ◌∙◌, None, ap, subst, sym}
 use Rattle.keep_watch.specs.declared.event.Event.TheVariants.{Looked, Renewed, Need, Known}
 use Rattle.keep_watch.specs.declared.event.Operation.TheVariants.{Look, Renew}
 use Rattle.keep_watch.specs.Refusal.{refusal, unless_closed}
+use Rattle.keep_watch.specs.History.{Turn}
+use Rattle.keep_watch.proofs.Taking.{looked_turn, refused_turn}
 use Rattle.keep_watch.proofs.Within.{asked_none, within_none}
 use Rattle.keep_watch.proofs.watch.Watch.step.Goals as goal
 
@@ -32,3 +34,18 @@ know-requires c =
     let s = c.args.self.now in
     let none : refusal s (Known c.in-Known.entry c.in-Known.end c.in-Known.renewable) ≡ None = ap (refusal s) (sym c.in-Known.is) ∙ sym c.in_default.ensures in
     within_none s c.in-Known.entry (unless_closed s) none
+
+pub returns-in-Some-clause-turn : goal.returns-in-Some-clause-turn
+returns-in-Some-clause-turn c = refused_turn c.args.self.now c.args.event c.in-Some.fault (sym c.in-Some.ensures)
+
+pub returns-in-Looked-clause-turn : goal.returns-in-Looked-clause-turn
+returns-in-Looked-clause-turn c =
+    let s = c.args.self.now in
+    let new = c.looked.new.self in
+    let i = c.in-Looked.entry in
+    let reply = c.in-Looked.reply in
+    let terms = c.in-Looked.terms in
+    let none : refusal s (Looked i reply terms) ≡ None = ap (refusal s) (sym c.in-Looked.is) ∙ sym c.in_default.ensures in
+    subst (λ e. Turn s e c.taken_of.result new) (sym c.in-Looked.is)
+    (subst (λ r. Turn s (Looked i reply terms) r new) (sym c.taken_of.ensures)
+    (looked_turn s new i reply terms c.looked.result none c.looked.ensures.step c.looked.ensures.refused c.looked.ensures.dated c.looked.ensures.unchanged))

@@ -1,0 +1,10 @@
+use Rattle.std.proofs.Common.{◌≡◌, ◌<◌, ℕ, false, get_or}
+use Rattle.keep_needs.specs.Carried.{load_at}
+use Rattle.keep_tree.specs.Forest.{entry_at}
+use Rattle.keep_watch.specs.State.{no_track}
+use Rattle.keep_watch.specs.code.Rounds.{opens_for}
+use Rattle.keep_watch.proofs.round.opens_some.Given as goal
+
+-- none so far does
+abbrev pub invariant-loop-index : goal.invariant-loop-index
+invariant-loop-index l = (k : ℕ) → k < l.index → opens_for l.forest.margin (entry_at l.forest.entries k) (get_or l.tracks k no_track) (load_at l.needs k).need l.now ≡ false

@@ -1,0 +1,14 @@
+use Rattle.std.proofs.Common.{◌∙◌, ap, length, refl, sym}
+use Rattle.std.proofs.lemmas.List.{length-set}
+use Rattle.keep_tree.specs.Forest.{Forest}
+use Rattle.keep_watch.proofs.View.{view_of_set}
+use Rattle.keep_watch.proofs.watch.Watch.need.Goals as goal
+
+pub invariant_of-self : goal.invariant_of-self
+invariant_of-self c =
+    let w = c.self.inside in
+    record {
+      count = c.self.invariant.count ∙ sym (ap (λ (g : Forest). length g.entries) c.set_need.ensures ∙ length-set w.forest.entries c.args.entry _);
+      is_view = view_of_set w.view w.forest c.set_need.new.self c.args.entry _ c.set_need.ensures refl c.self.invariant.is_view;
+      bounds = c.self.invariant.bounds;
+    }
