@@ -3,9 +3,8 @@
 //!
 //! What a step does is defined in `specs/`, and the laws speak of every list of events by these definitions: `laws_of_load` says
 //! how often an entry is asked at most, and how many at once; `laws_of_time` that none is renewed too early; `laws_of_waiting`
-//! that none is forgotten; `laws_of_ends` that no end that is believed in comes after the real one. What they say holds of code as
-//! far as its contract is
-//! `History.Turn`; docs/proved.md says which does.
+//! that none is forgotten; `laws_of_ends` that no end that is believed in comes after the real one. They hold of the machine, since
+//! each step of it is the turn of the definitions (`History.Turn`).
 //!
 //! Begin with `event` and `command`, then `track`.
 #![tactic(auto)]
@@ -24,6 +23,7 @@ mod laws_of_time;
 mod laws_of_waiting;
 mod looked;
 mod margins;
+mod new_terms;
 mod notes;
 mod pauses;
 mod picking;

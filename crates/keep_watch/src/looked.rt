@@ -1,19 +1,16 @@
-ghost use Rattle.std.specs.Prelude.{◌≡◌, ◌<◌, ◌≤◌, ◌&&◌, not, is_some, option_map, slice_set, length, min, IfErr, IfOk, OnErr, IfSome};
-ghost use Rattle.keep_tree.specs.declared.forest.TheConstants.{END_MAX};
+ghost use Rattle.std.specs.Prelude.{◌≡◌, ◌<◌, ◌≤◌, ◌&&◌, not, is_some, length, IfErr, IfOk, OnErr, IfSome};
 ghost use Rattle.keep_tree.specs.Push.{is_lease};
+ghost use Rattle.keep_watch.specs.declared.clocks.TheConstants.{READING_MAX};
 ghost use Rattle.keep_watch.specs.declared.fault.WatchFault.TheVariants.{OutOfMemory};
-ghost use Rattle.keep_tree.specs.Forest.{entry_at};
 ghost use Rattle.keep_watch.specs.Answers.{with_track};
-ghost use Rattle.keep_watch.specs.Looked.{by_terms, looked, step_told, told_by, told_state};
+ghost use Rattle.keep_watch.specs.Looked.{looked, told_by, told_state};
 ghost use Rattle.keep_watch.specs.Margins.{has_come};
 ghost use Rattle.keep_watch.specs.State.{entry_of, track_at};
 ghost use Rattle.keep_watch.specs.Step.{IsDated, nothing, notes_looked};
 ghost use Rattle.keep_watch.specs.Wanted.{is_wanted};
-ghost use Rattle.keep_watch.specs.code.View.{orphaned};
-ghost use Rattle.keep_watch.specs.code.Watching.{IsLooked};
 ghost use Rattle.keep_watch.specs.code.Bounds.{IsTrack, IsTry};
 ghost use Rattle.keep_watch.specs.code.Tracks.{at_once_for, behind_look_for, not_told_track, refused_for, status_of, told_track_for, told_try};
-ghost use Rattle.keep_watch.specs.declared.clocks.TheConstants.{READING_MAX};
+ghost use Rattle.keep_watch.specs.code.Watching.{IsLooked};
 
 use crate::answers::{busied, failing};
 use crate::beginning::is_open_ended;
@@ -21,64 +18,13 @@ use crate::clocks::{moment_at, second};
 use crate::event::{Operation, Reply, Terms};
 use crate::fault::WatchFault;
 use crate::margins::has_come;
+use crate::new_terms::{is_orphaned, take_orphan, take_terms};
 use crate::notes::Notes;
 use crate::press::is_alive;
 use crate::track::{Track, Try};
-use crate::wanted::{carried_need, is_wanted, most, write_view};
+use crate::wanted::{carried_need, is_wanted, write_view};
 use crate::watch::Watch;
 use keep_moment::Span;
-use keep_tree::{END_MAX, Entry, Forest, Kind};
-
-/// The step of an entry after one was told: that one where it is more than the margin.
-fn step_told(margin: u32, step: u32, told: Option<u32>) -> u32
-    ensures { result ≡ step_told margin step told }
-{
-    match told {
-        None => step,
-        Some(told) => { if margin < told { told } else { step } }
-    }
-}
-
-/// Whether the terms take an entry away from its parent. A lease keeps its token.
-fn is_orphaned(entry: &Entry, terms: Terms) -> bool
-    ensures { result ≡ terms.orphan && (not (is_lease entry.now.kind) && is_some entry.now.parent) }
-{
-    terms.orphan && !is_lease(entry.kind) && entry.parent.is_some()
-}
-
-/// Whether it is a lease.
-fn is_lease(kind: Kind) -> bool
-    ensures { result ≡ is_lease kind }
-{
-    match kind {
-        Kind::Token => false,
-        Kind::Lease => true,
-    }
-}
-
-/// Takes an entry away from its parent where the terms say so. A lease keeps its token.
-fn take_orphan(forest: &mut Forest, index: u32, terms: Terms)
-    requires { index < length forest.old.entries }
-    ensures { forest.new ≡ record forest.old { entries = slice_set forest.old.entries index (orphaned terms (entry_at forest.old.entries index)) } }
-{
-    if !terms.orphan {
-        return;
-    }
-    if is_lease(forest.get(index).kind) {
-        return;
-    }
-    forest.orphan(index);
-}
-
-/// Takes the terms that a lookup told.
-fn take_terms(forest: &mut Forest, index: u32, terms: Terms)
-    requires { index < length forest.old.entries }
-    ensures { forest.new ≡ record forest.old { entries = slice_set forest.old.entries index (by_terms forest.old.margin terms (entry_at forest.old.entries index)) } }
-{
-    let step = step_told(forest.margin(), forest.get(index).step, terms.step);
-    forest.set_terms(index, step, most(terms.ceiling));
-    take_orphan(forest, index, terms);
-}
 
 /// A track as a lookup told it.
 #[tactic(auto, unfolding(crate::specs::code::Tracks::told_track_for))]

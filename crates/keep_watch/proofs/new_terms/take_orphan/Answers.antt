@@ -3,7 +3,7 @@ use Rattle.keep_tree.specs.Forest.{entry_at}
 use Rattle.keep_tree.specs.Push.{is_lease}
 use Rattle.keep_watch.proofs.Asked.{not_false, not_true}
 use Rattle.keep_watch.proofs.View.{not_orphaned, now_orphaned}
-use Rattle.keep_watch.proofs.looked.take_orphan.Goals as goal
+use Rattle.keep_watch.proofs.new_terms.take_orphan.Goals as goal
 
 pub returns-then-not-terms : goal.returns-then-not-terms
 returns-then-not-terms c =

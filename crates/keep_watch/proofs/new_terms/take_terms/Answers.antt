@@ -6,7 +6,7 @@ use Rattle.keep_watch.specs.Looked.{by_terms, step_told}
 use Rattle.keep_watch.specs.code.View.{orphaned}
 use Rattle.keep_watch.proofs.Steps.{past_margin}
 use Rattle.keep_watch.proofs.View.{set_again}
-use Rattle.keep_watch.proofs.looked.take_terms.Goals as goal
+use Rattle.keep_watch.proofs.new_terms.take_terms.Goals as goal
 
 pub set_terms-requires-clause-step : goal.set_terms-requires-clause-step
 set_terms-requires-clause-step c =
