@@ -40,3 +40,7 @@ pub mod Asked
 pub mod Opening
 pub mod Shorting
 pub mod Looking
+pub mod Believed
+pub mod Forested
+pub mod Foreseen
+pub mod OfPlan

@@ -53,7 +53,7 @@ clock_same s new round command n count h =
     }
 
 -- one of those that a test finds
-some_of : (p : ℕ → Bool) (n a : ℕ) → list_any p (range_with_len a n) ≡ true → (i : ℕ) × ((i < a + n) × (p i ≡ true))
+pub some_of : (p : ℕ → Bool) (n a : ℕ) → list_any p (range_with_len a n) ≡ true → (i : ℕ) × ((i < a + n) × (p i ≡ true))
 some_of p zero a h = absurd cc
 some_of p (suc n) a h =
     or_parts (p a) (list_any p (range_with_len (a + 1) n)) ((i : ℕ) × ((i < a + suc n) × (p i ≡ true))) h

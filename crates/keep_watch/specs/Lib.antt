@@ -19,4 +19,5 @@ pub mod LawsOfLoad
 pub mod LawsOfEnds
 pub mod LawsOfTime
 pub mod LawsOfWaiting
+pub mod LawsOfCalm
 pub mod code

@@ -1,0 +1,396 @@
+-- OfPlan: what a clock opens in calm is the round of the least and latest plan. For the law of the round of the plan.
+use Rattle.std.proofs.Common.{◌≡◌, ◌⊎◌, ◌∙◌, ℕ, ◌+◌, ◌-◌, ◌<◌, ◌≤◌, Bool, true, false, cond, not, ◌&&◌, ◌||◌, ◌==◌, if◌then◌else◌, List, [], ◌∷◌, Option, Some, None, Ok, filter, get_or, is_none, length, map, max, nat_le, nat_lt, refl, sym, ap, ap₂, subst, arith, inl, inr}
+use Rattle.std.proofs.lemmas.Bool.{cases_Bool, cases_lt, cond-true, cond-false}
+use Rattle.std.proofs.lemmas.Bool.Decides.{nat_tests}
+use Rattle.std.proofs.lemmas.List.Folds.{list_any_at}
+use Rattle.std.proofs.lemmas.List.FromFn.{get_or-range_with_len, length-range_with_len}
+use Rattle.std.proofs.Math.Path.{fun_ext}
+use Rattle.std.specs.List.{list_any, range_with_len}
+use Rattle.keep_tree.specs.declared.entry.Entry.{Entry}
+use Rattle.keep_tree.specs.Carried.{carried}
+use Rattle.keep_tree.specs.Forest.{Forest, end_of, entry_at}
+use Rattle.keep_tree.specs.Over.{Over, is_over}
+use Rattle.keep_tree.specs.Push.{IsForest}
+use Rattle.keep_tree.specs.Renewal.{all_last, capped, is_granted, renewal, renewed}
+use Rattle.keep_tree.proofs.Carrying.{and_left, and_right, carried_up}
+use Rattle.keep_tree.proofs.Chains.{ParentsFirst}
+use Rattle.keep_tree.proofs.Entries.{entry_at_past}
+use Rattle.keep_tree.proofs.Placed.{parents_first}
+use Rattle.keep_rule.specs.Asks.{asks, first_of, is_due, is_wanted as is_asked_now}
+use Rattle.keep_rule.specs.Forced.{bound, latest_end}
+use Rattle.keep_rule.specs.Schedule.{IsNext, IsSchedule}
+use Rattle.keep_rule.proofs.Asking.{short_over}
+use Rattle.keep_rule.proofs.Keeping.{end_below_bound}
+use Rattle.keep_watch.specs.declared.command.Output.{Output}
+use Rattle.keep_watch.specs.declared.event.Event.{Event}
+use Rattle.keep_watch.specs.declared.event.Event.TheVariants.{Clock}
+use Rattle.keep_watch.specs.declared.notes.Notes.{Notes}
+use Rattle.keep_watch.specs.declared.track.Track.{Track}
+use Rattle.keep_watch.specs.History.{History, Turn, Turned}
+use Rattle.keep_watch.specs.LawsOfCalm.{AllRight, IsCalm, IsOfPlan, IsPlanNow, RoundOfPlanLaw, RoundsRight, asks_now, believed_forest, ends, terms}
+use Rattle.keep_watch.specs.Margins.{has_come, is_in_plan, lead, time}
+use Rattle.keep_watch.specs.Press.{is_alive, is_fresh, is_pressed}
+use Rattle.keep_watch.specs.Round.{IsAsked, IsRound, IsSecond, is_hoped, opens, plan_view, planned, step_in_plan}
+use Rattle.keep_watch.specs.State.{State, entry_of, indices, opened, track_at}
+use Rattle.keep_watch.specs.Step.{StepClock, readied}
+use Rattle.keep_watch.specs.Wanted.{believed, is_wanted, second, seen, wanted_need}
+use Rattle.keep_watch.proofs.Believed.{AreSameNeeds, believed_at, believed_count, believed_is_forest, believed_margin, carried_believed, carried_within, same_carried, same_chain, written_at, written_count, written_same}
+use Rattle.keep_watch.proofs.Cases.{if_cases}
+use Rattle.keep_watch.proofs.Foreseen.{IsLed, IsScheduled, short_led, there_is_plan, time_is, wanted_short}
+use Rattle.keep_watch.proofs.Forested.{readied_forest, turned_forest}
+use Rattle.keep_watch.proofs.Rounds.{some_of}
+
+-- the Asks take an entry as it is believed
+record IsTaken (s : State) (i : ℕ) : Type 0 where
+  pub renewable : (planned s i).renewable ≡ (terms s i).renewable
+  pub ceiling : (planned s i).ceiling ≡ (terms s i).ceiling
+  pub step : (planned s i).step ≡ (terms s i).step
+  pub end : (planned s i).end ≡ ends s i
+
+no_hope : (endless planned unknown pressed : Bool) → planned ≡ true → unknown ≡ false → pressed ≡ false → not endless && (not planned || (unknown || pressed)) ≡ false
+no_hope true planned unknown pressed p u q = refl
+no_hope false true false false p u q = refl
+no_hope false true false true p u q = absurd cc
+no_hope false true true pressed p u q = absurd cc
+no_hope false false unknown pressed p u q = absurd cc
+
+wanted_taken : (s : State) → IsForest s.forest → IsCalm s → (i : ℕ) → i < length s.forest.entries → is_wanted s i ≡ true → IsTaken s i
+unfolding planned terms seen ends is_hoped
+wanted_taken s forest calm i within wanted =
+    let led = short_led s forest calm.keepable i (wanted_short s i wanted) in
+    let x = track_at s i in
+    let in_plan = calm.in_plan i within wanted in
+    let hoped : is_hoped s i ≡ false = no_hope x.endless (is_in_plan s i) (is_none x.end) (is_pressed s i) in_plan (ap is_none led.known) (calm.unpressed i within) in
+    let is : planned s i ≡ record (seen s i) { renewable = x.renewable && not x.top; step = step_in_plan s i } = cond-false (is_hoped s i) _ _ hoped in
+    record {
+      renewable = ap (λ (e : Entry). e.renewable) is;
+      ceiling = ap (λ (e : Entry). e.ceiling) is;
+      step = ap (λ (e : Entry). e.step) is ∙ (cond-true (is_in_plan s i) (lead s i) (entry_of s i).step in_plan ∙ calm.led i within wanted);
+      end = ap (λ (e : Entry). e.end) is;
+    }
+
+planned_same : (s : State) (i : ℕ) → ((planned s i).parent ≡ (terms s i).parent) × ((planned s i).need ≡ (terms s i).need)
+unfolding planned terms
+planned_same s i = (
+  if_cases (λ (e : Entry). e.parent ≡ (terms s i).parent) (is_hoped s i) (record (seen s i) { end = capped (seen s i).ceiling (second s + lead s i); renewable = false }) (record (seen s i) { renewable = (track_at s i).renewable && not (track_at s i).top; step = step_in_plan s i }) (λ e. refl) (λ e. refl),
+  if_cases (λ (e : Entry). e.need ≡ (terms s i).need) (is_hoped s i) (record (seen s i) { end = capped (seen s i).ceiling (second s + lead s i); renewable = false }) (record (seen s i) { renewable = (track_at s i).renewable && not (track_at s i).top; step = step_in_plan s i }) (λ e. refl) (λ e. refl),
+)
+
+three : (a b c d : Bool) → c ≡ false → a && (b && (c && d)) ≡ false
+three true true true d e = absurd cc
+three true true false d e = refl
+three true false c d e = refl
+three false b c d e = refl
+
+one : (a b : Bool) → a ≡ false → a && b ≡ false
+one true b e = absurd cc
+one false b e = refl
+
+module _ (s : State) (forest : IsForest s.forest) (calm : IsCalm s) where
+  abbrev es : List Entry
+  es = (believed_forest s).entries
+
+  abbrev fs : List Entry
+  fs = plan_view s
+
+  abbrev now : ℕ
+  now = second s
+
+  first : ParentsFirst es
+  first = parents_first (believed_forest s) (believed_is_forest s forest)
+
+  view_count : length fs ≡ length s.forest.entries
+  view_count = written_count (planned s) (length s.forest.entries)
+
+  view_at : (i : ℕ) → i < length s.forest.entries → entry_at fs i ≡ planned s i
+  view_at i within = written_at (planned s) (length s.forest.entries) i within
+
+  same : AreSameNeeds es fs
+  unfolding believed_forest
+  same = written_same (terms s) (planned s) (length s.forest.entries) first (λ i h. planned_same s i)
+
+  carried_view : (i : ℕ) → carried fs now i ≡ wanted_need s i
+  carried_view i = same_carried es fs same now i ∙ carried_believed s forest i
+
+  -- the ends for the Asks
+  end_taken : (i : ℕ) → i < length s.forest.entries → is_wanted s i ≡ true → end_of fs i ≡ ends s i
+  unfolding end_of
+  end_taken i within wanted = ap (λ (e : Entry). e.end) (view_at i within) ∙ (wanted_taken s forest calm i within wanted).end
+
+  -- an entry that is not wanted lasts, for the Asks too
+  lasts : (i : ℕ) → is_wanted s i ≡ false → (wanted_need s i ≤ ends s i) × (wanted_need s i ≤ end_of fs i)
+  unfolding end_of
+  lasts i not_wanted =
+      let own : wanted_need s i ≤ ends s i = elim (cases_lt (ends s i) (wanted_need s i)) [
+        | inl short ↦ absurd (let led = short_led s forest calm.keepable i short in let w = led.wanted in cc)
+        | inr so ↦ so
+      ] in (
+        own,
+        elim (cases_lt i (length s.forest.entries)) as (λ _. wanted_need s i ≤ (entry_at fs i).end) [
+          | inl within ↦ subst (λ (e : Entry). wanted_need s i ≤ e.end) (sym (view_at i within)) (calm.lasts i within not_wanted)
+          | inr past ↦ elim (cases_lt 0 (wanted_need s i)) as (λ _. wanted_need s i ≤ (entry_at fs i).end) [
+            | inl some ↦ absurd (let c = carried_believed s forest i in let b = believed_count s in let inside = carried_within es first now i (omega arith) in omega arith)
+            | inr none ↦ omega arith
+          ]
+        ],
+      )
+
+  -- the bounds behind a wake-up
+  bound_taken : (t i : ℕ) → i < length s.forest.entries → is_wanted s i ≡ true → bound fs (end_of fs) (Some t) i ≡ bound es (ends s) (Some t) i
+  unfolding bound latest_end renewal
+  bound_taken t i within wanted =
+      let taken = wanted_taken s forest calm i within wanted in
+      let f = view_at i within in
+      let e = believed_at s i within in
+      let end = end_taken i within wanted in
+      let r : (entry_at fs i).renewable ≡ (entry_at es i).renewable = ap (λ (x : Entry). x.renewable) f ∙ taken.renewable ∙ sym (ap (λ (x : Entry). x.renewable) e) in
+      let c : (entry_at fs i).ceiling ≡ (entry_at es i).ceiling = ap (λ (x : Entry). x.ceiling) f ∙ taken.ceiling ∙ sym (ap (λ (x : Entry). x.ceiling) e) in
+      let l : (entry_at fs i).step ≡ (entry_at es i).step = ap (λ (x : Entry). x.step) f ∙ taken.step ∙ sym (ap (λ (x : Entry). x.step) e) in
+      ap (λ b. cond b (max (end_of fs i) (capped (entry_at fs i).ceiling (t + (entry_at fs i).step))) (end_of fs i)) r
+      ∙ ap (λ n. cond (entry_at es i).renewable (max n (capped (entry_at fs i).ceiling (t + (entry_at fs i).step))) n) end
+      ∙ ap₂ (λ o n. cond (entry_at es i).renewable (max (ends s i) (capped o (t + n))) (ends s i)) c l
+
+  -- whoever falls short is wanted
+  short_is : (t i : ℕ) → bound es (ends s) (Some t) i < carried es now i → (i < length s.forest.entries) × (is_wanted s i ≡ true)
+  short_is t i short =
+      let c = carried_believed s forest i in
+      let low = end_below_bound es (ends s) (Some t) i in
+      let led = short_led s forest calm.keepable i (omega arith) in
+      (led.within, led.wanted)
+
+  short_view : (t i : ℕ) → bound fs (end_of fs) (Some t) i < carried fs now i → (i < length s.forest.entries) × (is_wanted s i ≡ true)
+  short_view t i short =
+      let c = carried_view i in
+      let low = end_below_bound fs (end_of fs) (Some t) i in
+      elim (cases_Bool (is_wanted s i)) as (λ _. (i < length s.forest.entries) × (is_wanted s i ≡ true)) [
+        | inl wanted ↦ (let led = short_led s forest calm.keepable i (wanted_short s i wanted) in (led.within, wanted))
+        | inr not_wanted ↦ absurd (let l = (lasts i not_wanted).1 in omega arith)
+      ]
+
+  next_taken : (margin t u : ℕ) → IsNext fs margin now (end_of fs) (Some t) u → IsNext es margin now (ends s) (Some t) u
+  next_taken margin t u next =
+      let e = next.entry in
+      let h = next.short in
+      let there = short_view t e h in
+      let b = bound_taken t e there.0 there.1 in
+      let c = same_carried es fs same now e in
+      record {
+        entry = e;
+        short = omega arith;
+        earliest = λ i short.
+            let here = short_is t i short in
+            let bi = bound_taken t i here.0 here.1 in
+            let ci = same_carried es fs same now i in
+            let l = next.earliest i (omega arith) in
+            omega arith;
+        moment = next.moment ∙ ap (λ n. n - margin) b;
+      }
+
+  next_once : (margin t u v : ℕ) → IsNext es margin now (ends s) (Some t) u → IsNext es margin now (ends s) (Some t) v → u ≡ v
+  next_once margin t u v x y =
+      let a = x.earliest y.entry y.short in
+      let b = y.earliest x.entry x.short in
+      let m = x.moment in
+      let n = y.moment in
+      omega arith
+
+  none_short : (t u margin : ℕ) → IsNext es margin now (ends s) (Some t) u → ((i : ℕ) → carried fs now i ≤ bound fs (end_of fs) (Some t) i) → ⊥
+  none_short t u margin next none =
+      let e = next.entry in
+      let h = next.short in
+      let there = short_is t e h in
+      let b = bound_taken t e there.0 there.1 in
+      let c = same_carried es fs same now e in
+      let l = none e in
+      omega arith
+
+  -- the second moment
+  second_is : (margin : ℕ) (next : Option ℕ) → IsSecond fs margin now next → (us : List ℕ) → IsSchedule es margin now (ends s) (Some now) us → next ≡ first_of us
+  second_is margin None none [] schedule = refl
+  second_is margin None none (u ∷ us) schedule = absurd (none_short now u margin schedule.0 none)
+  second_is margin (Some v) next [] schedule = absurd (let there = next_taken margin now v next in let h = there.short in let l = schedule there.entry in omega arith)
+  second_is margin (Some v) next (u ∷ us) schedule = ap (λ n. Some n) (next_once margin now v u (next_taken margin now v next) schedule.0)
+
+  -- all that are over one that is wanted last until a margin from now
+  room_over : (i a : ℕ) → is_wanted s i ≡ true → Over es a i → (now + s.forest.margin ≤ ends s a) × (now + s.forest.margin ≤ end_of fs a)
+  room_over i a wanted over =
+      let short = wanted_short s i wanted in
+      let led = short_led s forest calm.keepable i short in
+      let r = led.room in
+      let up = carried_up es first now a i over in
+      let ca = carried_believed s forest a in
+      let ci = carried_believed s forest i in
+      elim (cases_Bool (is_wanted s a)) as (λ _. (now + s.forest.margin ≤ ends s a) × (now + s.forest.margin ≤ end_of fs a)) [
+        | inl wanted' ↦
+            let led' = short_led s forest calm.keepable a (wanted_short s a wanted') in
+            let r' = led'.room in
+            let e = end_taken a led'.within wanted' in
+            (r', omega arith)
+        | inr not_wanted ↦ (let l = lasts a not_wanted in let l0 = l.0 in let l1 = l.1 in (omega arith, omega arith))
+      ]
+
+  over_view : (a i : ℕ) → is_over fs a i ≡ is_over es a i
+  unfolding is_over
+  over_view a i = ap (list_any (λ b. b == a)) (same_chain es fs same i)
+
+  all_from : (xs : List Entry) (e : ℕ → ℕ) (m i : ℕ) → ((a : ℕ) → Over xs a i → m ≤ e a) → all_last xs e m i ≡ true
+  all_from xs e m i each =
+      elim (cases_Bool (all_last xs e m i)) as (λ _. all_last xs e m i ≡ true) [
+        | inl so ↦ so
+        | inr not_so ↦ absurd (let a = short_over xs e m i not_so in let l = each a.0 a.1 in let k = a.2 in omega arith)
+      ]
+
+  lasting : (m i : ℕ) → m ≤ now + s.forest.margin → is_wanted s i ≡ true → (all_last fs (end_of fs) m i ≡ true) × (all_last es (ends s) m i ≡ true)
+  lasting m i low wanted = (
+    all_from fs (end_of fs) m i (λ a over. let r = (room_over i a wanted (sym (over_view a i) ∙ over)).1 in omega arith),
+    all_from es (ends s) m i (λ a over. let r = (room_over i a wanted over).0 in omega arith),
+  )
+
+  granted_is : (xs : List Entry) (e : ℕ → ℕ) (i : ℕ) → (entry_at xs i).renewable ≡ true → all_last xs e (now + s.forest.margin) i ≡ true → renewed xs s.forest.margin e now i ≡ renewal (entry_at xs i) now
+  unfolding renewed is_granted
+  granted_is xs e i renewable all =
+      cond-true ((entry_at xs i).renewable && all_last xs e (now + s.forest.margin) i) (renewal (entry_at xs i) now) (e i) (ap (λ b. b && all_last xs e (now + s.forest.margin) i) renewable ∙ all)
+
+  asked_wanted : (next : Option ℕ) (i : ℕ) → i < length s.forest.entries → is_wanted s i ≡ true → is_asked_now fs s.forest.margin now (end_of fs) now next i ≡ is_asked_now es s.forest.margin now (ends s) now next i
+  unfolding is_asked_now renewal terms
+  asked_wanted next i within wanted =
+      let margin = s.forest.margin in
+      let above = forest.margin_above in
+      let led = short_led s forest calm.keepable i (wanted_short s i wanted) in
+      let taken = wanted_taken s forest calm i within wanted in
+      let f = view_at i within in
+      let e = believed_at s i within in
+      let end = end_taken i within wanted in
+      let r : (entry_at es i).renewable ≡ true = ap (λ (x : Entry). x.renewable) e ∙ led.led in
+      let q : (entry_at fs i).renewable ≡ true = ap (λ (x : Entry). x.renewable) f ∙ taken.renewable ∙ led.led in
+      let c : (entry_at fs i).ceiling ≡ (entry_at es i).ceiling = ap (λ (x : Entry). x.ceiling) f ∙ taken.ceiling ∙ sym (ap (λ (x : Entry). x.ceiling) e) in
+      let l : (entry_at fs i).step ≡ (entry_at es i).step = ap (λ (x : Entry). x.step) f ∙ taken.step ∙ sym (ap (λ (x : Entry). x.step) e) in
+      let alive = lasting (now + 1) i (omega arith) wanted in
+      let all = lasting (now + margin) i (omega arith) wanted in
+      let new : renewed fs margin (end_of fs) now i ≡ renewed es margin (ends s) now i =
+      granted_is fs (end_of fs) i q all.0 ∙ ap₂ (λ o n. capped o (now + n)) c l ∙ sym (granted_is es (ends s) i r all.1) in
+      let carries = same_carried es fs same now i in
+      let A = alive.0 in
+      let B = alive.1 in
+      cc
+
+  asked_same : (next : Option ℕ) (i : ℕ) → is_asked_now fs s.forest.margin now (end_of fs) now next i ≡ is_asked_now es s.forest.margin now (ends s) now next i
+  unfolding is_asked_now
+  asked_same next i =
+      let margin = s.forest.margin in
+      let count = view_count in
+      let count' = believed_count s in
+      elim (cases_lt i (length s.forest.entries)) as (λ _. is_asked_now fs margin now (end_of fs) now next i ≡ is_asked_now es margin now (ends s) now next i) [
+        | inr past ↦
+            one (entry_at fs i).renewable _ (ap (λ (x : Entry). x.renewable) (entry_at_past fs i (omega arith)))
+            ∙ sym (one (entry_at es i).renewable _ (ap (λ (x : Entry). x.renewable) (entry_at_past es i (omega arith))))
+        | inl within ↦ elim (cases_Bool (is_wanted s i)) as (λ _. is_asked_now fs margin now (end_of fs) now next i ≡ is_asked_now es margin now (ends s) now next i) [
+          | inl wanted ↦ asked_wanted next i within wanted
+          | inr not_wanted ↦
+              let l = lasts i not_wanted in
+              let l0 = l.0 in
+              let l1 = l.1 in
+              let c = carried_view i in
+              let d = carried_believed s forest i in
+              let no_view : nat_lt (end_of fs i) (carried fs now i) ≡ false = grind (arith, nat_tests) in
+              let no_own : nat_lt (ends s i) (carried es now i) ≡ false = grind (arith, nat_tests) in
+              three (entry_at fs i).renewable (all_last fs (end_of fs) (now + 1) i) _ _ no_view
+              ∙ sym (three (entry_at es i).renewable (all_last es (ends s) (now + 1) i) _ _ no_own)
+        ]
+      ]
+
+  -- the Asks
+  asks_same : (next : Option ℕ) → asks fs s.forest.margin now (end_of fs) now next ≡ asks_now s next
+  unfolding asks
+  asks_same next =
+      ap (λ n. filter (is_asked_now fs s.forest.margin now (end_of fs) now next) (range_with_len 0 n)) (view_count ∙ sym (believed_count s))
+      ∙ ap (λ p. filter p (range_with_len 0 (length es))) (fun_ext (asked_same next))
+
+  -- whose time has come, it is now
+  come_now : (i : ℕ) → i < length s.forest.entries → is_wanted s i ≡ true → now ≤ time s i
+  come_now i within wanted =
+      let led = short_led s forest calm.keepable i (wanted_short s i wanted) in
+      let at = time_is s i led (calm.in_plan i within wanted) in
+      let r = led.room in
+      omega arith
+
+  opened_now : (i : ℕ) → i < length s.forest.entries → opens s i ≡ true → (is_wanted s i ≡ true) × (time s i ≤ now)
+  unfolding opens is_fresh has_come
+  opened_now i within opens' =
+      let fresh = and_left (is_wanted s i && (has_come s i && not (is_pressed s i))) (is_in_plan s i && is_alive s i) opens' in
+      let come : nat_le (time s i) now ≡ true = and_left (has_come s i) (not (is_pressed s i)) (and_right (is_wanted s i) (has_come s i && not (is_pressed s i)) fresh) in
+      (and_left (is_wanted s i) (has_come s i && not (is_pressed s i)) fresh, grind (arith, nat_tests))
+
+  all_five : (a b c d e : Bool) → a ≡ true → b ≡ true → c ≡ false → d ≡ true → e ≡ true → (a && (b && not c)) && (d && e) ≡ true
+  all_five a b c d e p q r t u = cc
+
+  opens_now : (i : ℕ) → i < length s.forest.entries → is_wanted s i ≡ true → time s i ≤ now → opens s i ≡ true
+  unfolding opens is_fresh has_come is_alive ends
+  opens_now i within wanted come =
+      let led = short_led s forest calm.keepable i (wanted_short s i wanted) in
+      let r = led.room in
+      let above = forest.margin_above in
+      let now' : nat_le (time s i) now ≡ true = grind (arith, nat_tests) in
+      let alive : nat_lt now (believed (track_at s i)) ≡ true = (let l : now < believed (track_at s i) = omega arith in grind (arith, nat_tests)) in
+      all_five (is_wanted s i) (has_come s i) (is_pressed s i) (is_in_plan s i) (is_alive s i) wanted now' (calm.unpressed i within) (calm.in_plan i within wanted) alive
+
+  none_opens : list_any (opens s) (indices s) ≡ false → (i : ℕ) → i < length s.forest.entries → opens s i ≡ true → ⊥
+  none_opens none i within yes' =
+      let n = length s.forest.entries in
+      let at = get_or-range_with_len 0 n i 0 within in
+      let is : get_or (range_with_len 0 n) i 0 ≡ i = omega arith in
+      let c = list_any_at (opens s) (range_with_len 0 n) i 0 (let l = length-range_with_len 0 n in omega arith) (subst (λ k. opens s k ≡ true) (sym is) yes') in
+      cc
+
+  of_plan : (round : Option (List ℕ)) → IsRound s round → IsOfPlan s round
+  of_plan (Some asked) round =
+      let some = there_is_plan s forest calm.keepable calm.in_plan in
+      let opener = some_of (opens s) (length s.forest.entries) 0 round.0 in
+      let who = opened_now opener.0 (let w = opener.1.0 in omega arith) opener.1.1 in
+      by_plan some.0 some.1 opener.0 (let w = opener.1.0 in omega arith) who.0 who.1 where
+        by_plan : (ts : List ℕ) → IsScheduled s ts → (i : ℕ) → i < length s.forest.entries → is_wanted s i ≡ true → time s i ≤ now → IsOfPlan s (Some asked)
+        by_plan [] plan i within wanted come = absurd (let none = plan.least i within in cc)
+        by_plan (t ∷ us) plan i within wanted come =
+            let least = plan.least in
+            let e = least.0.0 in
+            let from = come_now e least.0.1.0 least.0.1.1.0 in
+            let is = least.0.1.1.1 in
+            let low = least.1 i within wanted in
+            let here : t ≡ now = omega arith in
+            let behind : IsSchedule es (believed_forest s).margin now (ends s) (Some now) us = subst (λ n. IsSchedule es (believed_forest s).margin now (ends s) (Some n) us) here plan.schedule.1 in
+            let next = round.1.0 in
+            let same_next : next ≡ first_of us = second_is s.forest.margin next round.1.1.0 us (subst (λ m. IsSchedule es m now (ends s) (Some now) us) (believed_margin s) behind) in
+            (us, (subst (λ n. IsPlanNow s (n ∷ us)) here plan.best, round.1.1.1 ∙ asks_same next ∙ ap (asks_now s) same_next))
+  of_plan None round =
+      let some = there_is_plan s forest calm.keepable calm.in_plan in
+      (some.0, (some.1.best, λ t is. later some.0 some.1 t is)) where
+        later : (ts : List ℕ) → IsScheduled s ts → (t : ℕ) → first_of ts ≡ Some t → now < t
+        later [] plan t is = absurd cc
+        later (u ∷ us) plan t is =
+            let same' : u ≡ t = cc in
+            let least = plan.least in
+            let e = least.0.0 in
+            let from = come_now e least.0.1.0 least.0.1.1.0 in
+            let at = least.0.1.1.1 in
+            elim (cases_lt now t) as (λ _. now < t) [
+              | inl so ↦ so
+              | inr come ↦ absurd (none_opens round e least.0.1.0 (opens_now e least.0.1.0 least.0.1.1.0 (omega arith)))
+            ]
+
+clock_of_plan : (old new : State) (wall elapsed : ℕ) (output : Output) → IsForest old.forest → StepClock old wall elapsed output new → IsCalm (readied old wall elapsed) → IsOfPlan (readied old wall elapsed) output.notes.round
+clock_of_plan old new wall elapsed output forest step calm =
+    let r = readied old wall elapsed in
+    subst (IsOfPlan r) (sym (ap (λ (x : Notes). x.round) step.notes)) (of_plan r (subst IsForest (sym (readied_forest old wall elapsed)) forest) calm step.round step.is_round)
+
+turn_of_plan : (old : State) (turn : Turned) → IsForest old.forest → Turn old turn.event turn.result turn.state → RoundsRight old turn
+turn_of_plan old turn forest h wall elapsed output event result calm =
+    let at_clock : Turn old (Clock wall elapsed) turn.result turn.state = subst (λ (e : Event). Turn old e turn.result turn.state) event h in
+    let taken : Turn old (Clock wall elapsed) (Ok output) turn.state = subst (λ x. Turn old (Clock wall elapsed) x turn.state) result at_clock in
+    clock_of_plan old turn.state wall elapsed output forest taken.1 calm
+
+ran : (turns : List Turned) (old : State) → History old turns → IsForest old.forest → AllRight old turns
+ran [] old h forest = tt
+ran (turn ∷ turns) old h forest = (turn_of_plan old turn forest h.0, ran turns turn.state h.1 (turned_forest old turn.state turn.event turn.result h.0 forest))
+
+pub rounds_of_plan : RoundOfPlanLaw
+rounds_of_plan g width turns forest run = ran turns (opened g width) run forest

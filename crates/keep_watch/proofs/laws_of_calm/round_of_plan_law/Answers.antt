@@ -1,0 +1,5 @@
+use Rattle.keep_watch.proofs.OfPlan.{rounds_of_plan}
+use Rattle.keep_watch.proofs.laws_of_calm.round_of_plan_law.Goals as goal
+
+pub returns : goal.returns
+returns c = rounds_of_plan
