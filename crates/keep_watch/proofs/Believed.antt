@@ -1,5 +1,5 @@
 -- Believed: the forest as it is believed is a forest, and what an entry carries in it is its wanted need. For the laws of calm.
-use Rattle.std.proofs.Common.{◌≡◌, ◌≢◌, ◌∙◌, ℕ, zero, suc, ◌+◌, ◌<◌, ◌≤◌, Bool, true, false, not, ◌&&◌, ◌||◌, ◌==◌, if◌then◌else◌, List, [], ◌∷◌, Option, Some, None, get_or, length, map, max, min, nat_lt, option_map, set, refl, sym, ap, subst, arith, inl, inr}
+use Rattle.std.proofs.Common.{◌≡◌, ◌∙◌, ℕ, zero, suc, ◌<◌, ◌≤◌, true, false, ◌==◌, List, Option, Some, None, length, map, max, min, nat_lt, set, refl, sym, ap, subst, arith, inl, inr}
 use Rattle.std.proofs.lemmas.Bool.{cases_eq, cases_lt}
 use Rattle.std.proofs.lemmas.Bool.Decides.{nat_tests}
 use Rattle.std.proofs.lemmas.List.{ext_get_or, length-set}
@@ -15,12 +15,12 @@ use Rattle.keep_tree.specs.Push.{IsForest, is_too_high}
 use Rattle.keep_tree.proofs.Carrying.{carried_is_of, or_parts}
 use Rattle.keep_tree.proofs.Chains.{ParentsFirst, chain_same, cases_Option, over_child, over_root}
 use Rattle.keep_tree.proofs.Entries.{entry_at_past, entry_at_set_other, entry_at_set_same}
-use Rattle.keep_tree.proofs.Placed.{InRange, Replaces, parents_first, range_from_parts, replaced_is_forest}
+use Rattle.keep_tree.proofs.Placed.{Replaces, parents_first, range_from_parts, replaced_is_forest}
 use Rattle.keep_watch.specs.declared.clocks.Clocks.{Clocks}
 use Rattle.keep_watch.specs.Clocks.{in_seconds, to_here}
-use Rattle.keep_watch.specs.LawsOfCalm.{believed_forest, ends, terms}
-use Rattle.keep_watch.specs.State.{State, entry_of, indices, track_at}
-use Rattle.keep_watch.specs.Wanted.{ceiling_here, limit, need_here, second, seen, view, wanted_need}
+use Rattle.keep_watch.specs.LawsOfCalm.{believed_forest, terms}
+use Rattle.keep_watch.specs.State.{State, entry_of}
+use Rattle.keep_watch.specs.Wanted.{ceiling_here, need_here, second, seen, view, wanted_need}
 use Rattle.keep_watch.proofs.Cases.{if_cases}
 
 -- entries that are written by their index

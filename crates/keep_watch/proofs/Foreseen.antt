@@ -1,28 +1,27 @@
 -- Foreseen: the least time of the entries that are wanted is the first moment of the least and latest plan. For the law of the next
 -- moment.
-use Rattle.std.proofs.Common.{◌≡◌, ◌∙◌, ℕ, ◌+◌, ◌-◌, ◌<◌, ◌≤◌, Bool, true, false, cond, not, ◌&&◌, ◌||◌, ◌==◌, if◌then◌else◌, List, [], ◌∷◌, Option, Some, None, is_none, length, nat_lt, unwrap_or, refl, sym, ap, subst, arith, inl, inr}
+use Rattle.std.proofs.Common.{◌≡◌, ◌∙◌, ℕ, ◌+◌, ◌-◌, ◌<◌, ◌≤◌, Bool, true, false, cond, not, ◌&&◌, ◌||◌, List, [], ◌∷◌, Option, Some, None, is_none, length, nat_lt, unwrap_or, refl, sym, ap, arith, inl, inr}
 use Rattle.std.proofs.lemmas.Bool.{cases_Bool}
 use Rattle.std.proofs.lemmas.Bool.Decides.{nat_tests}
 use Rattle.keep_moment.specs.declared.moment.TheConstants.{LAST}
 use Rattle.keep_tree.specs.declared.entry.Entry.{Entry}
 use Rattle.keep_tree.specs.declared.forest.TheConstants.{END_MAX}
 use Rattle.keep_tree.specs.Carried.{carried}
-use Rattle.keep_tree.specs.Forest.{Forest, entry_at}
 use Rattle.keep_tree.specs.Push.{IsForest}
-use Rattle.keep_tree.proofs.Carrying.{and_left, and_right, carried_is_of}
+use Rattle.keep_tree.proofs.Carrying.{and_right, carried_is_of}
 use Rattle.keep_rule.specs.Asks.{first_of}
 use Rattle.keep_rule.specs.Forced.{bound, latest_end}
 use Rattle.keep_rule.specs.Schedule.{IsNext, IsSchedule}
+use Rattle.keep_rule.specs.Unkeepable.{AllKeepable}
 use Rattle.keep_rule.proofs.Existence.{there_is_one}
 use Rattle.keep_rule.proofs.Lists.{need_within}
 use Rattle.keep_rule.proofs.Next.{CanBeLed, can_be_led, renewable_within}
 use Rattle.keep_rule.proofs.Schedule.{schedule_is_best}
-use Rattle.keep_watch.specs.declared.track.Track.{Track}
 use Rattle.keep_watch.specs.History.{History, Turned}
 use Rattle.keep_watch.specs.LawsOfCalm.{AllForeseen, AllInPlan, IsForeseen, IsKeepable, IsLeastTime, IsPlanNow, NextMomentLaw, believed_forest, ends, terms}
 use Rattle.keep_watch.specs.Margins.{is_in_plan, own_margin, time, time_before}
 use Rattle.keep_watch.specs.State.{State, opened, track_at}
-use Rattle.keep_watch.specs.Wanted.{believed, is_wanted, second, seen, wanted_need}
+use Rattle.keep_watch.specs.Wanted.{believed, is_wanted, second, wanted_need}
 use Rattle.keep_watch.proofs.Believed.{believed_at, believed_count, believed_is_forest, believed_margin, carried_believed}
 use Rattle.keep_watch.proofs.Forested.{turned_forest}
 
@@ -61,15 +60,15 @@ pub record IsLed (s : State) (i : ℕ) : Type 0 where
   pub known : (track_at s i).end ≡ Some (ends s i)
   pub more : (c : ℕ) → (terms s i).ceiling ≡ Some c → wanted_need s i ≤ c
 
-pub short_led : (s : State) → IsForest s.forest → IsKeepable s → (i : ℕ) → ends s i < wanted_need s i → IsLed s i
+pub led_by : (s : State) → IsForest s.forest → (e : ℕ → ℕ) → AllKeepable (believed_forest s) (second s) e → (i : ℕ) → e i ≡ ends s i → ends s i < wanted_need s i → IsLed s i
 unfolding is_wanted ends terms
-short_led s forest keepable i short =
+led_by s forest e keepable i own short =
     let g = believed_forest s in
     let x = track_at s i in
     let forest' = believed_is_forest s forest in
     let carries = carried_believed s forest i in
-    let past : ends s i < carried g.entries (second s) i = omega arith in
-    let led : CanBeLed g (second s) (ends s) i = can_be_led g (second s) (ends s) keepable i past in
+    let past : e i < carried g.entries (second s) i = omega arith in
+    let led : CanBeLed g (second s) e i = can_be_led g (second s) e keepable i past in
     let count = believed_count s in
     let inside = renewable_within g.entries i led.renewable in
     let within : i < length s.forest.entries = omega arith in
@@ -78,7 +77,7 @@ short_led s forest keepable i short =
     let above = forest.margin_above in
     let r = led.room in
     let room : second s + s.forest.margin ≤ ends s i = omega arith in
-    let needed = carried_is_of g.entries (second s) i (ends s i) past in
+    let needed = carried_is_of g.entries (second s) i (e i) past in
     let low = need_within g forest' needed.0 in
     let end_low : believed x ≤ LAST = (let l = needed.3 in omega arith) in
     let endless = never_ends x.endless x.end end_low in
@@ -93,6 +92,9 @@ short_led s forest keepable i short =
       known = known_end x.endless x.end endless (omega arith);
       more = λ c e. (let l = led.ceiling c (ap (λ (y : Entry). y.ceiling) is ∙ e) in omega arith);
     }
+
+pub short_led : (s : State) → IsForest s.forest → IsKeepable s → (i : ℕ) → ends s i < wanted_need s i → IsLed s i
+short_led s forest keepable i short = led_by s forest (ends s) keepable i refl short
 
 -- its time comes a margin before its end
 pub time_is : (s : State) (i : ℕ) → IsLed s i → is_in_plan s i ≡ true → time s i ≡ ends s i - s.forest.margin

@@ -6,7 +6,7 @@ use Rattle.std.proofs.lemmas.List.{length-set}
 use Rattle.keep_moment.specs.declared.moment.TheConstants.{LAST}
 use Rattle.keep_tree.specs.declared.entry.Entry.{Entry}
 use Rattle.keep_tree.specs.declared.forest.TheConstants.{END_MAX}
-use Rattle.keep_tree.specs.Forest.{Forest, entry_at}
+use Rattle.keep_tree.specs.Forest.{entry_at}
 use Rattle.keep_tree.specs.Push.{IsForest, is_lease, is_too_high}
 use Rattle.keep_tree.proofs.Carrying.{and_right}
 use Rattle.keep_tree.proofs.Entries.{entry_at_set_same}
@@ -19,7 +19,6 @@ use Rattle.keep_watch.specs.declared.event.Reply.TheVariants.{Told, Refused, Bus
 use Rattle.keep_watch.specs.declared.event.Request.{Request}
 use Rattle.keep_watch.specs.declared.event.Terms.{Terms}
 use Rattle.keep_watch.specs.declared.fault.WatchFault.{WatchFault}
-use Rattle.keep_watch.specs.declared.fault.WatchFault.TheVariants.{SliceOpen}
 use Rattle.keep_watch.specs.declared.notes.Why.{Why}
 use Rattle.keep_watch.specs.declared.slice.Slice.{Slice}
 use Rattle.keep_watch.specs.Answers.{after_answer, answered, back, closed, freed, silent}

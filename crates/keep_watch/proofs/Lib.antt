@@ -43,4 +43,9 @@ pub mod Looking
 pub mod Believed
 pub mod Forested
 pub mod Foreseen
+pub mod Calming
 pub mod OfPlan
+pub mod Going
+pub mod CalmClock
+pub mod CalmGrant
+pub mod CalmDay

@@ -1,5 +1,5 @@
 -- OfPlan: what a clock opens in calm is the round of the least and latest plan. For the law of the round of the plan.
-use Rattle.std.proofs.Common.{◌≡◌, ◌⊎◌, ◌∙◌, ℕ, ◌+◌, ◌-◌, ◌<◌, ◌≤◌, Bool, true, false, cond, not, ◌&&◌, ◌||◌, ◌==◌, if◌then◌else◌, List, [], ◌∷◌, Option, Some, None, Ok, filter, get_or, is_none, length, map, max, nat_le, nat_lt, refl, sym, ap, ap₂, subst, arith, inl, inr}
+use Rattle.std.proofs.Common.{◌≡◌, ◌∙◌, ℕ, ◌+◌, ◌-◌, ◌<◌, ◌≤◌, Bool, true, false, cond, not, ◌&&◌, ◌==◌, List, [], ◌∷◌, Option, Some, None, Ok, filter, get_or, is_none, length, max, nat_le, nat_lt, refl, sym, ap, ap₂, subst, arith, inl, inr}
 use Rattle.std.proofs.lemmas.Bool.{cases_Bool, cases_lt, cond-true, cond-false}
 use Rattle.std.proofs.lemmas.Bool.Decides.{nat_tests}
 use Rattle.std.proofs.lemmas.List.Folds.{list_any_at}
@@ -8,7 +8,7 @@ use Rattle.std.proofs.Math.Path.{fun_ext}
 use Rattle.std.specs.List.{list_any, range_with_len}
 use Rattle.keep_tree.specs.declared.entry.Entry.{Entry}
 use Rattle.keep_tree.specs.Carried.{carried}
-use Rattle.keep_tree.specs.Forest.{Forest, end_of, entry_at}
+use Rattle.keep_tree.specs.Forest.{end_of, entry_at}
 use Rattle.keep_tree.specs.Over.{Over, is_over}
 use Rattle.keep_tree.specs.Push.{IsForest}
 use Rattle.keep_tree.specs.Renewal.{all_last, capped, is_granted, renewal, renewed}
@@ -25,18 +25,18 @@ use Rattle.keep_watch.specs.declared.command.Output.{Output}
 use Rattle.keep_watch.specs.declared.event.Event.{Event}
 use Rattle.keep_watch.specs.declared.event.Event.TheVariants.{Clock}
 use Rattle.keep_watch.specs.declared.notes.Notes.{Notes}
-use Rattle.keep_watch.specs.declared.track.Track.{Track}
 use Rattle.keep_watch.specs.History.{History, Turn, Turned}
 use Rattle.keep_watch.specs.LawsOfCalm.{AllRight, IsCalm, IsOfPlan, IsPlanNow, RoundOfPlanLaw, RoundsRight, asks_now, believed_forest, ends, terms}
 use Rattle.keep_watch.specs.Margins.{has_come, is_in_plan, lead, time}
 use Rattle.keep_watch.specs.Press.{is_alive, is_fresh, is_pressed}
-use Rattle.keep_watch.specs.Round.{IsAsked, IsRound, IsSecond, is_hoped, opens, plan_view, planned, step_in_plan}
+use Rattle.keep_watch.specs.Round.{IsRound, IsSecond, is_hoped, opens, plan_view, planned, step_in_plan}
 use Rattle.keep_watch.specs.State.{State, entry_of, indices, opened, track_at}
 use Rattle.keep_watch.specs.Step.{StepClock, readied}
 use Rattle.keep_watch.specs.Wanted.{believed, is_wanted, second, seen, wanted_need}
 use Rattle.keep_watch.proofs.Believed.{AreSameNeeds, believed_at, believed_count, believed_is_forest, believed_margin, carried_believed, carried_within, same_carried, same_chain, written_at, written_count, written_same}
+use Rattle.keep_watch.proofs.Calming.{no_hope}
 use Rattle.keep_watch.proofs.Cases.{if_cases}
-use Rattle.keep_watch.proofs.Foreseen.{IsLed, IsScheduled, short_led, there_is_plan, time_is, wanted_short}
+use Rattle.keep_watch.proofs.Foreseen.{IsScheduled, short_led, there_is_plan, time_is, wanted_short}
 use Rattle.keep_watch.proofs.Forested.{readied_forest, turned_forest}
 use Rattle.keep_watch.proofs.Rounds.{some_of}
 
@@ -46,13 +46,6 @@ record IsTaken (s : State) (i : ℕ) : Type 0 where
   pub ceiling : (planned s i).ceiling ≡ (terms s i).ceiling
   pub step : (planned s i).step ≡ (terms s i).step
   pub end : (planned s i).end ≡ ends s i
-
-no_hope : (endless planned unknown pressed : Bool) → planned ≡ true → unknown ≡ false → pressed ≡ false → not endless && (not planned || (unknown || pressed)) ≡ false
-no_hope true planned unknown pressed p u q = refl
-no_hope false true false false p u q = refl
-no_hope false true false true p u q = absurd cc
-no_hope false true true pressed p u q = absurd cc
-no_hope false false unknown pressed p u q = absurd cc
 
 wanted_taken : (s : State) → IsForest s.forest → IsCalm s → (i : ℕ) → i < length s.forest.entries → is_wanted s i ≡ true → IsTaken s i
 unfolding planned terms seen ends is_hoped
@@ -81,6 +74,9 @@ three true true true d e = absurd cc
 three true true false d e = refl
 three true false c d e = refl
 three false b c d e = refl
+
+all_true : (a b c d e : Bool) → a ≡ true → b ≡ true → c ≡ true → d ≡ true → e ≡ true → a && (b && (c && (d && e))) ≡ true
+all_true a b c d e p q r t u = cc
 
 one : (a b : Bool) → a ≡ false → a && b ≡ false
 one true b e = absurd cc
@@ -240,13 +236,13 @@ module _ (s : State) (forest : IsForest s.forest) (calm : IsCalm s) where
         | inr not_so ↦ absurd (let a = short_over xs e m i not_so in let l = each a.0 a.1 in let k = a.2 in omega arith)
       ]
 
-  lasting : (m i : ℕ) → m ≤ now + s.forest.margin → is_wanted s i ≡ true → (all_last fs (end_of fs) m i ≡ true) × (all_last es (ends s) m i ≡ true)
+  pub lasting : (m i : ℕ) → m ≤ now + s.forest.margin → is_wanted s i ≡ true → (all_last fs (end_of fs) m i ≡ true) × (all_last es (ends s) m i ≡ true)
   lasting m i low wanted = (
     all_from fs (end_of fs) m i (λ a over. let r = (room_over i a wanted (sym (over_view a i) ∙ over)).1 in omega arith),
     all_from es (ends s) m i (λ a over. let r = (room_over i a wanted over).0 in omega arith),
   )
 
-  granted_is : (xs : List Entry) (e : ℕ → ℕ) (i : ℕ) → (entry_at xs i).renewable ≡ true → all_last xs e (now + s.forest.margin) i ≡ true → renewed xs s.forest.margin e now i ≡ renewal (entry_at xs i) now
+  pub granted_is : (xs : List Entry) (e : ℕ → ℕ) (i : ℕ) → (entry_at xs i).renewable ≡ true → all_last xs e (now + s.forest.margin) i ≡ true → renewed xs s.forest.margin e now i ≡ renewal (entry_at xs i) now
   unfolding renewed is_granted
   granted_is xs e i renewable all =
       cond-true ((entry_at xs i).renewable && all_last xs e (now + s.forest.margin) i) (renewal (entry_at xs i) now) (e i) (ap (λ b. b && all_last xs e (now + s.forest.margin) i) renewable ∙ all)
@@ -307,14 +303,14 @@ module _ (s : State) (forest : IsForest s.forest) (calm : IsCalm s) where
       ∙ ap (λ p. filter p (range_with_len 0 (length es))) (fun_ext (asked_same next))
 
   -- whose time has come, it is now
-  come_now : (i : ℕ) → i < length s.forest.entries → is_wanted s i ≡ true → now ≤ time s i
+  pub come_now : (i : ℕ) → i < length s.forest.entries → is_wanted s i ≡ true → now ≤ time s i
   come_now i within wanted =
       let led = short_led s forest calm.keepable i (wanted_short s i wanted) in
       let at = time_is s i led (calm.in_plan i within wanted) in
       let r = led.room in
       omega arith
 
-  opened_now : (i : ℕ) → i < length s.forest.entries → opens s i ≡ true → (is_wanted s i ≡ true) × (time s i ≤ now)
+  pub opened_now : (i : ℕ) → i < length s.forest.entries → opens s i ≡ true → (is_wanted s i ≡ true) × (time s i ≤ now)
   unfolding opens is_fresh has_come
   opened_now i within opens' =
       let fresh = and_left (is_wanted s i && (has_come s i && not (is_pressed s i))) (is_in_plan s i && is_alive s i) opens' in
@@ -324,7 +320,7 @@ module _ (s : State) (forest : IsForest s.forest) (calm : IsCalm s) where
   all_five : (a b c d e : Bool) → a ≡ true → b ≡ true → c ≡ false → d ≡ true → e ≡ true → (a && (b && not c)) && (d && e) ≡ true
   all_five a b c d e p q r t u = cc
 
-  opens_now : (i : ℕ) → i < length s.forest.entries → is_wanted s i ≡ true → time s i ≤ now → opens s i ≡ true
+  pub opens_now : (i : ℕ) → i < length s.forest.entries → is_wanted s i ≡ true → time s i ≤ now → opens s i ≡ true
   unfolding opens is_fresh has_come is_alive ends
   opens_now i within wanted come =
       let led = short_led s forest calm.keepable i (wanted_short s i wanted) in
@@ -334,7 +330,44 @@ module _ (s : State) (forest : IsForest s.forest) (calm : IsCalm s) where
       let alive : nat_lt now (believed (track_at s i)) ≡ true = (let l : now < believed (track_at s i) = omega arith in grind (arith, nat_tests)) in
       all_five (is_wanted s i) (has_come s i) (is_pressed s i) (is_in_plan s i) (is_alive s i) wanted now' (calm.unpressed i within) (calm.in_plan i within wanted) alive
 
-  none_opens : list_any (opens s) (indices s) ≡ false → (i : ℕ) → i < length s.forest.entries → opens s i ≡ true → ⊥
+  later_due : (next : Option ℕ) → ((u : ℕ) → next ≡ Some u → now < u) → is_due s.forest.margin next (now + s.forest.margin) ≡ true
+  later_due None later = refl
+  later_due (Some u) later = let l : now < u = later u refl in grind (arith, nat_tests)
+
+  gains_over : (ceiling : Option ℕ) (step need : ℕ) → s.forest.margin < step → now + s.forest.margin < need → ((c : ℕ) → ceiling ≡ Some c → need ≤ c) → now + s.forest.margin < capped ceiling (now + step)
+  unfolding capped
+  gains_over None step need more short high = omega arith
+  gains_over (Some c) step need more short high = let l : need ≤ c = high c refl in omega arith
+
+  -- whose time has come is among the Asks
+  pub come_asked : (next : Option ℕ) → ((u : ℕ) → next ≡ Some u → now < u) → (i : ℕ) → i < length s.forest.entries → is_wanted s i ≡ true → time s i ≤ now → is_asked_now es s.forest.margin now (ends s) now next i ≡ true
+  unfolding is_asked_now renewal terms
+  come_asked next later i within wanted come =
+      let margin = s.forest.margin in
+      let above = forest.margin_above in
+      let short = wanted_short s i wanted in
+      let led = short_led s forest calm.keepable i short in
+      let room = led.room in
+      let at = time_is s i led (calm.in_plan i within wanted) in
+      let end : ends s i ≡ now + margin = omega arith in
+      let e = believed_at s i within in
+      let r : (entry_at es i).renewable ≡ true = ap (λ (x : Entry). x.renewable) e ∙ led.led in
+      let alive = (lasting (now + 1) i (omega arith) wanted).1 in
+      let all = (lasting (now + margin) i (omega arith) wanted).1 in
+      let new = granted_is es (ends s) i r all in
+      let carries = carried_believed s forest i in
+      let placed = (believed_is_forest s forest).placed i (let c = believed_count s in omega arith) in
+      let m = believed_margin s in
+      let above_margin = placed.step_past_margin in
+      let step : margin < (entry_at es i).step = omega arith in
+      let high : (c : ℕ) → (entry_at es i).ceiling ≡ Some c → wanted_need s i ≤ c = λ c is. led.more c (sym (ap (λ (x : Entry). x.ceiling) e) ∙ is) in
+      let gain = gains_over (entry_at es i).ceiling (entry_at es i).step (wanted_need s i) step (omega arith) high in
+      let A : nat_lt (ends s i) (carried es now i) ≡ true = (let l : ends s i < carried es now i = omega arith in grind (arith, nat_tests)) in
+      let B : nat_lt (ends s i) (renewed es margin (ends s) now i) ≡ true = (let l : ends s i < renewed es margin (ends s) now i = omega arith in grind (arith, nat_tests)) in
+      let C : is_due margin next (ends s i) ≡ true = ap (is_due margin next) end ∙ later_due next later in
+      all_true (entry_at es i).renewable (all_last es (ends s) (now + 1) i) _ _ _ r alive A B C
+
+  pub none_opens : list_any (opens s) (indices s) ≡ false → (i : ℕ) → i < length s.forest.entries → opens s i ≡ true → ⊥
   none_opens none i within yes' =
       let n = length s.forest.entries in
       let at = get_or-range_with_len 0 n i 0 within in
@@ -342,7 +375,7 @@ module _ (s : State) (forest : IsForest s.forest) (calm : IsCalm s) where
       let c = list_any_at (opens s) (range_with_len 0 n) i 0 (let l = length-range_with_len 0 n in omega arith) (subst (λ k. opens s k ≡ true) (sym is) yes') in
       cc
 
-  of_plan : (round : Option (List ℕ)) → IsRound s round → IsOfPlan s round
+  pub of_plan : (round : Option (List ℕ)) → IsRound s round → IsOfPlan s round
   of_plan (Some asked) round =
       let some = there_is_plan s forest calm.keepable calm.in_plan in
       let opener = some_of (opens s) (length s.forest.entries) 0 round.0 in

@@ -1,21 +1,32 @@
 -- Laws of calm: how what a watch asks goes with the least and latest plan. Each is the contract of a public function without a body.
 -- Source: this project's own.
-use Rattle.std.specs.Prelude.{◌≡◌, ℕ, ◌<◌, ◌≤◌, Bool, true, false, not, ◌&&◌, List, [], ◌∷◌, Option, Some, None, Result, Ok, Err, length, map}
+use Rattle.std.specs.Prelude.{◌≡◌, ℕ, ◌<◌, ◌≤◌, true, false, not, ◌&&◌, List, [], ◌∷◌, Option, Some, None, Result, Ok, Err, is_none, length, map}
+use Rattle.std.specs.List.{All}
 use Rattle.keep_tree.specs.declared.entry.Entry.{Entry}
 use Rattle.keep_tree.specs.Forest.{Forest}
 use Rattle.keep_tree.specs.Push.{IsForest}
-use Rattle.keep_rule.specs.Asks.{asks, first_of}
+use Rattle.keep_tree.specs.Renewal.{renewal}
+use Rattle.keep_rule.specs.declared.wake.Wake.{Wake}
+use Rattle.keep_rule.specs.Asks.{asks, first_of, with_asks}
+use Rattle.keep_rule.specs.Ends.{after, is_asked}
 use Rattle.keep_rule.specs.Least.{IsLeastAndLatest}
 use Rattle.keep_rule.specs.Unkeepable.{AllKeepable}
 use Rattle.keep_watch.specs.declared.command.Output.{Output}
-use Rattle.keep_watch.specs.declared.event.Event.TheVariants.{Clock}
+use Rattle.keep_watch.specs.declared.event.Event.{Event}
+use Rattle.keep_watch.specs.declared.event.Event.TheVariants.{Clock, Renewed}
+use Rattle.keep_watch.specs.declared.event.Operation.TheVariants.{Renew}
+use Rattle.keep_watch.specs.declared.event.Reply.TheVariants.{Told}
 use Rattle.keep_watch.specs.declared.fault.WatchFault.{WatchFault}
-use Rattle.keep_watch.specs.History.{IsRun, Turned}
+use Rattle.keep_watch.specs.History.{History, IsRun, Turned}
+use Rattle.keep_watch.specs.LawsOfLoad.{requests_of}
+use Rattle.keep_watch.specs.LawsOfTime.{round_of}
 use Rattle.keep_watch.specs.Margins.{is_in_plan, lead, time}
 use Rattle.keep_watch.specs.Press.{is_pressed}
+use Rattle.keep_watch.specs.Renewed.{granted_end}
 use Rattle.keep_watch.specs.Round.{planned}
-use Rattle.keep_watch.specs.State.{State, entry_of, indices, opened, track_at}
-use Rattle.keep_watch.specs.Step.{readied}
+use Rattle.keep_watch.specs.Settling.{timed}
+use Rattle.keep_watch.specs.State.{State, attempt_at, entry_of, indices, opened, track_at, unanswered_of}
+use Rattle.keep_watch.specs.Step.{readied, why}
 use Rattle.keep_watch.specs.Wanted.{believed, is_wanted, second, seen, wanted_need}
 
 -- the believed ends
@@ -93,3 +104,79 @@ AllRight old (turn ∷ turns) = RoundsRight old turn × AllRight turn.state turn
 -- come, and only there; and it asks the Asks
 abbrev pub RoundOfPlanLaw : Type 0
 RoundOfPlanLaw = (g : Forest) (width : ℕ) (turns : List Turned) → IsForest g → IsRun g width turns → AllRight (opened g width) turns
+
+-- a state at rest: it is calm, nobody has a try and no lookup is owed, nothing is unanswered, and the broker is there
+pub record IsAtRest (s : State) : Type 0 where
+  pub forest : IsForest s.forest
+  pub count : length s.tracks ≡ length s.forest.entries
+  pub begun : is_none s.begun ≡ false
+  pub there : s.away ≡ 0
+  pub answered : unanswered_of s.slice ≡ []
+  pub idle : (i : ℕ) → attempt_at s i ≡ None
+  pub owes : (i : ℕ) → (track_at s i).owes ≡ false
+  pub calm : IsCalm s
+
+-- a clock at which nothing begins anew and no clock is set: it comes in the second of the least time of an entry that is not pressed
+-- yet, or before; and in the same second as the last one while anybody has a try
+pub record IsCalmClock (s : State) (wall elapsed : ℕ) : Type 0 where
+  pub goes_on : why s wall elapsed ≡ None
+  pub broker_stays : (timed s wall elapsed).clocks.broker ≡ s.clocks.broker
+  pub wall_stays : (timed s wall elapsed).clocks.wall ≡ s.clocks.wall
+  pub in_time : (i : ℕ) → i < length s.forest.entries → is_wanted s i ≡ true → is_pressed s i ≡ false → second (timed s wall elapsed) ≤ time s i
+  pub at_once : (i : ℕ) → i < length s.forest.entries → is_none (attempt_at s i) ≡ false → second (timed s wall elapsed) ≡ second s
+
+-- such a clock, or the answer to a renewal by the rule
+abbrev pub IsCalmEvent : State → Event → Type 0
+IsCalmEvent s (Clock wall elapsed) = IsCalmClock s wall elapsed
+IsCalmEvent s (Renewed i (Told seconds renewable date)) = (renewable ≡ true) × (granted_end s i seconds ≡ renewal (terms s i) (second s))
+IsCalmEvent s (Renewed i reply) = ⊥
+IsCalmEvent s event = ⊥
+
+abbrev pub IsCalmTurn : State → Event → Result Output WatchFault → Type 0
+IsCalmTurn s event (Ok output) = IsCalmEvent s event
+IsCalmTurn s event (Err fault) = Unit {0}
+
+-- each event that is taken is such a one
+abbrev pub AreCalm : State → List Turned → Type 0
+AreCalm s [] = Unit {0}
+AreCalm s (turn ∷ turns) = IsCalmTurn s turn.event turn.result × AreCalm turn.state turns
+
+-- no wake-up of a list has passed
+abbrev pub NonePassed : State → List Wake → Type 0
+NonePassed s [] = Unit {0}
+NonePassed s (w ∷ ws) = second s ≤ w.at
+
+-- what opens at a turn is the next of these wake-ups, or nothing: last is the wake-up before, now the one behind which the turn leaves
+-- the watch, and next are those to come
+abbrev pub Opens : State → Option (List ℕ) → Wake → List Wake → Wake → List Wake → Type 0
+Opens s None last wakes now next = (now ≡ last) × ((next ≡ wakes) × NonePassed s wakes)
+Opens s (Some asked) last wakes now next = (now ≡ record { at = second s; asked = asked }) × (wakes ≡ now ∷ next)
+
+-- what goes out at a turn are renewals of those whom a wake-up asks, in its second
+abbrev pub SendsOnly : Wake → Turned → Type 0
+SendsOnly now turn = All (λ r. (r.operation ≡ Renew) × ((is_asked now r.entry ≡ true) × (second turn.state ≡ now.at))) (requests_of turn.result)
+
+-- the ends behind a turn as the wake-ups leave them that have opened so far: e before it
+abbrev pub left_by : Forest → (ℕ → ℕ) → Option (List ℕ) → Wake → ℕ → ℕ
+left_by g e None now = e
+left_by g e (Some asked) now = after g.entries g.margin e now
+
+-- whoever has no try is believed to end so
+abbrev pub EndAs : (ℕ → ℕ) → State → Type 0
+EndAs e s = (i : ℕ) → attempt_at s i ≡ None → ends s i ≡ e i
+
+-- turns that go by a list of wake-ups, as far as they have gone, where last is the wake-up before and e are the ends that it left: a
+-- round opens at each, of those whom it asks, and at no other moment; each of them is renewed, and nothing else is asked
+abbrev pub GoBy : Forest → (ℕ → ℕ) → Wake → List Wake → List Turned → Type 0
+GoBy g e last wakes [] = Unit {0}
+GoBy g e last wakes (turn ∷ turns) =
+    (now : Wake) × ((next : List Wake) × (Opens turn.state (round_of turn.result) last wakes now next × (SendsOnly now turn
+    × (EndAs (left_by g e (round_of turn.result) now) turn.state × GoBy g (left_by g e (round_of turn.result) now) now next turns))))
+
+-- from a state at rest on, while each clock comes in time and each renewal is granted by the rule in the second in which it goes out,
+-- the rounds are exactly the wake-ups of the least and latest plan with its Asks; they lead the ends as the plan does, and nothing else
+-- is asked
+abbrev pub CalmLaw : Type 0
+CalmLaw =
+    (s : State) (turns : List Turned) → IsAtRest s → History s turns → AreCalm s turns →
+    (ts : List ℕ) × (IsPlanNow s ts × GoBy (believed_forest s) (ends s) (record { at = second s; asked = [] }) (with_asks (believed_forest s).entries s.forest.margin (second s) (ends s) ts) turns)

@@ -3,8 +3,9 @@
 //!
 //! What a step does is defined in `specs/`, and the laws speak of every list of events by these definitions: `laws_of_load` says
 //! how often an entry is asked at most, and how many at once; `laws_of_time` that none is renewed too early; `laws_of_waiting`
-//! that none is forgotten; `laws_of_ends` that no end that is believed in comes after the real one. They hold of the machine, since
-//! each step of it is the turn of the definitions (`History.Turn`).
+//! that none is forgotten; `laws_of_ends` that no end that is believed in comes after the real one; `laws_of_calm` that while all
+//! goes well the rounds are the wake-ups of the least and latest plan. They hold of the machine, since each step of it is the turn
+//! of the definitions (`History.Turn`).
 //!
 //! Begin with `event` and `command`, then `track`.
 #![tactic(auto)]
@@ -44,7 +45,7 @@ pub use clocks::{Clocks, Offset, READING_MAX};
 pub use command::{Command, Output, Patience};
 pub use event::{Event, Operation, Reply, Request, Terms};
 pub use fault::WatchFault;
-pub use laws_of_calm::{next_moment_law, round_of_plan_law};
+pub use laws_of_calm::{calm_law, next_moment_law, round_of_plan_law};
 pub use laws_of_ends::never_past_law;
 pub use laws_of_load::{held_law, load_law, spaced_law, width_law};
 pub use laws_of_time::{early_law, round_law};

@@ -1,0 +1,208 @@
+-- CalmDay: a watch that is at rest goes by its plan while all goes well. For the law of calm.
+use Rattle.std.proofs.Common.{◌≡◌, ◌⊎◌, ◌∙◌, ℕ, zero, suc, ◌<◌, ◌≤◌, Bool, true, false, ◌==◌, List, [], ◌∷◌, Option, Some, None, Result, Ok, Err, IfSome, is_none, length, refl, sym, ap, subst, arith, inl, inr}
+use Rattle.std.proofs.lemmas.Bool.{cases_Bool, cases_lt}
+use Rattle.std.proofs.lemmas.List.Elements.{All-nil}
+use Rattle.std.specs.List.{list_any}
+use Rattle.keep_tree.specs.Forest.{Forest}
+use Rattle.keep_tree.proofs.Placed.{parents_first}
+use Rattle.keep_rule.specs.declared.wake.Wake.{Wake}
+use Rattle.keep_rule.specs.Asks.{with_asks}
+use Rattle.keep_watch.specs.declared.clocks.Clocks.{Clocks}
+use Rattle.keep_watch.specs.declared.command.Output.{Output}
+use Rattle.keep_watch.specs.declared.event.Event.{Event}
+use Rattle.keep_watch.specs.declared.event.Event.TheVariants.{Clock, Looked, Renewed, Need, Begin, Known}
+use Rattle.keep_watch.specs.declared.event.Reply.{Reply}
+use Rattle.keep_watch.specs.declared.event.Reply.TheVariants.{Told, Refused, Busy, Lost}
+use Rattle.keep_watch.specs.declared.fault.WatchFault.{WatchFault}
+use Rattle.keep_watch.specs.declared.notes.Notes.{Notes}
+use Rattle.keep_watch.specs.declared.track.Try.{Try}
+use Rattle.keep_watch.specs.Answers.{after_answer}
+use Rattle.keep_watch.specs.Clocks.{sec}
+use Rattle.keep_watch.specs.History.{History, Turn, Turned}
+use Rattle.keep_watch.specs.LawsOfCalm.{AreCalm, CalmLaw, EndAs, GoBy, IsAtRest, IsCalmClock, IsCalmEvent, IsCalmTurn, NonePassed, believed_forest, ends, left_by}
+use Rattle.keep_watch.specs.LawsOfLoad.{asked_by as asked_for, requests_of}
+use Rattle.keep_watch.specs.LawsOfTime.{round_of}
+use Rattle.keep_watch.specs.Refusal.{refusal}
+use Rattle.keep_watch.specs.Renewed.{renewed}
+use Rattle.keep_watch.specs.Round.{asked_by, planned}
+use Rattle.keep_watch.specs.State.{State, attempt_at}
+use Rattle.keep_watch.specs.Settling.{timed}
+use Rattle.keep_watch.specs.Step.{Step, StepClock, readied}
+use Rattle.keep_watch.specs.Wanted.{second, wanted_need}
+use Rattle.keep_watch.proofs.Believed.{believed_count, believed_is_forest, carried_believed, carried_within}
+use Rattle.keep_watch.proofs.Calming.{IsIdle, unpressed}
+use Rattle.keep_watch.proofs.Clocking.{IsCounted, readied_begun, readied_clock, readied_counted}
+use Rattle.keep_watch.proofs.Foreseen.{short_led, there_is_plan, wanted_short}
+use Rattle.keep_watch.proofs.Going.{Goes, IsOn, IsSent, none_passed, plan_schedule, readied_timed, some_not_none}
+use Rattle.keep_watch.proofs.CalmGrant.{answer_goes}
+use Rattle.keep_watch.proofs.Likeness.{after_like, like_counted, renewed_like}
+use Rattle.keep_watch.proofs.CalmClock.{IsStep, forest_of, going_on, resting_on}
+use Rattle.keep_watch.proofs.Spaced.{refused_stays}
+use Rattle.keep_watch.proofs.Turning.{closed_slice, renewed_to}
+
+-- all of some numbers pass a test, or one does not
+all_or_one : (p : ℕ → Bool) (n : ℕ) → ((i : ℕ) → i < n → p i ≡ true) ⊎ ((i : ℕ) × ((i < n) × (p i ≡ false)))
+all_or_one p zero = inl (λ i within. absurd (omega arith))
+all_or_one p (suc n) =
+    elim (all_or_one p n) as (λ _. ((i : ℕ) → i < suc n → p i ≡ true) ⊎ ((i : ℕ) × ((i < suc n) × (p i ≡ false)))) [
+      | inr one' ↦ inr (one'.0, (let w = one'.1.0 in omega arith, one'.1.1))
+      | inl all ↦ elim (cases_Bool (p n)) as (λ _. ((i : ℕ) → i < suc n → p i ≡ true) ⊎ ((i : ℕ) × ((i < suc n) × (p i ≡ false)))) [
+        | inr last ↦ inr (n, (omega arith, last))
+        | inl last ↦ inl (λ i within. elim (cases_lt i n) as (λ _. p i ≡ true) [
+          | inl low ↦ all i low
+          | inr high ↦ (let e : n ≡ i = omega arith in subst (λ k. p k ≡ true) e last)
+        ])
+      ]
+    ]
+
+if_some : (P : Try → Type 0) (o : Option Try) (t : Try) → o ≡ Some t → P t → IfSome o P
+if_some P o t is h = subst (λ x. IfSome x P) (sym is) h
+
+if_none : (P : Try → Type 0) (o : Option Try) → o ≡ None → IfSome o P
+if_none P o is = subst (λ x. IfSome x P) (sym is) tt
+
+-- a turn that asks nobody, and leaves the moment
+stays_on :
+    (s new : State) (g : Forest) (e : ℕ → ℕ) (last : Wake) (wakes : List Wake) (ts : List ℕ) (s0 : ℕ) → Goes new g e last ts → wakes ≡ with_asks g.entries g.margin s0 e ts → s0 ≤ second s → second new ≡ second s →
+    IsOn new g s0 e last wakes None []
+stays_on s new g e last wakes ts s0 goes to_come from now = record {
+  now = last;
+  next = wakes;
+  e = e;
+  ts = ts;
+  opens = (refl, (refl, subst (λ ws. NonePassed new ws) (sym to_come) (none_passed g.entries g.margin s0 e e new ts (plan_schedule g (forest_of new g e last ts goes) (second new) e ts goes.plan).1)));
+  sends = All-nil (IsSent last new);
+  goes = goes;
+  to_come = to_come;
+  from = omega arith;
+  so = refl;
+}
+
+-- a clock
+clock_on :
+    (s new : State) (wall elapsed : ℕ) (output : Output) (g : Forest) (e : ℕ → ℕ) (last : Wake) (wakes : List Wake) (ts : List ℕ) (s0 : ℕ) → Goes s g e last ts → wakes ≡ with_asks g.entries g.margin s0 e ts → s0 ≤ second s →
+    StepClock s wall elapsed output new → IsCalmClock s wall elapsed → IsOn new g s0 e last wakes output.notes.round (asked_for output.command)
+clock_on s new wall elapsed output g e last wakes ts s0 goes to_come from step clock =
+    let r = readied s wall elapsed in
+    let n = length s.forest.entries in
+    let whole : (i : ℕ) → IfSome (attempt_at s i) (λ t. t.failed ≡ false) = λ i. elim (goes.each i) as (λ _. IfSome (attempt_at s i) (λ t. t.failed ≡ false)) [
+      | inl idle ↦ if_none (λ t. t.failed ≡ false) (attempt_at s i) idle.none
+      | inr tried ↦ if_some (λ t. t.failed ≡ false) (attempt_at s i) tried.try tried.is tried.failed
+    ] in
+    let timed' = readied_timed s wall elapsed goes.count goes.begun clock whole in
+    let c = readied_counted s wall elapsed n goes.count in
+    let is : IsStep s r new (asked_by step.round) output.command = record {
+      timed = timed';
+      begun = readied_begun s wall elapsed;
+      closed = closed_slice s wall elapsed (asked_by step.round);
+      count = record { entries = refl; tracks = c.tracks ∙ sym c.entries };
+      commanded = step.command;
+    } in
+    let now : second r ≡ second (timed s wall elapsed) = ap (λ (x : Clocks). sec x.at) (readied_clock s wall elapsed) in
+    let noted : output.notes.round ≡ step.round = ap (λ (x : Notes). x.round) step.notes in
+    subst (λ o. IsOn new g s0 e last wakes o (asked_for output.command)) (sym noted)
+    (elim (all_or_one (λ i. is_none (attempt_at s i)) n) as (λ _. IsOn new g s0 e last wakes step.round (asked_for output.command)) [
+      | inl all ↦
+          let idle : (i : ℕ) → IsIdle s e i = λ i. elim (goes.each i) as (λ _. IsIdle s e i) [
+            | inl so ↦ so
+            | inr tried ↦ absurd (let a : is_none (attempt_at s i) ≡ true = all i tried.within in let b : is_none (attempt_at s i) ≡ false = ap is_none tried.is in cc)
+          ] in
+          resting_on s r new g e last wakes ts s0 output.command step.round goes is to_come from step.is_round idle
+          (λ i within wanted. let l = clock.in_time i within wanted (unpressed s i (idle i).none) in omega arith)
+      | inr one' ↦
+          let i = one'.0 in
+          elim (goes.each i) as (λ _. IsOn new g s0 e last wakes step.round (asked_for output.command)) [
+            | inl idle ↦ absurd (let a : is_none (attempt_at s i) ≡ false = one'.1.1 in let b : is_none (attempt_at s i) ≡ true = ap is_none idle.none in cc)
+            | inr tried ↦ going_on s r new g e last wakes ts s0 output.command step.round goes is to_come from step.is_round i tried (now ∙ clock.at_once i one'.1.0 one'.1.1)
+          ]
+    ])
+
+second_answered : (s : State) (i : ℕ) (reply : Reply) → IsCounted s (length s.forest.entries) → second (after_answer (renewed s i reply) s.slice i reply) ≡ second s
+second_answered s i reply count =
+    let mid = renewed s i reply in
+    let like = renewed_like s i reply in
+    let there = like_counted mid s (length s.forest.entries) like count in
+    let own : IsCounted mid (length mid.forest.entries) = record { entries = refl; tracks = there.tracks ∙ sym there.entries } in
+    ap (λ (c : Clocks). sec c.at) ((after_like mid s.slice i reply own).clocks ∙ like.clocks)
+
+step_on :
+    (s new : State) (event : Event) (output : Output) (g : Forest) (e : ℕ → ℕ) (last : Wake) (wakes : List Wake) (ts : List ℕ) (s0 : ℕ) → Goes s g e last ts → wakes ≡ with_asks g.entries g.margin s0 e ts → s0 ≤ second s →
+    refusal s event ≡ None → Step s event output new → IsCalmEvent s event → IsOn new g s0 e last wakes output.notes.round (asked_for output.command)
+step_on s new (Clock wall elapsed) output g e last wakes ts s0 goes to_come from taken' step calm = clock_on s new wall elapsed output g e last wakes ts s0 goes to_come from step calm
+step_on s new (Renewed i (Told seconds renewable date)) output g e last wakes ts s0 goes to_come from taken' step calm =
+    let reply = Told seconds renewable date in
+    let there = answer_goes s g e last ts goes i seconds renewable date (renewed_to s i reply taken').waits calm.0 calm.1 in
+    let on = stays_on s (after_answer (renewed s i reply) s.slice i reply) g e last wakes ts s0 there to_come from (second_answered s i reply goes.count) in
+    subst (λ (x : Output). IsOn new g s0 e last wakes x.notes.round (asked_for x.command)) (sym step.0) (subst (λ x. IsOn x g s0 e last wakes None []) (sym step.1) on)
+step_on s new (Renewed i (Refused status date)) output g e last wakes ts s0 goes to_come from taken' step calm = absurd calm
+step_on s new (Renewed i Busy) output g e last wakes ts s0 goes to_come from taken' step calm = absurd calm
+step_on s new (Renewed i Lost) output g e last wakes ts s0 goes to_come from taken' step calm = absurd calm
+step_on s new (Looked i reply terms) output g e last wakes ts s0 goes to_come from taken' step calm = absurd calm
+step_on s new (Need i until) output g e last wakes ts s0 goes to_come from taken' step calm = absurd calm
+step_on s new Begin output g e last wakes ts s0 goes to_come from taken' step calm = absurd calm
+step_on s new (Known i end renewable) output g e last wakes ts s0 goes to_come from taken' step calm = absurd calm
+
+turn_on :
+    (s new : State) (event : Event) (result : Result Output WatchFault) (g : Forest) (e : ℕ → ℕ) (last : Wake) (wakes : List Wake) (ts : List ℕ) (s0 : ℕ) → Goes s g e last ts → wakes ≡ with_asks g.entries g.margin s0 e ts → s0 ≤ second s →
+    Turn s event result new → IsCalmTurn s event result → IsOn new g s0 e last wakes (round_of result) (requests_of result)
+turn_on s new event (Ok output) g e last wakes ts s0 goes to_come from turn calm = step_on s new event output g e last wakes ts s0 goes to_come from turn.0 turn.1 calm
+turn_on s new event (Err fault) g e last wakes ts s0 goes to_come from turn calm =
+    subst (λ x. IsOn x g s0 e last wakes None []) (sym (refused_stays s new event fault turn)) (stays_on s s g e last wakes ts s0 goes to_come from refl)
+
+-- whoever has no try ends as it should
+as_it_should : (s : State) (g : Forest) (e : ℕ → ℕ) (last : Wake) (ts : List ℕ) → Goes s g e last ts → EndAs e s
+as_it_should s g e last ts goes i none =
+    elim (goes.each i) as (λ _. ends s i ≡ e i) [
+      | inl idle ↦ idle.end
+      | inr tried ↦ absurd (some_not_none (attempt_at s i) tried.try tried.is none)
+    ]
+
+goes_by :
+    (turns : List Turned) (s : State) (g : Forest) (e : ℕ → ℕ) (last : Wake) (wakes : List Wake) (ts : List ℕ) (s0 : ℕ) → Goes s g e last ts → wakes ≡ with_asks g.entries g.margin s0 e ts → s0 ≤ second s →
+    History s turns → AreCalm s turns → GoBy g e last wakes turns
+goes_by [] s g e last wakes ts s0 goes to_come from h calm = tt
+goes_by (turn ∷ turns) s g e last wakes ts s0 goes to_come from h calm =
+    let on = turn_on s turn.state turn.event turn.result g e last wakes ts s0 goes to_come from h.0 calm.0 in
+    let d = left_by g e (round_of turn.result) on.now in
+    let ends' : EndAs d turn.state = subst (λ f. EndAs f turn.state) on.so (as_it_should turn.state g on.e on.now on.ts on.goes) in
+    let rest : GoBy g d on.now on.next turns = subst (λ f. GoBy g f on.now on.next turns) on.so (goes_by turns turn.state g on.e on.now on.next on.ts s0 on.goes on.to_come on.from h.1 calm.1) in
+    (on.now, (on.next, (on.opens, (on.sends, (ends', rest)))))
+
+-- a watch at rest
+idle_at_rest : (s : State) → IsAtRest s → (i : ℕ) → IsIdle s (ends s) i
+idle_at_rest s rest i = record {
+  none = rest.idle i;
+  end = refl;
+  owes = rest.owes i;
+  in_plan = λ wanted. rest.calm.in_plan i (short_led s rest.forest rest.calm.keepable i (wanted_short s i wanted)).within wanted;
+  led = λ wanted. rest.calm.led i (short_led s rest.forest rest.calm.keepable i (wanted_short s i wanted)).within wanted;
+  lasts = λ not_wanted. elim (cases_lt i (length s.forest.entries)) as (λ _. wanted_need s i ≤ (planned s i).end) [
+    | inl within ↦ rest.calm.lasts i within not_wanted
+    | inr past ↦ elim (cases_lt 0 (wanted_need s i)) as (λ _. wanted_need s i ≤ (planned s i).end) [
+      | inr none ↦ omega arith
+      | inl some ↦ absurd (
+          let c = carried_believed s rest.forest i in
+          let b = believed_count s in
+          let inside = carried_within (believed_forest s).entries (parents_first (believed_forest s) (believed_is_forest s rest.forest)) (second s) i (omega arith) in
+          omega arith)
+    ]
+  ];
+}
+
+pub calm_days : CalmLaw
+unfolding believed_forest
+calm_days s turns rest h calm =
+    let some = there_is_plan s rest.forest rest.calm.keepable rest.calm.in_plan in
+    let ts = some.0 in
+    let last : Wake = record { at = second s; asked = [] } in
+    let goes : Goes s (believed_forest s) (ends s) last ts = record {
+      forest = rest.forest;
+      count = record { entries = refl; tracks = rest.count };
+      begun = rest.begun;
+      there = rest.there;
+      same = refl;
+      plan = some.1.best;
+      each = λ i. inl (idle_at_rest s rest i);
+      waits = λ i waiting none. (let k = sym (ap (list_any (λ r. r.entry == i)) rest.answered) ∙ waiting in absurd cc);
+    } in
+    (ts, (some.1.best, goes_by turns s (believed_forest s) (ends s) last (with_asks (believed_forest s).entries s.forest.margin (second s) (ends s) ts) ts (second s) goes refl (omega arith) h calm))

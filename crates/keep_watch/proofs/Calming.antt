@@ -1,0 +1,239 @@
+-- Calming: what is believed but for ends, and what is known of an entry that nobody asks, stays while time passes and others are answered.
+-- For the law of calm.
+use Rattle.std.proofs.Common.{◌≡◌, ◌∙◌, ℕ, ◌+◌, ◌*◌, ◌/◌, ◌≤◌, Bool, true, false, cond, not, ◌&&◌, ◌||◌, ◌==◌, if◌then◌else◌, List, [], ◌∷◌, Option, Some, None, filter, is_none, length, map, max, min, nat_lt, option_map, refl, sym, ap, ap₂, arith, inl, inr}
+use Rattle.std.proofs.lemmas.Bool.{cases_Bool, cases_lt}
+use Rattle.std.proofs.lemmas.Bool.Decides.{nat_tests}
+use Rattle.std.proofs.Math.Path.{fun_ext}
+use Rattle.std.specs.List.{range_with_len}
+use Rattle.keep_moment.specs.declared.moment.TheConstants.{LAST}
+use Rattle.keep_tree.specs.declared.entry.Entry.{Entry}
+use Rattle.keep_tree.specs.declared.forest.TheConstants.{END_MAX}
+use Rattle.keep_tree.specs.Carried.{carried}
+use Rattle.keep_tree.specs.Forest.{Forest, entry_at}
+use Rattle.keep_tree.specs.Over.{chain}
+use Rattle.keep_tree.specs.Push.{IsForest}
+use Rattle.keep_tree.specs.Renewal.{capped}
+use Rattle.keep_tree.proofs.Carrying.{carried_at_least, carried_is_of}
+use Rattle.keep_rule.specs.Unkeepable.{AllKeepable}
+use Rattle.keep_watch.specs.declared.clocks.Offset.{Offset}
+use Rattle.keep_watch.specs.declared.track.Grant.{Grant}
+use Rattle.keep_watch.specs.declared.track.Track.{Track}
+use Rattle.keep_watch.specs.Clocks.{in_seconds, to_here}
+use Rattle.keep_watch.specs.LawsOfCalm.{believed_forest, ends, terms}
+use Rattle.keep_watch.specs.Margins.{is_in_plan, lead, lesser, own_margin}
+use Rattle.keep_watch.specs.Press.{is_pressed, is_pressed_try}
+use Rattle.keep_watch.specs.Round.{is_hoped, planned}
+use Rattle.keep_watch.specs.State.{State, attempt_at, entry_of, track_at}
+use Rattle.keep_watch.specs.Wanted.{believed, is_fixed, is_wanted, least, limit, need_here, second, seen, wanted_need}
+use Rattle.keep_watch.proofs.Believed.{carried_believed}
+use Rattle.keep_watch.proofs.Foreseen.{IsLed, led_by, wanted_short}
+
+-- two states in which as much is believed of each entry, but for the ends of those that may be led further
+pub record AreAlike (new old : State) : Type 0 where
+  pub forest : new.forest ≡ old.forest
+  pub broker : new.clocks.broker ≡ old.clocks.broker
+  pub wall : new.clocks.wall ≡ old.clocks.wall
+  pub renewable : (i : ℕ) → (track_at new i).renewable ≡ (track_at old i).renewable
+  pub top : (i : ℕ) → (track_at new i).top ≡ (track_at old i).top
+  pub fixed : (i : ℕ) → is_fixed (track_at new i) ≡ is_fixed (track_at old i)
+  pub held : (i : ℕ) → is_fixed (track_at old i) ≡ true → believed (track_at new i) ≡ believed (track_at old i)
+
+-- the least of some numbers that a test finds
+least_same :
+    (f h : ℕ → Bool) (b c : ℕ → ℕ) → ((i : ℕ) → f i ≡ h i) → ((i : ℕ) → h i ≡ true → b i ≡ c i) → (xs : List ℕ) (m : ℕ) →
+    least m (map b (filter f xs)) ≡ least m (map c (filter h xs))
+least_same f h b c same held [] m = refl
+least_same f h b c same held (x ∷ xs) m =
+    elim (cases_Bool (h x)) as (λ _. least m (map b (filter f (x ∷ xs))) ≡ least m (map c (filter h (x ∷ xs)))) [
+      | inl yes' ↦
+          ap (λ d. least m (map b (cond d (x ∷ filter f xs) (filter f xs)))) (same x ∙ yes')
+          ∙ ap (λ n. least (min m n) (map b (filter f xs))) (held x yes')
+          ∙ least_same f h b c same held xs (min m (c x))
+          ∙ sym (ap (λ d. least m (map c (cond d (x ∷ filter h xs) (filter h xs)))) yes')
+      | inr no' ↦
+          ap (λ d. least m (map b (cond d (x ∷ filter f xs) (filter f xs)))) (same x ∙ no')
+          ∙ least_same f h b c same held xs m
+          ∙ sym (ap (λ d. least m (map c (cond d (x ∷ filter h xs) (filter h xs)))) no')
+    ]
+
+limit_alike : (new old : State) → AreAlike new old → (i : ℕ) → limit new i ≡ limit old i
+unfolding limit
+limit_alike new old a i =
+    least_same (λ k. is_fixed (track_at new k)) (λ k. is_fixed (track_at old k)) (λ k. believed (track_at new k)) (λ k. believed (track_at old k)) a.fixed a.held (chain new.forest.entries i) END_MAX
+    ∙ ap (λ (g : Forest). least END_MAX (map (λ k. believed (track_at old k)) (filter (λ k. is_fixed (track_at old k)) (chain g.entries i)))) a.forest
+
+-- an entry by its parts
+term_of : Entry → Offset → Offset → ℕ → Bool → Entry
+term_of e broker wall most led = record e {
+  end = 0;
+  renewable = led;
+  ceiling = option_map (λ t. min END_MAX (to_here broker t)) e.ceiling;
+  need = min (if e.need == 0 then 0 else min LAST (max (to_here broker e.need) (to_here (in_seconds wall) e.need))) most;
+}
+
+terms_are : (s : State) (i : ℕ) → terms s i ≡ term_of (entry_of s i) s.clocks.broker s.clocks.wall (limit s i) ((track_at s i).renewable && not (track_at s i).top)
+unfolding terms seen need_here term_of
+terms_are s i = refl
+
+pub terms_alike : (new old : State) → AreAlike new old → (i : ℕ) → terms new i ≡ terms old i
+unfolding entry_of
+terms_alike new old a i =
+    let e : entry_of new i ≡ entry_of old i = ap (λ (g : Forest). entry_at g.entries i) a.forest in
+    let l = limit_alike new old a i in
+    let led : (track_at new i).renewable && not (track_at new i).top ≡ (track_at old i).renewable && not (track_at old i).top = ap₂ (λ b t. b && not t) (a.renewable i) (a.top i) in
+    terms_are new i
+    ∙ ap (λ x. term_of x new.clocks.broker new.clocks.wall (limit new i) ((track_at new i).renewable && not (track_at new i).top)) e
+    ∙ ap₂ (λ b w. term_of (entry_of old i) b w (limit new i) ((track_at new i).renewable && not (track_at new i).top)) a.broker a.wall
+    ∙ ap₂ (λ n b. term_of (entry_of old i) old.clocks.broker old.clocks.wall n b) l led
+    ∙ sym (terms_are old i)
+
+pub forest_alike : (new old : State) → AreAlike new old → believed_forest new ≡ believed_forest old
+unfolding believed_forest
+forest_alike new old a =
+    ap (λ (f : ℕ → Entry). record { entries = map f (range_with_len 0 (length new.forest.entries)); margin = new.forest.margin }) (fun_ext (terms_alike new old a))
+    ∙ ap (λ (g : Forest). record { entries = map (terms old) (range_with_len 0 (length g.entries)); margin = g.margin }) a.forest
+
+-- while time passes, no more is carried
+carried_less : (es : List Entry) (s t i : ℕ) → s ≤ t → carried es t i ≤ carried es s i
+carried_less es s t i later =
+    elim (cases_lt (carried es s i) (carried es t i)) [
+      | inl more ↦
+          let f = carried_is_of es t i (carried es s i) more in
+          let l : (entry_at es f.0).need ≤ carried es s i = carried_at_least es s i f.0 f.1 (omega (arith, f.2)) in
+          absurd (omega (arith, f.3))
+      | inr no_more ↦ no_more
+    ]
+
+pub need_less : (new old : State) → IsForest new.forest → IsForest old.forest → AreAlike new old → second old ≤ second new → (i : ℕ) → wanted_need new i ≤ wanted_need old i
+need_less new old forest forest' a later i =
+    let n = carried_believed new forest i in
+    let o = carried_believed old forest' i in
+    let same = ap (λ (g : Forest). carried g.entries (second new) i) (forest_alike new old a) in
+    let less = carried_less (believed_forest old).entries (second old) (second new) i later in
+    omega arith
+
+pub lead_alike : (new old : State) → new.forest ≡ old.forest → (i : ℕ) → (track_at new i).grant ≡ (track_at old i).grant → lead new i ≡ lead old i
+unfolding lead entry_of
+lead_alike new old forest i same = ap₂ (λ (g : Forest) (o : Option Grant). lesser (entry_at g.entries i).step o) forest same
+
+pub entry_step : (new old : State) → new.forest ≡ old.forest → (i : ℕ) → (entry_of new i).step ≡ (entry_of old i).step
+unfolding entry_of
+entry_step new old forest i = ap (λ (g : Forest). (entry_at g.entries i).step) forest
+
+pub plan_alike : (new old : State) → new.forest ≡ old.forest → (i : ℕ) → lead new i ≡ lead old i → is_in_plan new i ≡ is_in_plan old i
+unfolding is_in_plan own_margin
+plan_alike new old forest i same = ap₂ (λ (g : Forest) (n : ℕ). min g.margin (3 * n / 4) == g.margin) forest same
+
+pub ends_alike : (new old : State) (i : ℕ) → track_at new i ≡ track_at old i → ends new i ≡ ends old i
+unfolding ends
+ends_alike new old i same = ap believed same
+
+hoped_alike : (new old : State) (i : ℕ) → track_at new i ≡ track_at old i → is_in_plan new i ≡ is_in_plan old i → is_hoped new i ≡ is_hoped old i
+unfolding is_hoped is_pressed
+hoped_alike new old i same plan = ap₂ (λ (x : Track) (b : Bool). not x.endless && (not b || (is_none x.end || is_pressed_try x.attempt))) same plan
+
+-- the end with which the Asks take an entry
+pub planned_end : (s : State) (i : ℕ) → (planned s i).end ≡ cond (is_hoped s i) (capped (terms s i).ceiling (second s + lead s i)) (ends s i)
+unfolding planned terms seen ends
+planned_end s i = by_test (is_hoped s i) _ _ where
+  by_test : (b : Bool) (x y : Entry) → (cond b x y).end ≡ cond b x.end y.end
+  by_test true x y = refl
+  by_test false x y = refl
+
+capped_more : (o : Option ℕ) (t u : ℕ) → t ≤ u → capped o t ≤ capped o u
+unfolding capped
+capped_more None t u h = h
+capped_more (Some c) t u h = omega arith
+
+planned_more : (b : Bool) (x y z : ℕ) → x ≤ y → cond b x z ≤ cond b y z
+planned_more true x y z h = h
+planned_more false x y z h = omega arith
+
+end_more : (new old : State) → AreAlike new old → second old ≤ second new → (i : ℕ) → track_at new i ≡ track_at old i → (planned old i).end ≤ (planned new i).end
+end_more new old a later i same =
+    let l = lead_alike new old a.forest i (ap (λ (x : Track). x.grant) same) in
+    let hoped = hoped_alike new old i same (plan_alike new old a.forest i l) in
+    let end = ends_alike new old i same in
+    let c : (terms new i).ceiling ≡ (terms old i).ceiling = ap (λ (e : Entry). e.ceiling) (terms_alike new old a i) in
+    let is : (planned new i).end ≡ cond (is_hoped old i) (capped (terms old i).ceiling (second new + lead old i)) (ends old i) =
+    planned_end new i ∙ ap₂ (λ b o. cond b (capped o (second new + lead new i)) (ends new i)) hoped c
+    ∙ ap₂ (λ n x. cond (is_hoped old i) (capped (terms old i).ceiling (second new + n)) x) l end in
+    let was = planned_end old i in
+    let more = planned_more (is_hoped old i) (capped (terms old i).ceiling (second old + lead old i)) (capped (terms old i).ceiling (second new + lead old i)) (ends old i)
+    (capped_more (terms old i).ceiling (second old + lead old i) (second new + lead old i) (omega arith)) in
+    omega arith
+
+-- an entry of which nothing is asked: it ends as it should, and the Asks will take it as it is believed
+pub record IsIdle (s : State) (e : ℕ → ℕ) (i : ℕ) : Type 0 where
+  pub none : attempt_at s i ≡ None
+  pub end : ends s i ≡ e i
+  pub owes : (track_at s i).owes ≡ false
+  pub in_plan : is_wanted s i ≡ true → is_in_plan s i ≡ true
+  pub led : is_wanted s i ≡ true → lead s i ≡ (entry_of s i).step
+  pub lasts : is_wanted s i ≡ false → wanted_need s i ≤ (planned s i).end
+
+-- an entry that may be led further, and is not wanted, is not needed past its end
+none_short : (renewable unknown top endless short : Bool) → renewable ≡ true → top ≡ false → endless ≡ false → (renewable || unknown) && (not top && (not endless && short)) ≡ false → short ≡ false
+none_short true unknown false false short r t e h = h
+none_short true unknown false true short r t e h = absurd cc
+none_short true unknown true endless short r t e h = absurd cc
+none_short false unknown top endless short r t e h = absurd cc
+
+pub enough : (s : State) (i : ℕ) → (track_at s i).renewable ≡ true → (track_at s i).top ≡ false → (track_at s i).endless ≡ false → is_wanted s i ≡ false → wanted_need s i ≤ ends s i
+unfolding is_wanted ends
+enough s i renewable top endless not_wanted =
+    let x = track_at s i in
+    let low : nat_lt (believed x) (wanted_need s i) ≡ false = none_short x.renewable (is_none x.end) x.top x.endless (nat_lt (believed x) (wanted_need s i)) renewable top endless not_wanted in
+    grind (arith, nat_tests)
+
+pub no_hope : (endless planned unknown pressed : Bool) → planned ≡ true → unknown ≡ false → pressed ≡ false → not endless && (not planned || (unknown || pressed)) ≡ false
+no_hope true planned unknown pressed p u q = refl
+no_hope false true false false p u q = refl
+no_hope false true false true p u q = absurd cc
+no_hope false true true pressed p u q = absurd cc
+no_hope false false unknown pressed p u q = absurd cc
+
+-- one that is in the plan, of a known end and not pressed is taken as it is believed
+pub taken_so : (s : State) (i : ℕ) → is_in_plan s i ≡ true → is_none (track_at s i).end ≡ false → is_pressed s i ≡ false → (planned s i).end ≡ ends s i
+unfolding is_hoped
+taken_so s i in_plan known unpressed =
+    let hoped : is_hoped s i ≡ false = no_hope (track_at s i).endless (is_in_plan s i) (is_none (track_at s i).end) (is_pressed s i) in_plan known unpressed in
+    planned_end s i ∙ ap (λ b. cond b (capped (terms s i).ceiling (second s + lead s i)) (ends s i)) hoped
+
+pub led_parts : (renewable top : Bool) → renewable && not top ≡ true → (renewable ≡ true) × (top ≡ false)
+led_parts true false h = (refl, refl)
+led_parts true true h = absurd cc
+led_parts false top h = absurd cc
+
+pub unpressed : (s : State) (i : ℕ) → attempt_at s i ≡ None → is_pressed s i ≡ false
+unfolding is_pressed
+unpressed s i none = ap is_pressed_try none
+
+-- so it stays while time passes and while others are answered, as long as there is a plan for the ends as they should be
+pub idle_on :
+    (new old : State) (e : ℕ → ℕ) → IsForest new.forest → IsForest old.forest → AreAlike new old → second old ≤ second new → AllKeepable (believed_forest old) (second old) e →
+    (i : ℕ) → track_at new i ≡ track_at old i → IsIdle old e i → IsIdle new e i
+idle_on new old e forest forest' a later keepable i same idle =
+    let less = need_less new old forest forest' a later i in
+    let end = ends_alike new old i same in
+    let l = lead_alike new old a.forest i (ap (λ (x : Track). x.grant) same) in
+    let plan = plan_alike new old a.forest i l in
+    let step : (entry_of new i).step ≡ (entry_of old i).step = entry_step new old a.forest i in
+    let was : is_wanted new i ≡ true → IsLed old i = λ wanted. led_by old forest' e keepable i (sym idle.end) (let h = wanted_short new i wanted in omega arith) in
+    let none : attempt_at new i ≡ None = ap (λ (x : Track). x.attempt) same ∙ idle.none in
+    record {
+      none = none;
+      end = end ∙ idle.end;
+      owes = ap (λ (x : Track). x.owes) same ∙ idle.owes;
+      in_plan = λ wanted. plan ∙ idle.in_plan (was wanted).wanted;
+      led = λ wanted. l ∙ idle.led (was wanted).wanted ∙ sym step;
+      lasts = λ not_wanted. elim (cases_Bool (is_wanted old i)) as (λ _. wanted_need new i ≤ (planned new i).end) [
+        | inr not_before ↦ (let before = idle.lasts not_before in let more = end_more new old a later i same in omega arith)
+        | inl before ↦
+            let led = led_by old forest' e keepable i (sym idle.end) (wanted_short old i before) in
+            let parts = led_parts (track_at old i).renewable (track_at old i).top led.led in
+            let own = enough new i (ap (λ (x : Track). x.renewable) same ∙ parts.0) (ap (λ (x : Track). x.top) same ∙ parts.1) (ap (λ (x : Track). x.endless) same ∙ led.endless) not_wanted in
+            let taken = taken_so new i (plan ∙ idle.in_plan before) (ap (λ (x : Track). is_none x.end) same ∙ ap is_none led.known) (unpressed new i none) in
+            omega arith
+      ];
+    }
