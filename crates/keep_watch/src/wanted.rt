@@ -38,7 +38,7 @@ pub(crate) fn believed(track: Track) -> u64
 }
 
 /// Whether the entry is led no further than its believed end.
-fn is_fixed(track: Track) -> bool
+pub(crate) fn is_fixed(track: Track) -> bool
     ensures { result ≡ is_fixed track }
 {
     track.end.is_some() && !track.endless && (!track.renewable || track.top)
