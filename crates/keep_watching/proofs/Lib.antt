@@ -1,0 +1,2 @@
+pub mod WatchEnding
+pub mod Messages

@@ -1,0 +1,22 @@
+//! A watch that is run: `keep_watch` decides, and here its requests go out over an exchange and their replies come back to it,
+//! line by line. Lines of an input hand in the time and changes; each is answered by lines before the next is read.
+//!
+//! Begin with `line`, what a line says, and `watching`, what answers it; then `clocked` and `slice`, in which the requests go
+//! out, `answers`, in which their replies are taken, and `running`, the whole.
+#![tactic(auto)]
+
+mod answers;
+mod asking;
+mod clocked;
+mod line;
+mod listening;
+mod running;
+mod shorts;
+mod slice;
+mod texts;
+mod told;
+mod watching;
+
+pub use line::{Line, line_in};
+pub use running::run_watch;
+pub use watching::Watching;

@@ -1,0 +1,142 @@
+//! Lines as they come: they are read in pieces, cut at their line feeds, and answered one after another, for as long as they come.
+ghost use Rattle.std.specs.Prelude.{◌≤◌, IfOk, List, OnOk, ℕ, length};
+ghost use Rattle.std.specs.Result.{IfErr};
+ghost use Rattle.keep_report.specs.Sent.{IsAll};
+ghost use Rattle.keep_watching.specs.WatchRun.{IsListenStop};
+
+use crate::line::line_in;
+use crate::watching::Watching;
+use keep_device::{Sink, Source, zeros};
+use keep_exchange::Abreast;
+use keep_report::{Stop, Watched, send};
+use keep_run::{EVENT_ROOM, MOST_LINE};
+use keep_words::cut;
+use std::alloc::Global;
+
+/// Answers lines until they end. Each is answered, and its lines written and flushed, before `lines` is read again.
+///
+/// `Ok`: the lines have ended, behind a line feed if there are any. `Line`: the line of that number is none, or is longer than
+/// 256 bytes with its line feed, or has none; those before it were answered. `Read`: a read failed. `Write`: `out` failed.
+/// `Memory`.
+pub(crate) fn listen<R: Source, E: Abreast, W: Sink>(
+    alloc: Global,
+    watching: &mut Watching,
+    lines: &mut R,
+    exchange: &mut E,
+    out: &mut W,
+) -> Result<(), Stop>
+    ensures { IfErr result IsListenStop }
+{
+    let mut room = zeros(alloc, EVENT_ROOM)?;
+    let mut pending = Vec::new(alloc);
+    listen_to(
+        alloc,
+        watching,
+        lines,
+        exchange,
+        &mut room,
+        &mut pending,
+        out,
+    )
+}
+
+/// Answers lines behind `pending` until they end.
+fn listen_to<R: Source, E: Abreast, W: Sink>(
+    alloc: Global,
+    watching: &mut Watching,
+    lines: &mut R,
+    exchange: &mut E,
+    room: &mut [u8],
+    pending: &mut Vec<u8>,
+    out: &mut W,
+) -> Result<(), Stop>
+    ensures { IfErr result IsListenStop }
+{
+    let mut count: u64 = 0;
+    for _ in 0..u64::MAX {
+        let Ok(n) = lines.read_some(room) else {
+            return Err(Stop::Read);
+        };
+        if n == 0 {
+            return at_end(pending, count);
+        }
+        pending.extend_from_slice(&room[..n])?;
+        answer_pending(alloc, watching, exchange, pending, &mut count, out)?;
+    }
+    Err(Stop::Read)
+}
+
+/// What the end of the lines comes to behind so many: a line without its line feed is none.
+fn at_end(pending: &[u8], count: u64) -> Result<(), Stop>
+    ensures { IfErr result IsListenStop }
+{
+    if pending.is_empty() {
+        Ok(())
+    } else {
+        Err(Stop::Line(count.saturating_add(1)))
+    }
+}
+
+/// Answers the lines that are whole, counts them, and leaves what stands behind the last. What is as long as a line and has no
+/// line feed is none.
+fn answer_pending<E: Abreast, W: Sink>(
+    alloc: Global,
+    watching: &mut Watching,
+    exchange: &mut E,
+    pending: &mut Vec<u8>,
+    count: &mut u64,
+    out: &mut W,
+) -> Result<(), Stop>
+    ensures { IfErr result IsListenStop }
+{
+    let answered = answer_whole(alloc, watching, exchange, pending, count, out)?;
+    pending.drain(..answered);
+    if pending.len() >= MOST_LINE {
+        return Err(Stop::Line(count.saturating_add(1)));
+    }
+    Ok(())
+}
+
+/// Answers the lines of these bytes that are whole, counts them, and gives the length of them all.
+fn answer_whole<E: Abreast, W: Sink>(
+    alloc: Global,
+    watching: &mut Watching,
+    exchange: &mut E,
+    bytes: &[u8],
+    count: &mut u64,
+    out: &mut W,
+) -> Result<usize, Stop>
+    ensures within { IfOk result (λ n. n ≤ length bytes.now) }
+    ensures stops { IfErr result IsListenStop }
+{
+    let mut rest = bytes;
+    for _ in 0..bytes.len() {
+        let Some((line, behind)) = cut(rest, b'\n') else {
+            break;
+        };
+        *count = count.saturating_add(1);
+        answer_line(alloc, watching, exchange, line, *count, out)?;
+        rest = behind;
+    }
+    Ok(bytes.len().saturating_sub(rest.len()))
+}
+
+/// Answers one line, which is without its line feed and has this number: writes and flushes its lines.
+fn answer_line<E: Abreast, W: Sink>(
+    alloc: Global,
+    watching: &mut Watching,
+    exchange: &mut E,
+    line: &[u8],
+    number: u64,
+    out: &mut W,
+) -> Result<(), Stop>
+    ensures answered { OnOk result ((text : List ℕ) × IsAll text (⟦<W as Watched>⟧.sent out.old out.new)) }
+    ensures stops { IfErr result IsListenStop }
+{
+    let Some(line) = line_in(watching.forest(), line) else {
+        return Err(Stop::Line(number));
+    };
+    let mut text = Vec::new(alloc);
+    watching.take(alloc, exchange, line, &mut text)?;
+    send(out, &text)
+}

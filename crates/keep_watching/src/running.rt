@@ -1,0 +1,51 @@
+//! A watch from the inventory to the end of the lines.
+ghost use Rattle.std.specs.Result.{IfErr};
+ghost use Rattle.keep_watching.specs.WatchRun.{IsWatchStop, WatchEnds};
+
+use crate::listening::listen;
+use crate::watching::Watching;
+use keep_device::{Sink, Source};
+use keep_exchange::Abreast;
+use keep_inventory::read;
+use keep_report::{Exit, Stop, Watched};
+use std::alloc::Global;
+
+/// Watches over the entries of an inventory, and sends at most `width` requests abreast over the exchange, as `lines` hand in
+/// the time. `docs/commands/watch.md` says what each line means.
+///
+/// A line is answered, and its lines written and flushed, before `lines` is read again. The exits: `Done`, the lines have ended;
+/// `Inventory`, the bytes are no inventory; `Device`, a line is none or has no line feed, or `lines` or the writer failed;
+/// `Memory`. Each but `Done` has its line on `errors`.
+#[tactic(auto, using(crate::proofs::WatchEnding::ended))]
+pub fn run_watch<R: Source, E: Abreast, W: Sink, F: Sink>(
+    alloc: Global,
+    inventory: &[u8],
+    width: u32,
+    lines: &mut R,
+    exchange: &mut E,
+    out: &mut W,
+    errors: &mut F,
+) -> Exit
+    ensures { WatchEnds inventory.now result (⟦<F as Watched>⟧.sent errors.old errors.new) }
+{
+    match watch(alloc, inventory, width, lines, exchange, out) {
+        Ok(()) => Exit::Done,
+        Err(stop) => stop.report("leasekeep", errors),
+    }
+}
+
+/// The same without the fault line.
+fn watch<R: Source, E: Abreast, W: Sink>(
+    alloc: Global,
+    bytes: &[u8],
+    width: u32,
+    lines: &mut R,
+    exchange: &mut E,
+    out: &mut W,
+) -> Result<(), Stop>
+    ensures { IfErr result (IsWatchStop bytes.now) }
+{
+    let inventory = read(alloc, bytes)?;
+    let mut watching = Watching::new(alloc, inventory, width)?;
+    listen(alloc, &mut watching, lines, exchange, out)
+}

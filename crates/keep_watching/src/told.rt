@@ -1,0 +1,105 @@
+//! What the machine is told of an answer.
+ghost use Rattle.std.specs.Prelude.{◌<◌, length};
+
+use keep_exchange::{Heard, Terms as Told};
+use keep_inventory::{Inventory, LookupFault, told_terms};
+use keep_moment::{Moment, Span};
+use keep_watch::{Reply, Terms};
+use vault_json::{Lookup, Renewed};
+
+/// The terms of a reply that tells none.
+pub(crate) fn no_terms() -> Terms {
+    Terms {
+        step: None,
+        ceiling: None,
+        orphan: false,
+        endless: false,
+    }
+}
+
+/// What the machine is told of an answer to a renewal.
+pub(crate) fn renewal_reply(heard: &Heard<Renewed>) -> Reply {
+    match heard {
+        Heard::Told(renewed, date) => told(renewed.seconds, renewed.renewable, *date),
+        Heard::Refused(status, date) => refused(*status, *date),
+        Heard::Busy => Reply::Busy,
+        Heard::Lost => Reply::Lost,
+    }
+}
+
+/// What the machine is told of an answer to the lookup of an entry. One that is said of another entry, or of the other kind,
+/// counts as lost.
+pub(crate) fn lookup_reply(inventory: &Inventory, entry: u32, heard: &Heard<Told>) -> (Reply, Terms)
+    requires { entry < length inventory.now.forest.entries }
+{
+    match heard {
+        Heard::Told(said, date) => {
+            if is_of_another(inventory, entry, &said.lookup) {
+                return (Reply::Lost, no_terms());
+            }
+            let (seconds, renewable) = end_in(&said.lookup);
+            let terms = terms_of(inventory, entry, said);
+            (told(seconds, renewable, *date), terms)
+        }
+        Heard::Refused(status, date) => (refused(*status, *date), no_terms()),
+        Heard::Busy => (Reply::Busy, no_terms()),
+        Heard::Lost => (Reply::Lost, no_terms()),
+    }
+}
+
+fn told(seconds: Span, renewable: bool, date: Option<Moment>) -> Reply {
+    Reply::Told {
+        seconds,
+        renewable,
+        date: seconds_of(date),
+    }
+}
+
+fn refused(status: u16, date: Option<Moment>) -> Reply {
+    Reply::Refused {
+        status,
+        date: seconds_of(date),
+    }
+}
+
+fn seconds_of(date: Option<Moment>) -> Option<u64> {
+    match date {
+        None => None,
+        Some(date) => Some(date.get()),
+    }
+}
+
+/// Whether the lookup is said of another entry, or of the other kind.
+fn is_of_another(inventory: &Inventory, entry: u32, lookup: &Lookup) -> bool
+    requires { entry < length inventory.now.forest.entries }
+{
+    match inventory.lookup_fault(entry, lookup) {
+        Some(LookupFault::OtherKind | LookupFault::OtherEntry) => true,
+        Some(LookupFault::OtherTree | LookupFault::NoStep) | None => false,
+    }
+}
+
+/// The seconds to the end, and whether the entry can be renewed.
+fn end_in(lookup: &Lookup) -> (Span, bool) {
+    match lookup {
+        Lookup::Token { ttl, renewable, .. } => (*ttl, *renewable),
+        Lookup::Lease { ttl, renewable, .. } => (*ttl, *renewable),
+    }
+}
+
+/// The terms that a lookup tells: a step and an orphan are a token's alone, and the ceiling counts from the issue that it tells.
+fn terms_of(inventory: &Inventory, entry: u32, said: &Told) -> Terms
+    requires { entry < length inventory.now.forest.entries }
+{
+    let terms = told_terms(&said.lookup, inventory.terms(entry));
+    let (step, orphan) = match &said.lookup {
+        Lookup::Token { orphan, .. } => (Some(terms.step()), *orphan),
+        Lookup::Lease { .. } => (None, false),
+    };
+    Terms {
+        step,
+        ceiling: terms.ceiling(),
+        orphan,
+        endless: said.never_ends,
+    }
+}
