@@ -8,6 +8,7 @@ mod files;
 mod live;
 mod parser;
 mod run;
+mod watch;
 mod words;
 
 fn main(rt: HostRuntime) -> ExitCode {

@@ -2,6 +2,7 @@ use clap::error::ErrorKind;
 use clap::{Arg, ArgAction, ArgMatches, Command, Error};
 use keep_engine::LIMIT;
 use keep_moment::LAST;
+use keep_watch::WIDTH_MAX;
 use std::alloc::{AllocError, Global};
 
 const ABOUT: &str = "Keeps Vault tokens and leases alive with the fewest wake-ups.";
@@ -121,6 +122,43 @@ Example (lines that begin with > are typed):
 Exit status: 0 the lines have ended, 1 inventory, 2 command line, 5 more than 10000000 wake-ups, 6 read, write, a lookup or a
 malformed line, 7 memory";
 
+const WATCH_ABOUT: &str =
+    "Keeps the entries alive against a broker in real time: decides what to ask and when, as two clocks on standard input say";
+
+const WATCH_AFTER: &str = "\
+It reads no clock: each line of standard input hands in both, or a change, and is answered before the next one is read.
+  clock WALL ELAPSED     the time, and that of a clock which never steps (CLOCK_BOOTTIME), both in milliseconds
+  need NAME T            NAME is needed until T, in seconds since 1970-01-01T00:00:00Z
+  begin                  look everything up again
+  known NAME END yes|no  before the first clock: an `end` line of an earlier watch of the same boot
+The last line of an answer is `clock`, hand in the clocks at once, or `wait ELAPSED`, hand them in when the second one shows that:
+  begin WHY              everything is looked up, because of the start, asked, jump or day
+  wake T NAME..          a round of renewals opens
+  look NAME.., renew NAME..    these requests go out, side by side
+  entry NAME END, told NAME SECONDS, refused NAME STATUS, lost NAME    what came of each
+  end NAME END yes|no    the end, in milliseconds of the second clock, and whether NAME can be renewed
+  gone NAME STATUS, top NAME T, orphan NAME, never NAME, away, back    what was found out
+  short NAME T           NAME cannot be kept past T
+  next T NAME, next none    when NAME is next due
+  planned                the new need is in force
+  fault unknown-name, fault after-clock    the line was not taken
+docs/commands/watch.md says what to do about each, and has a shell script that drives it. The broker is asked over plain HTTP, at
+a port of 127.0.0.1 or at a UNIX socket, which keeps strangers out.
+
+Example (lines that begin with > are typed):
+  leasekeep watch web.toml 8200
+  > clock 1000000 1000000
+  begin start
+  look web
+  entry web 1060
+  end web 1060000 yes
+  clock
+  > clock 1000000 1000000
+  next 1059 web
+  wait 1001000
+
+Exit status: 0 the lines have ended, 1 inventory, 2 command line, 6 read, write or a malformed line, 7 memory";
+
 const START_HELP: &str = "\
 The moment from which entries are kept, in whole seconds since 1970-01-01T00:00:00Z; $(date +%s) is now";
 
@@ -146,7 +184,8 @@ fn leasekeep<'a>(alloc: Global) -> Result<Command<'a>, AllocError> {
         .subcommand(reach(alloc)?)?
         .subcommand(check(alloc)?)?
         .subcommand(rehearse(alloc)?)?
-        .subcommand(run(alloc)?)
+        .subcommand(run(alloc)?)?
+        .subcommand(watch(alloc)?)
 }
 
 /// `ends FILE START [MOMENT..]`
@@ -254,11 +293,7 @@ fn run<'a>(alloc: Global) -> Result<Command<'a>, AllocError> {
         .about(RUN_ABOUT)
         .after_help(RUN_AFTER)
         .arg(file(alloc))?
-        .arg(word(
-            alloc,
-            "PORT",
-            "The broker: a port of 127.0.0.1, or the path of a UNIX socket, with a `/` in it",
-        ))?
+        .arg(broker(alloc))?
         .arg(moment(
             alloc,
             "START",
@@ -272,6 +307,39 @@ fn run<'a>(alloc: Global) -> Result<Command<'a>, AllocError> {
                 .help("How long one connect, read or write may take, 1 to 60 seconds [default: 5]")
                 .value_parser(clap::value_parser!(u64).range(1..=60)),
         )
+}
+
+/// `watch FILE PORT [--timeout SECONDS] [--width K]`
+fn watch<'a>(alloc: Global) -> Result<Command<'a>, AllocError> {
+    Command::new(alloc, "watch")
+        .about(WATCH_ABOUT)
+        .after_help(WATCH_AFTER)
+        .arg(file(alloc))?
+        .arg(broker(alloc))?
+        .arg(
+            Arg::new(alloc, "timeout")
+                .long("timeout")
+                .value_name("SECONDS")
+                .help(
+                    "How long the connects, writes and first reads of requests side by side may take, 1 to 60 seconds [default: 5]",
+                )
+                .value_parser(clap::value_parser!(u64).range(1..=60)),
+        )?
+        .arg(
+            Arg::new(alloc, "width")
+                .long("width")
+                .value_name("K")
+                .help("How many requests go out side by side at most, 1 to 32 [default: 8]")
+                .value_parser(clap::value_parser!(u64).range(1..=WIDTH_MAX as i64)),
+        )
+}
+
+fn broker<'a>(alloc: Global) -> Arg<'a> {
+    word(
+        alloc,
+        "PORT",
+        "The broker: a port of 127.0.0.1, or the path of a UNIX socket, with a `/` in it",
+    )
 }
 
 fn file<'a>(alloc: Global) -> Arg<'a> {

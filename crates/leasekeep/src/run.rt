@@ -1,5 +1,6 @@
 use crate::files::Disk;
 use crate::live::keep;
+use crate::watch::watch;
 use crate::words::{Job, read_command};
 use keep_device::Counted;
 use keep_engine::{Exit, obey};
@@ -17,6 +18,7 @@ pub fn run<R: Env + Files + AllocGlobal + Print + Eprint + Net, I: Read + Drop, 
     let mut errors = Counted::new(errors);
     match read_command(rt, &mut errors) {
         Ok(Job::Live(live)) => keep(rt, &live, input, &mut errors),
+        Ok(Job::Watch(watched)) => watch(rt, &watched, input, &mut errors),
         Ok(Job::Offline(command)) => {
             let mut out = Counted::new(io::writer(rt));
             obey(

@@ -1,11 +1,13 @@
 use crate::live::{Live, Place};
 use crate::parser::{mistake, parse};
+use crate::watch::Watched;
 use clap::error::ErrorKind;
 use clap::{ArgMatches, Error};
 use keep_device::Sink;
 use keep_engine::{Command, Exit, MarginQuery, PROGRAM, Stop, tell};
 use keep_exchange::PATIENCE;
 use keep_moment::{Moment, Text};
+use keep_watch::WIDTH;
 use std::alloc::{AllocError, AllocFailed, Global};
 use std::rt::Env;
 use std::{env, io};
@@ -28,6 +30,8 @@ pub enum Job {
     Offline(Command),
     /// `run`, the agent.
     Live(Live),
+    /// `watch`, the agent in real time.
+    Watch(Watched),
 }
 
 /// Why the matches of a command line give no command.
@@ -134,6 +138,12 @@ fn job_of(alloc: Global, matches: &ArgMatches<'_>) -> Result<Job, Unread> {
             start: start(matches)?,
             patience: patience(matches)?,
         })),
+        Some(("watch", matches)) => Ok(Job::Watch(Watched {
+            file: word(alloc, matches, "FILE")?,
+            place: place(alloc, matches)?,
+            patience: patience(matches)?,
+            width: width(matches)?,
+        })),
         _ => Ok(Job::Offline(command_of(alloc, matches)?)),
     }
 }
@@ -155,6 +165,16 @@ fn patience(matches: &ArgMatches<'_>) -> Result<u64, Unread> {
     match matches.try_get_one::<u64>("timeout") {
         Ok(Some(seconds)) => Ok(seconds),
         Ok(None) => Ok(PATIENCE),
+        Err(_) => Err(Unread::Value),
+    }
+}
+
+/// How many requests go out side by side, or the number that stands for it where it is absent. One that is given and
+/// unreadable is a fault.
+fn width(matches: &ArgMatches<'_>) -> Result<u64, Unread> {
+    match matches.try_get_one::<u64>("width") {
+        Ok(Some(width)) => Ok(width),
+        Ok(None) => Ok(WIDTH as u64),
         Err(_) => Err(Unread::Value),
     }
 }
