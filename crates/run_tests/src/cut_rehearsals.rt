@@ -1,10 +1,9 @@
 //! Rehearsals whose writer fails, or wants memory: the exit, the fault line, and what `out` holds.
-ghost use Rattle.std.specs.Prelude.{true};
-
 use crate::inventories::WEB;
 use crate::moments::moment;
 use crate::rehearsals::{AS_PLANNED, nobody};
-use keep_device::{Device, MemorySink, Sink, SinkFault};
+use crate::wanting::Wanting;
+use keep_device::{MemorySink, Sink};
 use keep_report::Exit;
 use keep_run::run_rehearse;
 use std::alloc::Global;
@@ -60,49 +59,11 @@ fn a_writer_that_fails_holds_whole_wake_ups(rt: HostRuntime) -> Result<(), Fail>
 fn a_writer_that_wants_memory_holds_whole_wake_ups(rt: HostRuntime) -> Result<(), Fail> {
     let alloc = rt.alloc();
     for (calls, length) in &HELD {
-        let sink = MemorySink::new(alloc, None);
-        let mut out = Wanting { sink, left: *calls };
+        let mut out = Wanting::behind(alloc, *calls);
         let mut errors = MemorySink::new(alloc, None);
         let got = rehearses_to(alloc, &mut out, &mut errors)?;
         assert!(rt; got == Exit::Memory, "{calls}");
-        hold(&rt, &out.sink, *length, &errors, b"leasekeep: memory\n");
+        hold(&rt, out.held(), *length, &errors, b"leasekeep: memory\n");
     }
     Ok(())
-}
-
-// A sink for which no memory is left behind so many calls.
-#[derive(Drop)]
-struct Wanting {
-    sink: MemorySink,
-    left: u64,
-}
-
-impl Device for Wanting {
-    ghost failed_calls = { λ s. s.sink.calls.failures };
-
-    ghost is_flushed = { λ s. s.sink.flushed };
-
-    ghost is_in_memory = { true };
-
-    fn failures(&self) -> u64 {
-        self.sink.failures()
-    }
-}
-
-impl Sink for Wanting {
-    fn write_some(&mut self, piece: &[u8]) -> Result<usize, SinkFault> {
-        if self.left == 0 {
-            return Err(SinkFault::OutOfMemory);
-        }
-        self.left -= 1;
-        self.sink.write_some(piece)
-    }
-
-    fn flush(&mut self) -> Result<(), SinkFault> {
-        if self.left == 0 {
-            return Err(SinkFault::OutOfMemory);
-        }
-        self.left -= 1;
-        self.sink.flush()
-    }
 }

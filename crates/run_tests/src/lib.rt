@@ -21,6 +21,8 @@ mod fronts;
 #[cfg(test)]
 mod full_size;
 #[cfg(test)]
+mod heard;
+#[cfg(test)]
 mod inventories;
 #[cfg(test)]
 mod live;
@@ -40,3 +42,9 @@ mod reaches;
 mod rehearsals;
 #[cfg(test)]
 mod secrets;
+#[cfg(test)]
+mod slices;
+#[cfg(test)]
+mod wanting;
+#[cfg(test)]
+mod watches;

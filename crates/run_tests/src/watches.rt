@@ -1,0 +1,288 @@
+//! Watches over memory: exit, output and fault line, however the lines come.
+use crate::inventories::{LOW_CEILING, TOKEN_AND_LEASE, WEB, WITH_MARGIN};
+use crate::outcomes::Outcome;
+use crate::wanting::Wanting;
+use keep_device::{MemorySink, MemorySource, Sink};
+use keep_exchange::MemoryExchange;
+use keep_inventory::read;
+use keep_report::Exit;
+use keep_watching::run_watch;
+use mini_broker::{Fault, Table};
+use std::alloc::Global;
+use std::process::Abort;
+use std::test::Fail;
+
+// The worked example of docs/commands/watch.md, to its end.
+const EXAMPLE: &str =
+    "clock 1000000 1000000\nclock 1000000 1000000\nclock 1001000 1001000\nclock 1059000 1059000\n\
+clock 1059000 1059000\nclock 1118000 1118000\nclock 1118000 1118000\nclock 1177000 1177000\nclock 1177000 1177000\n";
+
+const EXAMPLE_ANSWERS: &str = "begin start\nlook web\nentry web 1060\nend web 1060000 yes\nclock\n\
+next 1059 web\nwait 1001000\nwait 1002000\n\
+wake 1059 web\nrenew web\ntold web 60\nend web 1119000 yes\nclock\nnext 1118 web\nwait 1060000\n\
+wake 1118 web\nrenew web\ntold web 60\nend web 1178000 yes\nclock\nnext 1177 web\nwait 1119000\n\
+wake 1177 web\nrenew web\ntold web 60\nend web 1237000 yes\nclock\nnext none\nwait 1178000\n";
+
+const FIRST: &str = "clock 1000000 1000000\n";
+
+const LOOKED: &str = "begin start\nlook web\nentry web 1060\nend web 1060000 yes\nclock\n";
+
+// An inventory, what goes wrong at its first renewal, lines, and what answers them.
+type Answered = (&'static str, Option<Fault>, &'static str, &'static str);
+
+const ANSWERED: [Answered; 9] = [
+    (WEB, None, EXAMPLE, EXAMPLE_ANSWERS),
+    // the two clocks differ: moments are the broker's, and what is to be kept or waited for is the other's
+    (
+        WEB,
+        None,
+        "clock 1000000 5000\nclock 1000000 5000\nclock 1059000 64000\n",
+        "begin start\nlook web\nentry web 1060\nend web 65000 yes\nclock\nnext 1059 web\nwait 6000\n\
+wake 1059 web\nrenew web\ntold web 60\nend web 124000 yes\nclock\n",
+    ),
+    // out of phase: seconds are the wall's
+    (
+        WEB,
+        None,
+        "clock 1000900 5000\nclock 1000900 5000\n",
+        "begin start\nlook web\nentry web 1060\nend web 64100 yes\nclock\nnext 1059 web\nwait 6000\n",
+    ),
+    // a token and a lease, by index
+    (
+        TOKEN_AND_LEASE,
+        None,
+        FIRST,
+        "begin start\nlook T L\nentry T 1100\nend T 1100000 yes\nentry L 1060\nend L 1060000 yes\nclock\n",
+    ),
+    // a ceiling over the lease is told once its lookups are answered, and once
+    (
+        LOW_CEILING,
+        None,
+        "clock 1000000 1000000\nclock 1000000 1000000\nclock 1001000 1001000\n",
+        "begin start\nlook T L\nentry T 1100\nend T 1100000 yes\nentry L 1060\nend L 1060000 yes\nclock\n\
+short L 1150\nnext 1059 L\nwait 1001000\nwait 1002000\n",
+    ),
+    // a refused renewal is followed by a lookup, a second later
+    (
+        WITH_MARGIN,
+        Some(Fault::Deny),
+        "clock 1000000 1000000\nclock 1050000 1050000\nclock 1050000 1050000\nclock 1051000 1051000\n",
+        "begin start\nlook web\nentry web 1060\nend web 1060000 yes\nclock\n\
+wake 1050 web\nrenew web\nrefused web 403\nclock\nnext 1050 web\nwait 1051000\n\
+look web\nentry web 1060\nend web 1060000 yes\nclock\n",
+    ),
+    // a lost one by another, and the broker that answers is back
+    (
+        WITH_MARGIN,
+        Some(Fault::Drop),
+        "clock 1000000 1000000\nclock 1050000 1050000\nclock 1050000 1050000\nclock 1051000 1051000\n",
+        "begin start\nlook web\nentry web 1060\nend web 1060000 yes\nclock\n\
+wake 1050 web\nrenew web\nlost web\naway\nclock\nnext 1050 web\nwait 1051000\n\
+renew web\ntold web 60\nend web 1111000 yes\nback\nclock\n",
+    ),
+    // what is known before the first clock: the end is ahead, and its lookup owed
+    (
+        WEB,
+        None,
+        "known web 1060000 yes\nclock 1000000 1000000\nknown web 1060000 yes\n",
+        "clock\nbegin start\nlook web\nentry web 1060\nend web 1060000 yes\nclock\nfault after-clock\nclock\n",
+    ),
+    // changes: a need that ends every wish, and everything looked up anew; names that nobody has
+    (
+        WEB,
+        None,
+        "clock 1000000 1000000\nneed web 0\nclock 1001000 1001000\nneed web 1200\nbegin\nclock 1002000 1002000\n\
+need nobody 5\nknown nobody 5 no\n",
+        "begin start\nlook web\nentry web 1060\nend web 1060000 yes\nclock\nplanned\nclock\nnext none\nwait 1002000\n\
+planned\nclock\nclock\nbegin asked\nlook web\nentry web 1060\nend web 1060000 yes\nclock\n\
+fault unknown-name\nclock\nfault unknown-name\nclock\n",
+    ),
+];
+
+fn table_of<R: AllocGlobal + Abort>(
+    rt: &R,
+    inventory: &str,
+    fault: Option<Fault>,
+) -> Result<Table, Fail> {
+    let entries = read(rt.alloc(), inventory.as_bytes())?;
+    let mut table = Table::load(rt.alloc(), &entries)?;
+    if let Some(fault) = fault {
+        assert!(rt; table.set_fault(1, fault).is_ok(), "a fault");
+    }
+    Ok(table)
+}
+
+fn source(
+    alloc: Global,
+    lines: &str,
+    pieces: &[usize],
+    before_failure: Option<u64>,
+) -> Result<MemorySource, Fail> {
+    Ok(MemorySource::new(
+        Vec::from_slice(alloc, lines.as_bytes())?,
+        Vec::from_slice(alloc, pieces)?,
+        before_failure,
+    ))
+}
+
+// A watch over the inventory's own table, whose lines are written there: its exit.
+fn watches_to<R: AllocGlobal + Abort, S: Sink>(
+    rt: &R,
+    inventory: &str,
+    fault: Option<Fault>,
+    width: u32,
+    lines: &mut MemorySource,
+    out: &mut S,
+    errors: &mut MemorySink,
+) -> Result<Exit, Fail> {
+    let alloc = rt.alloc();
+    let mut exchange = MemoryExchange::new(alloc, table_of(rt, inventory, fault)?);
+    Ok(run_watch(
+        alloc,
+        inventory.as_bytes(),
+        width,
+        lines,
+        &mut exchange,
+        out,
+        errors,
+    ))
+}
+
+fn watches<R: AllocGlobal + Abort>(
+    rt: &R,
+    inventory: &str,
+    fault: Option<Fault>,
+    lines: MemorySource,
+) -> Result<Outcome, Fail> {
+    let mut lines = lines;
+    let mut out = MemorySink::new(rt.alloc(), None);
+    let mut errors = MemorySink::new(rt.alloc(), None);
+    let exit = watches_to(rt, inventory, fault, 8, &mut lines, &mut out, &mut errors)?;
+    Ok(Outcome { exit, out, errors })
+}
+
+fn is_answered<R: AllocGlobal + Abort>(rt: &R, row: &Answered) -> Result<(), Fail> {
+    let (inventory, fault, lines, text) = *row;
+    let lines = source(rt.alloc(), lines, &[], None)?;
+    watches(rt, inventory, fault, lines)?.is(rt, Exit::Done, text, "");
+    Ok(())
+}
+
+#[test]
+fn lines_are_answered(rt: HostRuntime) -> Result<(), Fail> {
+    for row in &ANSWERED {
+        is_answered(&rt, row)?;
+    }
+    Ok(())
+}
+
+// The example in pieces of one byte is answered as in one.
+#[test]
+fn lines_in_pieces_are_answered_alike(rt: HostRuntime) -> Result<(), Fail> {
+    let pieces = vec![in rt.alloc(); 1usize; EXAMPLE.len()]?;
+    let lines = source(rt.alloc(), EXAMPLE, &pieces, None)?;
+    watches(&rt, WEB, None, lines)?.is(&rt, Exit::Done, EXAMPLE_ANSWERS, "");
+    Ok(())
+}
+
+// What is no line, behind one that is.
+const NO_LINES: [&str; 14] = [
+    "\n",
+    "tick 1000\n",
+    "clock\n",
+    "clock 1000000\n",
+    "clock 1000000 1000000 1\n",
+    "clock 1000000  1000000\n",
+    "clock 01 1\n",
+    "clock -1 1\n",
+    "clock 18446744073709551616 1\n",
+    "need web 253402300800\n",
+    "known web 1060000\n",
+    "known web 1060000 maybe\n",
+    "begin \n",
+    "begin",
+];
+
+fn is_refused<R: AllocGlobal + Abort>(rt: &R, behind: &str) -> Result<(), Fail> {
+    let text = format!(in rt.alloc(); "{FIRST}{behind}")?;
+    let lines = source(rt.alloc(), text.as_str(), &[], None)?;
+    watches(rt, WEB, None, lines)?.is(rt, Exit::Device, LOOKED, "leasekeep: line 2\n");
+    Ok(())
+}
+
+#[test]
+fn what_is_no_line_ends_it(rt: HostRuntime) -> Result<(), Fail> {
+    for behind in &NO_LINES {
+        is_refused(&rt, behind)?;
+    }
+    Ok(())
+}
+
+#[test]
+fn a_read_that_fails_ends_it(rt: HostRuntime) -> Result<(), Fail> {
+    let lines = source(rt.alloc(), FIRST, &[], Some(1))?;
+    watches(&rt, WEB, None, lines)?.is(&rt, Exit::Device, LOOKED, "leasekeep: read\n");
+    let lines = source(rt.alloc(), FIRST, &[], Some(0))?;
+    watches(&rt, WEB, None, lines)?.is(&rt, Exit::Device, "", "leasekeep: read\n");
+    Ok(())
+}
+
+#[test]
+fn no_inventory_is_named(rt: HostRuntime) -> Result<(), Fail> {
+    let mut errors = MemorySink::new(rt.alloc(), None);
+    let mut out = MemorySink::new(rt.alloc(), None);
+    let mut exchange = MemoryExchange::new(rt.alloc(), table_of(&rt, WEB, None)?);
+    let mut lines = source(rt.alloc(), FIRST, &[], None)?;
+    let exit = run_watch(
+        rt.alloc(),
+        b"x",
+        8,
+        &mut lines,
+        &mut exchange,
+        &mut out,
+        &mut errors,
+    );
+    let fault = "leasekeep: inventory: not-toml\n";
+    Outcome { exit, out, errors }.is(&rt, Exit::Inventory, "", fault);
+    Ok(())
+}
+
+// Two lines that are answered by 14 bytes each, in one write and one flush; and what is held where the call fails, or wants
+// memory, that comes behind so many.
+const TWO_NEEDS: &str = "need web 1150\nneed web 1100\n";
+
+const HELD: [(u64, usize); 4] = [(0, 0), (1, 14), (2, 14), (3, 28)];
+
+#[test]
+fn a_writer_that_fails_ends_it(rt: HostRuntime) -> Result<(), Fail> {
+    for (calls, length) in &HELD {
+        let mut lines = source(rt.alloc(), TWO_NEEDS, &[], None)?;
+        let mut out = MemorySink::new(rt.alloc(), Some(*calls));
+        let mut errors = MemorySink::new(rt.alloc(), None);
+        let exit = watches_to(&rt, WEB, None, 8, &mut lines, &mut out, &mut errors)?;
+        assert!(rt; exit == Exit::Device, "{calls}");
+        assert!(rt; out.bytes().len() == *length, "{calls}");
+        assert!(rt;
+            errors.bytes() == b"leasekeep: write\n".as_slice(),
+            "{calls}"
+        );
+    }
+    Ok(())
+}
+
+#[test]
+fn a_writer_that_wants_memory_ends_it(rt: HostRuntime) -> Result<(), Fail> {
+    for (calls, length) in &HELD {
+        let mut lines = source(rt.alloc(), TWO_NEEDS, &[], None)?;
+        let mut out = Wanting::behind(rt.alloc(), *calls);
+        let mut errors = MemorySink::new(rt.alloc(), None);
+        let exit = watches_to(&rt, WEB, None, 8, &mut lines, &mut out, &mut errors)?;
+        assert!(rt; exit == Exit::Memory, "{calls}");
+        assert!(rt; out.held().bytes().len() == *length, "{calls}");
+        assert!(rt;
+            errors.bytes() == b"leasekeep: memory\n".as_slice(),
+            "{calls}"
+        );
+    }
+    Ok(())
+}
