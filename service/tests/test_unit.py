@@ -35,7 +35,7 @@ class Unit(unittest.TestCase):
         lines = UNIT.read_text().splitlines()
         for line in ("Type=notify", "Restart=always", "RestartSec=1", "StartLimitIntervalSec=0", "WatchdogSec=60",
                      "ExecReload=/bin/sh -c 'kill -HUP \"$MAINPID\"'", "NoNewPrivileges=yes", "ProtectSystem=strict",
-                     "User=leasekeep"):
+                     "User=leasekeep", "Environment=BOOT_ID=%b"):
             self.assertIn(line, lines)
 
     def test_it_reaches_this_machine_alone_and_listens_at_no_port(self) -> None:
