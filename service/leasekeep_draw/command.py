@@ -10,7 +10,7 @@ from pathlib import Path
 
 from leasekeep_draw import entries, history, picture, table, terminal
 from leasekeep_draw.chart import MANY, Chart, chart_of, start_of
-from leasekeepd_lib.clock import LAST
+from leasekeep_inventory.rfc3339 import LAST
 from leasekeepd_lib.version import version
 
 _EXAMPLE = """

@@ -1,1 +1,1 @@
-"""The parts of leasekeepd: a daemon that drives `leasekeep run` in real time (docs/running.md has its rules)."""
+"""The parts of leasekeepd: a shell around `leasekeep watch`, which decides what is asked and when (docs/running.md)."""

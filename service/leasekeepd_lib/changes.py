@@ -9,12 +9,14 @@ import zlib
 from dataclasses import dataclass
 from enum import Enum
 
-from .clock import LAST
-from .inventory import Entry, Inventory, entry_text
-from .inventory_file import read_tables
-from .values import CREDENTIAL, NAME
+from leasekeep_inventory.inventory import Entry, Inventory, entry_text
+from leasekeep_inventory.inventory_file import read_tables
+from leasekeep_inventory.rfc3339 import LAST, read_rfc3339
+from leasekeep_inventory.values import CREDENTIAL, NAME
 
 ABSENT = "absent"
+_AFTER = re.compile(r"\+(\d{1,12})([smhd]?)", re.ASCII)
+_UNITS = {"": 1, "s": 1, "m": 60, "h": 3600, "d": 86400}
 _WAS = re.compile(r"absent|\d{1,12}|[0-9a-f]{64}", re.ASCII)
 
 
@@ -122,6 +124,20 @@ def only_entry(table: str) -> Entry:
     if len(entries) != 1:
         raise ChangeFault(f"one table [[token]] or [[lease]] is wanted, and {len(entries)} came")
     return entries[0]
+
+
+def read_when(word: str, now: float) -> int:
+    """A moment, a date, or so long from now (`+6h`); ChangeFault where the word is none."""
+    moment: int | None
+    if after := _AFTER.fullmatch(word):
+        moment = int(now) + int(after[1]) * _UNITS[after[2]]
+    elif word.isascii() and word.isdigit() and len(word) <= 12:
+        moment = int(word)
+    else:
+        moment = read_rfc3339(word)
+    if moment is None or moment > LAST:
+        raise ChangeFault('WHEN is a moment (1764000000), a date ("2026-11-22T09:00:00Z") or +90s, +30m, +6h, +2d')
+    return moment
 
 
 def compacted(changes: list[Change]) -> list[Change]:

@@ -13,13 +13,14 @@ import sys
 from pathlib import Path
 from typing import Sequence
 
-from .broker import Broker
+from leasekeep_inventory.broker import Broker
+from leasekeep_inventory.discover import DiscoverFault, discover, read_short_list
+from leasekeep_inventory.http_client import Address, HttpTransport
+from leasekeep_inventory.lint import kinds_of, lint
+
 from .clock import SystemClock
 from .control import ControlFault, send_command
-from .discover import DiscoverFault, discover, read_short_list
 from .health import KEPT
-from .http_client import Address, HttpTransport
-from .lint import kinds_of, lint
 from .serving import EXIT_FAULT, SOCKET, serve
 from .version import version
 
@@ -63,6 +64,13 @@ def _timeout(word: str) -> int:
     return seconds
 
 
+def _width(word: str) -> int:
+    requests = int(word)
+    if not 1 <= requests <= 32:
+        raise ValueError
+    return requests
+
+
 def _alert(word: str) -> str:
     program = shutil.which(word)
     if program is None:
@@ -85,7 +93,7 @@ def _address(word: str) -> Address:
 
 def _parser() -> argparse.ArgumentParser:
     parser = argparse.ArgumentParser(
-        prog="leasekeepd", description="Keeps Vault tokens and leases alive: drives `leasekeep run` in real time.",
+        prog="leasekeepd", description="Keeps Vault tokens and leases alive: runs `leasekeep watch` as a service.",
         epilog="Exit status: 0 done, 1 an inventory that may not be served or a command that failed, 2 the command line.")
     parser.add_argument("--version", action="version", version=f"leasekeepd {version()}")
     commands = parser.add_subparsers(dest="command", required=True, metavar="COMMAND")
@@ -125,8 +133,8 @@ def _add_serve(commands: "argparse._SubParsersAction[argparse.ArgumentParser]", 
                ) -> None:
     serving = commands.add_parser(
         "serve", parents=[runtime], help="keep what FILE says alive",
-        description="Keeps what FILE says alive: starts `leasekeep run`, sleeps until each wake-up, and logs what it"
-        " prints. SIGTERM ends it, SIGHUP reads FILE again.",
+        description="Keeps what FILE says alive: starts `leasekeep watch`, hands in the time, sleeps until it is told, and"
+        " logs what it prints. SIGTERM ends it, SIGHUP reads FILE again.",
         epilog="It refuses a FILE that is faulty or that others may read, a token without secret, a lease without lease_id,"
         " and a margin of less than four times the time-out: exit 1. `leasekeepd lint FILE` shows all of these beforehand.")
     serving.add_argument("file", type=Path, metavar="FILE", help="the inventory")
@@ -134,6 +142,8 @@ def _add_serve(commands: "argparse._SubParsersAction[argparse.ArgumentParser]", 
                        help="the broker: a port of 127.0.0.1, or the path of a UNIX socket")
     serving.add_argument("--timeout", type=_timeout, default=5, metavar="SECONDS",
                        help="the longest that a connect, read or write may take (1 to 60, default: 5)")
+    serving.add_argument("--width", type=_width, metavar="K",
+                       help="how many requests go out at once, at most (1 to 32, default: 8)")
     serving.add_argument("--leasekeep", default=_program(), metavar="PROGRAM",
                        help="the program to run (default: the one next to leasekeepd, else the one in PATH)")
     serving.add_argument("--log", choices=("text", "json"), default="text", help="the format of log lines")
@@ -184,8 +194,8 @@ def _inventory(arguments: argparse.Namespace) -> int:
     clock = SystemClock()
 
     async def discovered() -> str:
-        broker = Broker(HttpTransport(arguments.address), clock, arguments.timeout)
-        return await discover(broker, clock, read_short_list(arguments.file))
+        broker = Broker(HttpTransport(arguments.address), arguments.timeout)
+        return await discover(broker, clock.wall, read_short_list(arguments.file))
     try:
         sys.stdout.write(asyncio.run(discovered()))
     except DiscoverFault as fault:

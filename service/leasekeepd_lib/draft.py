@@ -4,9 +4,10 @@ from __future__ import annotations
 
 from dataclasses import replace
 
+from leasekeep_inventory.inventory import MAX_ENTRIES, Entry, Inventory, Kind, entry_text, inventory_text
+from leasekeep_inventory.inventory_file import LIMIT, judge
+
 from .changes import Change, ChangeFault, What, only_entry, said_by
-from .inventory import MAX_ENTRIES, Entry, Inventory, Kind, entry_text, inventory_text
-from .inventory_file import LIMIT, judge
 
 
 class Draft:

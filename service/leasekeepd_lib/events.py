@@ -9,7 +9,9 @@ from dataclasses import dataclass
 from enum import Enum
 from typing import Callable, Protocol
 
-from .clock import Clock, date_text
+from leasekeep_inventory.rfc3339 import date_text
+
+from .clock import Clock
 
 
 class Level(Enum):
@@ -59,10 +61,6 @@ class Log:
         for listener in self.listeners:
             listener(level, text)
 
-    def quiet(self) -> Log:
-        """The same log for what nobody needs: nothing there is more than a note."""
-        return _QuietLog(self)
-
     def info(self, word: str, *words: object) -> None:
         self.say(Level.INFO, word, *words)
 
@@ -74,16 +72,6 @@ class Log:
 
     def alert(self, word: str, *words: object) -> None:
         self.say(Level.ALERT, word, *words)
-
-
-class _QuietLog(Log):
-    """A log that passes on, and warns of nothing."""
-
-    def __init__(self, log: Log) -> None:
-        self._log = log
-
-    def say(self, level: Level, word: str, *words: object) -> None:
-        self._log.say(Level.NOTE if level.is_alerted else level, word, *words)
 
 
 ALERT_SECONDS = 30.0

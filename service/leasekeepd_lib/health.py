@@ -2,20 +2,19 @@
 
 from __future__ import annotations
 
-from .clock import Clock, date_text
-from .engine import Engine
-from .status import EntryStatus, State, entries_of
+from leasekeep_inventory.rfc3339 import date_text
+
+from .status import EntryStatus, State
 
 KEPT = "every needed entry is kept"
 
 
-def unkept(engine: Engine, clock: Clock, is_alive: bool) -> list[str]:
+def unkept(entries: list[EntryStatus], now: float, is_alive: bool) -> list[str]:
     """A line for each entry that is needed, by itself or by one under it, and not kept; and one where the part of the service
     that keeps them gives no sign of life. None where all is well: a request that is tried again is, as long as the entry
     lives."""
-    now = engine.moment()
     found = [] if is_alive else ["leasekeepd: it answers, and the part of it that keeps the entries gives no sign of life"]
-    for entry in entries_of(engine, clock):
+    for entry in entries:
         why = _why(entry) if entry.carried > now else None
         if why is not None:
             found.append(f"{entry.name} {why}, and is needed until {date_text(entry.carried)}")

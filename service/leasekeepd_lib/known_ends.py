@@ -8,8 +8,9 @@ import zlib
 from pathlib import Path
 from typing import Mapping
 
+from leasekeep_inventory.inventory import Entry, Inventory
+
 from .changes import fingerprint
-from .inventory import Entry, Inventory
 from .storage import Storage
 
 _BOOT_ID = Path("/proc/sys/kernel/random/boot_id")

@@ -1,39 +1,40 @@
-"""`leasekeepd serve`: the engine with its file, its journal, its socket and its signals."""
+"""`leasekeepd serve`: the watch with its file, its journal, its socket and its signals."""
 
 from __future__ import annotations
 
 import asyncio
-import re
 import stat
 from dataclasses import dataclass, replace
 from pathlib import Path
 from typing import Any, Callable, Coroutine
 
-from .broker import Verdict
-from .changes import Change, ChangeFault, What, only_entry, said_by
-from .clock import LAST, date_text
+from leasekeep_inventory.broker import Broker, Verdict
+from leasekeep_inventory.inventory import Inventory, inventory_text
+from leasekeep_inventory.rfc3339 import date_text
+from leasekeep_inventory.values import CREDENTIAL
+
+from .changes import Change, ChangeFault, What, only_entry, read_when, said_by
+from .clock import Clock
 from .draft import changed, replay
-from .engine import Engine
-from .events import Alerts
+from .events import Alerts, Log
 from .health import unkept
-from .inventory import Inventory, inventory_text
 from .journal import Journal
+from .known_ends import KnownEnds
 from .metrics import Figures, metrics_text
 from .notify import Notifier
-from .parts import Parts
-from .rfc3339 import read_rfc3339
 from .source import Loaded, Source, SourceFault
-from .status import FileReading, entries_of, status_lines
+from .status import EntryStatus, FileReading, status_lines
 from .storage import Storage
-from .values import CREDENTIAL
+from .watch_lines import WatchLine
+from .watch_process import Watch, WatchLauncher
+from .watch_standings import Standings
 
 TOGETHER = 5.0
-"""Seconds within which changes are one beginning."""
+"""Seconds within which changes are one new process."""
 METRICS_EVERY = 15.0
-ALIVE_WITHIN = 900.0
-"""Seconds without a sign of life from which on the engine counts as hung: its longest pause is 300."""
-_AFTER = re.compile(r"\+(\d{1,12})([smhd]?)", re.ASCII)
-_UNITS = {"": 1, "s": 1, "m": 60, "h": 3600, "d": 86400}
+ALIVE_WITHIN = 300.0
+"""Seconds without a sign of life from which on the watch counts as hung: it gives one every half a minute, and more than
+two minutes pass only where the longest time-out runs out again and again."""
 
 
 @dataclass
@@ -42,6 +43,7 @@ class Surroundings:
 
     source: Source
     journal: Journal
+    ends: KnownEnds
     notifier: Notifier
     storage: Storage
     metrics: Path | None = None
@@ -49,35 +51,30 @@ class Surroundings:
     dropped_lines: Callable[[], int] = lambda: 0
 
 
-def read_when(word: str, now: float) -> int:
-    """A moment, a date, or so long from now (`+6h`); ChangeFault where the word is none."""
-    moment: int | None
-    if after := _AFTER.fullmatch(word):
-        moment = int(now) + int(after[1]) * _UNITS[after[2]]
-    elif word.isascii() and word.isdigit() and len(word) <= 12:
-        moment = int(word)
-    else:
-        moment = read_rfc3339(word)
-    if moment is None or moment > LAST:
-        raise ChangeFault('WHEN is a moment (1764000000), a date ("2026-11-22T09:00:00Z") or +90s, +30m, +6h, +2d')
-    return moment
-
-
 class Service:
     """One running daemon."""
 
-    def __init__(self, surroundings: Surroundings, parts: Parts) -> None:
-        self._around, self._parts, self._log = surroundings, parts, parts.log
+    def __init__(self, surroundings: Surroundings, clock: Clock, broker: Broker, launcher: WatchLauncher, log: Log) -> None:
+        self._around, self._clock, self._broker, self._log = surroundings, clock, broker, log
         self._file = Loaded(b"", Inventory())
+        self.inventory = Inventory()
+        self.standings = Standings(clock)
+        self.watch = Watch(launcher, clock, surroundings.ends, log, self._hear)
         self._soon: asyncio.TimerHandle | None = None
         self._between: asyncio.TimerHandle | None = None
         self._is_hung_up = False
         self.reading = FileReading()
         self._metrics_failed = False
-        self.engine = Engine(Inventory(), parts)
+
+    def _hear(self, line: WatchLine) -> None:
+        level = self.standings.level_of(line)
+        if level is not None:
+            self._log.say(level, line.said.word, *line.words)
+        self.standings.hear(line)
 
     def load(self) -> None:
-        """Reads file and journal; SourceFault where neither the file nor its last good copy can be served."""
+        """Reads file, journal and the ends that are known; SourceFault where neither the file nor its last good copy can
+        be served."""
         fault = self._read_file()
         if fault is not None:
             copy = self._around.source.load_copy()
@@ -85,7 +82,17 @@ class Service:
                 raise fault
             self._log.alert("file", "is faulty: the last good copy is served")
             self._file = copy
-        self.engine.take(self._with_journal())
+        try:
+            self._around.ends.load()
+        except OSError as error:
+            self._log.alert("ends", "cannot be read:", error.strerror)
+        self._take(self._with_journal())
+
+    def _take(self, inventory: Inventory) -> None:
+        """Serves another inventory from now on."""
+        self.inventory = inventory
+        self.standings.take(inventory)
+        self.watch.take(inventory)
 
     def hear_hangup(self) -> None:
         """Reads the file anew, as SIGHUP asks: at once, but no more than once in five seconds."""
@@ -101,16 +108,16 @@ class Service:
             self._between = asyncio.get_running_loop().call_later(TOGETHER, self._reload_if_asked)
 
     def reload(self) -> None:
-        """Reads the file anew; a faulty one is refused and the old run goes on."""
+        """Reads the file anew; a faulty one is refused and the old one is served on."""
         if self._read_file() is not None:
             self._log.alert("file", "is faulty: it is not taken, the old one is kept to")
             return
-        self.engine.take(self._with_journal())
-        self.engine.inbox.begin("the file was read anew")
+        self._log.info("file", "was read anew")
+        self._take(self._with_journal())
 
     def _read_file(self) -> SourceFault | None:
         """Takes the file, and keeps a copy; why not, where it is faulty."""
-        now = self._parts.clock.wall()
+        now = self._clock.wall()
         try:
             self._file = self._around.source.load()
         except SourceFault as fault:
@@ -148,7 +155,7 @@ class Service:
 
     async def serve(self) -> None:
         """Runs until it is cancelled."""
-        works = [self.engine.serve(), self._again_and_again(self._report)]
+        works = [self.watch.serve(), self._again_and_again(self._report)]
         if self._around.alerts is not None:
             works.append(self._again_and_again(self._around.alerts.serve))
         self._around.notifier.send("READY=1")
@@ -176,7 +183,7 @@ class Service:
         seconds = self._around.notifier.watchdog_seconds
         every = METRICS_EVERY if seconds is None else min(METRICS_EVERY, seconds / 3)
         while True:
-            wake = self.engine.next_wake
+            wake = self.standings.next_wake
             status = f"STATUS=next wake-up {date_text(wake) if wake else 'none'}"
             if self._is_alive():
                 self._around.notifier.send("WATCHDOG=1", status)
@@ -184,8 +191,8 @@ class Service:
             await asyncio.sleep(every)
 
     def _is_alive(self) -> bool:
-        """Whether the engine has given a sign of life of late."""
-        beat = self.engine.inbox.waiter.last_beat
+        """Whether the watch has given a sign of life of late."""
+        beat = self.watch.last_beat
         return beat is None or asyncio.get_running_loop().time() - beat < ALIVE_WITHIN
 
     def _write_metrics(self) -> None:
@@ -201,18 +208,21 @@ class Service:
 
     def metrics(self) -> str:
         """The figures of the service and its entries at this moment."""
-        engine, clock = self.engine, self._parts.clock
-        figures = Figures(clock.wall(), engine.beginnings, engine.next_wake, engine.inventory.margin, engine.offset,
+        told = self.standings
+        figures = Figures(self._clock.wall(), told.beginnings, told.next_wake, self.inventory.margin, told.offset,
                           self._around.dropped_lines(), self.reading)
-        return metrics_text(figures, entries_of(engine, clock))
+        return metrics_text(figures, self._entries())
+
+    def _entries(self) -> list[EntryStatus]:
+        return self.standings.entries(self.inventory)
 
     async def command(self, words: list[str], who: str) -> list[str]:
         """One command of the control socket, and who gave it; the lines of its answer."""
         match words:
             case ["status"]:
-                return status_lines(self.engine, self._parts.clock)
+                return status_lines(self.standings.next_wake, self.standings.beginnings, self._entries())
             case ["health"]:
-                return unkept(self.engine, self._parts.clock, self._is_alive())
+                return unkept(self._entries(), self.standings.moment(), self._is_alive())
             case ["need", name, when]:
                 return self._need(name, when, who)
             case ["replace", name, credential]:
@@ -230,34 +240,31 @@ class Service:
         return replace(change, was=said_by(self._file.inventory, change.what, change.name))
 
     def _changed(self, change: Change) -> Inventory:
-        return changed(self.engine.inventory, change, self._around.source.names_are_secrets)
+        return changed(self.inventory, change, self._around.source.names_are_secrets)
 
     def _change(self, change: Change, who: str) -> list[str]:
         """Writes a change, and makes it within five seconds."""
         inventory = self._changed(change)
         self._around.journal.add(change)
-        self.engine.take(inventory)
+        self.inventory = inventory
         self._log.info(change.what.value, change.name, "by", who)
-        self._begin_soon(f"{change.what.value} {change.name}")
+        if self._soon is None:
+            self._soon = asyncio.get_running_loop().call_later(TOGETHER, self._take_changes)
         return []
 
-    def _begin_soon(self, reason: str) -> None:
-        if self._soon is None:
-            self._soon = asyncio.get_running_loop().call_later(TOGETHER, self._begin, reason)
-
-    def _begin(self, reason: str) -> None:
+    def _take_changes(self) -> None:
         self._soon = None
-        self.engine.inbox.begin(reason)
+        self._take(self.inventory)
 
     def _need(self, name: str, when: str, who: str) -> list[str]:
-        until = read_when(when, self._parts.clock.wall())
+        until = read_when(when, self._clock.wall())
         change = self._described(Change(What.NEED, name, until=until))
         inventory = self._changed(change)
         self._around.journal.add(change)
         self._log.info("need", name, date_text(until), "by", who)
-        if self._soon is not None or not self.engine.change_need(inventory, name, until):
-            self.engine.take(inventory)
-            self._begin_soon(f"need {name}")
+        self.inventory = inventory
+        if self._soon is None:
+            self.watch.need(inventory, name, until)
         return [f"{name} is needed until {date_text(until)}"]
 
     async def _replace(self, name: str, credential: str, who: str) -> list[str]:
@@ -267,7 +274,7 @@ class Service:
         inventory = self._changed(change)
         entry = inventory.find(name)
         assert entry is not None
-        heard = await self._parts.broker.look_up(inventory, entry)
+        heard = await self._broker.look_up(inventory, entry)
         if heard.verdict is Verdict.REFUSED or heard.status == 400:
             raise ChangeFault(f"the broker answers {heard.status} to its lookup: {name} keeps the old one")
         if heard.facts is not None and heard.facts.never_ends:
@@ -279,10 +286,10 @@ class Service:
         path = self._around.source.path
         if path.read_bytes() != self._file.data:
             raise ChangeFault(f"{path} has changed since it was read: read it anew first (SIGHUP)")
-        data = inventory_text(self.engine.inventory).encode()
+        data = inventory_text(self.inventory).encode()
         mode = stat.S_IMODE(path.stat().st_mode) & 0o770
         self._around.journal.settle(path, data, mode)
-        self._file = Loaded(data, self.engine.inventory)
+        self._file = Loaded(data, self.inventory)
         self._keep_copy()
         self._log.info("settle", "by", who)
         return [f"{path} holds every change"]

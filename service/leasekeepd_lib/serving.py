@@ -7,24 +7,24 @@ import asyncio
 import fcntl
 import logging
 import os
-import random
 import signal
 import traceback
 from pathlib import Path
 
-from .broker import Broker
+from leasekeep_inventory.broker import Broker
+from leasekeep_inventory.http_client import HttpTransport
+
 from .clock import SystemClock
 from .control import ControlServer
 from .events import Alerts, Level, LineForm, Log
-from .http_client import HttpTransport
 from .journal import Journal
+from .known_ends import KnownEnds, boot_id
 from .notify import Notifier
 from .outlet import Outlet
-from .parts import Parts
-from .run_process import ProcessLauncher
 from .service import Service, Surroundings
 from .source import Source, SourceFault
 from .storage import Storage
+from .watch_process import WatchCommand
 
 EXIT_FAULT = 1
 SOCKET = "control.sock"
@@ -79,11 +79,12 @@ class _Serving:
         logging.getLogger("asyncio").propagate = False
         source = Source(arguments.file, state / "inventory.toml", arguments.timeout, arguments.names_are_secrets,
                         storage)
-        around = Surroundings(source, Journal(state / "journal", storage), Notifier(os.environ), storage,
-                              arguments.metrics, self._alerts, lambda: outlet.dropped)
-        parts = Parts(clock, Broker(HttpTransport(arguments.address), clock, arguments.timeout),
-                      ProcessLauncher(arguments.leasekeep, arguments.address, arguments.timeout), log, random.Random())
-        self._service = Service(around, parts)
+        around = Surroundings(
+            source, Journal(state / "journal", storage), KnownEnds(state / "ends", storage, boot_id(os.environ)),
+            Notifier(os.environ), storage, arguments.metrics, self._alerts, lambda: outlet.dropped)
+        command = WatchCommand(arguments.leasekeep, arguments.address, arguments.timeout, arguments.width)
+        broker = Broker(HttpTransport(arguments.address), arguments.timeout)
+        self._service = Service(around, clock, broker, command, log)
         self._control: ControlServer | None = None
         self._held: set[Path] = set()
 

@@ -6,10 +6,10 @@ import stat
 from dataclasses import dataclass
 from pathlib import Path
 
-from .findings import Finding, Severity
-from .inventory import Inventory, Kind, inventory_text
-from .inventory_file import LIMIT, Reading, read_inventory
-from .room import TIMEOUTS_IN_MARGIN, Room
+from leasekeep_inventory.inventory import Inventory
+from leasekeep_inventory.inventory_file import read_inventory
+from leasekeep_inventory.refusals import refusals
+
 from .storage import Storage
 
 
@@ -61,31 +61,3 @@ class Source:
             return None
         inventory = None if data is None else read_inventory(data).inventory
         return None if data is None or inventory is None else Loaded(data, inventory)
-
-
-def refusals(reading: Reading, timeout: int, names_are_secrets: bool, mode: int) -> list[Finding]:
-    """Why an inventory may not be served, besides what its reading found."""
-    found = []
-
-    def refuse(line: int, label: str, key: str, problem: str, mend: str) -> None:
-        found.append(Finding(Severity.FAULT, line, label, key, problem, mend))
-    if mode & (stat.S_IROTH | stat.S_IWOTH):
-        refuse(0, "", "", f"others may read or write this file (mode {mode:04o})", "chmod o-rwx it: it holds secrets")
-    if reading.inventory is not None and len(inventory_text(reading.inventory)) > LIMIT:
-        refuse(0, "", "", f"this file is over {LIMIT} bytes as `leasekeep` is handed it", "split the inventory")
-    margin = reading.margin
-    if margin is not None and margin < TIMEOUTS_IN_MARGIN * timeout:
-        refuse(reading.line_of("", "margin"), "", "margin",
-               f"is {margin} s, under four times the time-out of {timeout} s", room_of(reading).for_timeout(timeout, margin))
-    for row in reading.rows:
-        if not row.has_credential and not names_are_secrets:
-            key = "secret" if row.kind is Kind.TOKEN else "lease_id"
-            refuse(reading.lines.of_key(row.head, row.place, key), row.label, key,
-                   "is missing: the name would be sent instead",
-                   f"add {key} (--names-are-secrets allows this, for trials)")
-    return found
-
-
-def room_of(reading: Reading) -> Room:
-    """The room that the steps leave for the margin, as far as they are known."""
-    return Room.of((row.step, row.label) for row in reading.rows if row.step is not None)

@@ -5,9 +5,7 @@ from __future__ import annotations
 from dataclasses import dataclass
 from enum import Enum
 
-from .book import CLOSE
-from .clock import Clock, date_text
-from .engine import Engine
+from leasekeep_inventory.rfc3339 import date_text
 
 
 class State(Enum):
@@ -55,33 +53,6 @@ class EntryStatus:
                 f" {moment(self.in_force)} last-success {moment(self.last_success)} wrong {self.trouble or '-'}")
 
 
-def entries_of(engine: Engine, clock: Clock) -> list[EntryStatus]:
-    found = []
-    elapsed, moment = clock.elapsed(), engine.moment()
-    for entry in engine.inventory.entries:
-        standing = engine.book[entry.name]
-        never_ends = standing.facts is not None and standing.facts.never_ends
-        end = None if standing.end is None or never_ends else moment + standing.end - elapsed
-        cut, told = standing.cut_to, standing.short_told
-        # A cut that is not told yet is one of the plan alone: the entry is still tried.
-        is_cut = cut is not None and told is not None and abs(cut - told) <= CLOSE
-        in_force = min(entry.need, cut) if cut is not None and is_cut else entry.need
-        if standing.trouble == "gone":
-            state, in_force = State.GONE, 0
-        elif never_ends:
-            state = State.KEPT
-        elif end is not None and end <= moment:
-            state, in_force = State.ENDED, 0
-        elif in_force < entry.need:
-            state = State.SHORT
-        else:
-            state = State.TRYING if standing.trouble or end is None else State.KEPT
-        found.append(EntryStatus(entry.name, state, end, entry.need, engine.inventory.carried[entry.name], in_force,
-                                 standing.last_success, standing.renewals, standing.refused, standing.lost, standing.trouble))
-    return found
-
-
-def status_lines(engine: Engine, clock: Clock) -> list[str]:
-    wake = engine.next_wake
-    head = f"next-wake {'-' if wake is None else date_text(wake)} beginnings {engine.beginnings}"
-    return [head, *(entry.text() for entry in entries_of(engine, clock))]
+def status_lines(next_wake: int | None, beginnings: int, entries: list[EntryStatus]) -> list[str]:
+    head = f"next-wake {'-' if next_wake is None else date_text(next_wake)} beginnings {beginnings}"
+    return [head, *(entry.text() for entry in entries)]

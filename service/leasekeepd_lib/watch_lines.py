@@ -14,7 +14,7 @@ class Said(Enum):
     """The first word of a line, with the form of what follows it."""
 
     BEGIN = "begin", r" (?:start|asked|jump|day)"
-    WAKE = "wake", f"{_NUMBER}(?:{_NAME})+"
+    WAKE = "wake", f"{_NUMBER}(?:{_NAME})*"
     LOOK = "look", f"(?:{_NAME})+"
     RENEW = "renew", f"(?:{_NAME})+"
     ENTRY = "entry", _NAME + _NUMBER

@@ -8,12 +8,13 @@ from collections import deque
 from dataclasses import dataclass
 from typing import Callable, Protocol
 
+from leasekeep_inventory.http_client import Address
+from leasekeep_inventory.inventory import Inventory, inventory_text
+
+from .child import Child, LaunchFault, start_child
 from .clock import Clock, Waiter
 from .events import Log
-from .http_client import Address
-from .inventory import Inventory, inventory_text
 from .known_ends import KnownEnds
-from .run_process import LaunchFault, Run, start_process
 from .watch_lines import Said, WatchLine, WatchLineFault, read_watch_line
 
 LONGEST_SILENCE = 15.0
@@ -31,7 +32,7 @@ class WatchLauncher(Protocol):
     @property
     def timeout(self) -> int: ...
 
-    async def launch(self, inventory: Inventory) -> Run:
+    async def launch(self, inventory: Inventory) -> Child:
         """Starts one on that inventory; LaunchFault where it cannot be started."""
 
 
@@ -44,9 +45,9 @@ class WatchCommand:
     timeout: int
     width: int | None = None
 
-    async def launch(self, inventory: Inventory) -> Run:
+    async def launch(self, inventory: Inventory) -> Child:
         width = [] if self.width is None else ["--width", str(self.width)]
-        return await start_process(self.program, "watch", inventory_text(inventory), self.address.word, "--timeout",
+        return await start_child(self.program, "watch", inventory_text(inventory), self.address.word, "--timeout",
                                    str(self.timeout), *width)
 
 
@@ -65,6 +66,11 @@ class Watch:
         self._waiter = Waiter()
         self.starts = 0
 
+    @property
+    def last_beat(self) -> float | None:
+        """The event loop's time of the last sign of life: of a line handed in, or of a sleep that began."""
+        return self._waiter.last_beat
+
     def take(self, inventory: Inventory) -> None:
         """Goes on with another inventory, be it another entry or another secret: a new process is started on it, which is
         handed the ends that are known."""
@@ -77,14 +83,7 @@ class Watch:
         self._wanted = inventory
         if is_told:
             self._inventory = inventory
-            self._hand_in_soon(f"need {name} {until}")
-
-    def begin(self) -> None:
-        """Has everything looked up again."""
-        self._hand_in_soon("begin")
-
-    def _hand_in_soon(self, line: str) -> None:
-        self._changes.append(line)
+            self._changes.append(f"need {name} {until}")
         self._waiter.ring()
 
     async def serve(self) -> None:
@@ -139,7 +138,7 @@ class Watch:
         while not self._changes and self._wanted is self._inventory and self._elapsed() < wake:
             await self._waiter.sleep(max(wake / 1000 - self._clock.elapsed(), TICK))
 
-    async def _hand_in(self, process: Run, line: str) -> int | None:
+    async def _hand_in(self, process: Child, line: str) -> int | None:
         """Hands a line in and reads to the last that answers it; the moment to wait for, None where there is none."""
         self._waiter.beat()
         silence = asyncio.timeout(2 * self._launcher.timeout + LONGEST_SILENCE)

@@ -4,9 +4,10 @@ from __future__ import annotations
 
 from dataclasses import dataclass
 
+from leasekeep_inventory.inventory import Entry, Inventory
+
 from .clock import PARTED, Clock
 from .events import Level
-from .inventory import Entry, Inventory
 from .status import EntryStatus, State
 from .watch_lines import Said, WatchLine
 
@@ -15,11 +16,7 @@ _LEVELS = {
     Said.TOP: Level.NOTE, Said.LOST: Level.WARNING, Said.REFUSED: Level.WARNING, Said.SHORT: Level.WARNING,
     Said.ORPHAN: Level.WARNING, Said.AWAY: Level.WARNING, Said.GONE: Level.ALERT, Said.NEVER: Level.ALERT,
 }
-
-
-def level_of(line: WatchLine) -> Level | None:
-    """How grave a line is in the log; None: it is for the shell alone."""
-    return _LEVELS.get(line.said, Level.INFO)
+_TROUBLES = {Said.LOST: "lost", Said.REFUSED: "refused", Said.GONE: "gone"}
 
 
 @dataclass
@@ -58,6 +55,14 @@ class Standings:
         standing = self._by_name.get(entry.name)
         return standing if standing is not None and standing.secret == entry.secret else _Standing(entry.secret)
 
+    def level_of(self, line: WatchLine) -> Level | None:
+        """How grave a line is in the log, before it is heard; None: it is for the shell alone. What is wrong with an entry
+        is told once: that it goes on is a note."""
+        trouble = _TROUBLES.get(line.said)
+        if trouble is not None and (standing := self._by_name.get(line.words[0])) and standing.trouble in (trouble, "gone"):
+            return Level.NOTE
+        return _LEVELS.get(line.said, Level.INFO)
+
     def hear(self, line: WatchLine) -> None:
         """Takes one line in."""
         match line.said, line.words:
@@ -80,14 +85,11 @@ class Standings:
             case Said.END:
                 standing.end = int(rest[0]) / 1000
                 self._take_offset(standing.end)
-            case Said.LOST:
-                standing.trouble = standing.trouble if standing.trouble == "gone" else "lost"
-                standing.lost += self._is_renewal
-            case Said.REFUSED:
-                standing.trouble = standing.trouble if standing.trouble == "gone" else "refused"
-                standing.refused += self._is_renewal
-            case Said.GONE:
-                standing.trouble = "gone"
+            case Said.LOST | Said.REFUSED | Said.GONE:
+                if standing.trouble != "gone":
+                    standing.trouble = _TROUBLES[said]
+                standing.lost += said is Said.LOST and self._is_renewal
+                standing.refused += said is Said.REFUSED and self._is_renewal
             case Said.NEVER:
                 standing.never_ends = True
             case Said.SHORT:

@@ -6,7 +6,6 @@ import asyncio
 import errno
 import io
 import os
-import random
 import shutil
 import tempfile
 import unittest
@@ -14,19 +13,21 @@ from dataclasses import replace
 from pathlib import Path
 from typing import Any, Callable, Coroutine
 
-from leasekeepd_lib.broker import Broker
+from leasekeep_inventory.broker import Broker
+from leasekeep_inventory.inventory import Entry, Inventory, Kind, inventory_text
+from leasekeep_inventory.inventory_file import read_inventory
 from leasekeepd_lib.changes import ChangeFault
 from leasekeepd_lib.events import LineForm, Log
-from leasekeepd_lib.inventory import Entry, Inventory, Kind, inventory_text
-from leasekeepd_lib.inventory_file import read_inventory
 from leasekeepd_lib.journal import Journal
+from leasekeepd_lib.known_ends import KnownEnds
 from leasekeepd_lib.notify import Notifier
-from leasekeepd_lib.parts import Parts
 from leasekeepd_lib.service import Service, Surroundings
 from leasekeepd_lib.source import Source, SourceFault
+from leasekeepd_lib.status import State
 from leasekeepd_lib.storage import Storage
+from leasekeepd_lib.watch_lines import read_watch_line
 
-from .model.stage import StageLauncher
+from .model.quiet import QuietLauncher
 from .model.vault import Act, Fault, Secret, Vault, VaultTransport
 from .model.world import World, simulate
 
@@ -123,7 +124,7 @@ class Room:
         self.world = World()
         self.vault = Vault(self.world)
         self.vault.load(INVENTORY)
-        self.launcher = StageLauncher(self.vault, None)
+        self.launcher = QuietLauncher()
         self.write(INVENTORY)
 
     def write(self, inventory: Inventory) -> None:
@@ -134,17 +135,16 @@ class Room:
         """A service that has read file and journal."""
         storage = storage or Storage()
         source = Source(self.file, self.folder / "copy.toml", 5, False, storage)
-        around = Surroundings(source, Journal(self.folder / "journal", storage), Notifier({}), storage,
-                              self.folder / "metrics")
-        parts = Parts(self.world, Broker(VaultTransport(self.vault), self.world, 5.0), self.launcher,
-                      Log(LineForm(self.world), self.output), random.Random(3))
-        service = Service(around, parts)
+        around = Surroundings(source, Journal(self.folder / "journal", storage), KnownEnds(self.folder / "ends", storage, "boot"),
+                              Notifier({}), storage, self.folder / "metrics")
+        service = Service(around, self.world, Broker(VaultTransport(self.vault), 5.0), self.launcher,
+                          Log(LineForm(self.world), self.output))
         service.load()
         return service
 
     def state(self) -> dict[str, tuple[int, str]]:
         """The needs and credentials that a service begun now would have."""
-        return meaning(self.service().engine.inventory)
+        return meaning(self.service().inventory)
 
 
 def meaning(inventory: Inventory) -> dict[str, tuple[int, str]]:
@@ -179,7 +179,7 @@ class Journals(InRoom):
             service = room.service()
             for command in COMMANDS:
                 await service.command(command, WHO)
-                self.assertEqual(room.state(), meaning(service.engine.inventory), command)
+                self.assertEqual(room.state(), meaning(service.inventory), command)
             self.assertEqual((room.folder / "journal").stat().st_mode & 0o777, 0o600)
             self.assertEqual(room.state(), {"app": (1_022_400, "s.app"),
                                             "web": (BEGAN + 80_000, "s.web2")})
@@ -195,14 +195,14 @@ class Journals(InRoom):
                 storage = DyingStorage(1_000)
                 service = room.service(storage)
                 storage.left = steps
-                states = [meaning(service.engine.inventory)]
+                states = [meaning(service.inventory)]
                 died = False
                 for command in COMMANDS:
                     try:
                         await service.command(command, WHO)
                     except Killed:
                         died = True
-                    after = meaning(room.service(Storage()).engine.inventory)
+                    after = meaning(room.service(Storage()).inventory)
                     if died:
                         wanted = await self.next_state(room, states[-1], command)
                         self.assertIn(after, (states[-1], wanted), f"step {steps}, {command}")
@@ -211,7 +211,7 @@ class Journals(InRoom):
                         await room.service().command(["need", "app", "1033333"], WHO)
                         self.assertEqual(room.state(), {**after, "app": (1_033_333, after["app"][1])})
                         break
-                    states.append(meaning(service.engine.inventory))
+                    states.append(meaning(service.inventory))
                     self.assertEqual(after, states[-1])
                 if not died:
                     break
@@ -285,7 +285,7 @@ class Journals(InRoom):
             service = room.service()
             await service.command(["add", TABLE], WHO)
             service.reload()
-            self.assertIn("fresh", meaning(service.engine.inventory))
+            self.assertIn("fresh", meaning(service.inventory))
             self.assertNotIn("fresh", room.file.read_text())
             await service.command(["settle"], WHO)
             self.assertIn("fresh", meaning(read_inventory(room.file.read_bytes()).inventory or Inventory()))
@@ -323,7 +323,7 @@ class Journals(InRoom):
             await service.command(["need", "app", "1040000"], WHO)
             room.write(Inventory(INVENTORY.entries[:1], 30))
             service.reload()
-            self.assertEqual(meaning(service.engine.inventory), {"app": (1_040_000, "s.app")})
+            self.assertEqual(meaning(service.inventory), {"app": (1_040_000, "s.app")})
             self.assertIn("note: add fresh: fresh token: names no token of this inventory", room.output.getvalue())
         self.in_room(work)
 
@@ -341,12 +341,12 @@ class Journals(InRoom):
             storage = FullStorage()
             service = room.service(storage)
             await service.command(["need", "app", "1040000"], WHO)
-            before, journal = meaning(service.engine.inventory), (room.folder / "journal").read_bytes()
+            before, journal = meaning(service.inventory), (room.folder / "journal").read_bytes()
             storage.is_full = True
             for command in (["need", "app", "1050000"], ["drop", "web"], ["settle"]):
                 with self.assertRaises(OSError):
                     await service.command(command, WHO)
-            self.assertEqual(meaning(service.engine.inventory), before)
+            self.assertEqual(meaning(service.inventory), before)
             self.assertEqual((room.folder / "journal").read_bytes(), journal)
             self.assertEqual(meaning(read_inventory(room.file.read_bytes()).inventory or Inventory()),
                              meaning(INVENTORY))
@@ -401,71 +401,84 @@ class Refused(InRoom):
             self.assertEqual(set(room.state()), {"app", "web", "fresh"})
         self.in_room(work)
 
-    def test_a_need_that_no_run_keeps_calls_for_a_beginning(self) -> None:
+    def test_changes_within_five_seconds_are_one_process(self) -> None:
         async def work(room: Room) -> None:
             service = room.service()
-            await service.command(["need", "app", "1040000"], WHO)
-            await room.world.until(BEGAN + 4.9)
-            self.assertEqual(service.engine.inbox.reason, "")
-            await room.world.until(BEGAN + 5.1)
-            self.assertEqual(service.engine.inbox.reason, "need app")
-            self.assertEqual(meaning(service.engine.inventory)["app"][0], 1_040_000)
-        self.in_room(work)
-
-    def test_changes_within_five_seconds_are_one_beginning(self) -> None:
-        async def work(room: Room) -> None:
-            room.vault.rows["db/creds/fresh"] = Secret("fresh", Kind.LEASE, "app", BEGAN + 500, BEGAN, None)
-            service = room.service()
-            task = asyncio.create_task(service.engine.serve())
+            task = asyncio.create_task(service.watch.serve())
             await room.world.until(BEGAN + 10)
             await service.command(["add", TABLE], WHO)
             await asyncio.sleep(3)
             await service.command(["drop", "web"], WHO)
             await service.command(["need", "app", "+8h"], WHO)
+            await room.world.until(BEGAN + 14.9)
+            self.assertEqual(len(room.launcher.children), 1)
             await room.world.until(BEGAN + 100)
-            self.assertEqual(service.engine.beginnings, 2)
-            self.assertEqual({entry.name for entry in service.engine.assignment.kept.entries}, {"app", "fresh"})
-            self.assertEqual(service.engine.assignment.kept.carried["app"], 1_080_000)
-            await service.command(["need", "app", "1085000"], WHO)
-            await room.world.until(BEGAN + 110)
-            self.assertEqual(service.engine.beginnings, 2)
-            self.assertIn("need app 1085000", room.launcher.runs[-1].events)
-            task.cancel()
-            await asyncio.gather(task, return_exceptions=True)
+            self.assertEqual(len(room.launcher.children), 2)
+            self.assertEqual({entry.name: entry.need for entry in room.launcher.inventories[1].entries},
+                             {"app": BEGAN + 13 + 28_800, "fresh": 1_080_000})
+            await self.ended(task)
         self.in_room(work)
 
-
-class Learned(InRoom):
-    def test_what_was_learned_of_another_credential_is_forgotten(self) -> None:
+    def test_a_need_alone_is_handed_to_the_process(self) -> None:
         async def work(room: Room) -> None:
             service = room.service()
+            task = asyncio.create_task(service.watch.serve())
+            await room.world.until(BEGAN + 12)
+            await service.command(["need", "app", "1085000"], WHO)
+            await room.world.until(BEGAN + 110)
+            (child,) = room.launcher.children
+            self.assertEqual(child.events[2:4], ["need app 1085000", f"clock {(BEGAN + 12) * 1000} 12000"])
+            self.assertEqual(meaning(service.inventory)["app"][0], 1_085_000)
+            await self.ended(task)
+        self.in_room(work)
+
+    def test_a_new_secret_is_another_process_and_what_was_told_of_the_old_one_is_forgotten(self) -> None:
+        async def work(room: Room) -> None:
+            service = room.service()
+            task = asyncio.create_task(service.watch.serve())
+            await room.world.until(BEGAN + 1)
             for name in ("app", "web"):
-                service.engine.book[name].at_ceiling = True
+                service.watch._hear(read_watch_line(f"end {name} 600000 yes"))
+                service.watch._heard(read_watch_line(f"gone {name} 403"))
             room.write(Inventory((INVENTORY.entries[0], token("web", BEGAN + 80_000, "s.newer")), 30))
             service.reload()
-            self.assertTrue(service.engine.book["app"].at_ceiling)
-            self.assertFalse(service.engine.book["web"].at_ceiling)
+            await room.world.until(BEGAN + 2)
+            self.assertEqual(room.launcher.children[1].events[0], "known app 600000 yes")
+            self.assertEqual([entry.state for entry in service.standings.entries(service.inventory)], [State.GONE, State.TRYING])
+            self.assertIn(" file was read anew\n", room.output.getvalue())
+            await self.ended(task)
+        self.in_room(work)
+
+    async def ended(self, task: asyncio.Task[None]) -> None:
+        task.cancel()
+        await asyncio.gather(task, return_exceptions=True)
+
+    def test_ends_that_cannot_be_read(self) -> None:
+        async def work(room: Room) -> None:
+            (room.folder / "ends").mkdir()
+            self.assertEqual(meaning(room.service().inventory), meaning(INVENTORY))
+            self.assertIn("alert: ends cannot be read: Is a directory\n", room.output.getvalue())
         self.in_room(work)
 
 
 class Watchdog(InRoom):
-    def test_a_hung_engine_is_not_told_alive(self) -> None:
+    def test_a_hung_watch_is_not_told_alive(self) -> None:
         async def work(room: Room) -> None:
             service = room.service()
             sent: list[str] = []
             setattr(service._around.notifier, "send", lambda *words: sent.extend(words))
-            tasks = [asyncio.create_task(service.engine.serve()), asyncio.create_task(service._report())]
+            tasks = [asyncio.create_task(service.watch.serve()), asyncio.create_task(service._report())]
             await room.world.until(BEGAN + 400)
             self.assertGreater(sent.count("WATCHDOG=1"), 20)
-            self.assertTrue(any(words.startswith("STATUS=next wake-up 1970-01-12T") for words in sent))
+            self.assertIn("STATUS=next wake-up 1970-01-12T13:47:40Z", sent)
             tasks[0].cancel()
-            await room.world.until(BEGAN + 1270)
+            await room.world.until(BEGAN + 670)
             sent.clear()
-            await room.world.until(BEGAN + 1290)  # Its last sign of life is up to 900 seconds old.
+            await room.world.until(BEGAN + 680)  # Its last sign of life is up to 300 seconds old.
             self.assertIn("WATCHDOG=1", sent)
-            await room.world.until(BEGAN + 1310)
+            await room.world.until(BEGAN + 701)
             sent.clear()
-            await room.world.until(BEGAN + 1500)
+            await room.world.until(BEGAN + 800)
             self.assertEqual(sent, [])
             tasks[1].cancel()
             await asyncio.gather(*tasks, return_exceptions=True)

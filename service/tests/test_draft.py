@@ -8,10 +8,10 @@ import unittest
 from dataclasses import replace
 from unittest import mock
 
+from leasekeep_inventory.inventory import Entry, Inventory, Kind, inventory_text
+from leasekeep_inventory.inventory_file import LIMIT, read_inventory
 from leasekeepd_lib.changes import Change, ChangeFault, What, compacted, said_by
 from leasekeepd_lib.draft import Draft, changed, replay
-from leasekeepd_lib.inventory import Entry, Inventory, Kind, inventory_text
-from leasekeepd_lib.inventory_file import LIMIT, read_inventory
 from leasekeepd_lib.journal import Journal
 from leasekeepd_lib.source import SourceFault
 
@@ -82,7 +82,7 @@ class Large(InRoom):
                 self.assertLess(room.file.stat().st_size, LIMIT)
                 (room.folder / "copy.toml").unlink(missing_ok=True)
                 if is_served:
-                    self.assertEqual(len(room.service().engine.inventory.entries), count)
+                    self.assertEqual(len(room.service().inventory.entries), count)
                 else:
                     with self.assertRaisesRegex(SourceFault, "this file is over 1048576 bytes as `leasekeep` is handed it"):
                         room.service()

@@ -10,9 +10,9 @@ import unittest
 from dataclasses import replace
 from pathlib import Path
 
-from leasekeepd_lib.clock import date_text
+from leasekeep_inventory.inventory import Entry, Inventory, Kind
+from leasekeep_inventory.rfc3339 import date_text
 from leasekeepd_lib.health import unkept
-from leasekeepd_lib.inventory import Entry, Inventory, Kind
 
 from .model.stage import Stage, fleet
 from .model.vault import Act, about, both, renewals
@@ -25,7 +25,7 @@ NEEDED = f"and is needed until {date_text(BEGAN + 86_400)}"
 
 class Health(Scenario):
     def seen(self, stage: Stage) -> list[str]:
-        return unkept(stage.engine, stage.world, True)
+        return unkept(stage.entries(), stage.standings.moment(), True)
 
     def test_all_is_kept(self) -> None:
         async def scene(stage: Stage) -> None:
@@ -85,7 +85,7 @@ class Health(Scenario):
             self.assertEqual(self.seen(stage), [])
             stage.vault.faults.append(fault(50, 1000, status=403, on=about("over")))
             stage.vault.faults.append(fault(50, 1000, status=403, on=about("idle")))
-            stage.engine.inbox.begin("asked")
+            stage.take(Inventory(stage.inventory.entries, 60))  # (as SIGHUP does)
             await stage.until(60)
             self.assertEqual(self.seen(stage)[0], f"over gone: the broker knows it no more, or denies it, {NEEDED}")
             self.assertNotIn("idle", " ".join(self.seen(stage)))
@@ -104,9 +104,11 @@ class Answers(InRoom):
     def test_a_keeper_that_hangs(self) -> None:
         async def work(room: Room) -> None:
             service = room.service()
-            lines = unkept(service.engine, room.world, False)
+            entries = service.standings.entries(service.inventory)
+            lines = unkept(entries, BEGAN, False)
             self.assertEqual(lines[0], "leasekeepd: it answers, and the part of it that keeps the entries gives no sign of life")
-            self.assertEqual(lines[1:], unkept(service.engine, room.world, True))
+            self.assertEqual(lines[1:], unkept(entries, BEGAN, True))
+            self.assertEqual(len(lines), 3)
         self.in_room(work)
 
 

@@ -9,24 +9,19 @@ import unittest
 from pathlib import Path
 from typing import Callable, Iterator
 
-from leasekeepd_lib.broker import read_grant, read_lease_lookup, read_token_lookup
-from leasekeepd_lib.discover import DiscoverFault, read_short_list
-from leasekeepd_lib.http_client import MOST, Response, read_response
-from leasekeepd_lib.inventory import Entry, Kind
-from leasekeepd_lib.inventory_file import read_inventory
-from leasekeepd_lib.lint import lint
-from leasekeepd_lib.run_lines import LineFault, read_line
+from leasekeep_inventory.broker import read_lease_lookup, read_token_lookup
+from leasekeep_inventory.discover import DiscoverFault, read_short_list
+from leasekeep_inventory.http_client import MOST, Response, read_response
+from leasekeep_inventory.inventory_file import read_inventory
+from leasekeep_inventory.lint import lint
+from leasekeepd_lib.watch_lines import WatchLineFault, read_watch_line
 
 CASES = 1500
 DIGITS = b"9" * 5000
 """Python reads no number of so many digits, and says so by a ValueError of its own."""
-TOKEN = Entry("app", Kind.TOKEN, None, 0, 1, increment=2, credential="s.app")
-LEASE = Entry("db", Kind.LEASE, "app", 0, 1, increment=2, credential="db/1")
 BODIES = (
     b'{"data":{"creation_time":1000,"ttl":"60s","renewable":true,"orphan":true,"expire_time":null}}',
     b'{"data":{"id":"db/1","issue_time":"1970-01-01T00:16:40.5Z","ttl":60,"renewable":true}}',
-    b'{"auth":{"lease_duration":"60","renewable":true}}',
-    b'{"lease_id":"db/1","lease_duration":60,"renewable":true}',
 )
 SHORT = b"""margin = 60
 [[token]]
@@ -99,17 +94,16 @@ def response(text: bytes) -> Response | None:
 class Hostile(unittest.TestCase):
     def test_bodies(self) -> None:
         readers: tuple[Callable[[bytes], object], ...] = (
-            lambda body: read_token_lookup(body, ""), lambda body: read_lease_lookup(body, "db/1"),
-            lambda body: read_grant(body, TOKEN), lambda body: read_grant(body, LEASE))
+            lambda body: read_token_lookup(body, ""), lambda body: read_lease_lookup(body, "db/1"))
         for body in cases(BODIES, 1):
             for read in readers:
                 read(body)
 
     def test_a_duration_of_many_digits(self) -> None:
-        body = b'{"auth":{"lease_duration":"%s","renewable":true}}'
-        self.assertIsNone(read_grant(body % (DIGITS + b"s"), TOKEN))
-        grant = read_grant(body % (b"0" * 5000 + b"60s"), TOKEN)
-        self.assertEqual(None if grant is None else grant.seconds, 60)
+        body = b'{"data":{"creation_time":1000,"ttl":"%s"}}'
+        self.assertIsNone(read_token_lookup(body % (DIGITS + b"s"), ""))
+        facts = read_token_lookup(body % (b"0" * 5000 + b"60s"), "")
+        self.assertEqual(None if facts is None else facts.ttl, 60)
 
     def test_replies(self) -> None:
         replies = tuple(head + body for body in BODIES for head in (
@@ -142,11 +136,11 @@ class Hostile(unittest.TestCase):
                 except DiscoverFault as fault:
                     self.assertNotIn("s.app", str(fault))
 
-    def test_lines_of_a_run(self) -> None:
+    def test_lines_of_the_watch(self) -> None:
         for text in cases((b"told app 60", b"wake 1059 app db", b"next none", b"short db 1150"), 5):
             try:
-                read_line(text.decode("ascii", "replace"))
-            except LineFault:
+                read_watch_line(text.decode("ascii", "replace"))
+            except WatchLineFault:
                 pass
 
 

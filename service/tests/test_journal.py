@@ -10,11 +10,11 @@ import random
 import unittest
 from pathlib import Path
 
+from leasekeep_inventory.inventory import Inventory, Kind, inventory_text
+from leasekeep_inventory.inventory_file import read_inventory
 from leasekeepd_lib import journal as journal_module
 from leasekeepd_lib.changes import Change, What, said_by
 from leasekeepd_lib.draft import replay
-from leasekeepd_lib.inventory import Inventory, Kind, inventory_text
-from leasekeepd_lib.inventory_file import read_inventory
 from leasekeepd_lib.journal import Journal
 from leasekeepd_lib.storage import Storage
 
@@ -91,9 +91,9 @@ class Unreadable(InRoom):
                     spoiled[chance.randrange(len(spoiled))] = chance.choice(b'\n"{}[]\\0 \xffx')
                 (room.folder / "journal").write_bytes(spoiled)
                 service = room.service(Unsynced())
-                text = inventory_text(service.engine.inventory).encode()
+                text = inventory_text(service.inventory).encode()
                 self.assertEqual(read_inventory(text).findings, [], spoiled)
-                self.assertEqual(room.state(), meaning(service.engine.inventory))
+                self.assertEqual(room.state(), meaning(service.inventory))
         self.in_room(work)
 
     def test_where_nothing_can_be_set_aside_all_stays_as_it_was(self) -> None:
@@ -103,7 +103,7 @@ class Unreadable(InRoom):
             spoiled = BAD[0] + GOOD + b'{"what":"need","na'
             (room.folder / "journal").write_bytes(spoiled)
             service = room.service(storage)
-            self.assertEqual(meaning(service.engine.inventory)["web"][0], 1_090_000)
+            self.assertEqual(meaning(service.inventory)["web"][0], 1_090_000)
             self.assertIn("alert: journal cannot be used: No space left on device", room.output.getvalue())
             for command in (["need", "app", "1080000"], ["settle"]):
                 with self.assertRaises(OSError):
@@ -172,7 +172,7 @@ class Reloads(InRoom):
             room.write(Inventory((INVENTORY.entries[0], token("web", BEGAN + 90_000, "s.web")), 30))
             service.reload()
             wanted = {"app": (1_075_000, "s.app"), "web": (1_090_000, "s.web"), "fresh": (1_080_000, "db/creds/fresh")}
-            self.assertEqual(meaning(service.engine.inventory), wanted)
+            self.assertEqual(meaning(service.inventory), wanted)
             self.assertIn("alert: journal cannot be used: Input/output error", room.output.getvalue())
             self.assertEqual(room.state(), wanted)
         self.in_room(work)
@@ -202,7 +202,7 @@ class Reloads(InRoom):
             await room.service().command(["need", "web", "1090000"], WHO)
             storage = BrokenDisk()
             service = room.service(storage)
-            self.assertEqual(meaning(service.engine.inventory), meaning(INVENTORY))
+            self.assertEqual(meaning(service.inventory), meaning(INVENTORY))
             self.assertIn("alert: journal cannot be used: Input/output error", room.output.getvalue())
             for place in range(3):
                 await service.command(["need", "app", str(1_075_000 + place)], WHO)
@@ -213,7 +213,7 @@ class Reloads(InRoom):
                 await service.command(["settle"], WHO)
             service.reload()
             wanted = {"app": (1_075_002, "s.app"), "web": (1_090_000, "s.web")}
-            self.assertEqual(meaning(service.engine.inventory), wanted)
+            self.assertEqual(meaning(service.inventory), wanted)
             await service.command(["settle"], WHO)
             self.assertEqual(room.state(), wanted)
         self.in_room(work)
@@ -232,24 +232,25 @@ class Hangups(InRoom):
     def test_many_hangups_are_a_few_beginnings(self) -> None:
         async def work(room: Room) -> None:
             service = room.service()
-            task = asyncio.create_task(service.engine.serve())
+            task = asyncio.create_task(service.watch.serve())
             await room.world.until(BEGAN + 10)
-            self.assertEqual(service.engine.beginnings, 1)
+            self.assertEqual(service.standings.beginnings, 1)
             began = len(room.output.getvalue())
             for number in range(951):
                 room.write(Inventory(INVENTORY.entries[:1], 31 + number % 7))
                 service.hear_hangup()
                 await room.world.until(BEGAN + 10 + 20 * number / 950)
                 if number == 1:  # The first is heard at once, those that follow are heard together.
-                    self.assertEqual(service.engine.inventory.margin, 31)
+                    self.assertEqual(service.inventory.margin, 31)
             await room.world.until(BEGAN + 60)
-            self.assertLessEqual(service.engine.beginnings, 1 + 6)
-            self.assertEqual(service.engine.inventory.margin, 31 + 950 % 7)
-            self.assertEqual(room.output.getvalue()[began:].count(" begin "), service.engine.beginnings - 1)
+            self.assertLessEqual(service.standings.beginnings, 1 + 6)
+            self.assertEqual(service.inventory.margin, 31 + 950 % 7)
+            self.assertEqual(room.output.getvalue()[began:].count(" begin "), service.standings.beginnings - 1)
+            self.assertEqual(len(room.launcher.children), service.standings.beginnings)
             # A later one is heard at once again.
             room.write(INVENTORY)
             service.hear_hangup()
-            self.assertEqual(service.engine.inventory, INVENTORY)
+            self.assertEqual(service.inventory, INVENTORY)
             task.cancel()
             await asyncio.gather(task, return_exceptions=True)
         self.in_room(work)

@@ -11,12 +11,12 @@ import time
 import unittest
 from pathlib import Path
 
-from leasekeepd_lib.broker import Broker
+from leasekeep_inventory.broker import Broker
+from leasekeep_inventory.discover import DiscoverFault, discover, read_short_list
+from leasekeep_inventory.inventory import Inventory, inventory_text
+from leasekeep_inventory.inventory_file import read_inventory
+from leasekeep_inventory.lint import lint
 from leasekeepd_lib.changes import only_entry
-from leasekeepd_lib.discover import DiscoverFault, discover, read_short_list
-from leasekeepd_lib.inventory import Inventory, inventory_text
-from leasekeepd_lib.inventory_file import read_inventory
-from leasekeepd_lib.lint import lint
 from leasekeepd_lib.source import Source
 from leasekeepd_lib.storage import Storage
 
@@ -365,7 +365,7 @@ class Discovered(unittest.TestCase):
             inventory = read_inventory(whole.replace("margin = 20", "margin = 1").encode()).inventory
             assert inventory is not None
             vault.load(inventory, **real)
-            return await discover(Broker(VaultTransport(vault), world, 5.0), world, read_short_list(self.list))
+            return await discover(Broker(VaultTransport(vault), 5.0), world.wall, read_short_list(self.list))
         return simulate(go())
 
     def test_a_short_list_becomes_an_inventory(self) -> None:

@@ -10,8 +10,8 @@ import tempfile
 import unittest
 from pathlib import Path
 
-from leasekeepd_lib.findings import Finding, Severity
-from leasekeepd_lib.lint import lint
+from leasekeep_inventory.findings import Finding, Severity
+from leasekeep_inventory.lint import lint
 from trial.programs import find_program
 
 CASES = int(os.environ.get("CASES", "100"))

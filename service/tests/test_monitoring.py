@@ -16,7 +16,7 @@ from pathlib import Path
 from shutil import which
 from typing import Any
 
-from leasekeepd_lib.inventory import Entry, Kind
+from leasekeep_inventory.inventory import Entry, Kind
 
 from .test_process import SERVICE, Daemon, WithBroker
 from .test_status import EXPECTED

@@ -10,24 +10,19 @@ import tempfile
 import time
 import unittest
 from pathlib import Path
-from typing import Any, cast
+from typing import Any
 from unittest import mock
 
-from leasekeepd_lib import events
-from leasekeepd_lib import link as link_module
-from leasekeepd_lib.book import Standing
-from leasekeepd_lib.broker import Broker, Verdict, read_grant, read_lease_lookup, read_token_lookup
-from leasekeepd_lib.clock import SystemClock
-from leasekeepd_lib.events import Alerts, Level, LineForm, Log
-from leasekeepd_lib.http_client import (
+from leasekeep_inventory.broker import Broker, Verdict, read_lease_lookup, read_token_lookup
+from leasekeep_inventory.http_client import (
     Address, HttpTransport, Request, Response, TransportFault, read_response, request_bytes,
 )
-from leasekeepd_lib.inventory import Entry, Inventory, Kind, inventory_text
-from leasekeepd_lib.inventory_file import read_inventory
-from leasekeepd_lib.link import Link
-from leasekeepd_lib.rfc3339 import read_rfc3339
-from leasekeepd_lib.run_lines import LineFault, Word, read_line
-from leasekeepd_lib.run_process import LaunchFault, ProcessRun, RunExit, start_process
+from leasekeep_inventory.inventory import Entry, Inventory, Kind, inventory_text
+from leasekeep_inventory.inventory_file import read_inventory
+from leasekeep_inventory.rfc3339 import read_rfc3339
+from leasekeepd_lib import events
+from leasekeepd_lib.child import ChildExit, LaunchFault, start_child
+from leasekeepd_lib.events import Alerts, Level, LineForm, Log
 
 from .model.world import simulate
 
@@ -64,10 +59,9 @@ class Events(unittest.TestCase):
             stream.seek(0)
             log.note("a")
             log.alert("b", "c")
-            log.quiet().alert("d")
             levels = [json.loads(line)["level"] for line in stream.getvalue().splitlines()] if as_json else [
                 line.split(" ")[1] for line in stream.getvalue().splitlines()]
-            self.assertEqual(levels, [f"{level}{'' if as_json else ':'}" for level in ("note", "alert", "note")])
+            self.assertEqual(levels, [f"{level}{'' if as_json else ':'}" for level in ("note", "alert")])
 
     def test_alerts_run_one_at_a_time_and_are_bounded(self) -> None:
         with tempfile.TemporaryDirectory() as name:
@@ -173,14 +167,6 @@ class Http(unittest.TestCase):
         for garbage in (b"", b"hello\r\n\r\n", b"HTTP/1.1 2000 OK\r\n\r\n", b"SSH-2.0\r\n\r\n", b"x" * 200_000):
             self.assertIsNone(self.read(garbage), garbage[:20])
 
-    def test_the_date_is_read(self) -> None:
-        async def go() -> int | None:
-            reader = asyncio.StreamReader()
-            reader.feed_data(b"HTTP/1.1 204 No Content\r\nDate: Thu, 01 Jan 1970 00:16:40 GMT\r\n\r\n")
-            reader.feed_eof()
-            return (await read_response(reader)).date
-        self.assertEqual(asyncio.run(go()), 1000)
-
     def test_requests_as_written(self) -> None:
         request = Request("POST", "/v1/auth/token/renew-self", "s.web1", b'{"increment":60}')
         self.assertEqual(request_bytes(request, "127.0.0.1:8200"), (
@@ -207,7 +193,7 @@ class Http(unittest.TestCase):
             with tempfile.TemporaryDirectory() as folder:
                 path = f"{folder}/sock"
                 server = await asyncio.start_unix_server(drip, path)
-                broker = Broker(HttpTransport(Address(path)), SystemClock(), 0.3)
+                broker = Broker(HttpTransport(Address(path)), 0.3)
                 began = time.monotonic()
                 heard = await broker.look_up(Inventory((TOKEN,)), TOKEN)
                 self.assertLess(time.monotonic() - began, 1.3)  # The reply drips for 1.6 seconds.
@@ -222,19 +208,14 @@ class Http(unittest.TestCase):
 
 
 class Bodies(unittest.TestCase):
-    def test_grants(self) -> None:
-        for body, seconds in (
-            (BODY, 60), (b'{"auth":{"lease_duration":"60s"}}', 60), (b'{"auth":{"lease_duration":"0060"}}', 60),
-            (b'{"auth":null}', None), (b'{"auth":{"lease_duration":-1}}', None), (b"[]", None), (b"{", None),
-            (b'{"auth":{"lease_duration":60},"wrap_info":{}}', None), (b'{"auth":{"lease_duration":60.0}}', None),
-            (b'{"auth":{"lease_duration":"s"}}', None), (b'{"auth":{"lease_duration":60,"renewable":1}}', None),
-            (b"[" * 100_000, None), (b'{"auth":{"lease_duration":true}}', None),
-        ):
-            grant = read_grant(body, TOKEN)
-            self.assertEqual(None if grant is None else grant.seconds, seconds, body[:60])
-        own = b'{"lease_id":"db/creds/app/1","lease_duration":60,"renewable":true}'
-        self.assertIsNotNone(read_grant(own, LEASE))
-        self.assertIsNone(read_grant(own.replace(b"app/1", b"app/2"), LEASE))
+    def test_durations(self) -> None:
+        for ttl, seconds in ((b"60", 60), (b'"60s"', 60), (b'"0060"', 60), (b"-1", None), (b"60.0", None), (b'"s"', None),
+                             (b"true", None), (b"null", None), (b"4294967296", None)):
+            facts = read_token_lookup(b'{"data":{"creation_time":900,"ttl":%s}}' % ttl, "")
+            self.assertEqual(None if facts is None else facts.ttl, seconds, ttl)
+        for body in (b'{"data":null}', b"[]", b"{", b'{"data":{"creation_time":9,"ttl":60},"wrap_info":{}}', b"[" * 100_000,
+                     b'{"data":{"creation_time":9,"ttl":60,"renewable":1}}'):
+            self.assertIsNone(read_token_lookup(body, ""), body[:60])
 
     def test_lookups(self) -> None:
         facts: dict[str, Any] = {"creation_time": 900, "explicit_max_ttl": 200, "orphan": True, "period": 60, "renewable": True,
@@ -256,80 +237,28 @@ class Bodies(unittest.TestCase):
 
 
 class Verdicts(unittest.TestCase):
-    def heard(self, status: int, entry: Entry, renewal: bool) -> Verdict:
+    def heard(self, status: int, entry: Entry) -> Verdict:
         async def go() -> Verdict:
             transport = mock.Mock()
             transport.request = mock.AsyncMock(return_value=Response(status, b"{}"))
-            broker = Broker(transport, FixedClock(), 5.0)
-            inventory = Inventory((TOKEN, LEASE))
-            if renewal:
-                return (await broker.renew(inventory, entry, 60)).verdict
-            return (await broker.look_up(inventory, entry)).verdict
+            return (await Broker(transport, 5.0).look_up(Inventory((TOKEN, LEASE)), entry)).verdict
         return asyncio.run(go())
 
     def test_what_a_status_means(self) -> None:
         refused, failed = Verdict.REFUSED, Verdict.FAILED
-        for status, of_token, of_lease, of_renewal in (
-            (200, failed, failed, failed), (400, failed, refused, refused), (403, refused, refused, refused),
-            (404, refused, refused, refused), (405, failed, failed, refused), (429, failed, failed, failed),
-            (500, failed, failed, failed), (503, failed, failed, failed), (204, failed, failed, failed),
+        for status, of_token, of_lease in (
+            (200, failed, failed), (400, failed, refused), (403, refused, refused), (404, refused, refused), (405, failed, failed),
+            (429, failed, failed), (500, failed, failed), (503, failed, failed), (204, failed, failed),
         ):
             with self.subTest(status=status):
-                self.assertIs(self.heard(status, TOKEN, False), of_token)
-                self.assertIs(self.heard(status, LEASE, False), of_lease)
-                for entry in (TOKEN, LEASE):
-                    self.assertIs(self.heard(status, entry, True), of_renewal)
-
-
-class Standings(unittest.TestCase):
-    def test_a_step_is_learned_of_two_grants_two_seconds_apart(self) -> None:
-        for apart, seconds, learned in ((1.5, 30, None), (2.5, 30, 30), (2.5, 29, None), (9.0, 60, None)):
-            standing = Standing()
-            standing.granted(TOKEN, 30, True, 100.0)
-            standing.granted(TOKEN, seconds, True, 100.0 + apart)
-            self.assertEqual(standing.learned_step, learned, (apart, seconds))
-        standing = Standing(learned_step=30)
-        standing.granted(TOKEN, 60, True, 100.0)
-        self.assertIsNone(standing.learned_step)
-
-    def test_a_ceiling_and_a_short_grant_are_told_apart(self) -> None:
-        for apart, seconds, leads_on, at_ceiling in (
-            (3.0, 27, False, True), (3.0, 30, True, False), (1.0, 29, None, False), (1.0, 30, None, False),
-            (3.0, 60, True, False), (3.0, 20, None, False), (300.0, 1, True, False),
-        ):
-            standing = Standing()
-            standing.granted(TOKEN, 30, True, 100.0)
-            with self.subTest(apart=apart, seconds=seconds):
-                self.assertEqual(standing.granted(TOKEN, seconds, True, 100.0 + apart), leads_on)
-                self.assertEqual(standing.at_ceiling, at_ceiling)
-
-
-class Links(unittest.TestCase):
-    def test_the_limits_of_event_input(self) -> None:
-        class Run:
-            async def read_line(self) -> str:
-                await asyncio.sleep(0)
-                return "planned"
-
-            async def write_line(self, line: str) -> None:
-                pass
-
-        async def handed(event: str, times: int) -> bool:
-            more_time = mock.AsyncMock(return_value=0.0)
-            link = Link(cast(ProcessRun, Run()), 5.0, lambda line: None, lambda: None, more_time)
-            for _ in range(times):
-                await link.hand_in(event)
-            link.stop()
-            return link.is_nearly_full
-        with mock.patch.multiple(link_module, LINES_MOST=3, BYTES_MOST=100):
-            self.assertEqual([asyncio.run(handed("tick 1", times)) for times in (2, 3)], [False, True])
-            self.assertEqual([asyncio.run(handed("x" * 49, times)) for times in (1, 2)], [False, True])
+                self.assertIs(self.heard(status, TOKEN), of_token)
+                self.assertIs(self.heard(status, LEASE), of_lease)
 
 
 class Starts(unittest.TestCase):
     def test_a_program_that_cannot_be_started(self) -> None:
         async def go() -> None:
-            await start_process("/nowhere/leasekeep", "run", "secret")
+            await start_child("/nowhere/leasekeep", "watch", "secret")
         before = os.listdir("/proc/self/fd")
         with self.assertRaises(LaunchFault) as caught:
             asyncio.run(go())
@@ -338,9 +267,9 @@ class Starts(unittest.TestCase):
 
     def test_the_inventory_is_handed_over_in_memory(self) -> None:
         async def go() -> list[str | None]:
-            process = await start_process("cat", "--", "one\ntwo\n")
+            process = await start_child("cat", "--", "one\ntwo\n")
             lines = [await process.read_line() for _ in range(3)]
-            self.assertEqual(await process.end(), RunExit(0))
+            self.assertEqual(await process.end(), ChildExit(0))
             return lines
         self.assertEqual(asyncio.run(go()), ["one", "two", None])
 
@@ -362,13 +291,6 @@ class Texts(unittest.TestCase):
         ), 10, 5000)
         self.assertEqual(read_inventory(inventory_text(inventory).encode()).inventory, inventory)
         self.assertNotIn("hvs.secret", repr(inventory))
-
-    def test_lines_of_a_run(self) -> None:
-        self.assertEqual(read_line("wake 1059 T L").names, ("T", "L"))
-        self.assertEqual((read_line("next none").word, read_line("next none").number), (Word.NEXT, None))
-        for text in ("", "told web", "told web x", "wake", "hello", "lost a b", "sleep"):
-            with self.assertRaises(LineFault):
-                read_line(text)
 
 
 if __name__ == "__main__":

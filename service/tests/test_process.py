@@ -1,4 +1,4 @@
-"""leasekeepd as a process, in real time, with `leasekeep run` (a built one, else the model) and a broker in memory."""
+"""leasekeepd as a process, in real time, with a built `leasekeep` and a broker in memory."""
 
 from __future__ import annotations
 
@@ -14,15 +14,15 @@ import unittest
 from pathlib import Path
 from typing import cast
 
-from leasekeepd_lib.inventory import Entry, Inventory, Kind, inventory_text
+from leasekeep_inventory.inventory import Entry, Inventory, Kind, inventory_text
 from trial.programs import find_program
 
 from .model.server import RealWorld, VaultServer
 from .model.vault import Vault
 from .model.world import World
 
-PLANNED = " (sleep|next) "
-"""A run that has told its next wake-up."""
+PLANNED = " next "
+"""The next wake-up is told."""
 
 BUSY = 1.0
 """Seconds that a busy machine may add."""
@@ -94,7 +94,10 @@ class WithBroker(unittest.TestCase):
         vault.load(self.inventory)
         self.server = VaultServer(vault).start()
         self.addCleanup(self.server.stop)
-        self.program = find_program("leasekeep") or str(SERVICE / "tests" / "scripted_leasekeep")
+        program = find_program("leasekeep")
+        if program is None:
+            self.skipTest("no built leasekeep that has the command `watch`")
+        self.program = program
 
     def daemon(self, *more: str, environment: dict[str, str] | None = None) -> Daemon:
         daemon = Daemon(self.folder, self.inventory, self.server.word, self.program, *more, environment=environment)
@@ -124,7 +127,7 @@ class Process(WithBroker):
         self.assertIn("app kept end ", status.stdout)
         until = self.inventory.entries[1].need + 100
         self.assertEqual(daemon.command("need", "db", str(until)).returncode, 0)
-        daemon.wait_for("planned")
+        daemon.wait_for(r"need db \S+ by uid")
         wrong = daemon.command("need", "nobody", "+6h")
         self.assertEqual((wrong.returncode, wrong.stderr), (1, "leasekeepd: need: no entry is named nobody\n"))
         time.sleep(2)
@@ -140,10 +143,11 @@ class Process(WithBroker):
         daemon.file.write_text("margin = oh no\n")
         daemon.process.send_signal(signal.SIGHUP)
         daemon.wait_for("alert: file is faulty")
-        self.assertEqual(daemon.text().count("begin "), daemon.text().count("begin start"))
+        self.assertEqual(daemon.text().count("begin "), 1)
         daemon.write(Inventory(self.inventory.entries[:1], 11))
         daemon.process.send_signal(signal.SIGHUP)
-        daemon.wait_for("begin the file was read anew")
+        daemon.wait_for("file was read anew")
+        daemon.wait_for("begin start", times=2)
         second = self.daemon()
         self.assertEqual(second.process.wait(15), 1)
         self.assertIn("another leasekeepd serves with this folder", daemon.text())
@@ -152,13 +156,14 @@ class Process(WithBroker):
         self.assertLess(time.monotonic() - began, 1.0 + BUSY)
         self.assertEqual(sorted(path.name for path in (self.folder / "run").iterdir()), ["lock"])
 
-    def test_a_killed_run_and_a_killed_service(self) -> None:
+    def test_a_killed_watch_and_a_killed_service(self) -> None:
         daemon = self.daemon()
         daemon.wait_for(PLANNED)
         children = Path(f"/proc/{daemon.process.pid}/task/{daemon.process.pid}/children").read_text().split()
         for child in children:
             os.kill(int(child), signal.SIGKILL)
-        daemon.wait_for("begin leasekeep run ended")
+        daemon.wait_for("warning: watch leasekeep watch ended")
+        daemon.wait_for("begin start", times=2)
         daemon.kill()
         before = daemon.text().count("told db")
         daemon = self.daemon()

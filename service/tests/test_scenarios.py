@@ -1,22 +1,18 @@
-"""The scenarios that the rules are held to: outages, refusals, jumps, suspensions, ceilings, kills."""
+"""The scenarios that the service is held to, played by `leasekeep watch` itself: outages, refusals, jumps, suspensions, ceilings,
+kills."""
 
 from __future__ import annotations
 
-import os
 import unittest
 from typing import Any, Callable, Coroutine
 
-from leasekeepd_lib.clock import date_text
-from leasekeepd_lib.inventory import Inventory
-from trial.programs import find_program
+from leasekeep_inventory.inventory import Inventory
+from leasekeepd_lib.watch_lines import Said, WatchLine
 
-from .model.keeper import Keeper, rows_of
 from .model.stage import Stage, fleet
 from .model.vault import Act, Fault, about, both, lookups, renewals
 from .model.world import simulate
 
-PROGRAM = None if os.environ.get("SCRIPTED") else find_program("leasekeep", may_be_slow=False)
-"""`leasekeep run` itself where it is built or installed, else the scripted one."""
 HOUR = 3600
 BEGAN = 1_000_000.0
 
@@ -33,10 +29,10 @@ class Scenario(unittest.TestCase):
     def play(self, inventory: Inventory, scene: Scene, real: dict[str, dict[str, Any]] | None = None,
              **world: float) -> Stage:
         async def go() -> Stage:
-            stage = Stage(inventory, PROGRAM, **world)
+            stage = Stage(inventory, **world)
             stage.vault.load(inventory, **(real or {}))
             await scene(stage)
-            stage.launcher.close()
+            await stage.close()
             return stage
         self.stage = simulate(go())
         return self.stage
@@ -50,61 +46,55 @@ class Scenario(unittest.TestCase):
 
 
 class Quiet(Scenario):
-    def test_without_faults_three_weeks_take_the_rehearsed_renewals(self) -> None:
-        self.play(fleet(3, 50_000, 60, 40_000, need=21 * 86400 - 20_000), lambda stage: stage.finish(21 * 86400))
+    def test_without_faults_three_weeks_take_the_least_renewals(self) -> None:
+        """Three entries of one step: each wake-up renews all, a margin before their end. One lookup an entry at each beginning."""
+        until = 21 * 86400 - 20_000
+        self.play(fleet(3, 50_000, 120, 40_000, need=until), lambda stage: stage.finish(21 * 86400))
         self.assert_kept()
         self.assert_quiet()
-        rehearsed = [line for line in rehearse_from(self.stage.inventory) if line.startswith("told")]
-        self.assertEqual(self.stage.vault.count("renew"), len(rehearsed))
+        moments, end = list[float](), 40_000
+        while end < until:
+            moments.append(BEGAN + end - 120)
+            end += 50_000 - 120
+        self.assertEqual([moment for moment, path, _, _ in self.stage.vault.log if "renew" in path],
+                         [moment for moment in moments for _ in range(3)])
         self.assertGreaterEqual(self.stage.beginnings, 21)
-        self.assertEqual(self.stage.vault.count("lookup"), 2 * 3 * self.stage.beginnings)
+        self.assertEqual(self.stage.vault.count("lookup"), 3 * self.stage.beginnings)
+        self.assertEqual(len(self.stage.launcher.children), 1)
 
     def test_start_at_the_end_of_a_second(self) -> None:
         """No end that is believed lies past the real one, and nothing is asked before its moment, however the two
         clocks' seconds lie."""
         for began in (BEGAN, BEGAN + 0.001, BEGAN + 0.5, BEGAN + 0.999):
             for whole in (False, True):
-                async def scene(stage: Stage) -> None:
-                    stage.vault.has_whole_seconds = whole
-                    stage.vault.latency = 0.0005
-                    await stage.finish(1100)
                 with self.subTest(began=began, whole=whole):
-                    self.play(fleet(2, 100, 10, 60, need=1000), scene, began=began)
-                    self.assert_kept()
-                    self.assert_believed_no_longer()
+                    self.start_at(began, whole)
 
-    def assert_believed_no_longer(self) -> None:
-        run, vault = self.stage.launcher.runs[0], self.stage.vault
-        self.assertEqual(self.stage.launcher.starts[0], int(BEGAN))
-        real = {entry.name: float(entry.end) for entry in self.stage.inventory.entries}
-        asked = [(moment, name) for moment, path, name, _ in vault.log if "renew" in path]
-        opened = 0
-        for words in (line.split(" ") for line in run.printed):
-            if words[0] == "entry":
-                self.assertLessEqual(int(words[2]), real[words[1]])
-            elif words[0] == "wake":
-                opened = int(words[1])
-            elif words[0] == "told":
-                moment, name = asked.pop(0)
-                self.assertEqual(name, words[1])
-                self.assertGreaterEqual(moment, opened)
-                granted = int(moment) if vault.has_whole_seconds else moment
-                self.assertLessEqual(opened + int(words[2]), granted + 100)
-        self.assertGreater(opened, BEGAN + 900)
+    def start_at(self, began: float, whole: bool) -> None:
+        opened, believed = 0, 0
 
+        async def scene(stage: Stage) -> None:
+            hear = stage.watch._heard
 
-def rehearse_from(inventory: Inventory) -> list[str]:
-    """What `rehearse` prints of the inventory, by the model."""
-    keeper = Keeper(rows_of(inventory), inventory.margin, int(BEGAN))
-    lines: list[str] = []
-    moment = keeper.next_wake
-    while moment is not None:
-        for place in keeper.tick(moment) or []:
-            row = keeper.rows[place]
-            lines.append(f"told {row.name}")
-            keeper.told(place, row.step, True)
-        moment = keeper.next_wake
-    return lines
+            def check(line: WatchLine) -> None:
+                nonlocal opened, believed
+                hear(line)
+                if line.said is Said.WAKE:
+                    opened = int(line.words[0])
+                if line.said is Said.END:
+                    believed += 1
+                    self.assertLessEqual(int(line.words[1]) / 1000 + began, stage.vault.named(line.words[0]).end)
+                if line.said is Said.TOLD:
+                    moment = next(moment for moment, path, name, _ in reversed(stage.vault.log)
+                                  if "renew" in path and name == line.words[0])
+                    self.assertGreaterEqual(moment, opened)
+            stage.watch._heard = check
+            stage.vault.has_whole_seconds = whole
+            stage.vault.latency = 0.0005
+            await stage.finish(1100)
+        self.play(fleet(2, 100, 10, 60, need=1000), scene, began=began)
+        self.assert_kept()
+        self.assertGreater((opened, believed), (BEGAN + 900, 20))
 
 
 class Refusals(Scenario):
@@ -142,7 +132,7 @@ class Refusals(Scenario):
         self.play(fleet(30, 1500, 60, 1000), scene)
         self.assert_kept("e7")
         self.assertEqual(self.stage.beginnings, 1)
-        self.assertTrue(any("warning: short e7" in line for line in self.stage.lines("short")))
+        self.assertEqual(self.stage.output.getvalue().count("alert: gone e7 403"), 1)
 
 
 class Lookups(Scenario):
@@ -164,13 +154,13 @@ class Lookups(Scenario):
         self.play(fleet(30, 600, 60, 300, root=True), scene)
         self.assert_kept()
 
-    def test_run_refuses_one_lookup(self) -> None:
+    def test_a_lookup_that_nobody_can_read(self) -> None:
         async def scene(stage: Stage) -> None:
-            stage.launcher.refuses = both(lookups, about("e4"))
+            stage.vault.faults.append(fault(0, 3 * HOUR, status=200, on=both(lookups, about("e4"))))
             await stage.finish(3 * HOUR)
         self.play(fleet(30, 300, 20, 200), scene)
         self.assert_kept()
-        self.assertLessEqual(self.stage.beginnings, 3)
+        self.assertEqual(self.stage.beginnings, 1)
 
     def test_a_quota_of_requests(self) -> None:
         for margin in (20, 60):
@@ -181,7 +171,7 @@ class Lookups(Scenario):
             with self.subTest(margin=margin):
                 self.play(fleet(40, 300, margin, margin + 30), scene)
                 self.assert_kept()
-                self.assertLess(self.stage.beginnings, 20)
+                self.assertEqual(self.stage.beginnings, 1)
 
 
 class Outages(Scenario):
@@ -195,26 +185,24 @@ class Outages(Scenario):
         self.assertLess(self.stage.vault.count("renew"), 300)
 
     def test_a_reply_that_drips(self) -> None:
-        for at_once in (False, True):
-            async def scene(stage: Stage) -> None:
-                stage.launcher.prints_at_once = at_once
-                stage.vault.faults.append(fault(100, 3 * HOUR, Act.DRIP, on=both(renewals, about("e5"))))
-                await stage.finish(3 * HOUR)
-            with self.subTest(at_once=at_once):
-                self.play(fleet(30, 600, 60, 300), scene)
-                self.assertIn(self.stage.lost(), ([], ["e5"]))
-                ended = BEGAN + 255 + (3 if at_once or PROGRAM else 0)
-                self.assertIn(f"{date_text(ended)} begin an answer took too long", self.stage.output.getvalue())
-
-    def test_a_slow_broker_and_a_run_that_prints_at_the_end_of_an_answer(self) -> None:
+        """It costs its own entry."""
         async def scene(stage: Stage) -> None:
-            stage.launcher.prints_at_once = True
-            stage.vault.latency = 1.5
-            await stage.finish(HOUR)
-        self.play(fleet(30, 900, 120, 600), scene)
-        self.assert_kept()
-        self.assertEqual(self.stage.beginnings, 1)
-        self.assert_quiet()
+            stage.vault.faults.append(fault(100, 3 * HOUR, Act.DRIP, on=both(renewals, about("e5"))))
+            await stage.finish(3 * HOUR)
+        self.play(fleet(30, 600, 60, 300), scene)
+        self.assert_kept("e5")
+        self.assertEqual((self.stage.beginnings, len(self.stage.launcher.children)), (1, 1))
+
+    def test_a_slow_broker(self) -> None:
+        for seconds, entries, margin in ((1.5, 30, 120), (4.7, 40, 60)):
+            async def scene(stage: Stage) -> None:
+                stage.vault.latency = seconds
+                await stage.finish(HOUR)
+            with self.subTest(seconds=seconds):
+                self.play(fleet(entries, 900, margin, 600), scene)
+                self.assert_kept()
+                self.assertEqual(self.stage.beginnings, 1)
+                self.assert_quiet()
 
     def test_two_outages_with_half_a_minute_between(self) -> None:
         for act in (Act.REFUSE, Act.HANG):
@@ -264,26 +252,28 @@ class Restarts(Scenario):
     def test_a_step_little_over_the_margin(self) -> None:
         async def scene(stage: Stage) -> None:
             await stage.until(100)
-            stage.kill_run()
+            stage.kill_child()
             await stage.until(200)
             await stage.restart()
             await stage.finish(HOUR)
         self.play(fleet(30, 63, 60, 63), scene)
         self.assert_kept()
 
-
-    def test_a_run_that_never_gets_going(self) -> None:
+    def test_a_program_that_is_missing_or_ends_at_once(self) -> None:
+        """It is started again, at most half a minute after it can be."""
         for fault_of_it in ("is_missing", "ends_at_once"):
             async def scene(stage: Stage) -> None:
+                await stage.until(10)
                 setattr(stage.launcher, fault_of_it, True)
-                await stage.until(2 * HOUR)
+                stage.kill_child()
+                await stage.until(150)
+                self.assertLessEqual(len(stage.launcher.inventories), 12)
                 setattr(stage.launcher, fault_of_it, False)
                 await stage.finish(3 * HOUR)
             with self.subTest(fault=fault_of_it):
                 self.play(fleet(20, 300, 40, 200), scene)
                 self.assert_kept()
-                self.assertLess(self.stage.beginnings, 2 * HOUR / 10)
-                self.assertTrue(self.stage.launcher.runs[-1].events)
+                self.assertIn("warning: watch", self.stage.output.getvalue())
 
 
 class Clocks(Scenario):
@@ -320,14 +310,15 @@ class Clocks(Scenario):
     def test_the_wall_clock_an_hour_ahead_all_the_time_with_ceilings(self) -> None:
         async def scene(stage: Stage) -> None:
             stage.vault.tells_date = True
+            await stage.until(100)
+            self.assertAlmostEqual(stage.standings.offset, -HOUR, delta=1)
             await stage.finish(2 * HOUR)
         self.play(fleet(10, 600, 60, 300, need=HOUR, max_ttl=2 * HOUR), scene, wall_ahead=float(HOUR))
         self.assert_kept()
         self.assert_quiet()
-        self.assertEqual(self.stage.launcher.starts[0], int(BEGAN))
 
     def test_a_slow_clock_for_weeks(self) -> None:
-        for tells, days in ((False, 8), (True, 39)):
+        for tells, days in ((False, 4), (True, 39)):
             async def scene(stage: Stage) -> None:
                 stage.vault.tells_date = tells
                 await stage.finish(days * 86400)
@@ -368,14 +359,13 @@ class Changes(Scenario):
         async def scene(stage: Stage) -> None:
             stage.vault.faults.append(fault(240, 270, Act.REFUSE))
             await stage.until(256)
-            stage.engine.inbox.need("e1", int(BEGAN) + 90_000)
+            stage.need("e1", int(BEGAN) + 90_000)
             await stage.finish(3 * HOUR)
         self.play(fleet(5, 600, 60, 300), scene)
         self.assert_kept()
         self.assertEqual(self.stage.lines("short"), [])
-        events = self.stage.launcher.runs[0].events
-        place = events.index(f"need e1 {int(BEGAN) + 90_000}")
-        self.assertEqual(events[place + 1], f"tick {int(BEGAN) + 240}")
+        self.assertIn(f"need e1 {int(BEGAN) + 90_000}", self.stage.launcher.children[0].events)
+        self.assertEqual(self.stage.beginnings, 1)
 
 
 if __name__ == "__main__":

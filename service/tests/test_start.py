@@ -15,9 +15,9 @@ import unittest
 from pathlib import Path
 from unittest import mock
 
+from leasekeep_inventory.http_client import Address
 from leasekeepd_lib.clock import SystemClock
 from leasekeepd_lib.events import LineForm, Log
-from leasekeepd_lib.http_client import Address
 from leasekeepd_lib.outlet import Outlet
 from leasekeepd_lib.service import Service
 from leasekeepd_lib.serving import _Serving
@@ -235,7 +235,7 @@ class Early(Started):
             for _ in range(3):
                 process.send_signal(signal.SIGHUP)
                 time.sleep(0.01)
-            self.wait_for_file(log, "begin the file was read anew")
+            self.wait_for_file(log, "file was read anew")
             self.wait_for_renewals(1)
             process.terminate()
             self.assertEqual(process.wait(15), 0)
@@ -258,7 +258,7 @@ class Faults(unittest.TestCase):
         clock = SystemClock()
         arguments = argparse.Namespace(
             state=Path("/nowhere/state"), runtime=Path("/nowhere/run"), alert=None, file=Path("/nowhere/file"), timeout=1,
-            names_are_secrets=False, address=Address("/nowhere/socket"), leasekeep="leasekeep", metrics=None, group=None)
+            names_are_secrets=False, address=Address("/nowhere/socket"), leasekeep="leasekeep", metrics=None, group=None, width=None)
         serving = _Serving(arguments, Log(LineForm(clock), output), mock.Mock(spec=Outlet))
         with mock.patch.object(Service, "load", side_effect=ValueError("s.secret")), \
                 mock.patch("leasekeepd_lib.serving.hold"):

@@ -7,10 +7,9 @@ import unittest
 from dataclasses import replace
 from shutil import which
 
-from leasekeepd_lib.broker import Facts
-from leasekeepd_lib.inventory import Inventory
+from leasekeep_inventory.inventory import Inventory
 from leasekeepd_lib.metrics import Figures, metrics_text
-from leasekeepd_lib.status import EntryStatus, FileReading, State, entries_of
+from leasekeepd_lib.status import EntryStatus, FileReading, State
 
 from .model.stage import Stage, fleet
 from .model.vault import Act, about, both, renewals
@@ -119,7 +118,7 @@ class States(Scenario):
 
     def seen(self, stage: Stage) -> dict[str, tuple[str, int]]:
         return {entry.name: (entry.state.value, entry.in_force - BEGAN if entry.in_force else 0)
-                for entry in entries_of(stage.engine, stage.world)}
+                for entry in stage.entries()}
 
     def test_gone_at_the_start_and_back(self) -> None:
         async def scene(stage: Stage) -> None:
@@ -135,7 +134,7 @@ class States(Scenario):
         async def scene(stage: Stage) -> None:
             await stage.until(50)
             stage.vault.revoke("e1")
-            stage.engine.inbox.begin("asked")
+            stage.take(Inventory(stage.inventory.entries, 60))  # (as SIGHUP does)
             await stage.until(60)
             self.assertEqual(self.seen(stage), {"e0": ("kept", 86_400), "e1": ("gone", 0)})
             await stage.until(60 + HOUR)
@@ -180,28 +179,18 @@ class States(Scenario):
         near = replace(inventory.entries[0], max_ttl=3500)
         self.play(Inventory((near, *inventory.entries[1:]), 60), scene)
 
-    def test_one_that_never_ends_is_kept(self) -> None:
-        async def scene(stage: Stage) -> None:
-            await stage.until(5)
-            stage.engine.book["e0"].looked_up(Facts(0, BEGAN, 0, True, False, 0, True), 0.0)
-            self.assertEqual(self.seen(stage)["e0"], ("kept", 86_400))
-            (entry,) = entries_of(stage.engine, stage.world)
-            self.assertIsNone(entry.end)
-            await stage.stop()
-        self.play(fleet(1, 600, 60, 400), scene)
-
     def test_ends_and_counts(self) -> None:
         async def scene(stage: Stage) -> None:
             stage.vault.latency = 0.25
             stage.vault.faults.append(fault(339, 345, Act.REFUSE, on=about("e1")))
             stage.vault.faults.append(fault(345, 347, status=400, on=about("e1")))
             await stage.until(500)
-            entry = entries_of(stage.engine, stage.world)[0]
+            entry = stage.entries()[0]
             self.assertAlmostEqual(entry.end or 0, stage.vault.named("e0").end, delta=1.5)
             self.assertLessEqual(entry.end or 0, stage.vault.named("e0").end)
             self.assertAlmostEqual(entry.last_success or 0, BEGAN + 340, delta=1.5)
             told = {entry.name: (entry.renewals, entry.refused, entry.lost)
-                    for entry in entries_of(stage.engine, stage.world)}
+                    for entry in stage.entries()}
             self.assertEqual(told["e0"], (1, 0, 0))
             self.assertEqual(told["e1"][0], 1)
             self.assertGreater(min(told["e1"]), 0)
@@ -237,9 +226,9 @@ class Readings(InRoom):
     def test_figures_of_the_service(self) -> None:
         async def work(room: Room) -> None:
             service = room.service()
-            service.engine.offset = -40.25
+            service.standings.offset = -40.25
             service._around.dropped_lines = lambda: 12
-            service.engine.beginnings = 4
+            service.standings.beginnings = 4
             await room.world.until(BEGAN + 7)
             text = service.metrics()
             for name, value in (("clock_offset_seconds", "-41"), ("log_dropped_lines_total", "12"), ("margin_seconds", "30"),

@@ -10,9 +10,9 @@ import time
 import unittest
 from pathlib import Path
 
-from leasekeepd_lib.http_client import Address, HttpTransport, Request, TransportFault
-from trial.proxy import Proxy, make_authority, make_certificate
+from leasekeep_inventory.http_client import Address, HttpTransport, Request, TransportFault
 from trial.programs import find_program
+from trial.proxy import Proxy, make_authority, make_certificate
 from trial.relay import Relay
 from trial.stage import Trial, short_leases
 
@@ -21,8 +21,11 @@ SCRIPTS = Path(__file__).resolve().parent
 
 
 def program(name: str) -> str:
-    """The built program, else the scripted one."""
-    return find_program(name) or str(SCRIPTS / f"scripted_{name}")
+    """The built program, else the scripted broker; SkipTest where there is none."""
+    found = find_program(name) or (str(SCRIPTS / "scripted_minibroker") if name == "minibroker" else None)
+    if found is None:
+        raise unittest.SkipTest(f"no built {name} that has the command `watch`")
+    return found
 
 
 class BuiltPrograms(unittest.TestCase):
@@ -30,7 +33,7 @@ class BuiltPrograms(unittest.TestCase):
 
     def test_leasekeep(self) -> None:
         if find_program("leasekeep") is None:
-            self.skipTest("no built leasekeep with the command `run`: the scripted one is used")
+            self.skipTest("no built leasekeep that has the command `watch`: neither scenarios nor trials are played")
 
     def test_minibroker(self) -> None:
         if find_program("minibroker") is None:

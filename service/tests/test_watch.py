@@ -10,9 +10,9 @@ from dataclasses import replace
 from pathlib import Path
 from typing import Any, Awaitable, Callable
 
-from leasekeepd_lib.inventory import Inventory, inventory_text
+from leasekeep_inventory.inventory import Inventory, inventory_text
+from leasekeepd_lib.child import END_SECONDS, Child, ChildExit
 from leasekeepd_lib.known_ends import KnownEnds, boot_id
-from leasekeepd_lib.run_process import END_SECONDS, Run, RunExit
 from leasekeepd_lib.storage import Storage
 from leasekeepd_lib.watch_lines import Said, WatchLine
 
@@ -35,6 +35,10 @@ class InStage(unittest.TestCase):
     def played(self, until: float, script: Script, *happens: tuple[float, Callable[[WatchStage], Any]], **more: Any) -> WatchStage:
         return self.play(lambda stage: stage.serve(until, *(
             (moment, lambda happen=happen: happen(stage)) for moment, happen in happens)), script, **more)
+
+
+def needed(until: int) -> Inventory:
+    return Inventory((replace(WEB, need=until),), 20)
 
 
 def clock(wall: int, elapsed: int | None = None) -> str:
@@ -94,23 +98,22 @@ class Clocks(InStage):
 class Changes(InStage):
     def test_a_change_cuts_a_wait_short(self) -> None:
         script: Script = [[(clock(1_000_000), ["wait 1030000"]), ("need web 1300", ["planned", "clock"]),
-                           (clock(1_004_000), ["wait 1030000"]), ("begin", ["clock"]),
-                           (clock(1_009_500), ["begin asked", "wait 1030000"]), (clock(1_030_000), ["wait 9000000"])]]
-        other = Inventory((replace(WEB, need=1300),), 20)
-        stage = self.played(1031, script, (1004, lambda stage: stage.watch.need(other, "web", 1300)),
-                            (1009.5, lambda stage: stage.watch.begin()))
+                           (clock(1_004_000), ["wait 1030000"]), ("need web 1400", ["planned", "clock"]),
+                           (clock(1_009_500), ["wait 1030000"]), (clock(1_030_000), ["wait 9000000"])]]
+        stage = self.played(1031, script, (1004, lambda stage: stage.watch.need(needed(1300), "web", 1300)),
+                            (1009.5, lambda stage: stage.watch.need(needed(1400), "web", 1400)))
         self.assertEqual(stage.handed_in(), [line for line, _ in script[0]])
         self.assertEqual(stage.watch.starts, 1)
 
     def test_changes_are_handed_in_behind_an_answer_and_before_the_next_clock(self) -> None:
-        script: Script = [[(clock(1_000_000), ["look web", "entry web 1060", "clock"]), ("begin", ["clock"]),
-                           ("begin", ["clock"]), (clock(1_000_000), ["wait 9000000"])]]
+        script: Script = [[(clock(1_000_000), ["look web", "entry web 1060", "clock"]), ("need web 1300", ["planned", "clock"]),
+                           ("need web 1400", ["planned", "clock"]), (clock(1_000_000), ["wait 9000000"])]]
 
         async def scene(stage: WatchStage) -> None:
             def hear(line: WatchLine) -> None:
                 if line.said is Said.LOOK:
-                    stage.watch.begin()
-                    stage.watch.begin()
+                    stage.watch.need(needed(1300), "web", 1300)
+                    stage.watch.need(needed(1400), "web", 1400)
             stage.watch._heard = hear
             await stage.serve(1001)
         self.assertEqual(self.play(scene, script).handed_in(), [line for line, _ in script[0]])
@@ -136,7 +139,6 @@ class Changes(InStage):
         def change(stage: WatchStage) -> None:
             stage.watch.take(TWO)
             stage.watch.need(changed, "web", 1300)
-            stage.watch.begin()
         stage = self.played(1004, script, (1003, change))
         self.assertEqual(stage.given(1)[1], inventory_text(changed))
         self.assertEqual(stage.handed_in(1), [clock(1_003_000)])
@@ -175,14 +177,14 @@ class Endings(InStage):
                 await asyncio.sleep(SILENCE - 0.1)
                 return self.lines.pop(0)
 
-            async def end(self) -> RunExit:
+            async def end(self) -> ChildExit:
                 self.has_ended = True
-                return RunExit(0)
+                return ChildExit(0)
 
         async def scene(stage: WatchStage) -> None:
             slow = Slow()
 
-            async def launch(inventory: Inventory) -> Run:
+            async def launch(inventory: Inventory) -> Child:
                 return slow
             setattr(stage, "launch", launch)
             await stage.serve(1000 + 7 * SILENCE)

@@ -5,11 +5,11 @@ from __future__ import annotations
 import unittest
 from dataclasses import replace
 
+from leasekeep_inventory.inventory import Entry, Inventory, Kind
 from leasekeepd_lib.events import Level
-from leasekeepd_lib.inventory import Entry, Inventory, Kind
 from leasekeepd_lib.status import EntryStatus, State
 from leasekeepd_lib.watch_lines import read_watch_line
-from leasekeepd_lib.watch_standings import Standings, level_of
+from leasekeepd_lib.watch_standings import Standings
 
 WEB = Entry("web", Kind.TOKEN, None, 900, 1060, increment=60, max_ttl=9000, need=1200, credential="s.web")
 DB = Entry("db", Kind.LEASE, "web", 900, 1060, increment=60, max_ttl=9000, need=1500, credential="db/1")
@@ -46,6 +46,9 @@ class Lines(unittest.TestCase):
     def of(self, name: str, inventory: Inventory = BOTH) -> EntryStatus:
         return next(entry for entry in self.standings.entries(inventory) if entry.name == name)
 
+    def level(self, line: str) -> Level | None:
+        return self.standings.level_of(read_watch_line(line))
+
     def states(self) -> tuple[str, ...]:
         return tuple(entry.state.value for entry in self.standings.entries(BOTH))
 
@@ -65,6 +68,7 @@ class Lines(unittest.TestCase):
         self.hear("renew web db", "lost web", "refused db 400")
         self.assertEqual(self.states(), ("trying", "trying"))
         self.assertEqual((self.of("web").trouble, self.of("db").trouble), ("lost", "refused"))
+        self.assertEqual([self.level(line) for line in ("lost web", "refused web 400")], [Level.NOTE, Level.WARNING])
         self.hear("look web db", "lost web", "refused db 403")
         self.assertEqual([(entry.refused, entry.lost) for entry in self.standings.entries(BOTH)], [(0, 1), (1, 0)])
         self.hear("renew web", "told web 60", "end web 160000 yes", "look db", "entry db 1060", "end db 110000 yes")
@@ -72,7 +76,10 @@ class Lines(unittest.TestCase):
 
     def test_gone_and_back(self) -> None:
         self.looked_up()
+        self.assertEqual([self.level(line) for line in ("refused db 403", "gone db 403")], [Level.WARNING, Level.ALERT])
         self.hear("look db", "refused db 403", "gone db 403")
+        self.assertEqual([self.level(line) for line in ("lost db", "refused db 403", "gone db 403", "lost web")],
+                         [Level.NOTE, Level.NOTE, Level.NOTE, Level.WARNING])
         self.assertEqual((self.of("db").state, self.of("db").in_force), (State.GONE, 0))
         self.hear("renew db", "lost db", "refused db 400")
         self.assertEqual(self.of("db").state, State.GONE)
@@ -132,7 +139,7 @@ class Lines(unittest.TestCase):
             ("gone web 403", Level.ALERT), ("never web", Level.ALERT), ("end web 5 yes", None), ("clock", None),
             ("wait 5", None), ("planned", None),
         ):
-            self.assertIs(level_of(read_watch_line(text)), level, text)
+            self.assertIs(self.level(text), level, text)
 
 
 if __name__ == "__main__":

@@ -21,20 +21,19 @@ def _has(program: str, words: list[str], shown: str) -> bool:
 
 
 def is_live(name: str, program: str) -> bool:
-    """Whether the program has what a trial needs: `leasekeep run`, and `minibroker` with moments from its input."""
+    """Whether the program has what a trial needs: `leasekeep watch`, and `minibroker` with moments from its input."""
     if name == "leasekeep":
-        return _has(program, ["run", "--help"], "PORT")
+        return _has(program, ["watch", "--help"], "PORT")
     return _has(program, ["--help"], "standard input")
 
 
-def find_or_model(name: str) -> str:
-    """A live program, built where there is none yet; else the model of the tests, which is said on standard error."""
+def find_or_end(name: str) -> str:
+    """A live program, built where there is none yet; SystemExit where none can be."""
     program = find_program(name, may_build=True)
-    if program is not None:
-        return program
-    print(f"no {name} that can serve a trial is built, installed or named by {name.upper()}:"
-          f" the model that the tests have of it runs in its place", file=sys.stderr)
-    return str(TOP / "service" / "tests" / f"scripted_{name}")
+    if program is None:
+        print(f"no {name} that can serve a trial is built, installed or named by {name.upper()}", file=sys.stderr)
+        raise SystemExit(2)
+    return program
 
 
 def find_program(name: str, may_build: bool = False, may_be_slow: bool = True) -> str | None:

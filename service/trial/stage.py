@@ -7,10 +7,9 @@ import time
 from dataclasses import replace
 from pathlib import Path
 
-from leasekeepd_lib.broker import Broker, Heard, Verdict
-from leasekeepd_lib.clock import SystemClock
-from leasekeepd_lib.http_client import Address, HttpTransport
-from leasekeepd_lib.inventory import Entry, Inventory, Kind, inventory_text
+from leasekeep_inventory.broker import Broker, Heard, Verdict
+from leasekeep_inventory.http_client import Address, HttpTransport
+from leasekeep_inventory.inventory import Entry, Inventory, Kind, inventory_text
 
 from .relay import LiveBroker, Relay
 
@@ -81,7 +80,7 @@ class Trial:
     async def look_up_all(self) -> dict[str, Heard]:
         """What the broker says of each entry, past the relay that the agent uses. A row that has ended is never
         listed again: so one that is alive now was so throughout."""
-        broker = Broker(HttpTransport(Address(str(self.folder / "own.sock"))), SystemClock(), 5.0)
+        broker = Broker(HttpTransport(Address(str(self.folder / "own.sock"))), 5.0)
         return {entry.name: await broker.look_up(self.inventory, entry) for entry in self.inventory.entries}
 
     async def dead(self) -> list[str]:

@@ -5,11 +5,12 @@ from __future__ import annotations
 import asyncio
 import threading
 import time
+from email.utils import formatdate
 from typing import Callable
 
-from leasekeepd_lib.http_client import MOST, Request, Response
+from leasekeep_inventory.http_client import MOST, Request
 
-from .vault import Vault
+from .vault import Reply, Vault
 
 
 async def read_request(reader: asyncio.StreamReader) -> Request:
@@ -21,9 +22,10 @@ async def read_request(reader: asyncio.StreamReader) -> Request:
     return Request(method, path, fields.get("x-vault-token", ""), body)
 
 
-def reply_bytes(reply: Response) -> bytes:
-    return b"HTTP/1.1 %d X\r\nContent-Length: %d\r\nConnection: close\r\n\r\n%s" % (
-        reply.status, len(reply.body), reply.body)
+def reply_bytes(reply: Reply) -> bytes:
+    date = b"" if reply.date is None else b"Date: %s\r\n" % formatdate(reply.date, usegmt=True).encode()
+    return b"HTTP/1.1 %d X\r\n%sContent-Length: %d\r\nConnection: close\r\n\r\n%s" % (
+        reply.status, date, len(reply.body), reply.body)
 
 
 class RealWorld:
@@ -85,7 +87,7 @@ class VaultServer:
 
     async def _talk(self, reader: asyncio.StreamReader, writer: asyncio.StreamWriter) -> None:
         try:
-            writer.write(reply_bytes(await self.vault.serve(await read_request(reader), None)))
+            writer.write(reply_bytes(await self.vault.serve(await read_request(reader))))
             await writer.drain()
         except Exception:
             pass

@@ -1,176 +1,270 @@
-"""A stage for scenarios: world, broker, scripted runs and the engine, in simulated time."""
+"""A stage for scenarios: world, broker, and the watch with `leasekeep watch` itself as a process, in simulated time. Time stands
+still while the process works, and goes on as the scenario says while it waits for the broker."""
 
 from __future__ import annotations
 
 import asyncio
+import contextlib
 import io
-import random
-from typing import AsyncIterator, Callable
+import os
+import tempfile
+import unittest
+from dataclasses import replace
+from pathlib import Path
+from typing import Awaitable, Callable
 
-from leasekeepd_lib.broker import Broker
-from leasekeepd_lib.engine import Engine
+from leasekeep_inventory.http_client import Address, TransportFault
+from leasekeep_inventory.inventory import Entry, Inventory, Kind
+from leasekeepd_lib.child import END_SECONDS, Child, ChildExit, ChildProcess, LaunchFault
 from leasekeepd_lib.events import LineForm, Log
-from leasekeepd_lib.http_client import Request, Response, TransportFault
-from leasekeepd_lib.inventory import Entry, Inventory, Kind
-from leasekeepd_lib.parts import Parts
-from leasekeepd_lib.run_process import LaunchFault, RunExit
+from leasekeepd_lib.known_ends import KnownEnds
+from leasekeepd_lib.status import EntryStatus
+from leasekeepd_lib.storage import Storage
+from leasekeepd_lib.watch_lines import WatchLine
+from leasekeepd_lib.watch_process import Watch, WatchCommand
+from leasekeepd_lib.watch_standings import Standings
+from trial.programs import find_program
 
-from .live_run import LiveRun, Stop
-from .real_run import RealRun, RealRuns
-from .vault import Vault, VaultTransport
-from .world import World
+from .server import read_request, reply_bytes
+from .vault import Reply, Vault
+from .world import SimLoop, World
 
+PROGRAM = find_program("leasekeep")
+"""`leasekeep` itself, where it is built or installed."""
 TIMEOUT = 5.0
-SHORTENED = 0.25
+REAL_TIMEOUT = 60
+"""The time-out of the process's sockets in real time: that of the scenario is the broker's matter."""
+SHORT, HASTY = 0.25, 0.02
+"""Patience with entries whose time has just come while the broker is away, and behind one that took all its time."""
 
 
-class RunTransport:
-    """The sockets of `leasekeep run`: each read has its time-out alone; behind one that failed so, a quarter second."""
+class StageChild:
+    """One process of `leasekeep watch`."""
 
-    def __init__(self, vault: Vault, refuses: Callable[[Request, str], bool] | None = None) -> None:
-        self._vault, self._timeout, self._refuses = vault, TIMEOUT, refuses
-
-    async def request(self, request: Request) -> Response:
-        loop = asyncio.get_running_loop()
-        began = loop.time()
-        name = self._vault.named_by(request)
-        if self._refuses is not None and self._refuses(request, name):
-            return Response(200, b"{}")
-        try:
-            reply = await self._vault.serve(request, self._timeout)
-        except TransportFault:
-            if loop.time() - began >= self._timeout:
-                self._timeout = SHORTENED
-            raise
-        self._timeout = TIMEOUT
-        return reply
-
-
-class ScriptedRun:
-    """`leasekeep run` within the test's own process."""
-
-    def __init__(self, text: str, start: int, transport: RunTransport, prints_at_once: bool = False) -> None:
-        self._prints_at_once = prints_at_once
-        self._lines: asyncio.Queue[str | None] = asyncio.Queue()
+    def __init__(self, process: ChildProcess, loop: SimLoop, sockets: Sockets) -> None:
+        self._process, self._loop, self._sockets = process, loop, sockets
+        self._stat = os.open(f"/proc/{process.pid}/stat", os.O_RDONLY)
+        self._is_ending = False
         self.events: list[str] = []
-        self._events: asyncio.Queue[str | None] = asyncio.Queue()
-        self._exit = RunExit(-9)
         self.printed: list[str] = []
-        self._held: list[str] = []
-        self._task = asyncio.create_task(self._run(text, start, transport))
+        loop.workers.add(self)
 
-    async def _run(self, text: str, start: int, transport: RunTransport) -> None:
+    @property
+    def is_working(self) -> bool:
+        """Whether it runs: not where it waits for a line or for the broker."""
+        if self._is_ending:
+            return True
         try:
-            await LiveRun(text.encode(), start, transport, self._print).run(self._fed())
-            self._exit = RunExit(0)
-        except Stop as stop:
-            self._exit = RunExit(stop.exit_code, stop.fault)
-        finally:
-            self._lines.put_nowait(None)
-
-    def _print(self, line: str) -> None:
-        self.printed.append(line)
-        if not self._prints_at_once:
-            self._lines.put_nowait(line)
-        else:
-            self._held.append(line)
-
-    async def _fed(self) -> AsyncIterator[str]:
-        for line in self._held:
-            self._lines.put_nowait(line)
-        self._held.clear()
-        while (event := await self._events.get()) is not None:
-            yield event
-            for line in self._held:
-                self._lines.put_nowait(line)
-            self._held.clear()
+            return os.pread(self._stat, 512, 0).rpartition(b")")[2][1:2] in b"RD"
+        except OSError:
+            return False  # It is no more.
 
     async def read_line(self) -> str | None:
-        return await self._lines.get()
+        line = await self._process.read_line()
+        if line is not None:
+            self.printed.append(line)
+            self._sockets.hear(line)
+        return line
 
     async def write_line(self, line: str) -> None:
         self.events.append(line)
-        self._events.put_nowait(line)
+        await self._process.write_line(line)
 
-    async def end(self) -> RunExit:
-        if not self._task.done():
-            self._task.cancel()
-            await asyncio.gather(self._task, return_exceptions=True)
-        return self._exit
+    async def end(self) -> ChildExit:
+        if self._sockets.is_open:  # It hears only behind its slice that its input has ended.
+            await asyncio.sleep(END_SECONDS)
+            self.kill()
+        self._is_ending = True
+        try:
+            return await self._process.end()
+        finally:
+            self._loop.workers.discard(self)
+            os.close(self._stat)
 
     def kill(self) -> None:
-        self._task.cancel()
+        """Ends it as a crash would."""
+        self._process.kill()
+
+
+class _Talk:
+    """A request of a slice, and where its reply goes."""
+
+    def __init__(self, writer: asyncio.StreamWriter, serving: Callable[[Callable[[], None]], Awaitable[Reply]]) -> None:
+        self.writer, self.has_begun = writer, asyncio.Event()
+        self.reply = asyncio.ensure_future(serving(self.has_begun.set))
+
+    async def end(self, patience: float) -> bool:
+        """Hands the reply over; whether its first bytes came in time."""
+        begun = asyncio.ensure_future(self.has_begun.wait())
+        await asyncio.wait((self.reply, begun), timeout=patience, return_when=asyncio.FIRST_COMPLETED)
+        in_time = self.reply.done() or begun.done()
+        begun.cancel()
+        try:
+            if in_time:
+                self.writer.write(reply_bytes(await self.reply))
+                await self.writer.drain()
+        except (OSError, TransportFault):
+            pass  # The process sees a connection that ends without a reply.
+        finally:
+            self.reply.cancel()
+            self.writer.close()
+        return in_time
+
+
+class Sockets:
+    """The broker's socket, for a client that sends a slice of requests abreast and reads the replies in turn."""
+
+    def __init__(self, vault: Vault) -> None:
+        self._vault = vault
+        self._slice: list[_Talk] = []
+        self._failed: set[str] = set()
+        self._is_away = False
+        self.is_open = False
+        self.slices = 0
+
+    async def start(self, place: str) -> asyncio.Server:
+        return await asyncio.start_unix_server(self._talk, place)
+
+    def hear(self, line: str) -> None:
+        """What the process says of the broker and of entries decides how patient it is."""
+        word, *names = line.split(" ")
+        if word in ("away", "back"):
+            self._is_away = word == "away"
+        elif word in ("lost", "refused"):
+            self._failed.add(names[0])
+        elif word in ("told", "entry"):
+            self._failed.discard(names[0])
+
+    async def _talk(self, reader: asyncio.StreamReader, writer: asyncio.StreamWriter) -> None:
+        try:
+            request = await read_request(reader)
+        except (OSError, asyncio.IncompleteReadError):
+            writer.close()
+            return
+        is_first = not self._slice
+        name = self._vault.named_by(request)
+        self._slice.append(_Talk(writer, lambda begun: self._vault.serve(request, begun)))
+        if is_first:
+            self.is_open = True
+            with contextlib.suppress(asyncio.CancelledError):  # (the loop tells of it)
+                await self._serve(SHORT if self._is_away and name not in self._failed else TIMEOUT)
+            self.is_open = False
+
+    async def _serve(self, patience: float) -> None:
+        loop = asyncio.get_running_loop()
+        assert isinstance(loop, SimLoop)
+        await loop.idle()  # Then all requests of the slice are there.
+        self.slices += 1
+        talks, self._slice = self._slice, []
+        for talk in talks:
+            if not await talk.end(patience):
+                patience = HASTY
 
 
 class StageLauncher:
-    """Starts runs, of the program where one is given and else scripted ones, and remembers what each was given."""
+    """Starts processes on the broker of the stage, and remembers each."""
 
-    def __init__(self, vault: Vault, program: str | None) -> None:
-        self._vault = vault
-        self._real = None if program is None else RealRuns(program)
-        self.runs: list[ScriptedRun | RealRun] = []
-        self.texts: list[str] = []
-        self.starts: list[int] = []
-        self.began: list[float] = []
-        self.refuses: Callable[[Request, str], bool] | None = None
-        self.is_missing = self.ends_at_once = self.prints_at_once = False
+    timeout = int(TIMEOUT)
 
-    async def launch(self, inventory: str, start: int) -> ScriptedRun | RealRun:
-        self.texts.append(inventory)
-        self.starts.append(start)
-        self.began.append(self._vault.world.now())
+    def __init__(self, vault: Vault, program: str, folder: str) -> None:
+        self._vault, self._folder = vault, folder
+        self._place = f"{folder}/broker"
+        self._command = WatchCommand(program, Address(self._place), REAL_TIMEOUT)
+        self._sockets: Sockets | None = None
+        self._server: asyncio.Server | None = None
+        self.children: list[StageChild] = []
+        self.inventories: list[Inventory] = []
+        self.is_missing = self.ends_at_once = False
+
+    def set_width(self, width: int | None) -> None:
+        """How many requests go out at once, of the processes from now on."""
+        self._command = replace(self._command, width=width)
+
+    async def launch(self, inventory: Inventory) -> Child:
+        loop = asyncio.get_running_loop()
+        assert isinstance(loop, SimLoop)
+        self.inventories.append(inventory)
         if self.is_missing:
             raise LaunchFault("cannot start leasekeep: No such file or directory")
-        transport = RunTransport(self._vault, self.refuses)
-        run: ScriptedRun | RealRun
-        run = (ScriptedRun(inventory, start, transport, self.prints_at_once) if self._real is None
-               else await self._real.launch(inventory, start, transport.request))
-        self.runs.append(run)
+        if self._server is not None:
+            self._server.close()
+            os.unlink(self._place)
+        sockets = Sockets(self._vault)
+        self._server = await sockets.start(self._place)
+        child = StageChild(await self._command.launch(inventory), loop, sockets)
+        self.children.append(child)
         if self.ends_at_once:
-            run.kill()
-        return run
+            child.kill()
+        return child
 
     def close(self) -> None:
-        if self._real is not None:
-            self._real.close()
+        if self._server is not None:
+            self._server.close()
 
 
 class Stage:
     """Everything of one scenario."""
 
-    def __init__(self, inventory: Inventory, program: str | None = None, **world: float) -> None:
+    def __init__(self, inventory: Inventory, **world: float) -> None:
+        if PROGRAM is None:
+            raise unittest.SkipTest("no built leasekeep that has the command `watch`")
         self.world = World(**world)
         self.vault = Vault(self.world)
-        self.launcher = StageLauncher(self.vault, program)
+        self.folder = tempfile.TemporaryDirectory()
+        self.launcher = StageLauncher(self.vault, PROGRAM, self.folder.name)
         self.output = io.StringIO()
         self.inventory = inventory
+        self.standings = Standings(self.world)
         self.beginnings = 0
         self._task: asyncio.Task[None] | None = None
-        self.engine = self._new_engine()
+        self._new()
 
-    def _new_engine(self) -> Engine:
-        log = Log(LineForm(self.world), self.output)
-        broker = Broker(VaultTransport(self.vault), self.world, TIMEOUT)
-        return Engine(self.inventory, Parts(self.world, broker, self.launcher, log, random.Random(7)))
+    def _new(self) -> None:
+        """A service that knows what stands on the disk."""
+        self._log = Log(LineForm(self.world), self.output)
+        self._ends = KnownEnds(Path(self.folder.name) / "ends", Storage(), "boot")
+        self._ends.load()
+        self.watch = Watch(self.launcher, self.world, self._ends, self._log, self._hear)
+        self.standings = Standings(self.world)
+        self.take(self.inventory)
+
+    def _hear(self, line: WatchLine) -> None:
+        level = self.standings.level_of(line)
+        if level is not None:
+            self._log.say(level, line.said.word, *line.words)
+        self.standings.hear(line)
+
+    def take(self, inventory: Inventory) -> None:
+        self.inventory = inventory
+        self.standings.take(inventory)
+        self.watch.take(inventory)
+
+    def need(self, name: str, until: int) -> None:
+        self.inventory = needed_until(self.inventory, name, until)
+        self.watch.need(self.inventory, name, until)
 
     def start(self) -> None:
-        self._task = asyncio.create_task(self.engine.serve())
+        self._task = asyncio.create_task(self.watch.serve())
 
     async def stop(self) -> None:
-        """Ends the service at once, as a kill would: what it knew is gone."""
+        """Ends the service at once, as a kill would: what stands on no disk is gone."""
+        setattr(self._ends, "write", lambda: None)
         if self._task is not None:
             self._task.cancel()
             await asyncio.gather(self._task, return_exceptions=True)
-        self.beginnings += self.engine.beginnings
-        self.engine.beginnings = 0
+        self.beginnings += self.standings.beginnings
+        self.standings.beginnings = 0
 
     async def restart(self) -> None:
         await self.stop()
-        self.engine = self._new_engine()
+        self._new()
         self.start()
 
-    def kill_run(self) -> None:
-        self.launcher.runs[-1].kill()
+    def entries(self) -> list[EntryStatus]:
+        return self.standings.entries(self.inventory)
+
+    def kill_child(self) -> None:
+        self.launcher.children[-1].kill()
 
     async def until(self, moment: float) -> None:
         """Goes on to that moment, counted from the beginning of the world."""
@@ -182,7 +276,12 @@ class Stage:
 
     async def finish(self, moment: float) -> None:
         await self.until(moment)
+        await self.close()
+
+    async def close(self) -> None:
         await self.stop()
+        self.launcher.close()
+        self.folder.cleanup()
         self.vault.sweep()
 
     def lost(self) -> list[str]:
@@ -198,6 +297,11 @@ class Stage:
 
     def lines(self, word: str) -> list[str]:
         return [line for line in self.output.getvalue().splitlines() if f" {word} " in line + " "]
+
+
+def needed_until(inventory: Inventory, name: str, until: int) -> Inventory:
+    """The inventory with another need of that entry."""
+    return inventory.mapped(lambda entry: replace(entry, need=until) if entry.name == name else entry)
 
 
 def fleet(

@@ -9,9 +9,9 @@ from dataclasses import dataclass, field
 from enum import Enum
 from typing import Any, Callable
 
-from leasekeepd_lib.clock import date_text
-from leasekeepd_lib.http_client import Request, Response, TransportFault
-from leasekeepd_lib.inventory import Inventory, Kind
+from leasekeep_inventory.http_client import Request, Response, TransportFault
+from leasekeep_inventory.inventory import Inventory, Kind
+from leasekeep_inventory.rfc3339 import date_text
 
 from .world import World
 
@@ -40,9 +40,22 @@ class Act(Enum):
     STATUS = "status"
     REFUSE = "refuse the connection"
     HANG = "never answer"
-    DRIP = "answer byte by byte, so that no single read takes long"
+    DRIP = "answer byte by byte, so that no single read takes long, until the client has had enough"
     DELAY = "answer late"
     DROP = "do all, and send no reply"
+
+
+DRIPS = 7.0
+"""Seconds that a client with a time-out of five takes to have had enough: a quarter for each of 28 reads."""
+
+
+@dataclass(frozen=True)
+class Reply:
+    """A reply with the broker's moment, where it tells one."""
+
+    status: int
+    body: bytes
+    date: int | None = None
 
 
 @dataclass
@@ -122,31 +135,28 @@ class Vault:
     def count(self, word: str) -> int:
         return sum(word in path for _, path, _, _ in self.log)
 
-    async def serve(self, request: Request, read_timeout: float | None) -> Response:
-        """One request; `read_timeout` is that of a client that bounds each read alone."""
+    async def serve(self, request: Request, begun: Callable[[], None] = lambda: None) -> Reply:
+        """One request; `begun` is called where the first bytes of the reply go out long before its end."""
         name = self.named_by(request)
         fault = next((fault for fault in self.faults
                       if fault.since <= self.world.now() < fault.until and fault.on(request, name)), None)
         if fault is not None:
-            reply = await self._act(fault, request, name, read_timeout)
+            reply = await self._act(fault, request, name, begun)
             if reply is not None:
                 return reply
         if self.latency:
             await asyncio.sleep(self.latency)
         return self._answer(request, name)
 
-    def _answer(self, request: Request, name: str) -> Response:
+    def _answer(self, request: Request, name: str) -> Reply:
         self.sweep()
         status, body = (429, {"errors": []}) if self._over_quota() else self._serve(request)
         self.log.append((self.world.now(), request.path, name, status))
         date = math.floor(self.world.now()) if self.tells_date else None
-        return Response(status, json.dumps(body).encode(), date)
+        return Reply(status, json.dumps(body).encode(), date)
 
-    async def _act(self, fault: Fault, request: Request, name: str, read_timeout: float | None) -> Response | None:
+    async def _act(self, fault: Fault, request: Request, name: str, begun: Callable[[], None]) -> Reply | None:
         if fault.act is Act.DELAY:
-            if read_timeout is not None and fault.seconds > read_timeout:
-                await asyncio.sleep(read_timeout)
-                raise TransportFault("late")
             await asyncio.sleep(fault.seconds)
             return None
         if fault.act is Act.DROP:
@@ -154,11 +164,12 @@ class Vault:
             raise TransportFault("dropped")
         self.log.append((self.world.now(), request.path, name, fault.status if fault.act is Act.STATUS else None))
         if fault.act is Act.STATUS:
-            return Response(fault.status, b'{"errors":[]}')
+            return Reply(fault.status, b'{"errors":[]}')
         if fault.act is Act.HANG:
-            await asyncio.sleep(1e9 if read_timeout is None else read_timeout)
+            await asyncio.sleep(1e9)
         elif fault.act is Act.DRIP:
-            await self.world.until(fault.until)
+            begun()
+            await asyncio.sleep(DRIPS)
         raise TransportFault("no reply")
 
     def _over_quota(self) -> bool:
@@ -220,8 +231,9 @@ class Vault:
 class VaultTransport:
     """A client's way to the broker."""
 
-    def __init__(self, vault: Vault, read_timeout: float | None = None) -> None:
-        self._vault, self._read_timeout = vault, read_timeout
+    def __init__(self, vault: Vault) -> None:
+        self._vault = vault
 
     async def request(self, request: Request) -> Response:
-        return await self._vault.serve(request, self._read_timeout)
+        reply = await self._vault.serve(request)
+        return Response(reply.status, reply.body)

@@ -9,11 +9,11 @@ from dataclasses import dataclass, field
 from pathlib import Path
 from typing import Any, Callable
 
+from leasekeep_inventory.http_client import Address
+from leasekeep_inventory.inventory import Entry, Inventory, Kind
+from leasekeepd_lib.child import END_SECONDS, Child, ChildExit, ChildProcess, LaunchFault
 from leasekeepd_lib.events import LineForm, Log
-from leasekeepd_lib.http_client import Address
-from leasekeepd_lib.inventory import Entry, Inventory, Kind
 from leasekeepd_lib.known_ends import KnownEnds
-from leasekeepd_lib.run_process import END_SECONDS, LaunchFault, ProcessRun, Run, RunExit
 from leasekeepd_lib.storage import Storage
 from leasekeepd_lib.watch_lines import WatchLine
 from leasekeepd_lib.watch_process import Watch, WatchCommand
@@ -30,10 +30,10 @@ SILENCE = 2 * 5 + 15
 Script = list[list[tuple[str, list[Any]]]]
 
 
-class TimedRun:
+class TimedChild:
     """A process for which time stands still while it has something to say."""
 
-    def __init__(self, process: ProcessRun, script: list[tuple[str, list[Any]]], heard: Path, loop: SimLoop) -> None:
+    def __init__(self, process: ChildProcess, script: list[tuple[str, list[Any]]], heard: Path, loop: SimLoop) -> None:
         self._process, self._heard, self._loop = process, heard, loop
         self._script, self._answer = list(script), list[Any]()
         self._is_ending = False
@@ -56,7 +56,7 @@ class TimedRun:
         self._answer = [] if line is None else self._answer[1:]
         return line
 
-    async def end(self) -> RunExit:
+    async def end(self) -> ChildExit:
         if self._answer[:1] == ["hang"]:
             await asyncio.sleep(END_SECONDS)
             self._process.kill()
@@ -94,7 +94,7 @@ class WatchStage:
     def timeout(self) -> int:
         return self.command.timeout
 
-    async def launch(self, inventory: Inventory) -> Run:
+    async def launch(self, inventory: Inventory) -> Child:
         loop = asyncio.get_running_loop()
         assert isinstance(loop, SimLoop)
         self.launched.append(self.world.elapsed())
@@ -102,8 +102,8 @@ class WatchStage:
             raise LaunchFault("cannot start leasekeep: No such file or directory")
         start = len(list(self.folder.glob("script.*")))
         process = await self.command.launch(inventory)
-        assert isinstance(process, ProcessRun)
-        return TimedRun(process, self.script[start], self.folder / f"script.{start}", loop)
+        assert isinstance(process, ChildProcess)
+        return TimedChild(process, self.script[start], self.folder / f"script.{start}", loop)
 
     async def serve(self, until: float, *happens: tuple[float, Callable[[], Any]]) -> None:
         """Serves until the elapsed clock shows that, and does each thing at its moment."""

@@ -29,10 +29,15 @@ class _Selector(selectors.DefaultSelector):
     def select(self, timeout: float | None = None) -> list[Any]:
         ready = super().select(0)
         began = time.monotonic()
-        while not ready and timeout != 0 and any(worker.is_working for worker in self.loop.workers):
-            ready = super().select(1.0)
+        while not ready and timeout != 0:
+            is_working = any(worker.is_working for worker in self.loop.workers)
+            ready = super().select(0.001 if is_working else 0)  # (what a worker did before it stopped is there)
+            if not is_working:
+                break
             if time.monotonic() > began + LONGEST_WORK:
                 raise TimeoutError("a worker has not ended its work")
+        if not ready and timeout != 0 and self.loop.wake_idle():
+            return ready
         if not ready and timeout is None:
             # Only a thread or a child process could still wake the loop.
             return super().select(1.0)
@@ -49,10 +54,24 @@ class SimLoop(asyncio.SelectorEventLoop):
         selector.loop = self
         self.simulated = 0.0
         self.workers: set[Worker] = set()
+        self._idle: list[asyncio.Future[None]] = []
         super().__init__(selector)
 
     def time(self) -> float:
         return self.simulated
+
+    async def idle(self) -> None:
+        """Returns where nothing is left to be done at this moment, by the loop or by a worker."""
+        self._idle.append(self.create_future())
+        await self._idle[-1]
+
+    def wake_idle(self) -> bool:
+        """Whether somebody waited for this."""
+        idle, self._idle = self._idle, []
+        for future in idle:
+            if not future.done():
+                future.set_result(None)
+        return bool(idle)
 
 
 def simulate(work: Coroutine[Any, Any, Result]) -> Result:

@@ -10,12 +10,12 @@ import math
 import tomllib
 from dataclasses import replace
 from pathlib import Path
-from typing import Any
+from typing import Any, Callable
 
 from .broker import Broker, Facts, Verdict
-from .clock import Clock, date_text
 from .inventory import Entry, Inventory, Kind, entry_text, toml_string
 from .inventory_file import KEYS, judge, read_tables
+from .rfc3339 import date_text
 from .toml_text import decoded
 from .values import CREDENTIAL
 
@@ -92,8 +92,8 @@ def _value(value: Any) -> str:
     return str(value).lower() if isinstance(value, (bool, int)) else "[]"
 
 
-async def discover(broker: Broker, clock: Clock, wanted: Inventory) -> str:
-    """The text of the inventory, with what each lookup tells; DiscoverFault where one fails."""
+async def discover(broker: Broker, wall: Callable[[], float], wanted: Inventory) -> str:
+    """The text of the inventory, with what each lookup tells; DiscoverFault where one fails. `wall` reads the wall clock."""
     faults, texts, entries = [], [], []
     for entry in wanted.entries:
         heard = await broker.look_up(wanted, entry)
@@ -103,7 +103,7 @@ async def discover(broker: Broker, clock: Clock, wanted: Inventory) -> str:
             faults.append(f"{entry.name}: never ends (ttl 0) and needs no keeping: take it out, and write its"
                           " children without a parent")
         else:
-            filled = _filled(wanted, entry, heard.facts, math.floor(clock.wall()))
+            filled = _filled(wanted, entry, heard.facts, math.floor(wall()))
             entries.append(filled)
             texts.append(_noted(entry, filled, heard.facts))
     if faults:
@@ -112,7 +112,7 @@ async def discover(broker: Broker, clock: Clock, wanted: Inventory) -> str:
     found = [f"{fault.entry} {fault.key}: {fault.problem}; {fault.mend}" for fault in judge(inventory)]
     if found:
         raise DiscoverFault("\n".join(found))
-    head = f"# By leasekeepd inventory, {date_text(clock.wall())}\nsystem_max = {wanted.system_max}\n" \
+    head = f"# By leasekeepd inventory, {date_text(wall())}\nsystem_max = {wanted.system_max}\n" \
            f"margin = {wanted.margin}\n"
     return "\n".join([head, *texts])
 

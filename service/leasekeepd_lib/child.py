@@ -1,14 +1,11 @@
-"""`leasekeep run` as a process: event lines in, lines out."""
+"""A command of `leasekeep` as a process: lines in, lines out."""
 
 from __future__ import annotations
 
 import asyncio
 import os
-import re
 from dataclasses import dataclass
 from typing import Protocol
-
-from .http_client import Address
 
 LINE_MOST = 1 << 20
 END_SECONDS = 0.5
@@ -16,43 +13,31 @@ FAULT_MOST = 200
 
 
 @dataclass(frozen=True)
-class RunExit:
-    """How a run ended: its exit (negative: the signal that ended it) and its fault line."""
+class ChildExit:
+    """How a process ended: its exit (negative: the signal that ended it) and its fault line."""
 
     code: int
     fault: str = ""
 
-    @property
-    def broker_entry(self) -> str | None:
-        """The entry at whose lookup it ended, if that is why."""
-        match = re.fullmatch(r"leasekeep: broker (\S+)", self.fault) if self.code == 6 else None
-        return match[1] if match else None
 
-
-class Run(Protocol):
-    """A run under way."""
+class Child(Protocol):
+    """A process under way."""
 
     async def read_line(self) -> str | None:
         """Its next line without the line feed; None where it has ended."""
 
     async def write_line(self, line: str) -> None:
-        """Hands an event line in. A run that has ended takes it and answers nothing."""
+        """Hands a line in. A process that has ended takes it and answers nothing."""
 
-    async def end(self) -> RunExit:
+    async def end(self) -> ChildExit:
         """Ends it, if it still runs, and tells how it ended."""
 
 
-class Launcher(Protocol):
-    """Starts runs."""
-
-    async def launch(self, inventory: str, start: int) -> Run: ...
-
-
 class LaunchFault(Exception):
-    """A run that could not be started."""
+    """A process that could not be started."""
 
 
-class ProcessRun:
+class ChildProcess:
     """A child process."""
 
     def __init__(self, process: asyncio.subprocess.Process) -> None:
@@ -60,6 +45,10 @@ class ProcessRun:
         assert process.stdin and process.stdout and process.stderr
         self._in, self._out = process.stdin, process.stdout
         self._faults = asyncio.create_task(_front(process.stderr))
+
+    @property
+    def pid(self) -> int:
+        return self._process.pid
 
     async def read_line(self) -> str | None:
         try:
@@ -80,7 +69,7 @@ class ProcessRun:
         if self._process.returncode is None:
             self._process.kill()
 
-    async def end(self) -> RunExit:
+    async def end(self) -> ChildExit:
         self._in.close()
         try:
             async with asyncio.timeout(END_SECONDS):
@@ -90,7 +79,7 @@ class ProcessRun:
         finally:
             self.kill()
         code = await self._process.wait()
-        return RunExit(code, await self._faults)
+        return ChildExit(code, await self._faults)
 
 
 async def _front(stream: asyncio.StreamReader) -> str:
@@ -102,7 +91,7 @@ async def _front(stream: asyncio.StreamReader) -> str:
     return "".join(letter if " " <= letter <= "~" else "?" for letter in line)
 
 
-async def start_process(program: str, command: str, inventory: str, *words: str) -> ProcessRun:
+async def start_child(program: str, command: str, inventory: str, *words: str) -> ChildProcess:
     """Starts a command of `leasekeep` on the inventory, which holds secrets: the process reads it from memory, and it
     lies in no folder. LaunchFault where it cannot be started."""
     handle = os.memfd_create("inventory")
@@ -116,17 +105,4 @@ async def start_process(program: str, command: str, inventory: str, *words: str)
         raise LaunchFault(f"cannot start {program}: {error.strerror}") from None
     finally:
         os.close(handle)
-    return ProcessRun(process)
-
-
-@dataclass(frozen=True)
-class ProcessLauncher:
-    """Starts `leasekeep run`."""
-
-    program: str
-    address: Address
-    timeout: int
-
-    async def launch(self, inventory: str, start: int) -> ProcessRun:
-        return await start_process(self.program, "run", inventory, self.address.word, str(start), "--timeout",
-                                   str(self.timeout))
+    return ChildProcess(process)

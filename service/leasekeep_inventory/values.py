@@ -7,9 +7,8 @@ from dataclasses import dataclass
 from datetime import date
 from typing import Any, Callable
 
-from .clock import LAST
 from .inventory import DURATION_MAX, MARGIN_MAX
-from .rfc3339 import date_mend, read_rfc3339
+from .rfc3339 import LAST, date_mend, read_rfc3339
 
 NAME = re.compile(r"[A-Za-z0-9\-_./]{1,64}", re.ASCII)
 CREDENTIAL = re.compile(r"[!-~]{1,256}", re.ASCII)

@@ -4,11 +4,11 @@ from __future__ import annotations
 
 import math
 
-from .clock import date_text
 from .findings import Finding, Severity
 from .inventory import Entry, Inventory
 from .inventory_file import Reading, read_inventory
-from .source import refusals, room_of
+from .refusals import refusals, room_of
+from .rfc3339 import date_text
 from .tree import TOKEN_VALUE, shown
 
 _YEAR_3000 = 32503680000

@@ -7,10 +7,10 @@ from dataclasses import dataclass, field
 from functools import cached_property
 from typing import Any, Iterator
 
-from .clock import LAST
 from .findings import Finding, Severity
 from .inventory import END_MAX, SYSTEM_MAX, Entry, Inventory, Kind
 from .near import Near, Slip
+from .rfc3339 import LAST
 from .toml_text import Lines, SyntaxFault, decoded, parsed
 from .tree import Row, judge_rows, shown, sound_entries
 from .values import (

@@ -3,11 +3,12 @@
 from __future__ import annotations
 
 import calendar
+import math
 import re
 from datetime import datetime, timedelta, timezone
 
-from .clock import LAST
-
+LAST = 253402300799
+"""The last moment, 9999-12-31T23:59:59Z."""
 _FORM = re.compile(
     r"(\d{4})-(\d\d)-(\d\d)[Tt](\d\d):(\d\d):(\d\d)(\.\d+)?(?:[Zz]|([+-])([01]\d|2[0-3]):([0-5]\d))", re.ASCII
 )
@@ -45,3 +46,9 @@ def date_mend(text: str) -> str:
         if int(match[group]) > most:
             return f"{words} are 00 to {most}, and this one is {match[group]}"
     return "write a moment from 1970-01-01T00:00:00Z to 9999-12-31T23:59:59Z"
+
+
+def date_text(moment: float) -> str:
+    """A moment as `YYYY-MM-DDTHH:MM:SSZ`, its fraction cut off."""
+    whole = min(max(math.floor(moment), 0), LAST)
+    return datetime.fromtimestamp(whole, timezone.utc).strftime("%Y-%m-%dT%H:%M:%SZ")

@@ -4,7 +4,6 @@ from __future__ import annotations
 
 import asyncio
 from dataclasses import dataclass
-from email.utils import parsedate_to_datetime
 from typing import Protocol
 
 MOST = 1 << 20
@@ -28,11 +27,10 @@ class Request:
 
 @dataclass(frozen=True)
 class Response:
-    """A reply: its status, its body, and the moment that its `Date` field tells, if it has one."""
+    """A reply: its status and its body."""
 
     status: int
     body: bytes
-    date: int | None = None
 
     def __repr__(self) -> str:
         return f"Response({self.status})"
@@ -83,7 +81,7 @@ class HttpTransport:
 
 
 def request_bytes(request: Request, host: str) -> bytes:
-    """The request as it is sent, like those of `leasekeep run`."""
+    """The request as it is sent, like those of `leasekeep`."""
     lines = [f"{request.method} {request.path} HTTP/1.1", f"Host: {host}", f"X-Vault-Token: {request.token}"]
     if request.method != "GET":
         lines += ["Content-Type: application/json", f"Content-Length: {len(request.body)}"]
@@ -106,7 +104,7 @@ async def read_response(reader: asyncio.StreamReader) -> Response:
         values.setdefault(name.lower(), []).append(value.strip())
     status = int(words[1])
     body = b"" if status in (204, 304) else await _read_body(reader, values)
-    return Response(status, body, _date(values.get("date")))
+    return Response(status, body)
 
 
 async def _read_body(reader: asyncio.StreamReader, fields: dict[str, list[str]]) -> bytes:
@@ -136,12 +134,3 @@ async def _read_chunks(reader: asyncio.StreamReader) -> bytes:
         if await reader.readexactly(2) != b"\r\n":
             raise ValueError
     return bytes(body)
-
-
-def _date(values: list[str] | None) -> int | None:
-    if not values:
-        return None
-    try:
-        return int(parsedate_to_datetime(values[0]).timestamp())
-    except (ValueError, TypeError, OverflowError):
-        return None
