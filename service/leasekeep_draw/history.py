@@ -2,7 +2,7 @@
 
 One line an event: `entry NAME END`, `wake T NAME..`, `told NAME SECS`, `refused NAME STATUS`, `lost NAME`,
 `short NAME NEED`; `next`, `sleep`, `idle`, `planned`, `fault` and `done` change no life. A line of leasekeepd's log has its
-moment in front, and what it says besides `renewed NAME SECS` is passed over.
+moment in front: what is told there is told of `renew NAME..` before it, and what else the log says is passed over.
 """
 
 from __future__ import annotations
@@ -76,7 +76,7 @@ def read(lines: Iterable[str], indices: Mapping[str, int], start: int) -> Histor
             text = text[logged.end() :]
         words = text.split(" ")
         try:
-            round_at = _take(history, words, indices, round_at)
+            round_at = _take(history, words, indices, round_at, logged is not None)
         except (KeyError, ValueError, IndexError):
             if logged is None:
                 raise LineFault(number) from None
@@ -84,21 +84,22 @@ def read(lines: Iterable[str], indices: Mapping[str, int], start: int) -> Histor
     return history
 
 
-def _take(history: History, words: list[str], indices: Mapping[str, int], round_at: int) -> int:
+def _take(history: History, words: list[str], indices: Mapping[str, int], round_at: int, is_logged: bool) -> int:
     """Takes one line. `round_at` is the moment of the round of which answers speak; gives that of the lines behind it."""
     match words:
         case ["wake", moment, *names]:
             round_at = int(moment)
             history.now = max(history.now, round_at)
             history.wakes.append(round_at)
-            history.requests += len([indices[name] for name in names])
+            asked = len([indices[name] for name in names])
+            history.requests += 0 if is_logged else asked
         case ["entry", name, end]:
             history.ends[indices[name]] = int(end)
         case ["told", name, seconds]:
             _renew(history, round_at, indices[name], int(seconds))
-        case ["renewed", name, seconds]:
-            history.requests += 1
-            _renew(history, history.now, indices[name], int(seconds))
+        case ["renew", *names]:
+            round_at = history.now
+            history.requests += len([indices[name] for name in names])
         case ["refused", name, status]:
             history.marks.append(Mark(round_at, indices[name], Sign.REFUSED, int(status)))
         case ["lost", name]:

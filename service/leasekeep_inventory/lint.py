@@ -13,6 +13,8 @@ from .tree import TOKEN_VALUE, shown
 
 _YEAR_3000 = 32503680000
 _LONG_STEP = 90 * 86400
+AT_ONCE = 8
+"""How many requests go out side by side, unless `--width` says otherwise."""
 
 
 class _Doubts:
@@ -64,12 +66,13 @@ def _doubt_margin(reading: Reading, doubts: _Doubts, timeout: int, now: float) -
         return
     if room.most < margin:
         doubts.doubt("", "margin", f"is over three quarters of the shortest step ({room.step} s of {room.whose})",
-                     f"{room.most} s is used instead: {room.for_timeout(timeout, margin)}")
+                     f"{room.most} s is used for it instead: {room.for_timeout(timeout, margin)}")
     fullest = _fullest_round(reading.sound, now)
-    if fullest * timeout > margin:
+    slices = math.ceil(fullest / AT_ONCE)
+    if slices * timeout > margin:
         doubts.doubt("", "margin",
-                     f"the fullest round times the time-out is over the margin ({fullest} entries, {timeout} s each)",
-                     f"a slower broker loses the last ones: {room.for_round(fullest, timeout, margin)}")
+                     f"the fullest round, {AT_ONCE} at a time, may take longer than the margin ({fullest} entries, {timeout} s each)",
+                     f"a slower broker loses the last ones: {room.for_round(slices, timeout, margin)}")
 
 
 def _fullest_round(inventory: Inventory, now: float) -> int:

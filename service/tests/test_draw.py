@@ -121,15 +121,17 @@ class Lanes(unittest.TestCase):
 
     def test_a_log(self) -> None:
         log = (
-            "1970-01-01T00:16:50Z begin start\n1970-01-01T00:16:50Z renewed L 60\n1970-01-01T00:16:51Z entry T 1100\n"
-            "1970-01-01T00:18:20Z wake 1099 T\n1970-01-01T00:18:21Z told T 100\n1970-01-01T00:18:21Z warning: lost U\n"
+            "1970-01-01T00:16:49Z begin start\n1970-01-01T00:16:49Z look T L\n1970-01-01T00:16:49Z entry T 1100\n"
+            "1970-01-01T00:16:50Z renew L\n1970-01-01T00:16:50Z told L 60\n"
+            "1970-01-01T00:18:19Z wake 1099 T U\n1970-01-01T00:18:19Z renew T U\n1970-01-01T00:18:19Z told T 100\n"
+            "1970-01-01T00:18:21Z warning: lost U\n"
             "1970-01-01T00:18:30Z note: short L 1071\n1970-01-01T00:18:30Z drop nobody\n"
         )
         chart = family(log)
         self.assertEqual([(lane.entry.name, lane.end) for lane in chart.lanes], [("T", 1199), ("L", 1070), ("U", 1060)])
         marks = [(mark.moment, mark.sign) for lane in chart.lanes for mark in lane.marks]
         self.assertEqual(marks, [(1099, Sign.RENEWED), (1010, Sign.RENEWED), (1110, Sign.SHORT), (1099, Sign.LOST)])
-        self.assertEqual((chart.requests, chart.is_over, chart.stop), (2, False, 1199))
+        self.assertEqual((chart.requests, chart.is_over, chart.stop), (3, False, 1199))
 
     def test_what_says_that_a_run_is_over(self) -> None:
         for line in ("next none", "idle", "done 1 1"):

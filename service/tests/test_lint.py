@@ -96,10 +96,10 @@ class Lint(unittest.TestCase):
                     self.assertNotIn(secret, "\n".join(lines))
 
     def test_a_round_that_a_slow_broker_makes_longer_than_the_margin(self) -> None:
-        text = inventory_text(fleet(40, 600, 60, 300))
-        self.assertIn("f:2: doubt: margin: the fullest round times the time-out is over the margin (40 entries, 5 s",
+        text = inventory_text(fleet(320, 600, 60, 300))
+        self.assertIn("f:2: doubt: margin: the fullest round, 8 at a time, may take longer than the margin (320 entries, 5 s",
                       "\n".join(linted(text)))
-        self.assertEqual(linted(inventory_text(fleet(4, 600, 60, 300))), [])
+        self.assertEqual(linted(inventory_text(fleet(96, 600, 60, 300))), [])
 
 
 def table(kind: str, name: str, *more: str) -> str:
@@ -262,10 +262,10 @@ class Slips(unittest.TestCase):
         self.assertEqual(linted("margin = 1000\n" + text.replace("600", "1334")), [])
 
     def test_what_round_trip_still_fits(self) -> None:
-        entries = "".join(table("token", f"t{number}") for number in range(40))
+        entries = "".join(table("token", f"t{number}") for number in range(320))
         self.assertEqual(linted("margin = 60\n" + entries), [
-            "f:1: doubt: margin: the fullest round times the time-out is over the margin (40 entries, 5 s each); a slower broker loses the"
-            " last ones: replies of 1.5 s still fit; a margin of 200 holds the time-out for each"])
+            "f:1: doubt: margin: the fullest round, 8 at a time, may take longer than the margin (320 entries, 5 s each); a slower broker"
+            " loses the last ones: replies of 1.5 s still fit; a margin of 200 holds the time-out for each"])
         self.assertIn("replies of 1.5 s still fit, and with 150, the greatest margin here, those of 3.75 s",
                       "\n".join(linted("margin = 60\n" + entries.replace("increment = 900", "increment = 200"))))
         self.assertIn("replies of 3.75 s still fit, and this is the greatest margin here: the broker has to be as quick",
