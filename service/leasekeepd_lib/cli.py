@@ -23,6 +23,7 @@ from .control import ControlFault, send_command
 from .health import KEPT
 from .serving import EXIT_FAULT, SOCKET, serve
 from .version import version
+from .widest import widest_margin
 
 EXIT_COMMAND_LINE = 2
 STDIN_MOST = 65536
@@ -177,10 +178,14 @@ def _lint(arguments: argparse.Namespace) -> int:
     except OSError as error:
         print(f"leasekeepd: lint: {arguments.file}: {error.strerror}", file=sys.stderr)
         return EXIT_COMMAND_LINE
-    found = lint(data, mode, arguments.timeout, SystemClock().wall(), arguments.names_are_secrets)
+    now = SystemClock().wall()
+    found = lint(data, mode, arguments.timeout, now, arguments.names_are_secrets)
     for finding in found:
         print(finding.text(str(arguments.file)))
     faults, doubts = kinds_of(found)
+    widest = None if faults else widest_margin(_program(), arguments.file, now)
+    if widest is not None:
+        print(f"{arguments.file}: note: margin: {widest} takes no more wake-ups and survives longer outages; write it if you like")
     sys.stdout.flush()
     print(f"{arguments.file}: {_count(faults, 'fault')}, {_count(doubts, 'doubt')}", file=sys.stderr)
     return EXIT_FAULT if faults else 0

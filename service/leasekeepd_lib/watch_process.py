@@ -24,6 +24,8 @@ GOOD_STRETCH = 60.0
 LONGEST_PAUSE = 30.0
 TICK = 0.001
 """The clocks are handed in by the millisecond: nothing is gained by sleeping less."""
+NAP = 1.0
+"""Seconds that it sleeps at once: a sleep counts no suspension, which is noticed behind each."""
 
 
 class WatchLauncher(Protocol):
@@ -59,8 +61,9 @@ class Watch:
     """One `leasekeep watch` after the other. `heard` is told of each line that is printed."""
 
     def __init__(self, launcher: WatchLauncher, clock: Clock, ends: KnownEnds, log: Log,
-                 heard: Callable[[WatchLine], None]) -> None:
+                 heard: Callable[[WatchLine], None], nap: float = NAP) -> None:
         self._launcher, self._clock, self._ends, self._log, self._heard = launcher, clock, ends, log, heard
+        self._nap = nap
         self._inventory = self._wanted = Inventory()
         self._changes: deque[str] = deque()
         self._waiter = Waiter()
@@ -136,7 +139,7 @@ class Watch:
     async def _sleep(self, wake: int) -> None:
         """Sleeps until the elapsed clock is there, or a change comes."""
         while not self._changes and self._wanted is self._inventory and self._elapsed() < wake:
-            await self._waiter.sleep(max(wake / 1000 - self._clock.elapsed(), TICK))
+            await self._waiter.sleep(min(max(wake / 1000 - self._clock.elapsed(), TICK), self._nap))
 
     async def _hand_in(self, process: Child, line: str) -> int | None:
         """Hands a line in and reads to the last that answers it; the moment to wait for, None where there is none."""

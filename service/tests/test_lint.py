@@ -2,6 +2,7 @@
 
 from __future__ import annotations
 
+import os
 import re
 import shutil
 import subprocess
@@ -13,17 +14,20 @@ from pathlib import Path
 
 from leasekeep_inventory.broker import Broker
 from leasekeep_inventory.discover import DiscoverFault, discover, read_short_list
-from leasekeep_inventory.inventory import Inventory, inventory_text
+from leasekeep_inventory.inventory import Entry, Inventory, Kind, inventory_text
 from leasekeep_inventory.inventory_file import read_inventory
 from leasekeep_inventory.lint import lint
 from leasekeepd_lib.changes import only_entry
 from leasekeepd_lib.source import Source
 from leasekeepd_lib.storage import Storage
+from leasekeepd_lib.widest import widest_margin
+from trial.programs import find_program
 
 from .model.stage import fleet
 from .model.vault import Vault, VaultTransport
 from .model.world import World, simulate
 
+LEASEKEEPD = Path(__file__).resolve().parents[1] / "leasekeepd"
 NOW = 1_000_000.0
 GOOD = """margin = 20
 [[token]]
@@ -393,6 +397,36 @@ class Discovered(unittest.TestCase):
                     self.discovered(text)
                 self.assertIn(expected, str(caught.exception))
                 self.assertNotIn("hvs.app-secret", str(caught.exception))
+
+
+class Widest(unittest.TestCase):
+    def told(self, margin: int, program: str) -> str:
+        now = int(time.time())
+        entries = (Entry(f"e{place}", Kind.TOKEN, None, now - 9, now + 600, increment=600 + 100 * place, max_ttl=90_000,
+                         need=now + 3000, credential=f"s.e{place}") for place in range(2))
+        with tempfile.TemporaryDirectory() as folder:
+            file = Path(folder) / "inventory.toml"
+            file.touch(0o600)
+            file.write_text(inventory_text(Inventory(tuple(entries), margin)))
+            ran = subprocess.run([str(LEASEKEEPD), "lint", str(file)], capture_output=True, text=True, timeout=60,
+                                 env={**os.environ, "PATH": f"{Path(program).parent}:{os.environ['PATH']}"})
+            self.assertEqual((ran.returncode, ran.stderr), (0, f"{file}: 0 faults, 0 doubts\n"))
+            return ran.stdout.replace(str(file), "f")
+
+    def test_it_is_named_where_it_is_wider(self) -> None:
+        """A wake-up every 600 less the margin: five up to 3000 with a margin of 20, and with each up to the widest."""
+        program = find_program("leasekeep")
+        if program is None or Path(program).name != "leasekeep":
+            self.skipTest("no built leasekeep")
+        found = re.fullmatch(r"f: note: margin: (\d+) takes no more wake-ups and survives longer outages; write it if you like\n",
+                             self.told(20, program))
+        assert found is not None
+        self.assertGreater(int(found[1]), 20)
+        self.assertEqual(self.told(int(found[1]), program), "")
+
+    def test_without_the_program_nothing_is_said(self) -> None:
+        self.assertIsNone(widest_margin("/nowhere/leasekeep", Path("/nowhere/file"), 1e9))
+        self.assertIsNone(widest_margin("true", Path("/nowhere/file"), 1e9))
 
 
 if __name__ == "__main__":

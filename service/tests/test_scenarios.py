@@ -8,6 +8,7 @@ from typing import Any, Callable, Coroutine
 
 from leasekeep_inventory.inventory import Inventory
 from leasekeepd_lib.watch_lines import Said, WatchLine
+from leasekeepd_lib.watch_process import NAP
 
 from .model.stage import Stage, fleet
 from .model.vault import Act, Fault, about, both, lookups, renewals
@@ -27,9 +28,9 @@ def fault(since: float, until: float, act: Act = Act.STATUS, status: int = 500, 
 
 class Scenario(unittest.TestCase):
     def play(self, inventory: Inventory, scene: Scene, real: dict[str, dict[str, Any]] | None = None,
-             **world: float) -> Stage:
+             **more: float) -> Stage:
         async def go() -> Stage:
-            stage = Stage(inventory, **world)
+            stage = Stage(inventory, **more)
             stage.vault.load(inventory, **(real or {}))
             await scene(stage)
             await stage.close()
@@ -291,6 +292,13 @@ class Clocks(Scenario):
             stage.world.suspended += HOUR
             await stage.finish(3 * HOUR)
         self.play(fleet(5, 7200, 60, 100 + HOUR + 40), past)
+        self.assert_kept()
+
+        async def to_the_last(stage: Stage) -> None:
+            await stage.until(100)
+            stage.world.suspended += 198 - 100
+            await stage.finish(600)
+        self.play(fleet(5, 300, 20, 200), to_the_last, nap=NAP)
         self.assert_kept()
 
     def test_the_wall_clock_an_hour_off_for_a_while(self) -> None:

@@ -6,6 +6,7 @@ from __future__ import annotations
 import asyncio
 import contextlib
 import io
+import math
 import os
 import tempfile
 import unittest
@@ -205,9 +206,10 @@ class StageLauncher:
 class Stage:
     """Everything of one scenario."""
 
-    def __init__(self, inventory: Inventory, **world: float) -> None:
+    def __init__(self, inventory: Inventory, nap: float = math.inf, **world: float) -> None:
         if PROGRAM is None:
             raise unittest.SkipTest("no built leasekeep that has the command `watch`")
+        self.nap = nap  # (as long as may be: naps take real time)
         self.world = World(**world)
         self.vault = Vault(self.world)
         self.folder = tempfile.TemporaryDirectory()
@@ -224,7 +226,7 @@ class Stage:
         self._log = Log(LineForm(self.world), self.output)
         self._ends = KnownEnds(Path(self.folder.name) / "ends", Storage(), "boot")
         self._ends.load()
-        self.watch = Watch(self.launcher, self.world, self._ends, self._log, self._hear)
+        self.watch = Watch(self.launcher, self.world, self._ends, self._log, self._hear, self.nap)
         self.standings = Standings(self.world)
         self.take(self.inventory)
 
