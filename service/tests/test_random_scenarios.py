@@ -162,7 +162,7 @@ class RandomScenarios(unittest.TestCase):
                 stage, happened = simulate(act_out(seed))
                 lost = [name for name in stage.lost() if name in needed(stage)]
                 self.assertEqual(lost, [], f"{happened}\n{stage.output.getvalue()[-3000:]}")
-                self.assertEqual(too_soon(stage), [], happened)
+                self.assertEqual((too_soon(stage), stage.believed_too_long), ([], []), happened)
 
 
 def real_terms(plotted: Plot) -> dict[str, dict[str, Any]]:
@@ -247,7 +247,7 @@ class RandomTerms(unittest.TestCase):
                 log = f"{happened}\n{stage.output.getvalue()[-4000:]}"
                 self.assertEqual(wrongly_lost(stage, happened), [], log)
                 self.assertEqual(untold(stage), [], log)
-                self.assertEqual(too_soon(stage), [], log)
+                self.assertEqual((too_soon(stage), stage.believed_too_long), ([], []), log)
                 self.assertLess(stage.beginnings, 100, log)
 
 

@@ -21,7 +21,7 @@ from leasekeepd_lib.events import LineForm, Log
 from leasekeepd_lib.known_ends import KnownEnds
 from leasekeepd_lib.status import EntryStatus
 from leasekeepd_lib.storage import Storage
-from leasekeepd_lib.watch_lines import WatchLine
+from leasekeepd_lib.watch_lines import Said, WatchLine
 from leasekeepd_lib.watch_process import Watch, WatchCommand
 from leasekeepd_lib.watch_standings import Standings
 from trial.programs import find_program
@@ -32,6 +32,8 @@ from .world import SimLoop, World
 
 PROGRAM = find_program("leasekeep")
 """`leasekeep` itself, where it is built or installed."""
+IS_QUICK = find_program("leasekeep", may_be_slow=False) is not None
+"""Whether it is no build without a proof: such takes ten times as long, and plays days in place of weeks."""
 TIMEOUT = 5.0
 REAL_TIMEOUT = 60
 """The time-out of the process's sockets in real time: that of the scenario is the broker's matter."""
@@ -218,6 +220,7 @@ class Stage:
         self.inventory = inventory
         self.standings = Standings(self.world)
         self.beginnings = 0
+        self.believed_too_long: list[str] = []
         self._task: asyncio.Task[None] | None = None
         self._new()
 
@@ -234,6 +237,8 @@ class Stage:
         level = self.standings.level_of(line)
         if level is not None:
             self._log.say(level, line.said.word, *line.words)
+        if line.said is Said.END and int(line.words[1]) / 1000 + self.world.began > self.vault.named(line.words[0]).end + 0.001:
+            self.believed_too_long.append(str(line))  # (of a machine whose clock is neither slow nor quick)
         self.standings.hear(line)
 
     def take(self, inventory: Inventory) -> None:
