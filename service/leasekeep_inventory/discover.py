@@ -1,7 +1,7 @@
 """`leasekeepd inventory`: a whole inventory from a short list and lookups at the broker.
 
-The short list is TOML: the tables of an inventory without what a lookup tells (issued, end, renewable, period,
-explicit_max_ttl). `secret_file` may stand for `secret`, and `lease_id_file` for `lease_id`.
+The short list is TOML: the tables of an inventory as it is served, without what a lookup tells (issued, end, renewable,
+period, explicit_max_ttl). `secret_file` may stand for `secret`, and `lease_id_file` for `lease_id`.
 """
 
 from __future__ import annotations
@@ -13,7 +13,8 @@ from pathlib import Path
 from typing import Any, Callable
 
 from .broker import Broker, Facts, Verdict
-from .inventory import Entry, Inventory, Kind, entry_text, toml_string
+from .dialect import SERVED
+from .inventory import ALWAYS, Entry, Inventory, Kind, entry_text, toml_string
 from .inventory_file import KEYS, judge, read_tables
 from .rfc3339 import date_text
 from .toml_text import decoded
@@ -22,7 +23,8 @@ from .values import CREDENTIAL
 _FILES = {"secret_file": "secret", "lease_id_file": "lease_id"}
 _PLACEHOLDER_INCREMENT = 1
 _TOP = ("system_max", "margin", "token", "lease")
-DEFAULT_MARGIN = 60
+_YEAR = 365 * 86400
+"""For so long an entry without a ceiling is planned, where its need is "always"."""
 
 
 class DiscoverFault(Exception):
@@ -40,10 +42,11 @@ def read_short_list(path: Path) -> Inventory:
     unknown = [key for key in top if key not in _TOP]
     if unknown:
         raise DiscoverFault(f"{path}: {unknown[0]} is no key of a short list; the keys are {', '.join(_TOP)}")
-    numbers = {"margin": DEFAULT_MARGIN, "system_max": Inventory().system_max, **top}
-    for key in ("margin", "system_max"):
-        if type(numbers[key]) is not int or numbers[key] < 1:
-            raise DiscoverFault(f"{path}: {key} is no whole number of seconds")
+    numbers = {"margin": SERVED.absent_margin, "system_max": Inventory().system_max}
+    for key, form in (("margin", SERVED.margin), ("system_max", SERVED.system_max)):
+        numbers[key] = form.read(top.get(key, numbers[key]))
+        if numbers[key] is None:
+            raise DiscoverFault(f"{path}: {key} is not {form.expected}; {form.mend(top[key])}")
     entries = []
     for kind in Kind:
         tables = top.get(kind.value, [])
@@ -66,7 +69,7 @@ def _entry(path: Path, kind: Kind, place: int, table: dict[str, Any]) -> Entry:
     filled.setdefault("increment", _PLACEHOLDER_INCREMENT)
     reading, entries = read_tables(_toml(kind, filled).encode())
     if reading.faults:
-        words = "; ".join(" ".join((fault.key, fault.problem)) for fault in reading.faults)
+        words = "; ".join(f"{fault.key} {fault.problem}; {fault.mend}" for fault in reading.faults)
         raise DiscoverFault(f"{label}: {words}")
     return entries[0]
 
@@ -94,7 +97,7 @@ def _value(value: Any) -> str:
 
 async def discover(broker: Broker, wall: Callable[[], float], wanted: Inventory) -> str:
     """The text of the inventory, with what each lookup tells; DiscoverFault where one fails. `wall` reads the wall clock."""
-    faults, texts, entries = [], [], []
+    faults, entries, found = list[str](), list[Entry](), list[tuple[Entry, Facts]]()
     for entry in wanted.entries:
         heard = await broker.look_up(wanted, entry)
         if heard.verdict is not Verdict.GOOD or heard.facts is None:
@@ -103,15 +106,17 @@ async def discover(broker: Broker, wall: Callable[[], float], wanted: Inventory)
             faults.append(f"{entry.name}: never ends (ttl 0) and needs no keeping: take it out, and write its"
                           " children without a parent")
         else:
-            filled = _filled(wanted, entry, heard.facts, math.floor(wall()))
-            entries.append(filled)
-            texts.append(_noted(entry, filled, heard.facts))
+            entries.append(_filled(wanted, entry, heard.facts, math.floor(wall())))
+            found.append((entry, heard.facts))
     if faults:
         raise DiscoverFault("\n".join(faults))
     inventory = Inventory(tuple(entries), wanted.margin, wanted.system_max)
-    found = [f"{fault.entry} {fault.key}: {fault.problem}; {fault.mend}" for fault in judge(inventory)]
-    if found:
-        raise DiscoverFault("\n".join(found))
+    faults = [f"{fault.entry} {fault.key}: {fault.problem}; {fault.mend}" for fault in judge(inventory)]
+    if faults:
+        raise DiscoverFault("\n".join(faults))
+    year = math.floor(wall()) + _YEAR
+    strict = inventory.mapped(lambda entry: replace(entry, need=_reach(inventory, entry, year)) if entry.need == ALWAYS else entry)
+    texts = [_noted(entry, filled, facts) for (entry, facts), filled in zip(found, strict.entries)]
     head = f"# By leasekeepd inventory, {date_text(wall())}\nsystem_max = {wanted.system_max}\n" \
            f"margin = {wanted.margin}\n"
     return "\n".join([head, *texts])
@@ -126,10 +131,20 @@ def _filled(wanted: Inventory, entry: Entry, facts: Facts, now: int) -> Entry:
                    period=facts.period, explicit_max_ttl=facts.explicit_max, parent=parent)
 
 
+def _reach(inventory: Inventory, entry: Entry, most: int) -> int:
+    """The moment up to which the entry can be kept, by the ceilings and ends over it, at most that one."""
+    for over in inventory.over(entry.name):
+        ceiling = inventory.ceiling(over, over.issued, over.period, over.explicit_max_ttl) if over.renewable else over.end
+        most = min(most, most if ceiling is None else max(ceiling, over.end))
+    return most
+
+
 def _noted(entry: Entry, filled: Entry, facts: Facts) -> str:
     notes = []
     if entry.increment == _PLACEHOLDER_INCREMENT and not facts.period:
         notes.append("# increment: the TTL that is left; write what a renewal is to ask for")
+    if entry.need == ALWAYS:
+        notes.append("# need: always; this is its ceiling, or a year from now")
     if facts.orphan and entry.parent is not None and entry.kind is Kind.TOKEN:
         notes.append(f"# the broker says orphan: its parent {entry.parent} is left out")
     if entry.max_ttl is None and not facts.period:

@@ -13,6 +13,8 @@ MAX_ENTRIES = 4096
 MAX_DEPTH = 64
 DURATION_MAX = 4294967295
 END_MAX = 257697268094
+ALWAYS = 253402300799
+"""The last moment, as the need of an entry that is to be kept as long as its ceiling allows."""
 
 
 class Kind(Enum):
@@ -45,6 +47,11 @@ class Entry:
     @property
     def secret(self) -> str:
         return self.name if self.credential is None else self.credential
+
+    @property
+    def lacks_terms(self) -> bool:
+        """Whether issue and end are not written, so that a lookup has to tell them."""
+        return self.issued == self.end == 0
 
     @property
     def step(self) -> int:
@@ -131,12 +138,13 @@ def toml_string(text: str) -> str:
 
 
 @lru_cache(2 * MAX_ENTRIES)
-def entry_text(entry: Entry) -> str:
-    """The entry's table."""
+def entry_text(entry: Entry, is_served: bool = False) -> str:
+    """The entry's table, as `leasekeep` reads it or as `leasekeepd` alone does."""
     lines = [f"[[{entry.kind.value}]]", f"name = {toml_string(entry.name)}"]
     if entry.parent is not None:
         lines.append(f"{'token' if entry.kind is Kind.LEASE else 'parent'} = {toml_string(entry.parent)}")
-    lines += [f"issued = {entry.issued}", f"end = {entry.end}"]
+    if not (is_served and entry.lacks_terms):
+        lines += [f"issued = {entry.issued}", f"end = {entry.end}"]
     if not entry.renewable:
         lines.append("renewable = false")
     if entry.increment is not None:
@@ -148,13 +156,13 @@ def entry_text(entry: Entry) -> str:
     if entry.explicit_max_ttl:
         lines.append(f"explicit_max_ttl = {entry.explicit_max_ttl}")
     if entry.need:
-        lines.append(f"need = {entry.need}")
+        lines.append('need = "always"' if is_served and entry.need == ALWAYS else f"need = {entry.need}")
     if entry.credential is not None:
         lines.append(f"{'lease_id' if entry.kind is Kind.LEASE else 'secret'} = {toml_string(entry.credential)}")
     return "\n".join(lines) + "\n"
 
 
-def inventory_text(inventory: Inventory) -> str:
-    """The whole inventory as `leasekeep` reads it."""
+def inventory_text(inventory: Inventory, is_served: bool = False) -> str:
+    """The whole inventory as `leasekeep` reads it, or as `leasekeepd` alone does."""
     head = f"system_max = {inventory.system_max}\nmargin = {inventory.margin}\n"
-    return "\n".join([head, *(entry_text(entry) for entry in inventory.entries)])
+    return "\n".join([head, *(entry_text(entry, is_served) for entry in inventory.entries)])

@@ -7,15 +7,14 @@ from dataclasses import dataclass, field
 from functools import cached_property
 from typing import Any, Iterator
 
+from .dialect import SERVED, STRICT, Dialect
 from .findings import Finding, Severity
 from .inventory import END_MAX, SYSTEM_MAX, Entry, Inventory, Kind
 from .near import Near, Slip
 from .rfc3339 import LAST
 from .toml_text import Lines, SyntaxFault, decoded, parsed
 from .tree import Row, judge_rows, shown, sound_entries
-from .values import (
-    ABOVE, CREDENTIAL_FORM, DURATION, FLAG, INCREMENT, MARGIN, NAME, NAME_FORM, SYSTEM_MAX_FORM, Form, moment, tables,
-)
+from .values import ABOVE, CREDENTIAL_FORM, FLAG, NAME, NAME_FORM, Form, moment, tables
 
 LIMIT = 1 << 20
 _COMMON = ("name", "issued", "end", "renewable", "increment", "max_ttl", "need")
@@ -34,6 +33,7 @@ class Reading:
     entries that are good by themselves and under good ones, `margin` is None where it could not be read.
     """
 
+    dialect: Dialect = STRICT
     inventory: Inventory | None = None
     sound: Inventory = field(default_factory=Inventory)
     rows: list[Row] = field(default_factory=list)
@@ -53,6 +53,12 @@ class Reading:
         """The line of the key of the entry of that name, of the top level where the name is empty."""
         row = self._by_name.get(name) if name else None
         return self.lines.of_key(row.head, row.place, key) if row else self.lines.of_key("", 0, key)
+
+    def lacks(self, name: str, key: str) -> bool:
+        """Whether the table of the entry of that name, with a head of its own, has no such key."""
+        row = self._by_name.get(name)
+        return (row is not None and (row.head, row.place) in self.lines.tables
+                and (row.head, row.place, key) not in self.lines.keys)
 
 
 class _Table:
@@ -102,21 +108,21 @@ class _Table:
         return absent if value is None else value
 
 
-def read_inventory(data: bytes) -> Reading:
+def read_inventory(data: bytes, dialect: Dialect = STRICT) -> Reading:
     """The inventory that the bytes write, with every fault."""
-    reading = Reading()
+    reading = Reading(dialect)
     top = _document(data, reading)
     if top is None:
         return reading
     near = Near()
     table = _Table(reading, near, "", 0, None, top)
     _unknown_tops(table)
-    system_max = table.take("system_max", SYSTEM_MAX_FORM)
-    margin = table.take("margin", MARGIN)
+    system_max = table.take("system_max", dialect.system_max)
+    margin = table.take("margin", dialect.margin)
     is_written = "margin" in top or "margin" in table.slips
-    reading.margin = margin if is_written else 1
+    reading.margin = margin if is_written else dialect.absent_margin
     reading.rows = list(_rows(table))
-    whole = Inventory((), margin or 1, system_max or SYSTEM_MAX)
+    whole = Inventory((), reading.margin or 1, system_max or SYSTEM_MAX)
     reading.findings += judge_rows(reading.rows, whole, reading.margin, reading.lines)
     reading.sound = Inventory(sound_entries(reading.rows), whole.margin, whole.system_max)
     reading.inventory = None if reading.faults else reading.sound
@@ -124,8 +130,8 @@ def read_inventory(data: bytes) -> Reading:
 
 
 def read_tables(data: bytes) -> tuple[Reading, list[Entry]]:
-    """The entries that the bytes write, whatever they stand under, with the faults of each alone."""
-    reading = Reading()
+    """The entries that the bytes write, as they are served, whatever they stand under, with the faults of each alone."""
+    reading = Reading(SERVED)
     top = _document(data, reading)
     if top is None:
         return reading, []
@@ -194,19 +200,23 @@ def _tables_of(table: _Table, head: str, kind: Kind) -> list[dict[str, Any]]:
 
 
 def _row(table: _Table, kind: Kind) -> Row:
-    before = len(table.reading.findings)
+    before, dialect = len(table.reading.findings), table.reading.dialect
+    is_whole = dialect.absent_increment is None
     table.unknown(KEYS[kind])
     is_token = kind is Kind.TOKEN
     name = table.take("name", NAME_FORM, must=True)
     above = table.take("parent" if is_token else "token", ABOVE, must=not is_token)
-    issued = table.take("issued", moment(LAST), 0, must=True)
-    end = table.take("end", moment(END_MAX), 0, must=True)
+    issued = table.take("issued", moment(LAST), 0, must=is_whole)
+    end = table.take("end", moment(END_MAX), 0, must=is_whole)
     renewable = table.take("renewable", FLAG, True)
-    period = table.take("period", DURATION, 0) if is_token else 0
-    increment = table.take("increment", INCREMENT, must=not is_token or (table.values.get("period", 0) == 0 and "period" not in table.slips))
-    max_ttl = table.take("max_ttl", DURATION)
-    explicit = table.take("explicit_max_ttl", DURATION, 0) if is_token else 0
-    need = table.take("need", moment(LAST), 0)
+    period = table.take("period", dialect.duration, 0) if is_token else 0
+    wants_increment = not is_token or (table.values.get("period", 0) == 0 and "period" not in table.slips)
+    increment = table.take("increment", dialect.increment, must=is_whole and wants_increment)
+    if not period and "increment" not in table.values and "increment" not in table.slips:
+        increment = dialect.absent_increment
+    max_ttl = table.take("max_ttl", dialect.duration)
+    explicit = table.take("explicit_max_ttl", dialect.duration, 0) if is_token else 0
+    need = table.take("need", dialect.need, 0)
     key = "secret" if is_token else "lease_id"
     credential = table.take(key, CREDENTIAL_FORM)
     entry = None

@@ -4,8 +4,9 @@ from __future__ import annotations
 
 import math
 
+from .dialect import SERVED, Dialect
 from .findings import Finding, Severity
-from .inventory import Entry, Inventory
+from .inventory import ALWAYS, Entry, Inventory
 from .inventory_file import Reading, read_inventory
 from .refusals import refusals, room_of
 from .rfc3339 import date_text
@@ -29,10 +30,11 @@ class _Doubts:
         self.found.append(Finding(Severity.DOUBT, line, shown(name), key, problem, mend))
 
 
-def lint(data: bytes, mode: int, timeout: int, now: float, names_are_secrets: bool = False) -> list[Finding]:
+def lint(data: bytes, mode: int, timeout: int, now: float, names_are_secrets: bool = False,
+         dialect: Dialect = SERVED) -> list[Finding]:
     """Everything that is wrong or doubtful: faults first to last line, doubts among them. What is said of the whole
     inventory is said where no entry is at fault."""
-    reading = read_inventory(data)
+    reading = read_inventory(data, dialect)
     found = reading.findings + refusals(reading, timeout, names_are_secrets, mode)
     doubts = _Doubts(reading)
     is_past = False
@@ -43,6 +45,9 @@ def lint(data: bytes, mode: int, timeout: int, now: float, names_are_secrets: bo
         _doubt_entry(reading.sound, entry, doubts, now)
         _doubt_time(entry, doubts, now, is_past)
         _doubt_need(reading.sound, entry, doubts, now)
+        if not entry.period and reading.lacks(entry.name, "increment"):
+            doubts.doubt(entry.name, "increment", f"is not written: {entry.increment} s are asked for",
+                         "write what a renewal is to ask for, or the period of a periodic token")
     found += doubts.found
     return sorted(found, key=lambda finding: (finding.line, finding.severity is Severity.DOUBT))
 
@@ -88,7 +93,7 @@ def _doubt_entry(inventory: Inventory, entry: Entry, doubts: _Doubts, now: float
     if entry.issued > entry.end:
         doubts.doubt(name, "issued", "is after its end", "were two moments swapped?")
     for key, moment in (("issued", entry.issued), ("end", entry.end), ("need", entry.need)):
-        if moment > _YEAR_3000:
+        if moment > _YEAR_3000 and not (key == "need" and moment == ALWAYS):
             doubts.doubt(name, key, "is past the year 3000", "are these milliseconds? moments are whole seconds")
     for key, seconds in (("increment", entry.increment or 0), ("period", entry.period)):
         if seconds > _LONG_STEP and seconds % 1000 == 0:
@@ -100,7 +105,7 @@ def _doubt_entry(inventory: Inventory, entry: Entry, doubts: _Doubts, now: float
 
 def _doubt_time(entry: Entry, doubts: _Doubts, now: float, all_are_past: bool) -> None:
     """Moments that have passed. An old end does the service no harm, which asks the broker; a plan goes by it."""
-    if entry.issued <= entry.end <= now:
+    if entry.issued <= entry.end <= now and not entry.lacks_terms:
         doubts.doubt(entry.name, "end", f"is past ({date_text(entry.end)})",
                      "if it is alive, write its present end: plans count it as ended, the service looks it up")
     if 0 < entry.need <= now and not all_are_past:
@@ -111,9 +116,11 @@ def _doubt_time(entry: Entry, doubts: _Doubts, now: float, all_are_past: bool) -
 def _doubt_need(inventory: Inventory, entry: Entry, doubts: _Doubts, now: float) -> None:
     if not inventory.carried[entry.name] and any(inventory.carried.values()):
         doubts.doubt(entry.name, "need", "is not set, here or under it", "it is not renewed: add the moment until which it is needed")
-    if entry.need <= now:
+    if entry.need <= now or entry.need == ALWAYS:
         return
     for over in inventory.over(entry.name):
+        if over.lacks_terms:
+            continue
         ceiling = inventory.ceiling(over, over.issued, over.period, over.explicit_max_ttl)
         whose = "its" if over is entry else f"{shown(over.name)}'s"
         if ceiling is not None and max(ceiling, over.end) < entry.need:

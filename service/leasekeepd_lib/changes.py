@@ -9,7 +9,7 @@ import zlib
 from dataclasses import dataclass
 from enum import Enum
 
-from leasekeep_inventory.inventory import Entry, Inventory, entry_text
+from leasekeep_inventory.inventory import ALWAYS, Entry, Inventory, entry_text
 from leasekeep_inventory.inventory_file import read_tables
 from leasekeep_inventory.rfc3339 import LAST, read_rfc3339
 from leasekeep_inventory.values import CREDENTIAL, NAME
@@ -127,16 +127,18 @@ def only_entry(table: str) -> Entry:
 
 
 def read_when(word: str, now: float) -> int:
-    """A moment, a date, or so long from now (`+6h`); ChangeFault where the word is none."""
+    """A moment, a date, so long from now (`+6h`), or `always`; ChangeFault where the word is none."""
     moment: int | None
-    if after := _AFTER.fullmatch(word):
+    if word == "always":
+        moment = ALWAYS
+    elif after := _AFTER.fullmatch(word):
         moment = int(now) + int(after[1]) * _UNITS[after[2]]
     elif word.isascii() and word.isdigit() and len(word) <= 12:
         moment = int(word)
     else:
         moment = read_rfc3339(word)
     if moment is None or moment > LAST:
-        raise ChangeFault('WHEN is a moment (1764000000), a date ("2026-11-22T09:00:00Z") or +90s, +30m, +6h, +2d')
+        raise ChangeFault('WHEN is a moment (1764000000), a date ("2026-11-22T09:00:00Z") or +90s, +30m, +6h, +2d, or always')
     return moment
 
 

@@ -14,6 +14,7 @@ from pathlib import Path
 from typing import Sequence
 
 from leasekeep_inventory.broker import Broker
+from leasekeep_inventory.dialect import SERVED, STRICT
 from leasekeep_inventory.discover import DiscoverFault, discover, read_short_list
 from leasekeep_inventory.http_client import Address, HttpTransport
 from leasekeep_inventory.lint import kinds_of, lint
@@ -121,6 +122,8 @@ def _parser() -> argparse.ArgumentParser:
     linted = commands.add_parser("lint", help="show every fault and doubt of an inventory, with its line and its fix")
     linted.add_argument("file", type=Path, metavar="FILE")
     linted.add_argument("--timeout", type=_timeout, default=5, metavar="SECONDS", help="the time-out of serve")
+    linted.add_argument("--strict", action="store_true",
+                        help="judge FILE as `leasekeep` reads it: whole seconds, moments, and no key left to a lookup")
     linted.add_argument("--names-are-secrets", action="store_true",
                         help="accept entries without a secret or lease_id, as serve does with this option")
     found = commands.add_parser("inventory", help="make an inventory from a short list and lookups at the broker")
@@ -179,7 +182,7 @@ def _lint(arguments: argparse.Namespace) -> int:
         print(f"leasekeepd: lint: {arguments.file}: {error.strerror}", file=sys.stderr)
         return EXIT_COMMAND_LINE
     now = SystemClock().wall()
-    found = lint(data, mode, arguments.timeout, now, arguments.names_are_secrets)
+    found = lint(data, mode, arguments.timeout, now, arguments.names_are_secrets, STRICT if arguments.strict else SERVED)
     for finding in found:
         print(finding.text(str(arguments.file)))
     faults, doubts = kinds_of(found)

@@ -2,6 +2,8 @@
 
 from __future__ import annotations
 
+from leasekeep_inventory.durations import until_text
+from leasekeep_inventory.inventory import ALWAYS
 from leasekeep_inventory.rfc3339 import date_text
 
 from .status import EntryStatus, State
@@ -17,7 +19,8 @@ def unkept(entries: list[EntryStatus], now: float, is_alive: bool) -> list[str]:
     for entry in entries:
         why = _why(entry) if entry.carried > now else None
         if why is not None:
-            found.append(f"{entry.name} {why}, and is needed until {date_text(entry.carried)}")
+            until = "" if entry.carried == ALWAYS else "until "
+            found.append(f"{entry.name} {why}, and is needed {until}{until_text(entry.carried)}")
     return found
 
 

@@ -9,12 +9,14 @@ from pathlib import Path
 from typing import Any, Callable, Coroutine
 
 from leasekeep_inventory.broker import Broker, Verdict
-from leasekeep_inventory.inventory import Inventory, inventory_text
+from leasekeep_inventory.durations import until_text
+from leasekeep_inventory.inventory import ALWAYS, Inventory, inventory_text
 from leasekeep_inventory.rfc3339 import date_text
 from leasekeep_inventory.values import CREDENTIAL
 
 from .changes import Change, ChangeFault, What, only_entry, read_when, said_by
 from .clock import Clock
+from .day_before import DayBefore
 from .draft import changed, replay
 from .events import Alerts, Log
 from .health import unkept
@@ -59,7 +61,8 @@ class Service:
         self._file = Loaded(b"", Inventory())
         self.inventory = Inventory()
         self.standings = Standings(clock)
-        self.watch = Watch(launcher, clock, surroundings.ends, log, self._hear)
+        self._day_before = DayBefore(self.standings.moment, self._hear)
+        self.watch = Watch(launcher, clock, surroundings.ends, log, self._day_before.hear)
         self._soon: asyncio.TimerHandle | None = None
         self._between: asyncio.TimerHandle | None = None
         self._is_hung_up = False
@@ -92,6 +95,7 @@ class Service:
         """Serves another inventory from now on."""
         self.inventory = inventory
         self.standings.take(inventory)
+        self._day_before.take(inventory)
         self.watch.take(inventory)
 
     def hear_hangup(self) -> None:
@@ -261,11 +265,12 @@ class Service:
         change = self._described(Change(What.NEED, name, until=until))
         inventory = self._changed(change)
         self._around.journal.add(change)
-        self._log.info("need", name, date_text(until), "by", who)
+        self._log.info("need", name, until_text(until), "by", who)
         self.inventory = inventory
+        self._day_before.take(inventory)
         if self._soon is None:
             self.watch.need(inventory, name, until)
-        return [f"{name} is needed until {date_text(until)}"]
+        return [f"{name} is needed {'' if until == ALWAYS else 'until '}{until_text(until)}"]
 
     async def _replace(self, name: str, credential: str, who: str) -> list[str]:
         if not CREDENTIAL.fullmatch(credential):
@@ -286,7 +291,7 @@ class Service:
         path = self._around.source.path
         if path.read_bytes() != self._file.data:
             raise ChangeFault(f"{path} has changed since it was read: read it anew first (SIGHUP)")
-        data = inventory_text(self.inventory).encode()
+        data = inventory_text(self.inventory, is_served=True).encode()
         mode = stat.S_IMODE(path.stat().st_mode) & 0o770
         self._around.journal.settle(path, data, mode)
         self._file = Loaded(data, self.inventory)

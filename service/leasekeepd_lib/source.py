@@ -6,6 +6,7 @@ import stat
 from dataclasses import dataclass
 from pathlib import Path
 
+from leasekeep_inventory.dialect import SERVED
 from leasekeep_inventory.inventory import Inventory
 from leasekeep_inventory.inventory_file import read_inventory
 from leasekeep_inventory.refusals import refusals
@@ -42,7 +43,7 @@ class Source:
             mode = stat.S_IMODE(self.path.stat().st_mode)
         except OSError as error:
             raise SourceFault(f"{self.path}: {error.strerror}") from None
-        reading = read_inventory(data)
+        reading = read_inventory(data, SERVED)
         faults = reading.faults + refusals(reading, self.timeout, self.names_are_secrets, mode)
         if faults or reading.inventory is None:
             raise SourceFault("\n".join(finding.text(str(self.path)) for finding in faults))
@@ -59,5 +60,5 @@ class Source:
             data = self.storage.read(self.copy)
         except OSError:
             return None
-        inventory = None if data is None else read_inventory(data).inventory
+        inventory = None if data is None else read_inventory(data, SERVED).inventory
         return None if data is None or inventory is None else Loaded(data, inventory)

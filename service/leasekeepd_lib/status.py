@@ -5,6 +5,7 @@ from __future__ import annotations
 from dataclasses import dataclass
 from enum import Enum
 
+from leasekeep_inventory.durations import until_text
 from leasekeep_inventory.rfc3339 import date_text
 
 
@@ -48,7 +49,7 @@ class EntryStatus:
 
     def text(self) -> str:
         def moment(value: float | None) -> str:
-            return "-" if not value else date_text(value)
+            return "-" if not value else until_text(value)
         return (f"{self.name} {self.state.value} end {moment(self.end)} need {moment(self.wanted)} in-force"
                 f" {moment(self.in_force)} last-success {moment(self.last_success)} wrong {self.trouble or '-'}")
 

@@ -390,7 +390,7 @@ class Refused(InRoom):
                 (["add", ""], "one table [[token]] or [[lease]] is wanted, and 0 came"),
                 (["add", TABLE.replace("fresh", "web")], "an entry is named web already"),
                 (["add", TABLE.replace('"app"', '"nobody"')], "names no token of this inventory"),
-                (["add", TABLE.replace("600", '"1h"')], "write 3600"),
+                (["add", TABLE.replace("600", '"1 hour"')], 'did you mean "1h"?'),
                 (["add", TABLE.replace('lease_id = "db/creds/fresh"', "")], "fresh has no lease_id"),
                 (["shutdown"], "the commands are"),
             ):

@@ -13,6 +13,7 @@ import unittest
 from pathlib import Path
 
 from leasekeep_inventory.broker import Broker
+from leasekeep_inventory.dialect import STRICT, Dialect
 from leasekeep_inventory.discover import DiscoverFault, discover, read_short_list
 from leasekeep_inventory.inventory import Entry, Inventory, Kind, inventory_text
 from leasekeep_inventory.inventory_file import read_inventory
@@ -49,8 +50,8 @@ lease_id = "db/creds/1"
 """
 
 
-def linted(text: str, mode: int = 0o600, timeout: int = 5) -> list[str]:
-    return [finding.text("f") for finding in lint(text.encode(), mode, timeout, NOW)]
+def linted(text: str, mode: int = 0o600, timeout: int = 5, dialect: Dialect = STRICT) -> list[str]:
+    return [finding.text("f") for finding in lint(text.encode(), mode, timeout, NOW, dialect=dialect)]
 
 
 class Lint(unittest.TestCase):

@@ -10,6 +10,7 @@ import tempfile
 import unittest
 from pathlib import Path
 
+from leasekeep_inventory.dialect import STRICT
 from leasekeep_inventory.findings import Finding, Severity
 from leasekeep_inventory.lint import lint
 from trial.programs import find_program
@@ -79,7 +80,7 @@ class Agreement(unittest.TestCase):
                 text = an_inventory(chance)
                 file.write_text(text, "utf-8")
                 ran = subprocess.run([program, "ends", str(file), "0"], capture_output=True, text=True, timeout=120)
-                found = [one for one in lint(text.encode(), 0o600, 1, NOW, True)
+                found = [one for one in lint(text.encode(), 0o600, 1, NOW, True, STRICT)
                          if one.severity is Severity.FAULT and "under four times the time-out" not in one.problem]
                 said = [one.text("f") for one in found]
                 self.assertEqual(ran.returncode == 1, bool(found), f"case {case}: {ran.stderr}{said}\n{text}")

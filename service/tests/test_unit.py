@@ -114,6 +114,7 @@ class Installed(unittest.TestCase):
         with tempfile.TemporaryDirectory() as room:
             file = Path(room) / "inventory.toml"
             file.touch(0o600)
+            file.write_text("margin = 1\n")
             linted = subprocess.run([program, "lint", str(file)], capture_output=True, text=True, timeout=60)
             self.assertEqual(linted.returncode, 1)
             self.assertIn("there are no entries", linted.stdout)

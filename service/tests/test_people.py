@@ -1,0 +1,245 @@
+"""The inventory as people have it: durations in words, needs without an end, and what a lookup tells left out."""
+
+from __future__ import annotations
+
+import shutil
+import tempfile
+import unittest
+from pathlib import Path
+
+from leasekeep_inventory.broker import Broker
+from leasekeepd_lib.changes import only_entry
+from leasekeep_inventory.dialect import SERVED, STRICT, Dialect
+from leasekeep_inventory.discover import DiscoverFault, discover, read_short_list
+from leasekeep_inventory.durations import duration_text, meant_duration, read_duration
+from leasekeep_inventory.inventory import ALWAYS, Inventory, inventory_text
+from leasekeep_inventory.inventory_file import read_inventory
+from leasekeep_inventory.lint import lint
+from leasekeepd_lib.source import Source, SourceFault
+from leasekeepd_lib.storage import Storage
+
+from .model.vault import Vault, VaultTransport
+from .model.world import World, simulate
+
+NOW = 1_000_000.0
+SHORT = """margin = "1m"
+[[token]]
+name = "app"
+max_ttl = "30d"
+need = "always"
+secret = "hvs.app-secret"
+
+[[lease]]
+name = "db"
+token = "app"
+increment = "90m"
+max_ttl = "1d"
+need = "2026-12-01T00:00:00Z"
+lease_id = "db/creds/1"
+"""
+PLAIN = """system_max = 2764800
+margin = 60
+
+[[token]]
+name = "app"
+increment = 3600
+max_ttl = 2592000
+need = "always"
+secret = "hvs.app-secret"
+
+[[lease]]
+name = "db"
+token = "app"
+increment = 5400
+max_ttl = 86400
+need = 1796083200
+lease_id = "db/creds/1"
+"""
+
+
+def linted(text: str, dialect: Dialect = SERVED) -> list[str]:
+    return [finding.text("f") for finding in lint(text.encode(), 0o600, 5, NOW, dialect=dialect)]
+
+
+def inventory_of(text: str) -> Inventory:
+    reading = read_inventory(text.encode(), SERVED)
+    assert reading.inventory is not None, [fault.text("f") for fault in reading.faults]
+    return reading.inventory
+
+
+class Durations(unittest.TestCase):
+    def test_what_is_read(self) -> None:
+        for text, seconds in (("1h", 3600), ("90m", 5400), ("30d", 2592000), ("45s", 45), ("1h30m", 5400), ("1d2h3m4s", 93784),
+                              ("0s", 0), ("0001h", 3600)):
+            with self.subTest(text):
+                self.assertEqual(read_duration(text), seconds)
+        for text in ("", "h", "1", "1 h", "1H", "30m1h", "1h1h", "-1h", "+1h", "1.5h", "1w", "1h\n", "\u0661h", "1" * 11 + "s"):
+            with self.subTest(text):
+                self.assertIsNone(read_duration(text))
+
+    def test_what_is_written_is_read_again(self) -> None:
+        for seconds in (0, 1, 59, 60, 61, 3599, 3600, 5400, 86399, 86400, 93784, 4294967295):
+            self.assertEqual(read_duration(duration_text(seconds)), seconds)
+        self.assertEqual(duration_text(5400), "1h30m")
+
+    def test_what_was_meant(self) -> None:
+        for text, meant in (("1 h", "1h"), ("1H", "1h"), ("1hr", "1h"), ("1 hour", "1h"), ("2 horus", "2h"), ("90 min", "1h30m"),
+                            ("1.5h", "1h30m"), ("2w", "14d"), ("30 days", "30d"), ("1h, 30 minutes", "1h30m"), ("500ms", None),
+                            ("2000ms", "2s"), ("30m1h", "1h30m"), ("one hour", None), ("", None), ("soon", None), ("5 apples", None)):
+            with self.subTest(text):
+                self.assertEqual(meant_duration(text), meant)
+
+
+class Read(unittest.TestCase):
+    def test_the_short_list(self) -> None:
+        inventory = inventory_of(SHORT)
+        app, db = inventory.entries
+        self.assertEqual((inventory.margin, app.increment, app.max_ttl, app.need), (60, 3600, 2592000, 253402300799))
+        self.assertEqual((db.increment, db.max_ttl, db.need, db.issued, db.end), (5400, 86400, 1796083200, 0, 0))
+
+    def test_every_duration(self) -> None:
+        text = ('system_max = "10d"\nmargin = "20s"\n[[token]]\nname = "a"\nissued = 1\nend = 2\nperiod = "1h"\nincrement = "2h"\n'
+                'max_ttl = "3h"\nexplicit_max_ttl = "4h"\nsecret = "s"\n')
+        inventory = inventory_of(text)
+        (entry,) = inventory.entries
+        self.assertEqual((inventory.system_max, inventory.margin, entry.period, entry.increment, entry.max_ttl,
+                          entry.explicit_max_ttl), (864000, 20, 3600, 7200, 10800, 14400))
+
+    def test_numbers_are_read_as_before(self) -> None:
+        text = SHORT.replace('"1m"', "60").replace('"30d"', "2592000").replace('"90m"', "5400").replace('"1d"', "86400")
+        self.assertEqual(inventory_of(text), inventory_of(SHORT))
+
+    def test_a_margin_that_is_not_written(self) -> None:
+        self.assertEqual(inventory_of(SHORT.replace('margin = "1m"\n', "")).margin, 60)
+        self.assertEqual(read_inventory(b"").margin, 1)
+
+    def test_leasekeep_reads_none_of_it(self) -> None:
+        keys = [fault.key for fault in read_inventory(SHORT.encode()).faults]
+        self.assertEqual(keys, ["margin", "issued", "end", "increment", "max_ttl", "need", "issued", "end", "increment", "max_ttl"])
+
+    def test_what_leasekeep_is_handed_is_strict(self) -> None:
+        reading = read_inventory(inventory_text(inventory_of(SHORT)).encode(), STRICT)
+        self.assertEqual((reading.faults, reading.inventory), ([], inventory_of(SHORT)))
+
+    def test_a_settled_file_has_the_words_and_means_the_same(self) -> None:
+        inventory = inventory_of(SHORT)
+        self.assertEqual(inventory_text(inventory, is_served=True), PLAIN)
+        self.assertEqual(inventory_of(PLAIN), inventory)
+
+    def test_an_entry_that_is_added(self) -> None:
+        entry = only_entry('[[token]]\nname = "a"\nneed = "always"\nincrement = "2h"\nsecret = "s.a"\n')
+        self.assertEqual((entry.need, entry.increment, entry.lacks_terms), (253402300799, 7200, True))
+
+    def test_what_is_served(self) -> None:
+        folder = Path(tempfile.mkdtemp())
+        self.addCleanup(shutil.rmtree, folder, True)
+        file = folder / "short.toml"
+        file.touch(0o600)
+        file.write_text(SHORT)
+        source = Source(file, folder / "copy", 5, False, Storage())
+        loaded = source.load()
+        self.assertEqual(loaded.inventory, inventory_of(SHORT))
+        source.keep_copy(loaded)
+        self.assertEqual(source.load_copy(), loaded)
+        file.write_text(SHORT.replace('"1m"', '"1 minute"'))
+        with self.assertRaisesRegex(SourceFault, 'short.toml:1: fault: margin: .*did you mean "1m"'):
+            source.load()
+
+
+class Lint(unittest.TestCase):
+    def test_a_good_one(self) -> None:
+        self.assertEqual(linted(SHORT.replace('"30d"\n', '"30d"\nincrement = "1h"\n')), [])
+
+    def test_what_is_asked_for_where_nothing_is_written(self) -> None:
+        self.assertEqual(linted(SHORT), [
+            "f:2: doubt: app increment: is not written: 3600 s are asked for; write what a renewal is to ask for, or the period of a"
+            " periodic token"])
+        self.assertEqual(linted(SHORT.replace('"30d"\n', '"30d"\nperiod = "1h"\n')), [])
+
+    def test_slips(self) -> None:
+        for written, slip, expected in (
+            ('"90m"', '"90 min"', 'f:11: fault: db increment: is not a whole number of seconds, 0 to 4294967295, or a text such as'
+             ' "90m", "1h", "30d"; did you mean "1h30m"?'),
+            ('"90m"', '"1.5h"', 'did you mean "1h30m"?'), ('"30d"', '"1 month"', "write a number and its unit, one of d, h, m, s"),
+            ('"30d"', '"30 days"', 'f:4: fault: app max_ttl: '), ('"1m"', '"2h"', "that is 7200 s: write 3600 or less"),
+            ('"1m"', '"0s"', "that is 0 s: write 1 or more"), ('"1m"', '"60"', "write it without quotes"),
+            ('"1m"', '"50 secs"', 'did you mean "50s"?'), ("always", "forever", 'did you mean "always"?'),
+            ("always", "Always", 'did you mean "always"?'), ("always", "allways", 'did you mean "always"?'),
+            ("always", "30d", 'a need is a moment: write a date or "always"'),
+            ("always", "2026-13-01T00:00:00Z", "months are 01 to 12"),
+            ('increment = "90m"', 'incremnt = "90m"', "did you mean increment?"), ('"90m"', '"60s"', "is not greater than the margin of 60 s"),
+        ):
+            with self.subTest(slip):
+                found = [line for line in linted(SHORT.replace(written, slip)) if ": fault: " in line]
+                self.assertEqual(len(found), 1, found)
+                self.assertIn(expected, found[0])
+
+    def test_a_need_without_end_is_past_no_ceiling(self) -> None:
+        whole = SHORT.replace('max_ttl = "30d"\n', 'max_ttl = "30d"\nissued = 999000\nend = 1000900\nincrement = "1h"\n')
+        self.assertEqual(linted(whole.replace('"2026-12-01T00:00:00Z"', '"always"')), [])
+        self.assertIn("need: is ", "\n".join(linted(whole)))  # (That of db is past the ceiling of app.)
+
+    def test_strictly(self) -> None:
+        faults = [line for line in linted(SHORT, STRICT) if ": fault: " in line]
+        self.assertIn("f:4: fault: app max_ttl: is not a whole number of seconds, 0 to 4294967295; durations are whole seconds without"
+                      " quotes: write 2592000", faults)
+        self.assertIn('f:5: fault: app need: is not a whole number of seconds since 1970, or a date such as "2026-11-22T09:00:00Z";'
+                      " leasekeepd alone knows that word: write a moment", faults)
+        self.assertIn("f:2: fault: app issued: is missing; add issued: a whole number of seconds since 1970, or a date such as"
+                      ' "2026-11-22T09:00:00Z"', faults)
+
+
+class Strict(unittest.TestCase):
+    """`leasekeepd inventory` writes what `leasekeep` reads."""
+
+    def discovered(self, text: str, **real: dict[str, object]) -> str:
+        folder = Path(tempfile.mkdtemp())
+        self.addCleanup(shutil.rmtree, folder, True)
+        file = folder / "short.toml"
+        file.write_text(text)
+
+        async def go() -> str:
+            world = World()
+            vault = Vault(world)
+            vault.load(inventory_of(SHORT.replace("[[lease]]", "[[lease]]\nissued = 999000\nend = 1000900")
+                                    .replace("[[token]]", "[[token]]\nissued = 999000\nend = 1000900")), **real)
+            return await discover(Broker(VaultTransport(vault), 5.0), world.wall, read_short_list(file))
+        return simulate(go())
+
+    def test_it_is_strict(self) -> None:
+        inventory = read_inventory(self.discovered(SHORT).encode(), STRICT).inventory
+        assert inventory is not None
+        app, db = inventory.entries
+        self.assertEqual((inventory.margin, app.issued, app.end, app.max_ttl), (60, 999_000, 1_000_900, 2592000))
+        self.assertEqual((db.increment, db.max_ttl, db.need), (5400, 86400, 1796083200))
+
+    def test_always_is_the_ceiling_the_end_or_a_year(self) -> None:
+        need = '"2026-12-01T00:00:00Z"'
+        cases: tuple[tuple[str, dict[str, dict[str, object]], tuple[int, int]], ...] = (
+            (SHORT, {}, (999_000 + 2592000, 1796083200)),
+            (SHORT.replace(need, '"always"'), {}, (999_000 + 2592000, 999_000 + 86400)),
+            (SHORT, {"app": {"period": 3600}}, (1_000_000 + 365 * 86400, 1796083200)),
+            (SHORT, {"app": {"period": 3600, "explicit_max": 50_000}}, (1_049_000, 1796083200)),
+            (SHORT, {"app": {"renewable": False}}, (1_000_900, 1796083200)),
+            (SHORT.replace(need, '"always"'), {"app": {"renewable": False}}, (1_000_900, 1_000_900)))
+        for text, real, expected in cases:
+            with self.subTest(real=real):
+                found = self.discovered(text, **real)
+                inventory = read_inventory(found.encode(), STRICT).inventory
+                assert inventory is not None, found
+                self.assertEqual(tuple(entry.need for entry in inventory.entries), expected)
+                self.assertIn("# need: always; this is its ceiling, or a year from now\n", found)
+
+    def test_faults_say_how_to_mend_them(self) -> None:
+        for slip, expected in ((('"1m"', '"1 minute"'), 'margin is not 1 to 3600 seconds, or a text such as "90m", "1h", "30d"; did you'
+                                                        ' mean "1m"?'),
+                               (("always", "forever"), 'token 1: need is not .*; did you mean "always"?')):
+            with self.assertRaisesRegex(DiscoverFault, expected):
+                self.discovered(SHORT.replace(*slip))
+
+    def test_the_word_is_one_number(self) -> None:
+        self.assertEqual(ALWAYS, 253402300799)
+
+
+if __name__ == "__main__":
+    unittest.main()
