@@ -12,7 +12,7 @@ from .values import DURATION, INCREMENT, MARGIN, SYSTEM_MAX_FORM, Form
 class Dialect:
     """The forms of durations and needs, and what stands for a key that is not written: a margin, and an increment; None
     where an increment has to be written. Where one stands for it, `issued` and `end` may be missing too: a lookup tells
-    them."""
+    them. And whether a secret may stand in a file."""
 
     duration: Form
     increment: Form
@@ -21,7 +21,8 @@ class Dialect:
     need: Form
     absent_margin: int
     absent_increment: int | None
+    has_files: bool
 
 
-STRICT = Dialect(DURATION, INCREMENT, SYSTEM_MAX_FORM, MARGIN, STRICT_NEED, 1, None)
-SERVED = Dialect(in_words(DURATION), in_words(INCREMENT), in_words(SYSTEM_MAX_FORM), in_words(MARGIN), NEED, 60, 3600)
+STRICT = Dialect(DURATION, INCREMENT, SYSTEM_MAX_FORM, MARGIN, STRICT_NEED, 1, None, False)
+SERVED = Dialect(in_words(DURATION), in_words(INCREMENT), in_words(SYSTEM_MAX_FORM), in_words(MARGIN), NEED, 60, 3600, True)

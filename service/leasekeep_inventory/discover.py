@@ -17,8 +17,8 @@ from .dialect import SERVED
 from .inventory import ALWAYS, Entry, Inventory, Kind, entry_text, toml_string
 from .inventory_file import KEYS, judge, read_tables
 from .rfc3339 import date_text
+from .secret_files import SecretFault, read_secret
 from .toml_text import decoded
-from .values import CREDENTIAL
 
 _FILES = {"secret_file": "secret", "lease_id_file": "lease_id"}
 _PLACEHOLDER_INCREMENT = 1
@@ -76,12 +76,9 @@ def _entry(path: Path, kind: Kind, place: int, table: dict[str, Any]) -> Entry:
 
 def _credential_in(file: Path, label: str, key: str) -> str:
     try:
-        text = file.read_text("ascii").strip()
-    except (OSError, ValueError):
-        raise DiscoverFault(f"{label}: {key}: {file} cannot be read") from None
-    if not CREDENTIAL.fullmatch(text):
-        raise DiscoverFault(f"{label}: {key}: {file} holds no secret of 1 to 256 printable characters")
-    return text
+        return read_secret(file)
+    except SecretFault as fault:
+        raise DiscoverFault(f"{label}: {key}: {file} {fault}") from None
 
 
 def _toml(kind: Kind, table: dict[str, Any]) -> str:

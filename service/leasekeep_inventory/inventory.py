@@ -25,7 +25,8 @@ class Kind(Enum):
 @dataclass(frozen=True)
 class Entry:
     """One token or lease as the inventory writes it. `parent` is a lease's token or a token's parent, `credential`
-    the secret or lease id that is written, None where none is (the name stands for it then)."""
+    the secret or lease id that is written, or what `credential_file` was last taken to hold; None where there is none (the
+    name stands for it then)."""
 
     name: str
     kind: Kind
@@ -39,6 +40,7 @@ class Entry:
     explicit_max_ttl: int = 0
     need: int = 0
     credential: str | None = None
+    credential_file: str | None = None
 
     def __repr__(self) -> str:
         """Names alone: a credential never shows."""
@@ -157,8 +159,11 @@ def entry_text(entry: Entry, is_served: bool = False) -> str:
         lines.append(f"explicit_max_ttl = {entry.explicit_max_ttl}")
     if entry.need:
         lines.append('need = "always"' if is_served and entry.need == ALWAYS else f"need = {entry.need}")
-    if entry.credential is not None:
-        lines.append(f"{'lease_id' if entry.kind is Kind.LEASE else 'secret'} = {toml_string(entry.credential)}")
+    key = "lease_id" if entry.kind is Kind.LEASE else "secret"
+    if is_served and entry.credential_file is not None:
+        lines.append(f"{key}_file = {toml_string(entry.credential_file)}")
+    elif entry.credential is not None:
+        lines.append(f"{key} = {toml_string(entry.credential)}")
     return "\n".join(lines) + "\n"
 
 

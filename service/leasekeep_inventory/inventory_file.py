@@ -14,7 +14,7 @@ from .near import Near, Slip
 from .rfc3339 import LAST
 from .toml_text import Lines, SyntaxFault, decoded, parsed
 from .tree import Row, judge_rows, shown, sound_entries
-from .values import ABOVE, CREDENTIAL_FORM, FLAG, NAME, NAME_FORM, Form, moment, tables
+from .values import ABOVE, CREDENTIAL_FORM, FILE_FORM, FLAG, NAME, NAME_FORM, Form, moment, tables
 
 LIMIT = 1 << 20
 _COMMON = ("name", "issued", "end", "renewable", "increment", "max_ttl", "need")
@@ -202,8 +202,10 @@ def _tables_of(table: _Table, head: str, kind: Kind) -> list[dict[str, Any]]:
 def _row(table: _Table, kind: Kind) -> Row:
     before, dialect = len(table.reading.findings), table.reading.dialect
     is_whole = dialect.absent_increment is None
-    table.unknown(KEYS[kind])
     is_token = kind is Kind.TOKEN
+    key = "secret" if is_token else "lease_id"
+    file_key = f"{key}_file"
+    table.unknown((*KEYS[kind], file_key) if dialect.has_files else KEYS[kind])
     name = table.take("name", NAME_FORM, must=True)
     above = table.take("parent" if is_token else "token", ABOVE, must=not is_token)
     issued = table.take("issued", moment(LAST), 0, must=is_whole)
@@ -217,11 +219,16 @@ def _row(table: _Table, kind: Kind) -> Row:
     max_ttl = table.take("max_ttl", dialect.duration)
     explicit = table.take("explicit_max_ttl", dialect.duration, 0) if is_token else 0
     need = table.take("need", dialect.need, 0)
-    key = "secret" if is_token else "lease_id"
     credential = table.take(key, CREDENTIAL_FORM)
+    has_credential = key in table.values or key in table.slips
+    file = None
+    if dialect.has_files and (file_key in table.values or file_key in table.slips):
+        file = table.take(file_key, FILE_FORM)
+        if has_credential:
+            table.fault(file_key, f"stands beside {key}", "write one of the two")
+        has_credential = True
     entry = None
     if len(table.reading.findings) == before:
-        entry = Entry(name, kind, above, issued, end, renewable, increment, period, max_ttl, explicit, need, credential)
+        entry = Entry(name, kind, above, issued, end, renewable, increment, period, max_ttl, explicit, need, credential, file)
     step = period or increment or None
-    has_credential = key in table.values or key in table.slips
-    return Row(kind, table.head, table.place, table.label, name, above, credential, has_credential, step, entry)
+    return Row(kind, table.head, table.place, table.label, name, above, credential, has_credential, file, step, entry)

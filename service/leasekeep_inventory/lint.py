@@ -3,13 +3,15 @@
 from __future__ import annotations
 
 import math
+from pathlib import Path
 
 from .dialect import SERVED, Dialect
 from .findings import Finding, Severity
-from .inventory import ALWAYS, Entry, Inventory
+from .inventory import ALWAYS, Entry, Inventory, Kind
 from .inventory_file import Reading, read_inventory
 from .refusals import refusals, room_of
 from .rfc3339 import date_text
+from .secret_files import SecretFault, is_open_to_others, read_secret
 from .tree import TOKEN_VALUE, shown
 
 _YEAR_3000 = 32503680000
@@ -31,9 +33,9 @@ class _Doubts:
 
 
 def lint(data: bytes, mode: int, timeout: int, now: float, names_are_secrets: bool = False,
-         dialect: Dialect = SERVED) -> list[Finding]:
+         dialect: Dialect = SERVED, folder: Path | None = None) -> list[Finding]:
     """Everything that is wrong or doubtful: faults first to last line, doubts among them. What is said of the whole
-    inventory is said where no entry is at fault."""
+    inventory is said where no entry is at fault. The files of secrets are looked at where their folder is given."""
     reading = read_inventory(data, dialect)
     found = reading.findings + refusals(reading, timeout, names_are_secrets, mode)
     doubts = _Doubts(reading)
@@ -45,6 +47,8 @@ def lint(data: bytes, mode: int, timeout: int, now: float, names_are_secrets: bo
         _doubt_entry(reading.sound, entry, doubts, now)
         _doubt_time(entry, doubts, now, is_past)
         _doubt_need(reading.sound, entry, doubts, now)
+        if folder is not None and entry.credential_file is not None:
+            _doubt_file(entry, folder / entry.credential_file, doubts)
         if not entry.period and reading.lacks(entry.name, "increment"):
             doubts.doubt(entry.name, "increment", f"is not written: {entry.increment} s are asked for",
                          "write what a renewal is to ask for, or the period of a periodic token")
@@ -101,6 +105,16 @@ def _doubt_entry(inventory: Inventory, entry: Entry, doubts: _Doubts, now: float
                          "are these milliseconds? durations are whole seconds")
     if entry.increment and entry.period and entry.increment != entry.period:
         doubts.doubt(name, "increment", "has no effect next to a period", "remove one of the two")
+
+
+def _doubt_file(entry: Entry, file: Path, doubts: _Doubts) -> None:
+    key = "secret_file" if entry.kind is Kind.TOKEN else "lease_id_file"
+    try:
+        read_secret(file)
+    except SecretFault as fault:
+        doubts.doubt(entry.name, key, str(fault), "it is not kept, nor what is under it, until the file holds its secret")
+    if is_open_to_others(file):
+        doubts.doubt(entry.name, key, "may be read or written by others", "chmod o-rwx the file: it holds a secret")
 
 
 def _doubt_time(entry: Entry, doubts: _Doubts, now: float, all_are_past: bool) -> None:

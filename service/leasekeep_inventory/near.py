@@ -15,6 +15,7 @@ _FILES = ("secret_file", "lease_id_file")
 _MEANT = {
     "token": "parent", "parent": "token", "secret": "lease_id", "lease_id": "secret", "id": "secret", "ttl": "increment",
     "creation_time": "issued", "issue_time": "issued", "expire_time": "end", "lease_duration": "increment",
+    "secret_file": "lease_id_file", "lease_id_file": "secret_file",
 }
 """Names of Vault's, and of the other kind's keys."""
 
@@ -39,10 +40,10 @@ class Near:
 
     def key(self, key: str, known: tuple[str, ...], table: dict[str, Any], kind: Kind | None) -> Slip:
         """What a key is that is none of these."""
-        if key in _FILES:
+        if key in _FILES and not any(file in known for file in _FILES):
             meant = "lease_id" if kind is Kind.LEASE else "secret"
-            return Slip(meant, "belongs in the short list that `leasekeepd inventory` reads, not here",
-                        f"write {meant}, or make the inventory from that list", has_its_value=False)
+            return Slip(meant, "is a key for leasekeepd alone",
+                        f"write {meant}, or make the inventory with `leasekeepd inventory`", has_its_value=False)
         free = [word for word in known if word not in table]
         guess = self._guess(key, free)
         if guess is None:

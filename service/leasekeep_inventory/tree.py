@@ -26,8 +26,8 @@ def shown(name: str) -> str:
 @dataclass(frozen=True)
 class Row:
     """One table as far as it could be read, None for what could not: the word of its head and its place among those,
-    what it is called in messages, its name, the name that it stands under, its secret or lease id where one is written,
-    what a renewal asks for, and the entry where the table by itself has no fault."""
+    what it is called in messages, its name, the name that it stands under, its secret or lease id where one is written, the
+    file where it stands in one, what a renewal asks for, and the entry where the table by itself has no fault."""
 
     kind: Kind
     head: str
@@ -37,18 +37,20 @@ class Row:
     above: str | None
     credential: str | None
     has_credential: bool
+    file: str | None
     step: int | None
     entry: Entry | None
 
     @staticmethod
     def of(entry: Entry) -> Row:
         return Row(entry.kind, entry.kind.value, 0, shown(entry.name), entry.name, entry.parent, entry.credential,
-                   entry.credential is not None, entry.step, entry)
+                   entry.credential is not None, None, entry.step, entry)
 
     @property
     def secret(self) -> str | None:
-        """What is sent for it: the name, where no credential is written; None where that is not known."""
-        return self.credential if self.has_credential else self.name
+        """What is sent for it: the name, where no credential is written; None where that is not known. Two of one file are
+        alike. (No credential has a blank.)"""
+        return f"file {self.file}" if self.file else self.credential if self.has_credential else self.name
 
 
 def judge_rows(rows: list[Row], whole: Inventory, margin: int | None, lines: Lines) -> list[Finding]:
@@ -116,7 +118,7 @@ class _Judge:
             return
         other = credentials.setdefault((row.kind, row.secret), row)
         if other is not row and (row.has_credential or other.has_credential):
-            key = "secret" if row.kind is Kind.TOKEN else "lease_id"
+            key = ("secret" if row.kind is Kind.TOKEN else "lease_id") + ("_file" if row.file else "")
             where = self._on(other, key if other.has_credential else "name")
             yield key, f"occurs twice: {where} has it too", "write each entry once"
 

@@ -113,7 +113,7 @@ def said_by(inventory: Inventory, what: What, name: str) -> str:
         return str(entry.need)
     if what is What.REPLACE:
         return fingerprint(entry.secret.encode())
-    return fingerprint(entry_text(entry).encode())
+    return fingerprint(entry_text(entry, is_served=entry.credential_file is not None).encode())  # (Not of what a file holds.)
 
 
 def only_entry(table: str) -> Entry:

@@ -182,7 +182,8 @@ def _lint(arguments: argparse.Namespace) -> int:
         print(f"leasekeepd: lint: {arguments.file}: {error.strerror}", file=sys.stderr)
         return EXIT_COMMAND_LINE
     now = SystemClock().wall()
-    found = lint(data, mode, arguments.timeout, now, arguments.names_are_secrets, STRICT if arguments.strict else SERVED)
+    found = lint(data, mode, arguments.timeout, now, arguments.names_are_secrets, STRICT if arguments.strict else SERVED,
+                 arguments.file.parent)
     for finding in found:
         print(finding.text(str(arguments.file)))
     faults, doubts = kinds_of(found)

@@ -58,7 +58,7 @@ class Draft:
         entry = only_entry(change.table)
         if entry.name in self._entries:
             raise ChangeFault(f"an entry is named {entry.name} already")
-        if entry.credential is None and not self._names_are_secrets:
+        if entry.credential is None and entry.credential_file is None and not self._names_are_secrets:
             raise ChangeFault(f"{entry.name} has no {'secret' if entry.kind is Kind.TOKEN else 'lease_id'}")
         if len(self._entries) >= MAX_ENTRIES:
             raise ChangeFault(f"there are {MAX_ENTRIES} entries, and there may be no more")

@@ -8,10 +8,11 @@ from dataclasses import dataclass, replace
 from pathlib import Path
 from typing import Any, Callable, Coroutine
 
-from leasekeep_inventory.broker import Broker, Verdict
+from leasekeep_inventory.broker import Broker, Heard, Verdict
 from leasekeep_inventory.durations import until_text
-from leasekeep_inventory.inventory import ALWAYS, Inventory, inventory_text
+from leasekeep_inventory.inventory import ALWAYS, Entry, Inventory, inventory_text
 from leasekeep_inventory.rfc3339 import date_text
+from leasekeep_inventory.secret_files import SecretFiles, ready
 from leasekeep_inventory.values import CREDENTIAL
 
 from .changes import Change, ChangeFault, What, only_entry, read_when, said_by
@@ -24,6 +25,7 @@ from .journal import Journal
 from .known_ends import KnownEnds
 from .metrics import Figures, metrics_text
 from .notify import Notifier
+from .secret_watch import SecretWatch
 from .source import Loaded, Source, SourceFault
 from .status import EntryStatus, FileReading, status_lines
 from .storage import Storage
@@ -61,6 +63,8 @@ class Service:
         self._file = Loaded(b"", Inventory())
         self.inventory = Inventory()
         self.standings = Standings(clock)
+        self._files = SecretFiles(surroundings.source.path.parent)
+        self._secrets = SecretWatch(self._files, lambda: self.inventory, self._refusal, self._take_file, clock, log)
         self._day_before = DayBefore(self.standings.moment, self._hear)
         self.watch = Watch(launcher, clock, surroundings.ends, log, self._day_before.hear)
         self._soon: asyncio.TimerHandle | None = None
@@ -93,10 +97,10 @@ class Service:
 
     def _take(self, inventory: Inventory) -> None:
         """Serves another inventory from now on."""
-        self.inventory = inventory
-        self.standings.take(inventory)
-        self._day_before.take(inventory)
-        self.watch.take(inventory)
+        self.inventory = self._files.filled(inventory, self.inventory)
+        self.standings.take(self.inventory)
+        self._day_before.take(self.inventory)
+        self.watch.take(ready(self.inventory))
 
     def hear_hangup(self) -> None:
         """Reads the file anew, as SIGHUP asks: at once, but no more than once in five seconds."""
@@ -159,7 +163,7 @@ class Service:
 
     async def serve(self) -> None:
         """Runs until it is cancelled."""
-        works = [self.watch.serve(), self._again_and_again(self._report)]
+        works = [self.watch.serve(), self._again_and_again(self._report), self._again_and_again(self._secrets.serve)]
         if self._around.alerts is not None:
             works.append(self._again_and_again(self._around.alerts.serve))
         self._around.notifier.send("READY=1")
@@ -250,11 +254,18 @@ class Service:
         """Writes a change, and makes it within five seconds."""
         inventory = self._changed(change)
         self._around.journal.add(change)
-        self.inventory = inventory
         self._log.info(change.what.value, change.name, "by", who)
+        self._take_soon(inventory)
+        return []
+
+    def _take_file(self, inventory: Inventory, name: str) -> None:
+        self._log.info("replace", name, "by its file")
+        self._take_soon(inventory)
+
+    def _take_soon(self, inventory: Inventory) -> None:
+        self.inventory = inventory
         if self._soon is None:
             self._soon = asyncio.get_running_loop().call_later(TOGETHER, self._take_changes)
-        return []
 
     def _take_changes(self) -> None:
         self._soon = None
@@ -268,8 +279,9 @@ class Service:
         self._log.info("need", name, until_text(until), "by", who)
         self.inventory = inventory
         self._day_before.take(inventory)
-        if self._soon is None:
-            self.watch.need(inventory, name, until)
+        handed = ready(inventory)
+        if self._soon is None and handed.find(name) is not None:
+            self.watch.need(handed, name, until)
         return [f"{name} is needed {'' if until == ALWAYS else 'until '}{until_text(until)}"]
 
     async def _replace(self, name: str, credential: str, who: str) -> list[str]:
@@ -279,13 +291,17 @@ class Service:
         inventory = self._changed(change)
         entry = inventory.find(name)
         assert entry is not None
+        if entry.credential_file is not None:
+            raise ChangeFault(f"{name} has its credential in a file, {entry.credential_file}: write it there")
         heard = await self._broker.look_up(inventory, entry)
-        if heard.verdict is Verdict.REFUSED or heard.status == 400:
-            raise ChangeFault(f"the broker answers {heard.status} to its lookup: {name} keeps the old one")
-        if heard.facts is not None and heard.facts.never_ends:
-            raise ChangeFault(f"it never ends (ttl 0) and needs no keeping: {name} keeps the old one")
+        why = _refused(heard)
+        if why is not None:
+            raise ChangeFault(f"{why}: {name} keeps the old one")
         self._change(self._described(change), who)
         return [] if heard.verdict is Verdict.GOOD else [f"it could not be looked up ({heard.why}), and is taken"]
+
+    async def _refusal(self, inventory: Inventory, entry: Entry) -> str | None:
+        return _refused(await self._broker.look_up(inventory, entry))
 
     def _settle(self, who: str) -> list[str]:
         path = self._around.source.path
@@ -298,3 +314,10 @@ class Service:
         self._keep_copy()
         self._log.info("settle", "by", who)
         return [f"{path} holds every change"]
+
+
+def _refused(heard: Heard) -> str | None:
+    """Why a new credential is not taken, by what its lookup told; None where it is."""
+    if heard.verdict is Verdict.REFUSED or heard.status == 400:
+        return f"the broker answers {heard.status} to its lookup"
+    return "it never ends (ttl 0) and needs no keeping" if heard.facts is not None and heard.facts.never_ends else None

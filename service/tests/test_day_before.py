@@ -5,8 +5,8 @@ from __future__ import annotations
 import unittest
 from dataclasses import replace
 
-from leasekeepd_lib.day_before import DayBefore
 from leasekeep_inventory.inventory import ALWAYS, Entry, Inventory, Kind
+from leasekeepd_lib.day_before import DayBefore
 from leasekeepd_lib.watch_lines import read_watch_line
 
 WEB = Entry("web", Kind.TOKEN, None, 900, 1060, increment=60, need=ALWAYS, credential="s.web")

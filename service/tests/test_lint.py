@@ -227,8 +227,8 @@ class Slips(unittest.TestCase):
             ("margin = 20\n" + good.replace("= 1050000", '= "2026-13-01T00:00:00Z"'), "months are 01 to 12, and this one is 13"),
             ("margin = 20\n" + good.replace("= 1050000", '= "2026-02-29T00:00:00Z"'), "days of 2026-02 are 01 to 28, and this one is 29"),
             ("margin = 20\n" + good.replace("= 1050000", '= "2026-02-28T24:00:00Z"'), "hours are 00 to 23, and this one is 24"),
-            ("margin = 20\n" + good + 'secret_file = "f"\n', "f:9: fault: a secret_file: belongs in the short list that `leasekeepd"
-             " inventory` reads, not here; write secret, or"),
+            ("margin = 20\n" + good + 'secret_file = "f"\n', "f:9: fault: a secret_file: is a key for leasekeepd alone; write secret, or make"
+             " the inventory with `leasekeepd inventory`"),
             ("margin = 20\n" + good.replace('"a"', '"a b"'), "f:3: fault: token 1 name: is not 1 to 64 letters, digits, '-', '_', '.',"
              " '/'; its character 2 is a space"),
         ):

@@ -8,13 +8,13 @@ import unittest
 from pathlib import Path
 
 from leasekeep_inventory.broker import Broker
-from leasekeepd_lib.changes import only_entry
 from leasekeep_inventory.dialect import SERVED, STRICT, Dialect
 from leasekeep_inventory.discover import DiscoverFault, discover, read_short_list
 from leasekeep_inventory.durations import duration_text, meant_duration, read_duration
 from leasekeep_inventory.inventory import ALWAYS, Inventory, inventory_text
 from leasekeep_inventory.inventory_file import read_inventory
 from leasekeep_inventory.lint import lint
+from leasekeepd_lib.changes import only_entry
 from leasekeepd_lib.source import Source, SourceFault
 from leasekeepd_lib.storage import Storage
 
