@@ -17,6 +17,7 @@ from leasekeep_inventory.broker import Broker
 from leasekeep_inventory.dialect import SERVED, STRICT
 from leasekeep_inventory.discover import DiscoverFault, discover, read_short_list
 from leasekeep_inventory.http_client import Address, HttpTransport
+from leasekeep_inventory.inventory import MARGIN_MAX
 from leasekeep_inventory.lint import kinds_of, lint
 
 from .clock import SystemClock
@@ -71,6 +72,13 @@ def _width(word: str) -> int:
     if not 1 <= requests <= 32:
         raise ValueError
     return requests
+
+
+def _spread(word: str) -> int:
+    seconds = int(word)
+    if not 0 <= seconds <= MARGIN_MAX:
+        raise ValueError
+    return seconds
 
 
 def _alert(word: str) -> str:
@@ -157,6 +165,11 @@ def _add_serve(commands: "argparse._SubParsersAction[argparse.ArgumentParser]", 
                        help="folder of the journal and the last good file (default: $STATE_DIRECTORY, else"
                        " $XDG_STATE_HOME/leasekeepd or ~/.local/state/leasekeepd)")
     serving.add_argument("--metrics", type=Path, metavar="FILE", help="write metrics for Prometheus' node exporter")
+    serving.add_argument("--name", default="", metavar="NAME",
+                       help="this agent's name, for --spread and --standby (default: the machine's name and the state folder)")
+    serving.add_argument("--spread", type=_spread, default=0, metavar="SECONDS",
+                       help="wake up earlier by a fixed part of so many seconds, which follows from the name: so that many agents"
+                       " of one broker form no herd (default: 0, at most the margin)")
     serving.add_argument("--names-are-secrets", action="store_true",
                        help="serve entries without a secret or lease_id, for trials")
 

@@ -27,6 +27,7 @@ from .metrics import Figures, metrics_text
 from .notify import Notifier
 from .secret_watch import SecretWatch
 from .source import Loaded, Source, SourceFault
+from .spread import earlier
 from .status import EntryStatus, FileReading, status_lines
 from .storage import Storage
 from .watch_lines import WatchLine
@@ -53,6 +54,8 @@ class Surroundings:
     metrics: Path | None = None
     alerts: Alerts | None = None
     dropped_lines: Callable[[], int] = lambda: 0
+    part: int = 0
+    """Seconds by which this agent wakes up earlier."""
 
 
 class Service:
@@ -100,7 +103,11 @@ class Service:
         self.inventory = self._files.filled(inventory, self.inventory)
         self.standings.take(self.inventory)
         self._day_before.take(self.inventory)
-        self.watch.take(ready(self.inventory))
+        self.watch.take(self._handed())
+
+    def _handed(self) -> Inventory:
+        """What `leasekeep watch` is handed."""
+        return earlier(ready(self.inventory), self._around.part)
 
     def hear_hangup(self) -> None:
         """Reads the file anew, as SIGHUP asks: at once, but no more than once in five seconds."""
@@ -279,7 +286,7 @@ class Service:
         self._log.info("need", name, until_text(until), "by", who)
         self.inventory = inventory
         self._day_before.take(inventory)
-        handed = ready(inventory)
+        handed = self._handed()
         if self._soon is None and handed.find(name) is not None:
             self.watch.need(handed, name, until)
         return [f"{name} is needed {'' if until == ALWAYS else 'until '}{until_text(until)}"]

@@ -23,6 +23,7 @@ from .notify import Notifier
 from .outlet import Outlet
 from .service import Service, Surroundings
 from .source import Source, SourceFault
+from .spread import own_name, part_of
 from .storage import Storage
 from .watch_process import WatchCommand
 
@@ -81,7 +82,8 @@ class _Serving:
                         storage)
         around = Surroundings(
             source, Journal(state / "journal", storage), KnownEnds(state / "ends", storage, boot_id(os.environ)),
-            Notifier(os.environ), storage, arguments.metrics, self._alerts, lambda: outlet.dropped)
+            Notifier(os.environ), storage, arguments.metrics, self._alerts, lambda: outlet.dropped,
+            part_of(arguments.name or own_name(state), arguments.spread))
         command = WatchCommand(arguments.leasekeep, arguments.address, arguments.timeout, arguments.width)
         broker = Broker(HttpTransport(arguments.address), arguments.timeout)
         self._service = Service(around, clock, broker, command, log)

@@ -98,11 +98,11 @@ async def at_once(work: Callable[..., Any], *words: Any) -> Any:
 class Room:
     """A folder with a file, and a service on it."""
 
-    def __init__(self, folder: Path, text: str) -> None:
+    def __init__(self, folder: Path, text: str, part: int = 0) -> None:
         self.folder, self.file, self.output, self.world = folder, folder / "short.toml", io.StringIO(), World()
         self.file.touch(0o600)
         self.file.write_text(text)
-        self.vault, self.launcher = Vault(self.world), Launcher()
+        self.vault, self.launcher, self.part = Vault(self.world), Launcher(), part
         self.vault.load(Inventory(tuple(
             Entry(f"row{place}", Kind.TOKEN, None, BEGAN - 1000, BEGAN + 900, increment=900, max_ttl=900_000, credential=secret)
             for place, secret in enumerate(("hvs.one", "hvs.two", "s.web"))), 60))
@@ -112,7 +112,7 @@ class Room:
         storage = Storage()
         around = Surroundings(
             Source(self.file, self.folder / "copy", 5, False, storage), Journal(self.folder / "journal", storage),
-            KnownEnds(self.folder / "ends", storage, "boot"), Notifier({}), storage)
+            KnownEnds(self.folder / "ends", storage, "boot"), Notifier({}), storage, part=self.part)
         service = Service(around, self.world, Broker(VaultTransport(self.vault), 5.0), self.launcher,
                           Log(LineForm(self.world), self.output))
         service.load()
@@ -136,7 +136,7 @@ class Room:
 
 
 class Served(unittest.TestCase):
-    def play(self, scene: Callable[[Room], Coroutine[Any, Any, None]], text: str = LIST,
+    def play(self, scene: Callable[[Room], Coroutine[Any, Any, None]], text: str = LIST, part: int = 0,
              files: dict[str, str] | None = None) -> None:
         folder = Path(tempfile.mkdtemp())
         self.addCleanup(shutil.rmtree, folder, True)
@@ -144,7 +144,7 @@ class Served(unittest.TestCase):
         async def go() -> None:
             for name, content in ({"app.token": "hvs.one\n"} if files is None else files).items():
                 (folder / name).write_text(content)
-            room = Room(folder, text)
+            room = Room(folder, text, part)
             task = asyncio.create_task(room.service.serve())
             try:
                 await room.after(0.5)
@@ -162,6 +162,15 @@ class Served(unittest.TestCase):
             self.assertEqual(read_inventory(text.encode(), STRICT).faults, [])
             self.assertEqual(room.launcher.inventories[-1].margin, 60)
         self.play(scene)
+
+    def test_a_part_of_a_spread_widens_the_margin_that_is_handed_over(self) -> None:
+        async def scene(room: Room) -> None:
+            self.assertEqual((room.launcher.inventories[-1].margin, room.service.inventory.margin), (77, 60))
+            await room.service.command(["need", "web", "+6h"], WHO)
+            await room.after(1)
+            self.assertEqual(room.launcher.children[-1].written[-2].split(" ")[:2], ["need", "web"])
+            self.assertEqual(len(room.launcher.inventories), 1)
+        self.play(scene, part=17)
 
     def test_a_need_that_is_always(self) -> None:
         async def scene(room: Room) -> None:
