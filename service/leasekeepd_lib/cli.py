@@ -22,6 +22,7 @@ from leasekeep_inventory.lint import kinds_of, lint
 
 from .clock import SystemClock
 from .control import ControlFault, send_command
+from .etcd_client import EtcdAddress
 from .health import KEPT
 from .serving import EXIT_FAULT, SOCKET, serve
 from .version import version
@@ -79,6 +80,13 @@ def _spread(word: str) -> int:
     if not 0 <= seconds <= MARGIN_MAX:
         raise ValueError
     return seconds
+
+
+def _standby(word: str) -> EtcdAddress:
+    try:
+        return EtcdAddress.read(word)
+    except ValueError:
+        raise argparse.ArgumentTypeError(f"that is not etcd:http://[USER@]HOST:PORT/PREFIX: {word}") from None
 
 
 def _alert(word: str) -> str:
@@ -170,6 +178,9 @@ def _add_serve(commands: "argparse._SubParsersAction[argparse.ArgumentParser]", 
     serving.add_argument("--spread", type=_spread, default=0, metavar="SECONDS",
                        help="wake up earlier by a fixed part of so many seconds, which follows from the name: so that many agents"
                        " of one broker form no herd (default: 0, at most the margin)")
+    serving.add_argument("--standby", type=_standby, metavar="ETCD",
+                       help="serve only while no other leasekeepd of this fleet does: etcd:http://[USER@]HOST:PORT/PREFIX")
+    serving.add_argument("--standby-password", type=Path, metavar="FILE", help="the file of USER's password at etcd")
     serving.add_argument("--names-are-secrets", action="store_true",
                        help="serve entries without a secret or lease_id, for trials")
 

@@ -24,6 +24,8 @@ from .outlet import Outlet
 from .service import Service, Surroundings
 from .source import Source, SourceFault
 from .spread import own_name, part_of
+from .standby import Standby
+from .standby_serving import standing_by
 from .storage import Storage
 from .watch_process import WatchCommand
 
@@ -86,7 +88,9 @@ class _Serving:
             part_of(arguments.name or own_name(state), arguments.spread))
         command = WatchCommand(arguments.leasekeep, arguments.address, arguments.timeout, arguments.width)
         broker = Broker(HttpTransport(arguments.address), arguments.timeout)
-        self._service = Service(around, clock, broker, command, log)
+        self._service: Service | Standby = Service(around, clock, broker, command, log)
+        if arguments.standby is not None:
+            self._service = standing_by(arguments, around, clock, broker, command, log)
         self._control: ControlServer | None = None
         self._held: set[Path] = set()
 

@@ -259,7 +259,7 @@ class Faults(unittest.TestCase):
         arguments = argparse.Namespace(
             state=Path("/nowhere/state"), runtime=Path("/nowhere/run"), alert=None, file=Path("/nowhere/file"), timeout=1,
             names_are_secrets=False, address=Address("/nowhere/socket"), leasekeep="leasekeep", metrics=None, group=None, width=None,
-            name="", spread=0)
+            name="", spread=0, standby=None)
         serving = _Serving(arguments, Log(LineForm(clock), output), mock.Mock(spec=Outlet))
         with mock.patch.object(Service, "load", side_effect=ValueError("s.secret")), \
                 mock.patch("leasekeepd_lib.serving.hold"):

@@ -1,0 +1,140 @@
+"""What the leader shares with those who stand by: its changes, and the ends that were told. No credential is in it."""
+
+from __future__ import annotations
+
+import errno
+import hashlib
+import re
+from pathlib import Path
+
+from leasekeep_inventory.inventory import Entry, Inventory
+
+from .changes import Change, ChangeFault, What, compacted, only_entry
+from .clock import Clock
+from .etcd_client import Condition, EtcdFault, Kept
+from .journal import COMPACT_AT, Journal
+from .known_ends import KnownEnds
+from .leadership import Leadership, Store
+from .storage import Storage
+
+MOST = 1 << 20
+"""So many bytes of changes are kept: etcd takes a request of a mebibyte and a half."""
+SKEW = 2000
+"""Milliseconds by which an end of another machine is believed to be earlier: its clock may be that much ahead."""
+_END = re.compile(r"(\S{1,64}) (\d{1,18}) (yes|no) ([0-9a-f]{16})", re.ASCII)
+
+
+def refuse(words: list[str]) -> None:
+    """ChangeFault for a command that would bring a credential into etcd, or changes one machine's file alone."""
+    if words[0] == "replace":
+        raise ChangeFault("with --standby no credential is handed in: write it into the file that secret_file or lease_id_file names")
+    if words[0] == "add" and len(words) == 2 and only_entry(words[1]).credential is not None:
+        raise ChangeFault("with --standby an entry that is added names its credential by secret_file or lease_id_file")
+    if words[0] == "settle":
+        raise ChangeFault("with --standby the changes are in etcd: write them into the file of each machine by hand")
+
+
+class SharedJournal(Journal):
+    """The journal as one key of etcd, which only the leader writes, on the condition that it still leads. `kept` is what was
+    there when it began to."""
+
+    def __init__(self, store: Store, key: str, leadership: Leadership, kept: Kept | None) -> None:
+        super().__init__(Path(key), Storage())
+        self._store, self._key, self._leadership = store, key, leadership
+        self._data = b"" if kept is None else kept.value
+        self._revision: int | None = 0 if kept is None else kept.modified
+        self._lost: list[bytes] = []
+
+    def load(self, file: bytes) -> int:
+        """Takes the changes that were kept; how many records cannot be read. They stay in etcd."""
+        lines = self._data.splitlines(keepends=True)
+        found = [(line, _shared(Change.read(line))) for line in lines]
+        self._lost = [line for line, change in found if change is None]
+        self.changes = [change for _, change in found if change is not None]
+        self.set_aside = Path(self._key)
+        self.is_read = True
+        return len(self._lost)
+
+    def mend(self) -> None:
+        """Nothing is to be mended: a key is written whole or not at all."""
+
+    def is_as_written(self) -> bool:
+        return True
+
+    def add(self, change: Change) -> None:
+        """Writes the change into etcd; OSError where that fails, or where another leads now."""
+        changes = [*self.changes, change]
+        if len(changes) > COMPACT_AT:
+            changes = compacted(changes)
+        data = b"".join([*self._lost, *(one.line() for one in changes)])
+        if len(data) > MOST:
+            raise OSError(errno.EFBIG, "there are too many changes: write them into the file of each machine")
+        try:
+            if self._revision is None:  # (The last write may have come to be or not: it was not acknowledged.)
+                kept = self._store.get(self._key)
+                self._revision = 0 if kept is None else kept.modified
+            known, self._revision = self._revision, None
+            written = self._store.put(self._key, data, [self._leadership.condition(), Condition(self._key, "MOD", known)])
+        except EtcdFault as fault:
+            raise OSError(errno.EIO, str(fault)) from None
+        if written is None:
+            raise OSError(errno.EAGAIN, "another leads now")
+        self._revision, self.changes = written, changes
+
+    def settle(self, target: Path, file: bytes, mode: int) -> None:
+        raise OSError(errno.EPERM, "with --standby the changes are in etcd")
+
+
+class SharedEnds(KnownEnds):
+    """The ends that `leasekeep watch` told here, and those that it told on the machine that led before. Those count
+    milliseconds of the wall clock: machines share no other."""
+
+    def __init__(self, path: Path, storage: Storage, boot: str, clock: Clock, told: bytes) -> None:
+        super().__init__(path, storage, boot)
+        self._clock = clock
+        lines = (_END.fullmatch(line) for line in told.decode("ascii", "replace").splitlines())
+        self._theirs = {line[1]: (int(line[2]), line[3], line[4]) for line in lines if line is not None}
+        self.is_shared = True
+
+    def keep(self, entry: Entry, end: int, is_renewable: bool) -> None:
+        super().keep(entry, end, is_renewable)
+        self._theirs.pop(entry.name, None)
+        self.is_shared = False
+
+    def known(self, inventory: Inventory) -> list[str]:
+        found = {line.split(" ")[1]: line for line in super().known(inventory)}
+        ahead, now = self._ahead(), int(self._clock.elapsed() * 1000)
+        for entry in inventory.entries:
+            end, is_renewable, mark = self._theirs.get(entry.name, (0, "", ""))
+            if mark == _mark(entry) and end - ahead - SKEW > now:  # (What is past may be of a time long ago.)
+                found[entry.name] = f"known {entry.name} {end - ahead - SKEW} {is_renewable}"
+        return list(found.values())
+
+    def shared(self, inventory: Inventory) -> bytes:
+        """The text that goes into etcd."""
+        ahead, lines = self._ahead(), dict[str, str]()
+        for name, (end, is_renewable, mark) in self._theirs.items():
+            lines[name] = f"{name} {end} {is_renewable} {mark}\n"
+        for line in super().known(inventory):
+            _, name, end_here, is_renewable = line.split(" ")
+            entry = inventory.find(name)
+            if entry is not None and name not in self._theirs:
+                lines[name] = f"{name} {int(end_here) + ahead} {is_renewable} {_mark(entry)}\n"
+        self.is_shared = True
+        return "".join(lines.values()).encode()
+
+    def _ahead(self) -> int:
+        """How far the wall clock is ahead of the elapsed one, in milliseconds."""
+        return int((self._clock.wall() - self._clock.elapsed()) * 1000)
+
+
+def _shared(change: Change | None) -> Change | None:
+    """The change, where it is one that a leader may have written; None for one that holds a credential."""
+    if change is None or change.what in (What.REPLACE, What.SETTLING):
+        return None
+    return None if change.what is What.ADD and only_entry(change.table).credential is not None else change
+
+
+def _mark(entry: Entry) -> str:
+    """What tells an end of another credential, and tells nothing of the credential."""
+    return hashlib.sha256(f"{entry.name} {entry.secret}".encode()).hexdigest()[:16]

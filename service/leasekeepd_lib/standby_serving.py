@@ -1,0 +1,70 @@
+"""What `serve --standby` is made of."""
+
+from __future__ import annotations
+
+import argparse
+import os
+from dataclasses import replace
+from functools import partial
+from pathlib import Path
+
+from leasekeep_inventory.broker import Broker
+from leasekeep_inventory.secret_files import read_secret
+
+from .clock import Clock
+from .etcd_client import Etcd
+from .events import Log
+from .known_ends import boot_id
+from .leadership import Leadership
+from .notify import Notifier
+from .service import Service, Surroundings
+from .shared_changes import SharedEnds
+from .spread import own_name
+from .standby import Led, LedLauncher, Standby
+from .watch_process import WatchLauncher
+
+ETCD_SECONDS = 2.0
+"""The longest that etcd may take for a connect or a read: a change waits for that, and the watch with it."""
+
+
+class _LedNotifier(Notifier):
+    """Tells the service manager nothing of a start and an end: the process goes on before and after."""
+
+    def send(self, *assignments: str) -> None:
+        said = [one for one in assignments if not one.startswith(("READY=", "STOPPING="))]
+        if said:
+            super().send(*said)
+
+
+def standing_by(arguments: argparse.Namespace, around: Surroundings, clock: Clock, broker: Broker, launcher: WatchLauncher,
+                log: Log) -> Standby:
+    """One of several, which serves while it leads."""
+    file: Path | None = arguments.standby_password
+    etcd = Etcd(arguments.standby, ETCD_SECONDS, None if file is None else partial(read_secret, file))
+    prefix = arguments.standby.prefix
+
+    def make(led: Led) -> Service:
+        here = replace(around, journal=led.journal, ends=led.ends, notifier=_LedNotifier(os.environ), alerts=None)
+        return Service(here, clock, broker, LedLauncher(launcher, led.may_ask, led.is_alone), log)
+
+    def ends(told: bytes) -> SharedEnds:
+        return SharedEnds(arguments.state / "ends", around.storage, boot_id(os.environ), clock, told)
+
+    def report() -> None:
+        if around.metrics is not None:
+            text = f"leasekeepd_metrics_written_timestamp_seconds {clock.wall():.3f}\n"
+            try:
+                around.storage.replace(around.metrics, text.encode(), mode=0o644, synced=False)
+            except OSError:
+                pass
+    _tell_of_old_changes(arguments.state / "journal", around, log)
+    leadership = Leadership(etcd, prefix, arguments.name or own_name(arguments.state), clock)
+    return Standby(around.source, etcd, prefix, leadership, ends, make, around.notifier, report, clock, log, around.alerts)
+
+
+def _tell_of_old_changes(journal: Path, around: Surroundings, log: Log) -> None:
+    try:
+        if around.storage.read(journal):
+            log.alert("journal", f"{journal} holds changes of a time without --standby: they are not served")
+    except OSError:
+        pass
