@@ -230,5 +230,5 @@ def _row(table: _Table, kind: Kind) -> Row:
     entry = None
     if len(table.reading.findings) == before:
         entry = Entry(name, kind, above, issued, end, renewable, increment, period, max_ttl, explicit, need, credential, file)
-    step = period or increment or None
+    step = period or increment
     return Row(kind, table.head, table.place, table.label, name, above, credential, has_credential, file, step, entry)

@@ -35,4 +35,4 @@ def refusals(reading: Reading, timeout: int, names_are_secrets: bool, mode: int)
 
 def room_of(reading: Reading) -> Room:
     """The room that the steps leave for the margin, as far as they are known."""
-    return Room.of((row.step, row.label) for row in reading.rows if row.step is not None)
+    return Room.of((row.step, row.label) for row in reading.rows if row.step)

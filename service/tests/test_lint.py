@@ -13,7 +13,7 @@ import unittest
 from pathlib import Path
 
 from leasekeep_inventory.broker import Broker
-from leasekeep_inventory.dialect import STRICT, Dialect
+from leasekeep_inventory.dialect import SERVED, STRICT, Dialect
 from leasekeep_inventory.discover import DiscoverFault, discover, read_short_list
 from leasekeep_inventory.inventory import Entry, Inventory, Kind, inventory_text
 from leasekeep_inventory.inventory_file import read_inventory
@@ -265,6 +265,14 @@ class Slips(unittest.TestCase):
                       linted("margin = 1000\n" + text))
         self.assertEqual(linted("margin = 450\n" + text), [])
         self.assertEqual(linted("margin = 1000\n" + text.replace("600", "1334")), [])
+
+    def test_a_step_of_nothing(self) -> None:
+        """`leasekeep` refuses it (step-too-small), written or by a period of 0."""
+        for keys in ("increment = 0", "increment = 0\nperiod = 0"):
+            for dialect in (STRICT, SERVED):
+                text = "margin = 20\n" + table("token", "a").replace("increment = 900", keys)
+                self.assertEqual(linted(text, dialect=dialect), [
+                    "f:6: fault: a increment: is not greater than the margin of 20 s; ask for 27 or more"])
 
     def test_what_round_trip_still_fits(self) -> None:
         entries = "".join(table("token", f"t{number}") for number in range(320))

@@ -26,6 +26,10 @@ VALUES = ('"a"', '"b"', '"c"', "1000", "2000", "0", "-1", "true", "false", '"tru
           '"x y"', '""', "[]", "60", "61", "3", '"hvs.x"', '"é"', "{}", "{a=1}")
 
 
+RARE = ("increment = 0", "increment = 0\nperiod = 0", "period = 60", "period = 0")
+"""Steps that chance seldom writes, of a token."""
+
+
 def a_table(chance: random.Random, kind: str, name: str, tokens: str) -> str:
     """A table that is mostly good, with up to two mistakes."""
     values = {"name": f'"{name}"', "issued": "1000", "end": "2000", "increment": "100"}
@@ -76,8 +80,9 @@ class Agreement(unittest.TestCase):
         chance = random.Random(SEED)
         with tempfile.TemporaryDirectory() as folder:
             file = Path(folder) / "inventory.toml"
+            rare = [f'margin = 20\n[[token]]\nname = "a"\nissued = 1000\nend = 2000\n{keys}\n' for keys in RARE]
             for case in range(CASES):
-                text = an_inventory(chance)
+                text = rare[case] if case < len(rare) else an_inventory(chance)
                 file.write_text(text, "utf-8")
                 ran = subprocess.run([program, "ends", str(file), "0"], capture_output=True, text=True, timeout=120)
                 found = [one for one in lint(text.encode(), 0o600, 1, NOW, True, STRICT)
