@@ -194,7 +194,9 @@ class StageLauncher:
             os.unlink(self._place)
         sockets = Sockets(self._vault)
         self._server = await sockets.start(self._place)
-        child = StageChild(await self._command.launch(inventory), loop, sockets)
+        process = await self._command.launch(inventory)
+        assert isinstance(process, ChildProcess)
+        child = StageChild(process, loop, sockets)
         self.children.append(child)
         if self.ends_at_once:
             child.kill()
