@@ -19,10 +19,10 @@ from leasekeep_inventory.discover import DiscoverFault, discover, read_short_lis
 from leasekeep_inventory.http_client import Address, HttpTransport
 from leasekeep_inventory.inventory import MARGIN_MAX
 from leasekeep_inventory.lint import kinds_of, lint
+from leasekeepd_standby.etcd_client import EtcdAddress
 
 from .clock import SystemClock
 from .control import ControlFault, send_command
-from .etcd_client import EtcdAddress
 from .health import KEPT
 from .serving import EXIT_FAULT, SOCKET, serve
 from .version import version

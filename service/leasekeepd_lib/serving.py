@@ -13,6 +13,8 @@ from pathlib import Path
 
 from leasekeep_inventory.broker import Broker
 from leasekeep_inventory.http_client import HttpTransport
+from leasekeepd_standby.serving import standing_by
+from leasekeepd_standby.standby import Standby
 
 from .clock import SystemClock
 from .control import ControlServer
@@ -24,8 +26,6 @@ from .outlet import Outlet
 from .service import Service, Surroundings
 from .source import Source, SourceFault
 from .spread import own_name, part_of
-from .standby import Standby
-from .standby_serving import standing_by
 from .storage import Storage
 from .watch_process import WatchCommand
 

@@ -15,8 +15,8 @@ from http.server import BaseHTTPRequestHandler, HTTPServer
 from pathlib import Path
 from typing import Any
 
-from leasekeepd_lib.etcd_client import Condition, Etcd, EtcdAddress, EtcdFault, Kept
-from leasekeepd_lib.leadership import Leadership
+from leasekeepd_standby.etcd_client import Condition, Etcd, EtcdAddress, EtcdFault, Kept
+from leasekeepd_standby.leadership import Leadership
 
 from .test_leadership import LoopClock, at_once
 

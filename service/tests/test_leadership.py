@@ -6,7 +6,7 @@ import asyncio
 import unittest
 from typing import Any, Callable
 
-from leasekeepd_lib.leadership import GUARD, Leadership, lease_for
+from leasekeepd_standby.leadership import GUARD, Leadership, lease_for
 
 from .model.etcd import Client, ModelEtcd
 from .model.world import simulate

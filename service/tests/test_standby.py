@@ -16,14 +16,14 @@ from typing import Any, Callable
 from leasekeep_inventory.inventory import Entry, Inventory, Kind, inventory_text
 from leasekeepd_lib.changes import Change, ChangeFault, What
 from leasekeepd_lib.child import ChildExit, LaunchFault
-from leasekeepd_lib.etcd_client import Kept
+from leasekeepd_standby.etcd_client import Kept
 from leasekeepd_lib.events import LineForm, Log
 from leasekeepd_lib.known_ends import KnownEnds
-from leasekeepd_lib.leadership import Leadership
+from leasekeepd_standby.leadership import Leadership
 from leasekeepd_lib.notify import Notifier
-from leasekeepd_lib.shared_changes import SharedEnds, SharedJournal, refuse
+from leasekeepd_standby.shared_changes import SharedEnds, SharedJournal, refuse
 from leasekeepd_lib.source import Source, SourceFault
-from leasekeepd_lib.standby import Led, LedLauncher, Standby
+from leasekeepd_standby.standby import Led, LedLauncher, Standby
 from leasekeepd_lib.storage import Storage
 
 from .model.etcd import Client, ModelEtcd

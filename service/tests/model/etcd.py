@@ -5,7 +5,7 @@ from __future__ import annotations
 from dataclasses import dataclass, field
 from typing import Any, Callable
 
-from leasekeepd_lib.etcd_client import Condition, EtcdFault, Kept
+from leasekeepd_standby.etcd_client import Condition, EtcdFault, Kept
 
 
 @dataclass

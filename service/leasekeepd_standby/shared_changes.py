@@ -8,14 +8,14 @@ import re
 from pathlib import Path
 
 from leasekeep_inventory.inventory import Entry, Inventory
+from leasekeepd_lib.changes import Change, ChangeFault, What, compacted, only_entry
+from leasekeepd_lib.clock import Clock
+from leasekeepd_lib.journal import COMPACT_AT, Journal
+from leasekeepd_lib.known_ends import KnownEnds
+from leasekeepd_lib.storage import Storage
 
-from .changes import Change, ChangeFault, What, compacted, only_entry
-from .clock import Clock
 from .etcd_client import Condition, EtcdFault, Kept
-from .journal import COMPACT_AT, Journal
-from .known_ends import KnownEnds
 from .leadership import Leadership, Store
-from .storage import Storage
 
 MOST = 1 << 20
 """So many bytes of changes are kept: etcd takes a request of a mebibyte and a half."""

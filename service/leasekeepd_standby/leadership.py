@@ -6,7 +6,8 @@ import asyncio
 from functools import partial
 from typing import Any, Awaitable, Callable, Protocol
 
-from .clock import Clock
+from leasekeepd_lib.clock import Clock
+
 from .etcd_client import Condition, EtcdFault, Kept
 
 GUARD = 2.0

@@ -10,18 +10,18 @@ from pathlib import Path
 
 from leasekeep_inventory.broker import Broker
 from leasekeep_inventory.secret_files import read_secret
+from leasekeepd_lib.clock import Clock
+from leasekeepd_lib.events import Log
+from leasekeepd_lib.known_ends import boot_id
+from leasekeepd_lib.notify import Notifier
+from leasekeepd_lib.service import Service, Surroundings
+from leasekeepd_lib.spread import own_name
+from leasekeepd_lib.watch_process import WatchLauncher
 
-from .clock import Clock
 from .etcd_client import Etcd
-from .events import Log
-from .known_ends import boot_id
 from .leadership import Leadership
-from .notify import Notifier
-from .service import Service, Surroundings
 from .shared_changes import SharedEnds
-from .spread import own_name
 from .standby import Led, LedLauncher, Standby
-from .watch_process import WatchLauncher
 
 ETCD_SECONDS = 2.0
 """The longest that etcd may take for a connect or a read: a change waits for that, and the watch with it."""

@@ -8,17 +8,17 @@ from functools import partial
 from typing import Any, Callable, Protocol
 
 from leasekeep_inventory.inventory import Inventory
+from leasekeepd_lib.changes import ChangeFault
+from leasekeepd_lib.child import Child, ChildExit, LaunchFault
+from leasekeepd_lib.clock import Clock
+from leasekeepd_lib.events import Alerts, Log
+from leasekeepd_lib.notify import Notifier
+from leasekeepd_lib.source import Source, SourceFault
+from leasekeepd_lib.watch_process import WatchLauncher
 
-from .changes import ChangeFault
-from .child import Child, ChildExit, LaunchFault
-from .clock import Clock
 from .etcd_client import EtcdFault, Kept
-from .events import Alerts, Log
 from .leadership import AGAIN, Aside, Leadership, Store, aside, lease_for
-from .notify import Notifier
 from .shared_changes import SharedEnds, SharedJournal, refuse
-from .source import Source, SourceFault
-from .watch_process import WatchLauncher
 
 PUSH_EVERY = 5.0
 """Seconds between two writings of the ends that were told."""
