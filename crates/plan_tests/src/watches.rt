@@ -3,7 +3,7 @@
 use keep_moment::Name;
 use keep_tree::{Entry, Forest, Kind};
 use keep_watch::{
-    Command, Event, Operation, Patience, Reply, Terms, WIDTH_MAX, Watch, WatchFault, Why,
+    Command, Event, Operation, Output, Patience, Reply, Terms, WIDTH_MAX, Watch, WatchFault, Why,
 };
 use std::alloc::Global;
 use std::process::Abort;
@@ -84,6 +84,13 @@ fn asks(command: &Command, entry: u32, operation: Operation) -> bool {
     }
 }
 
+fn wait_of(output: &Output) -> Option<u64> {
+    match &output.command {
+        Command::Wait(until) => Some(*until),
+        _ => None,
+    }
+}
+
 fn waits<R: Abort>(
     rt: &R,
     alloc: Global,
@@ -92,10 +99,7 @@ fn waits<R: Abort>(
     until: u64,
 ) -> Result<(), Fail> {
     let output = watch.step(alloc, clock(at))?;
-    match output.command {
-        Command::Wait(moment) => assert_eq!(rt; moment, until),
-        command => assert!(rt; false, "at {at}: {command:?}"),
-    }
+    assert!(rt; wait_of(&output) == Some(until), "at {at}");
     Ok(())
 }
 
@@ -164,15 +168,14 @@ fn refusals_leave_it_as_it_was(rt: HostRuntime) -> Result<(), Fail> {
 
 // A slice of lookups goes out, as wide as may be, and each is answered.
 fn looks_up(alloc: Global, watch: &mut Watch) -> Result<bool, Fail> {
-    match watch.step(alloc, clock(1_000_000))?.command {
-        Command::Ask { requests, .. } => {
-            for request in requests.list() {
-                watch.step(alloc, looked(request.entry, told(60)))?;
-            }
-            Ok(requests.list().len() == 32)
-        }
-        _ => Ok(false),
+    let output = watch.step(alloc, clock(1_000_000))?;
+    let Command::Ask { requests, .. } = &output.command else {
+        return Ok(false);
+    };
+    for request in requests.list() {
+        watch.step(alloc, looked(request.entry, told(60)))?;
     }
+    Ok(requests.list().len() == 32)
 }
 
 #[test]
