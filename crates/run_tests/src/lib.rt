@@ -43,8 +43,6 @@ mod rehearsals;
 #[cfg(test)]
 mod secrets;
 #[cfg(test)]
-mod slices;
-#[cfg(test)]
 mod wanting;
 #[cfg(test)]
 mod watches;
