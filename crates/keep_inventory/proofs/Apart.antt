@@ -3,11 +3,11 @@ use Rattle.std.proofs.Common.{◌≡◌, ℕ, zero, suc, ◌+◌, ◌<◌, true,
 use Rattle.std.specs.List.{list_any}
 use Rattle.std.specs.Cmp.Lexicographic.{nat_list_eq_equiv}
 use Rattle.std.proofs.lemmas.Bool.{cases_lt, or_right}
-use Rattle.std.proofs.lemmas.List.{length_push, get_or_push}
+use Rattle.std.proofs.lemmas.List.{length_push}
 use Rattle.keep_inventory.specs.Values.{text}
 use Rattle.keep_inventory.specs.Inventories.{credential_at}
 use Rattle.keep_inventory.specs.Intake.{holds}
-use Rattle.keep_inventory.proofs.Inventories.{first_half}
+use Rattle.keep_inventory.proofs.Inventories.{credential_new, credential_old}
 
 -- ---- texts of which none stands twice
 
@@ -16,13 +16,6 @@ Unlike texts = (i j : ℕ) → i < length texts → j < length texts → credent
 
 pub last_or_before : (n i : ℕ) (P : Type 0) → i < n + 1 → (i ≡ n → P) → (i < n → P) → P
 last_or_before n i P h last before = ⊎_elim (λ below. before below) (λ above. last (omega (arith, above, h))) (cases_lt i n)
-
-text_old : (texts : List (List ℕ)) (text : List ℕ) (i : ℕ) → i < length texts → credential_at (texts ++ text ∷ []) i ≡ credential_at texts i
-text_old texts text i h = sym (first_half texts (text ∷ []) i h)
-
-text_new : (texts : List (List ℕ)) (text : List ℕ) → credential_at (texts ++ text ∷ []) (length texts) ≡ text
-unfolding credential_at
-text_new texts text = get_or_push texts text [] (length texts) refl
 
 -- a text that stands there is held
 held : (texts : List (List ℕ)) (i : ℕ) → i < length texts → holds texts (credential_at texts i) ≡ true
@@ -42,7 +35,7 @@ unlike_more texts text fresh unlike i j a b same =
     last_or_before n i (i ≡ j) (omega (arith, a, l))
     (λ ilast. last_or_before n j (i ≡ j) (omega (arith, b, l))
     (λ jlast. ilast ∙ sym jlast)
-    (λ jold. absurd (fresh_not texts text j jold fresh (sym (text_old texts text j jold) ∙ sym same ∙ ap (credential_at (texts ++ text ∷ [])) ilast ∙ text_new texts text))))
+    (λ jold. absurd (fresh_not texts text j jold fresh (sym (credential_old texts text j jold) ∙ sym same ∙ ap (credential_at (texts ++ text ∷ [])) ilast ∙ credential_new texts text _ refl))))
     (λ iold. last_or_before n j (i ≡ j) (omega (arith, b, l))
-    (λ jlast. absurd (fresh_not texts text i iold fresh (sym (text_old texts text i iold) ∙ same ∙ ap (credential_at (texts ++ text ∷ [])) jlast ∙ text_new texts text)))
-    (λ jold. unlike i j iold jold (sym (text_old texts text i iold) ∙ same ∙ text_old texts text j jold)))
+    (λ jlast. absurd (fresh_not texts text i iold fresh (sym (credential_old texts text i iold) ∙ same ∙ ap (credential_at (texts ++ text ∷ [])) jlast ∙ credential_new texts text _ refl)))
+    (λ jold. unlike i j iold jold (sym (credential_old texts text i iold) ∙ same ∙ credential_old texts text j jold)))

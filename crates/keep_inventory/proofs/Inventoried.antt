@@ -3,7 +3,7 @@
 use Rattle.std.proofs.Common.{◌≡◌, ℕ, ◌+◌, ◌-◌, ◌<◌, ◌≤◌, List, ◌∷◌, [], ◌++◌, length, Ok, refl, sym, ap, ◌∙◌, subst, arith, ⊎_elim}
 use Rattle.std.specs.List.{All}
 use Rattle.std.proofs.lemmas.Bool.{cases_lt}
-use Rattle.std.proofs.lemmas.List.{get_or_append_left, get_or_push, length_push}
+use Rattle.std.proofs.lemmas.List.{length_push}
 use Rattle.std.proofs.lemmas.List.Elements.{All-append, All-nil, All-push}
 use Rattle.std.proofs.Math.ListN.{length-append}
 use Rattle.toml.specs.Data.{Members}
@@ -17,7 +17,7 @@ use Rattle.keep_tree.proofs.Entries.{entry_at_push_old, entry_at_push_new}
 use Rattle.keep_tree.proofs.Placed.{empty_is_forest, pushed_is_forest}
 use Rattle.keep_inventory.specs.declared.row.Row.{Row}
 use Rattle.keep_inventory.specs.declared.terms.Terms.{Terms}
-use Rattle.keep_inventory.specs.Inventories.{AreApart, IsSendable, IsInventory, Inventory, no_terms, terms_at}
+use Rattle.keep_inventory.specs.Inventories.{AreApart, IsSendable, IsInventory, Inventory, terms_at}
 use Rattle.keep_inventory.specs.Intake.{Intake, nothing, inventory_with}
 use Rattle.keep_inventory.specs.Inventory.{token_entered, lease_entered, intake_of, read_inventory, inventory_of, tree_of}
 use Rattle.keep_inventory.specs.Laws.{InventoryLaw, SendableLaw}
@@ -27,7 +27,7 @@ use Rattle.keep_inventory.proofs.Entered.{Within, intake_keeps}
 use Rattle.keep_inventory.proofs.Parts.{TokenParts, LeaseParts, token_parts, lease_parts}
 use Rattle.keep_inventory.proofs.Sendable.{lease_sendable, token_sendable}
 use Rattle.keep_inventory.proofs.Spans.{IsGood, lease_good, token_good}
-use Rattle.keep_inventory.proofs.Inventories.{first_half, second_half}
+use Rattle.keep_inventory.proofs.Inventories.{first_half, second_half, terms_new, terms_old}
 use Rattle.keep_inventory.proofs.Taken.{Fits, KeepsIt, lease_entered_ok, token_entered_ok, took_lease, took_token}
 
 -- ---- the tokens first, then the leases
@@ -59,14 +59,6 @@ kind_old es e k i h is = ap (λ (x : Entry). x.kind) (entry_at_push_old es e i h
 
 kind_new : (es : List Entry) (e : Entry) (k : Kind) (i : ℕ) → i ≡ length es → e.kind ≡ k → (entry_at (es ++ e ∷ []) i).kind ≡ k
 kind_new es e k i h is = ap (λ (x : Entry). x.kind) (ap (entry_at (es ++ e ∷ [])) h ∙ entry_at_push_new es e) ∙ is
-
-terms_old : (ts : List Terms) (t : Terms) (i : ℕ) → i < length ts → terms_at (ts ++ t ∷ []) i ≡ terms_at ts i
-unfolding terms_at
-terms_old ts t i h = get_or_append_left ts (t ∷ []) no_terms i h
-
-terms_new : (ts : List Terms) (t : Terms) (n : ℕ) → length ts ≡ n → terms_at (ts ++ t ∷ []) n ≡ t
-unfolding terms_at
-terms_new ts t n h = get_or_push ts t no_terms n h
 
 good_more : (es : List Entry) (ts : List Terms) (e : Entry) (t : Terms) → length ts ≡ length es → ((i : ℕ) → i < length es → IsGood (entry_at es i) (terms_at ts i)) → IsGood e t →
     (i : ℕ) → i < length (es ++ e ∷ []) → IsGood (entry_at (es ++ e ∷ []) i) (terms_at (ts ++ t ∷ []) i)

@@ -1,8 +1,8 @@
 -- What is read at an index of an inventory, and that an inventory keeps one credential and one set of terms for each entry.
-use Rattle.std.proofs.Common.{◌≡◌, ◌==◌, ℕ, false, unwrap_or, ◌∙◌, ◌+◌, ◌-◌, ◌<◌, ◌≤◌, List, [], ◌++◌, length, get_or, sym, arith, IsUtf8}
+use Rattle.std.proofs.Common.{◌≡◌, ◌==◌, ℕ, false, unwrap_or, ◌∙◌, ◌+◌, ◌-◌, ◌<◌, ◌≤◌, List, [], ◌∷◌, ◌++◌, length, get_or, sym, arith, IsUtf8}
 use Rattle.std.specs.List.{All}
 use Rattle.std.proofs.lemmas.Bool.{cond-false}
-use Rattle.std.proofs.lemmas.List.{get_or_read, get_or_append_left}
+use Rattle.std.proofs.lemmas.List.{get_or_append_left, get_or_push, get_or_read}
 use Rattle.std.proofs.lemmas.List.Elements.{All-from_get_or, All-get_or}
 use Rattle.std.proofs.lemmas.Str.{IsUtf8-from_ascii}
 use Rattle.std.proofs.lemmas.Str.Ascii.{IsAscii-from_all}
@@ -28,6 +28,23 @@ first_half ss ls i h = sym (get_or_append_left ss ls [] i h)
 pub second_half : (ss ls : List (List ℕ)) (i : ℕ) → length ss ≤ i → credential_at ls (i - length ss) ≡ credential_at (ss ++ ls) i
 unfolding credential_at
 second_half ss ls i h = sym (get_or-append_right ss ls i [] h)
+
+-- what is read at an index after one more was pushed
+pub terms_old : (ts : List Terms) (t : Terms) (i : ℕ) → i < length ts → terms_at (ts ++ t ∷ []) i ≡ terms_at ts i
+unfolding terms_at
+terms_old ts t i h = get_or_append_left ts (t ∷ []) no_terms i h
+
+pub terms_new : (ts : List Terms) (t : Terms) (n : ℕ) → length ts ≡ n → terms_at (ts ++ t ∷ []) n ≡ t
+unfolding terms_at
+terms_new ts t n h = get_or_push ts t no_terms n h
+
+pub credential_old : (cs : List (List ℕ)) (c : List ℕ) (i : ℕ) → i < length cs → credential_at (cs ++ c ∷ []) i ≡ credential_at cs i
+unfolding credential_at
+credential_old cs c i h = get_or_append_left cs (c ∷ []) [] i h
+
+pub credential_new : (cs : List (List ℕ)) (c : List ℕ) (n : ℕ) → length cs ≡ n → credential_at (cs ++ c ∷ []) n ≡ c
+unfolding credential_at
+credential_new cs c n h = get_or_push cs c [] n h
 
 -- each of these texts can be sent
 pub sendable_at : (cs : List (List ℕ)) (i : ℕ) → i < length cs → All IsSendable cs → IsSendable (credential_at cs i)

@@ -12,4 +12,7 @@ pub mod Sendable
 pub mod Spans
 pub mod Barely
 pub mod Inventoried
+pub mod Rowed
+pub mod Grown
+pub mod Written
 pub mod Told

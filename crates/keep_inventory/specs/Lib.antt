@@ -8,5 +8,6 @@ pub mod Intake
 pub mod Rows
 pub mod Inventory
 pub mod Bare
+pub mod Written
 pub mod Lookup
 pub mod Laws

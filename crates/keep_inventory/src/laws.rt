@@ -2,7 +2,7 @@ ghost use Rattle.std.specs.Prelude.{◌≡◌, ◌+◌};
 ghost use Rattle.keep_moment.specs.declared.moment.TheConstants.{LAST};
 ghost use Rattle.keep_tree.specs.declared.forest.TheConstants.{END_MAX, MARGIN_MAX};
 ghost use Rattle.keep_inventory.specs.declared.limits.TheConstants.{CREDENTIAL_MAX, MOST_INVENTORY, SPAN_MAX, SYSTEM_MAX};
-ghost use Rattle.keep_inventory.specs.Laws.{InventoryLaw, SecrecyLaw, SendableLaw, TextLaw};
+ghost use Rattle.keep_inventory.specs.Laws.{InventoryLaw, SecrecyLaw, SendableLaw, TextLaw, WrittenLaw};
 
 /// The limits of inventories, each by its number; those of moments and margins are cited from the crates below.
 pub fn limits_of_inventories()
@@ -20,6 +20,13 @@ pub fn limits_of_inventories()
 /// each step is a duration, and that the step of a periodic token is its period.
 pub fn inventories_are_forests()
     ensures { InventoryLaw }
+{}
+
+/// The law that the inventory of a text is what its document writes: the margin, and one entry for each table and no other, tokens
+/// before leases and each in the order of the text, with the name, the parent, the issue, the end, the terms, the need and the
+/// credential that its table writes, or what stands for each of them where the key is absent; and no table has another key.
+pub fn inventories_are_written()
+    ensures { WrittenLaw }
 {}
 
 /// The law that each credential of the inventory of a text can be sent: it has 1 to 256 bytes, each from 0x21 to 0x7E. So

@@ -1,0 +1,236 @@
+-- Rowed: the row that is read of a table is what the table writes.
+use Rattle.std.proofs.Common.{◌≡◌, ℕ, suc, ◌<◌, Bool, true, false, cond, List, [], ◌∷◌, Some, None, Option, Result, Ok, Err, bytes_eq, length, option_map, refl, sym, ap, subst, arith, unwrap_or}
+use Rattle.std.specs.Cmp.Lexicographic.{bytes_decides}
+use Rattle.toml.specs.Data.{Data, Members, get_member}
+use Rattle.keep_tree.specs.declared.entry.Entry.{Entry}
+use Rattle.keep_tree.specs.Forest.{Forest, entry_at, index_named}
+use Rattle.keep_tree.specs.Push.{lacks_parent, refusal}
+use Rattle.keep_tree.proofs.Placed.{parent_below, taken_from_refusal}
+use Rattle.keep_inventory.specs.declared.fault.InvFault.{InvFault}
+use Rattle.keep_inventory.specs.declared.fault.InvFault.TheVariants.{BadValue, UnknownKey}
+use Rattle.keep_inventory.specs.declared.key.Key.{Key}
+use Rattle.keep_inventory.specs.declared.key.Key.TheVariants.{Token, Name, Parent, Issued, End, Renewable, Increment, Period, MaxTtl, ExplicitMaxTtl, Need, Secret, LeaseId}
+use Rattle.keep_inventory.specs.declared.limits.TheConstants.{SPAN_MAX}
+use Rattle.keep_inventory.specs.declared.row.Life.{Life}
+use Rattle.keep_inventory.specs.declared.row.Row.{Row}
+use Rattle.keep_inventory.specs.declared.terms.Terms.{Terms}
+use Rattle.keep_inventory.specs.Keys.{all_keys, is_one_of, key_text, lease_keys, token_keys}
+use Rattle.keep_inventory.specs.Values.{credential, ending, flag, moment, needed, only, read_if, text, value_at, whole}
+use Rattle.keep_inventory.specs.Terms.{max_ttl_of}
+use Rattle.keep_inventory.specs.Rows.{has_step, index_or_none, lease_row, lease_terms, life_of, token_row, token_terms}
+use Rattle.keep_inventory.specs.Written.{IsLease, IsNamed, IsParent, IsToken, Writes, WritesMost, WritesOr}
+use Rattle.keep_inventory.proofs.Chains.{bind_ok}
+use Rattle.keep_inventory.proofs.Parts.{lease_parts, token_parts}
+
+-- ---- the value at a key
+
+abbrev taken : {A : Type 0} → Option ℕ → Key → Option A → Result (Option A) InvFault
+taken place key o = elim o [ Some x ↦ Ok (Some x) | None ↦ Err (BadValue place key) ]
+
+found_writes : {A : Type 0} (f : Data → Option A) (place : Option ℕ) (key : Key) (ms : Members) (d : Data) (r o : Option A) → get_member (key_text key) ms ≡ Some d → f d ≡ r → taken place key r ≡ Ok o → Writes f key ms o
+found_writes f place key ms d (Some x) o there reads e = let same : Some x ≡ o = cc in subst (λ u. Writes f key ms u) same (d, there, reads)
+found_writes f place key ms d None o there reads e = absurd cc
+
+member_writes : {A : Type 0} (f : Data → Option A) (place : Option ℕ) (key : Key) (ms : Members) (m : Option Data) (o : Option A) → get_member (key_text key) ms ≡ m → read_if f place key m ≡ Ok o → Writes f key ms o
+member_writes f place key ms None o absent e = let same : None ≡ o = cc in subst (λ u. Writes f key ms u) same absent
+member_writes f place key ms (Some d) o there e = found_writes f place key ms d (f d) o there refl e
+
+pub writes_is : {A : Type 0} (f : Data → Option A) (place : Option ℕ) (key : Key) (ms : Members) (o : Option A) → value_at f place key ms ≡ Ok o → Writes f key ms o
+writes_is f place key ms o e = member_writes f place key ms (get_member (key_text key) ms) o refl e
+
+needed_is : {A : Type 0} (index : ℕ) (key : Key) (o : Option A) (x : A) → needed index key o ≡ Ok x → o ≡ Some x
+needed_is index key (Some y) x e = let same : y ≡ x = cc in ap Some same
+needed_is index key None x e = absurd cc
+
+needed_writes : {A : Type 0} (f : Data → Option A) (place : Option ℕ) (index : ℕ) (key : Key) (ms : Members) (o : Option A) (x : A) → value_at f place key ms ≡ Ok o → needed index key o ≡ Ok x → Writes f key ms (Some x)
+needed_writes f place index key ms o x read there = subst (λ u. Writes f key ms u) (needed_is index key o x there) (writes_is f place key ms o read)
+
+passed : (b : Bool) (f : InvFault) (u : Unit {0}) → cond b (Ok tt) (Err f) ≡ Ok u → b ≡ true
+passed true f u e = refl
+passed false f u e = absurd cc
+
+pub only_is : (keys : List Key) (place : Option ℕ) (ms : Members) (u : Unit {0}) → only keys place ms ≡ Ok u → all_keys (is_one_of keys) ms ≡ true
+only_is keys place ms u e = passed (all_keys (is_one_of keys) ms) (UnknownKey place) u e
+
+-- ---- issue, end, and whether it can be renewed
+
+record Lived (ms : Members) (life : Life) : Type 0 where
+  issued : Writes moment Issued ms (Some life.issued)
+  end : Writes ending End ms (Some life.end)
+  renewable : WritesOr flag Renewable ms true life.renewable
+
+lived : (index : ℕ) (ms : Members) (life : Life) → life_of index ms ≡ Ok life → Lived ms life
+unfolding life_of
+lived index ms life e =
+    bind_ok (value_at moment (Some index) Issued ms) _ life e (λ issued_if a e1.
+    bind_ok (needed index Issued issued_if) _ life e1 (λ issued b e2.
+    bind_ok (value_at ending (Some index) End ms) _ life e2 (λ ends_if c e3.
+    bind_ok (needed index End ends_if) _ life e3 (λ ends d e4.
+    bind_ok (value_at flag (Some index) Renewable ms) _ life e4 (λ renewable f e5.
+    let made : Life = record { issued = issued; end = ends; renewable = unwrap_or renewable true } in
+    let same : made ≡ life = cc in
+    subst (Lived ms) same (record {
+      issued = needed_writes moment (Some index) index Issued ms issued_if issued a b;
+      end = needed_writes ending (Some index) index End ms ends_if ends c d;
+      renewable = (renewable, writes_is flag (Some index) Renewable ms renewable f, refl);
+    }))))))
+
+-- ---- the terms
+
+record TokenTerms (system_max from : ℕ) (ms : Members) (t : Terms) : Type 0 where
+  issued : t.issued ≡ from
+  increment : Writes (whole 0 SPAN_MAX) Increment ms t.increment
+  period : WritesOr (whole 0 SPAN_MAX) Period ms 0 t.period
+  max_ttl : WritesMost system_max ms t.max_ttl
+  explicit_max : WritesOr (whole 0 SPAN_MAX) ExplicitMaxTtl ms 0 t.explicit_max
+
+token_termed : (system_max index issued : ℕ) (ms : Members) (t : Terms) → token_terms system_max index issued ms ≡ Ok t → TokenTerms system_max issued ms t
+unfolding token_terms
+token_termed system_max index issued ms t e =
+    bind_ok (value_at (whole 0 SPAN_MAX) (Some index) Increment ms) _ t e (λ increment a e1.
+    bind_ok (value_at (whole 0 SPAN_MAX) (Some index) Period ms) _ t e1 (λ period b e2.
+    bind_ok (has_step index increment (unwrap_or period 0)) _ t e2 (λ u c e3.
+    bind_ok (value_at (whole 0 SPAN_MAX) (Some index) MaxTtl ms) _ t e3 (λ max_ttl d e4.
+    bind_ok (value_at (whole 0 SPAN_MAX) (Some index) ExplicitMaxTtl ms) _ t e4 (λ explicit_max f e5.
+    let made : Terms = record { issued = issued; increment = increment; period = unwrap_or period 0; max_ttl = max_ttl_of system_max max_ttl; explicit_max = unwrap_or explicit_max 0 } in
+    let same : made ≡ t = cc in
+    subst (TokenTerms system_max issued ms) same (record {
+      issued = refl;
+      increment = writes_is (whole 0 SPAN_MAX) (Some index) Increment ms increment a;
+      period = (period, writes_is (whole 0 SPAN_MAX) (Some index) Period ms period b, refl);
+      max_ttl = (max_ttl, writes_is (whole 0 SPAN_MAX) (Some index) MaxTtl ms max_ttl d, refl);
+      explicit_max = (explicit_max, writes_is (whole 0 SPAN_MAX) (Some index) ExplicitMaxTtl ms explicit_max f, refl);
+    }))))))
+
+record LeaseTerms (system_max from : ℕ) (ms : Members) (t : Terms) : Type 0 where
+  issued : t.issued ≡ from
+  increment : ℕ
+  written : Writes (whole 0 SPAN_MAX) Increment ms (Some increment)
+  increment_is : t.increment ≡ Some increment
+  period : t.period ≡ 0
+  max_ttl : WritesMost system_max ms t.max_ttl
+  explicit_max : t.explicit_max ≡ 0
+
+lease_termed : (system_max index issued : ℕ) (ms : Members) (t : Terms) → lease_terms system_max index issued ms ≡ Ok t → LeaseTerms system_max issued ms t
+unfolding lease_terms
+lease_termed system_max index issued ms t e =
+    bind_ok (value_at (whole 0 SPAN_MAX) (Some index) Increment ms) _ t e (λ increment_if a e1.
+    bind_ok (needed index Increment increment_if) _ t e1 (λ increment b e2.
+    bind_ok (value_at (whole 0 SPAN_MAX) (Some index) MaxTtl ms) _ t e2 (λ max_ttl d e3.
+    let made : Terms = record { issued = issued; increment = Some increment; period = 0; max_ttl = max_ttl_of system_max max_ttl; explicit_max = 0 } in
+    let same : made ≡ t = cc in
+    subst (LeaseTerms system_max issued ms) same (record {
+      issued = refl;
+      increment = increment;
+      written = needed_writes (whole 0 SPAN_MAX) (Some index) index Increment ms increment_if increment a b;
+      increment_is = refl;
+      period = refl;
+      max_ttl = (max_ttl, writes_is (whole 0 SPAN_MAX) (Some index) MaxTtl ms max_ttl d, refl);
+      explicit_max = refl;
+    }))))
+
+-- ---- the parent
+
+abbrev HasName : List Entry → List ℕ → ℕ → Type 0
+HasName es name p = (entry_at es p).name ≡ name
+
+named_here : (x : Entry) (es : List Entry) (name : List ℕ) (b : Bool) (o : Option ℕ) (p : ℕ) → (b ≡ true → x.name ≡ name) → ((k : ℕ) → o ≡ Some k → HasName es name k) →
+    cond b (Some 0) (option_map (λ i. suc i) o) ≡ Some p → HasName (x ∷ es) name p
+unfolding entry_at
+named_here x es name true o p here later e = let same : 0 ≡ p = cc in subst (λ q. HasName (x ∷ es) name q) same (here refl)
+named_here x es name false None p here later e = absurd cc
+named_here x es name false (Some k) p here later e = let same : suc k ≡ p = cc in subst (λ q. HasName (x ∷ es) name q) same (later k refl)
+
+-- the entry at the index of a name has that name
+named_at : (es : List Entry) (name : List ℕ) (p : ℕ) → index_named es name ≡ Some p → HasName es name p
+unfolding index_named
+named_at [] name p e = absurd cc
+named_at (x ∷ es) name p e = named_here x es name (bytes_eq x.name name) (index_named es name) p (λ same. (bytes_decides x.name name).0 same) (λ k h. named_at es name k h) e
+
+found_index : (o : Option ℕ) (n p : ℕ) → unwrap_or o n ≡ p → p < n → o ≡ Some p
+found_index (Some i) n p e h = ap Some e
+found_index None n p e h = absurd (omega (arith, e, h))
+
+named_is : (g : Forest) (name : List ℕ) → index_or_none g name < length g.entries → IsNamed g.entries (length g.entries) name (Some (index_or_none g name))
+unfolding index_or_none
+named_is g name h = (h, named_at g.entries name _ (found_index (index_named g.entries name) (length g.entries) _ refl h))
+
+parent_is : (g : Forest) (name : Option (List ℕ)) → lacks_parent g.entries (option_map (index_or_none g) name) ≡ false → IsParent g.entries (length g.entries) name (option_map (index_or_none g) name)
+parent_is g None there = refl
+parent_is g (Some name) there = named_is g name (parent_below g.entries (Some (index_or_none g name)) there (index_or_none g name) refl)
+
+-- ---- a row
+
+token_keys_only : (system_max : ℕ) (g : Forest) (ms : Members) (row : Row) → token_row system_max g ms ≡ Ok row → all_keys (is_one_of token_keys) ms ≡ true
+unfolding token_row
+token_keys_only system_max g ms row e = bind_ok (only token_keys (Some (length g.entries)) ms) _ row e (λ u known e1. only_is token_keys (Some (length g.entries)) ms u known)
+
+lease_keys_only : (system_max : ℕ) (g : Forest) (ms : Members) (row : Row) → lease_row system_max g ms ≡ Ok row → all_keys (is_one_of lease_keys) ms ≡ true
+unfolding lease_row
+lease_keys_only system_max g ms row e = bind_ok (only lease_keys (Some (length g.entries)) ms) _ row e (λ u known e1. only_is lease_keys (Some (length g.entries)) ms u known)
+
+abbrev IsTokenRow : ℕ → Forest → Members → Row → Type 0
+IsTokenRow system_max g ms row = IsToken system_max g.entries (length g.entries) ms row.entry row.credential row.terms
+
+abbrev IsLeaseRow : ℕ → Forest → Members → Row → Type 0
+IsLeaseRow system_max g ms row = IsLease system_max g.entries (length g.entries) ms row.entry row.credential row.terms
+
+pub token_row_is : (system_max : ℕ) (g : Forest) (ms : Members) (row : Row) → token_row system_max g ms ≡ Ok row → refusal g row.entry ≡ None → IsTokenRow system_max g ms row
+token_row_is system_max g ms row read fits =
+    let parts = token_parts system_max g ms row read in
+    let place = Some (length g.entries) in
+    let life = lived (length g.entries) ms parts.life parts.life_read in
+    let terms = token_termed system_max (length g.entries) parts.life.issued ms parts.terms parts.terms_read in
+    let there : lacks_parent g.entries row.entry.parent ≡ false = (taken_from_refusal g row.entry fits).parent_there in
+    subst (λ (r : Row). IsTokenRow system_max g ms r) parts.made (record {
+      keys = token_keys_only system_max g ms row read;
+      kind = refl;
+      life = record {
+        name = needed_writes text place (length g.entries) Name ms parts.name_if parts.name parts.name_read parts.name_there;
+        issued = subst (λ n. Writes moment Issued ms (Some n)) (sym terms.issued) life.issued;
+        end = life.end;
+        renewable = life.renewable;
+        need = (parts.need, writes_is moment place Need ms parts.need parts.need_read, refl);
+        step = refl;
+        ceiling = refl;
+      };
+      name = parts.parent;
+      parent = writes_is text place Parent ms parts.parent parts.parent_read;
+      parent_is = parent_is g parts.parent (subst (λ (r : Row). lacks_parent g.entries r.entry.parent ≡ false) (sym parts.made) there);
+      increment = terms.increment;
+      period = terms.period;
+      max_ttl = terms.max_ttl;
+      explicit_max = terms.explicit_max;
+      secret = (parts.secret, writes_is credential place Secret ms parts.secret parts.secret_read, refl);
+    })
+
+pub lease_row_is : (system_max : ℕ) (g : Forest) (ms : Members) (row : Row) → lease_row system_max g ms ≡ Ok row → refusal g row.entry ≡ None → IsLeaseRow system_max g ms row
+lease_row_is system_max g ms row read fits =
+    let parts = lease_parts system_max g ms row read in
+    let place = Some (length g.entries) in
+    let life = lived (length g.entries) ms parts.life parts.life_read in
+    let terms = lease_termed system_max (length g.entries) parts.life.issued ms parts.terms parts.terms_read in
+    let there : lacks_parent g.entries row.entry.parent ≡ false = (taken_from_refusal g row.entry fits).parent_there in
+    subst (λ (r : Row). IsLeaseRow system_max g ms r) parts.made (record {
+      keys = lease_keys_only system_max g ms row read;
+      kind = refl;
+      life = record {
+        name = needed_writes text place (length g.entries) Name ms parts.name_if parts.name parts.name_read parts.name_there;
+        issued = subst (λ n. Writes moment Issued ms (Some n)) (sym terms.issued) life.issued;
+        end = life.end;
+        renewable = life.renewable;
+        need = (parts.need, writes_is moment place Need ms parts.need parts.need_read, refl);
+        step = refl;
+        ceiling = refl;
+      };
+      token = parts.token;
+      token_written = needed_writes text place (length g.entries) Token ms parts.token_if parts.token parts.token_read parts.token_there;
+      token_is = named_is g parts.token (parent_below g.entries (Some (index_or_none g parts.token)) (subst (λ (r : Row). lacks_parent g.entries r.entry.parent ≡ false) (sym parts.made) there) (index_or_none g parts.token) refl);
+      increment = terms.increment;
+      increment_written = terms.written;
+      increment_is = terms.increment_is;
+      period = terms.period;
+      max_ttl = terms.max_ttl;
+      explicit_max = terms.explicit_max;
+      lease_id = (parts.lease_id, writes_is credential place LeaseId ms parts.lease_id parts.lease_id_read, refl);
+    })

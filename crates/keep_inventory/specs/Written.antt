@@ -1,0 +1,104 @@
+-- Written: what a document writes of each entry of its inventory, table by table, in the words of its keys.
+-- Source: Vault, "Tokens"; Vault, "Lease, renew, and revoke"; the keys are this project's own.
+use Rattle.std.specs.Prelude.{◌≡◌, ℕ, suc, ◌+◌, ◌<◌, true, List, Option, Some, None, length, unwrap_or}
+use Rattle.toml.specs.Data.{Data, table, Items, no_items, item, Members, get_item, get_member}
+use Rattle.keep_tree.specs.declared.entry.Entry.{Entry}
+use Rattle.keep_tree.specs.declared.entry.Kind.TheVariants as kind
+use Rattle.keep_tree.specs.declared.forest.TheConstants.{MARGIN_MAX}
+use Rattle.keep_tree.specs.Forest.{entry_at}
+use Rattle.keep_inventory.specs.declared.key.Key.{Key}
+use Rattle.keep_inventory.specs.declared.key.Key.TheVariants.{SystemMax, Margin, Token, Lease, Name, Parent, Issued, End, Renewable, Increment, Period, MaxTtl, ExplicitMaxTtl, Need, Secret, LeaseId}
+use Rattle.keep_inventory.specs.declared.limits.TheConstants.{SPAN_MAX, SYSTEM_MAX}
+use Rattle.keep_inventory.specs.declared.terms.Terms.{Terms}
+use Rattle.keep_inventory.specs.Inventories.{Inventory, credential_at, terms_at}
+use Rattle.keep_inventory.specs.Keys.{all_keys, is_one_of, key_text, lease_keys, token_keys, top_keys}
+use Rattle.keep_inventory.specs.Terms.{ceiling_of, max_ttl_of, step_of}
+use Rattle.keep_inventory.specs.Values.{credential, ending, flag, moment, tables, text, whole}
+
+-- the key is absent, or its value reads so
+abbrev pub Writes : {A : Type 0} → (Data → Option A) → Key → Members → Option A → Type 0
+Writes f key ms None = get_member (key_text key) ms ≡ None
+Writes f key ms (Some x) = (d : Data) × (get_member (key_text key) ms ≡ Some d) × (f d ≡ Some x)
+
+-- what is written at a key, or what stands for it where the key is absent
+abbrev pub WritesOr : {A : Type 0} → (Data → Option A) → Key → Members → A → A → Type 0
+WritesOr {A = A} f key ms absent x = (o : Option A) × Writes f key ms o × (x ≡ unwrap_or o absent)
+
+-- the maximum TTL: what is written, or the system's where that is 0 or absent
+abbrev pub WritesMost : ℕ → Members → ℕ → Type 0
+WritesMost system_max ms n = (o : Option ℕ) × Writes (whole 0 SPAN_MAX) MaxTtl ms o × (n ≡ max_ttl_of system_max o)
+
+-- the parent of the entry at an index is an earlier entry of that name
+abbrev pub IsNamed : List Entry → ℕ → List ℕ → Option ℕ → Type 0
+IsNamed es i name None = ⊥
+IsNamed es i name (Some p) = (p < i) × ((entry_at es p).name ≡ name)
+
+-- and there is none where no name is written
+abbrev pub IsParent : List Entry → ℕ → Option (List ℕ) → Option ℕ → Type 0
+IsParent es i None parent = parent ≡ None
+IsParent es i (Some name) parent = IsNamed es i name parent
+
+-- a table of either kind: when its entry was issued, its end, whether it can be renewed, and until when it is needed
+pub record IsLife (ms : Members) (e : Entry) (t : Terms) : Type 0 where
+  pub name : Writes text Name ms (Some e.name)
+  pub issued : Writes moment Issued ms (Some t.issued)
+  pub end : Writes ending End ms (Some e.end)
+  pub renewable : WritesOr flag Renewable ms true e.renewable
+  pub need : WritesOr moment Need ms 0 e.need
+  pub step : e.step ≡ step_of t
+  pub ceiling : e.ceiling ≡ ceiling_of t
+
+-- the entry at an index, its credential and its terms are those of a table `[[token]]`
+pub record IsToken (system_max : ℕ) (es : List Entry) (i : ℕ) (ms : Members) (e : Entry) (sent : List ℕ) (t : Terms) : Type 0 where
+  pub keys : all_keys (is_one_of token_keys) ms ≡ true
+  pub kind : e.kind ≡ kind.Token
+  pub life : IsLife ms e t
+  pub name : Option (List ℕ)
+  pub parent : Writes text Parent ms name
+  pub parent_is : IsParent es i name e.parent
+  pub increment : Writes (whole 0 SPAN_MAX) Increment ms t.increment
+  pub period : WritesOr (whole 0 SPAN_MAX) Period ms 0 t.period
+  pub max_ttl : WritesMost system_max ms t.max_ttl
+  pub explicit_max : WritesOr (whole 0 SPAN_MAX) ExplicitMaxTtl ms 0 t.explicit_max
+  pub secret : WritesOr credential Secret ms e.name sent
+
+-- and those of a table `[[lease]]`
+pub record IsLease (system_max : ℕ) (es : List Entry) (i : ℕ) (ms : Members) (e : Entry) (sent : List ℕ) (t : Terms) : Type 0 where
+  pub keys : all_keys (is_one_of lease_keys) ms ≡ true
+  pub kind : e.kind ≡ kind.Lease
+  pub life : IsLife ms e t
+  pub token : List ℕ
+  pub token_written : Writes text Token ms (Some token)
+  pub token_is : IsNamed es i token e.parent
+  pub increment : ℕ
+  pub increment_written : Writes (whole 0 SPAN_MAX) Increment ms (Some increment)
+  pub increment_is : t.increment ≡ Some increment
+  pub period : t.period ≡ 0
+  pub max_ttl : WritesMost system_max ms t.max_ttl
+  pub explicit_max : t.explicit_max ≡ 0
+  pub lease_id : WritesOr credential LeaseId ms e.name sent
+
+abbrev pub IsTokenAt : ℕ → Inventory → ℕ → Members → Type 0
+IsTokenAt system_max s i ms = IsToken system_max s.forest.entries i ms (entry_at s.forest.entries i) (credential_at s.credentials i) (terms_at s.terms i)
+
+abbrev pub IsLeaseAt : ℕ → Inventory → ℕ → Members → Type 0
+IsLeaseAt system_max s i ms = IsLease system_max s.forest.entries i ms (entry_at s.forest.entries i) (credential_at s.credentials i) (terms_at s.terms i)
+
+abbrev pub count_of : Items → ℕ
+count_of no_items = 0
+count_of (item d ds) = suc (count_of ds)
+
+-- the inventory has the margin that a document writes, and one entry for each of its tables and no other: the tokens in their
+-- order, then the leases in theirs
+pub record IsWritten (ms : Members) (s : Inventory) : Type 0 where
+  pub keys : all_keys (is_one_of top_keys) ms ≡ true
+  pub system_max : ℕ
+  pub system_max_written : WritesOr (whole 1 SPAN_MAX) SystemMax ms SYSTEM_MAX system_max
+  pub margin : WritesOr (whole 1 MARGIN_MAX) Margin ms 1 s.forest.margin
+  pub tokens : Items
+  pub tokens_written : WritesOr tables Token ms no_items tokens
+  pub leases : Items
+  pub leases_written : WritesOr tables Lease ms no_items leases
+  pub count : length s.forest.entries ≡ count_of tokens + count_of leases
+  pub each_token : (i : ℕ) (ns : Members) → get_item i tokens ≡ Some (table ns) → IsTokenAt system_max s i ns
+  pub each_lease : (i : ℕ) (ns : Members) → get_item i leases ≡ Some (table ns) → IsLeaseAt system_max s (count_of tokens + i) ns
