@@ -1,6 +1,6 @@
 -- Slice: which requests go out together.
 -- Source: this project's own.
-use Rattle.std.specs.Prelude.{◌≡◌, ◌==◌, ℕ, ◌+◌, ◌*◌, Bool, true, false, not, ◌&&◌, ◌||◌, if◌then◌else◌, List, [], ◌∷◌, Option, Some, None, IsPermutation, IsSortedBy, filter, max, min, nat_le, nat_lt, take}
+use Rattle.std.specs.Prelude.{◌≡◌, ◌==◌, ℕ, ◌+◌, ◌*◌, Bool, true, false, not, ◌&&◌, ◌||◌, if◌then◌else◌, List, [], ◌∷◌, ◌++◌, Option, Some, None, IsPermutation, IsSortedBy, filter, max, min, nat_le, nat_lt, take}
 use Rattle.keep_tree.specs.declared.forest.TheConstants.{END_MAX}
 use Rattle.keep_watch.specs.declared.clocks.TheConstants.{READING_MAX}
 use Rattle.keep_watch.specs.declared.command.Patience.{Patience}
@@ -45,15 +45,6 @@ abbrev pub is_empty : List ℕ → Bool
 is_empty [] = true
 is_empty (i ∷ rest) = false
 
--- whether the slice is of first tries: later ones go before them while the broker is away, else behind them. They share none
-abbrev pub takes_first : State → List ℕ → List ℕ → Bool
-takes_first s [] later = false
-takes_first s (i ∷ first) [] = true
-takes_first s (i ∷ first) (j ∷ later) = not (is_away s)
-
-unfoldable pub is_of_first : State → Bool
-is_of_first s = takes_first s (due s true) (due s false)
-
 -- where a first try stands: by its end, one of unknown end behind all others
 abbrev pub end_rank : Option ℕ → ℕ
 end_rank None = END_MAX + 1
@@ -75,12 +66,23 @@ rank s first i = if first then end_rank (track_at s i).end else later_rank (trac
 unfoldable pub goes_before : State → Bool → ℕ → ℕ → Bool
 goes_before s first i j = nat_lt (rank s first i) (rank s first j) || (rank s first i == rank s first j && nat_lt i j)
 
--- the first of those that are due, as many as a slice takes
-pub record IsPicked (s : State) (first : Bool) (picked : List ℕ) : Type 0 where
-  pub sorted : List ℕ
-  pub all : IsPermutation (due s first) sorted
-  pub in_order : IsSortedBy (goes_before s first) sorted
-  pub front : picked ≡ take s.width sorted
+-- first tries, or later ones, that are due, in the order in which they go out
+pub record IsOrder (s : State) (first : Bool) (order : List ℕ) : Type 0 where
+  pub all : IsPermutation (due s first) order
+  pub in_order : IsSortedBy (goes_before s first) order
+
+-- whose turn it is: all that are due, later tries behind first ones; while the broker is away later ones alone, and first ones
+-- where there are none
+abbrev pub in_turn : State → List ℕ → List ℕ → List ℕ
+in_turn s first later = if is_away s && not (is_empty later) then later else first ++ later
+
+-- as many of them as a slice takes
+pub record IsPicked (s : State) (picked : List ℕ) : Type 0 where
+  pub first : List ℕ
+  pub later : List ℕ
+  pub first_order : IsOrder s true first
+  pub later_order : IsOrder s false later
+  pub front : picked ≡ take s.width (in_turn s first later)
 
 abbrev pub operation_of : Option Try → Operation
 operation_of None = Look
@@ -89,9 +91,9 @@ operation_of (Some t) = t.operation
 unfoldable pub request : State → ℕ → Request
 request s i = record { entry = i; operation = operation_of (attempt_at s i) }
 
--- a slice of first tries has little patience while the broker is away
-abbrev pub patience : State → Bool → Patience
-patience s first = if first && is_away s then Short else Full
+-- while the broker is away, a slice of first tries has little patience
+unfoldable pub patience : State → Patience
+patience s = if is_away s && is_empty (due s false) then Short else Full
 
 -- nobody is due
 unfoldable pub is_quiet : State → Bool

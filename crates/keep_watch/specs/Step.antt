@@ -22,7 +22,7 @@ use Rattle.keep_watch.specs.Press.{pressed}
 use Rattle.keep_watch.specs.Renewed.{granted_end, is_topped, renewed}
 use Rattle.keep_watch.specs.Round.{IsRound, asked_by}
 use Rattle.keep_watch.specs.Settling.{has_jumped, settled, timed}
-use Rattle.keep_watch.specs.Slice.{IsPicked, is_of_first, is_quiet, patience, request, sent}
+use Rattle.keep_watch.specs.Slice.{IsPicked, is_quiet, patience, request, sent}
 use Rattle.keep_watch.specs.State.{State, entry_of, track_at}
 use Rattle.keep_watch.specs.Wait.{wait}
 
@@ -41,8 +41,8 @@ readied s wall elapsed = begun (settled (timed s wall elapsed)) (why s wall elap
 abbrev pub StepCommand : State → Command → State → Type 0
 StepCommand mid (Ask requests patient) new =
     (is_quiet mid ≡ false)
-    × ((picked : List ℕ) × (IsPicked mid (is_of_first mid) picked
-    × ((requests ≡ map (request mid) picked) × ((patient ≡ patience mid (is_of_first mid)) × (new ≡ record mid { slice = Some (sent mid requests) })))))
+    × ((picked : List ℕ) × (IsPicked mid picked
+    × ((requests ≡ map (request mid) picked) × ((patient ≡ patience mid) × (new ≡ record mid { slice = Some (sent mid requests) })))))
 StepCommand mid (Wait until) new = (is_quiet mid ≡ true) × ((until ≡ wait mid) × (new ≡ mid))
 StepCommand mid Taken new = ⊥
 
