@@ -32,7 +32,7 @@ use Rattle.keep_watch.specs.LawsOfLoad.{asked_by as asked_for}
 use Rattle.keep_watch.specs.Margins.{is_in_plan, lead}
 use Rattle.keep_watch.specs.Press.{attempt_after, dropped, is_fresh, press, pressed}
 use Rattle.keep_watch.specs.Settling.{paused, settled, timed}
-use Rattle.keep_watch.specs.Slice.{is_due, is_due_try, is_of_first, operation_of, request}
+use Rattle.keep_watch.specs.Slice.{is_due, is_due_try, operation_of, request}
 use Rattle.keep_watch.specs.State.{State, attempt_at, entry_of, no_track, track_at, unanswered_of}
 use Rattle.keep_watch.specs.Step.{StepCommand, readied}
 use Rattle.keep_watch.specs.Wanted.{believed, is_fixed, is_wanted, second, wanted_need}
@@ -41,7 +41,7 @@ use Rattle.keep_watch.proofs.Calming.{AreAlike, IsIdle, entry_step, forest_alike
 use Rattle.keep_watch.proofs.Cases.{value_is}
 use Rattle.keep_watch.proofs.Clocking.{IsCounted, clock_rises}
 use Rattle.keep_watch.proofs.Early.{new_of}
-use Rattle.keep_watch.proofs.Sending.{AreOf, picked_of}
+use Rattle.keep_watch.proofs.Sending.{AreOf, due_as, may_go, picked_of}
 use Rattle.keep_watch.proofs.Tracks.{count_written, track_past, track_same, track_written}
 
 -- ---- plans
@@ -240,45 +240,45 @@ due_tried s x first None h none = absurd cc
 due_tried s x first (Some t) h none = absurd cc
 
 -- whoever is due has a try
-due_is : (s : State) (first : Bool) (i : ℕ) → is_due s first i ≡ true → attempt_at s i ≡ None → ⊥
+due_is : (s : State) (i : ℕ) → may_go s i ≡ true → attempt_at s i ≡ None → ⊥
 unfolding is_due
-due_is s first i h none = due_tried s (track_at s i) first (attempt_at s i) h none
+due_is s i h none = let due = due_as s i h in due_tried s (track_at s i) due.0 (attempt_at s i) due.1 none
 
-sent_of_one : (mid new : State) (e : ℕ → ℕ) (now : Wake) (ts : List ℕ) (first : Bool) → ((i : ℕ) → track_at new i ≡ track_at mid i) → ((i : ℕ) → IsIdle new e i ⊎ IsTried new e now ts i) → (i : ℕ) → is_due mid first i ≡ true → IsSent now new (request mid i)
+sent_of_one : (mid new : State) (e : ℕ → ℕ) (now : Wake) (ts : List ℕ) → ((i : ℕ) → track_at new i ≡ track_at mid i) → ((i : ℕ) → IsIdle new e i ⊎ IsTried new e now ts i) → (i : ℕ) → may_go mid i ≡ true → IsSent now new (request mid i)
 unfolding request
-sent_of_one mid new e now ts first same each i due =
+sent_of_one mid new e now ts same each i due =
     let at : attempt_at new i ≡ attempt_at mid i = ap (λ (x : Track). x.attempt) (same i) in
     elim (each i) as (λ _. IsSent now new (request mid i)) [
-      | inl idle ↦ absurd (due_is mid first i due (sym at ∙ idle.none))
+      | inl idle ↦ absurd (due_is mid i due (sym at ∙ idle.none))
       | inr tried ↦ (ap operation_of (sym at ∙ tried.is) ∙ tried.operation, (tried.asked, tried.now))
     ]
 
-all_sent : (mid new : State) (e : ℕ → ℕ) (now : Wake) (ts : List ℕ) (first : Bool) → ((i : ℕ) → track_at new i ≡ track_at mid i) → ((i : ℕ) → IsIdle new e i ⊎ IsTried new e now ts i) → (picked : List ℕ) → AreOf (is_due mid first) (length mid.forest.entries) picked → All (IsSent now new) (map (request mid) picked)
-all_sent mid new e now ts first same each picked due =
-    All-map (IsSent now new) (request mid) picked (λ k d within. sent_of_one mid new e now ts first same each _ (due k d within).1)
+all_sent : (mid new : State) (e : ℕ → ℕ) (now : Wake) (ts : List ℕ) → ((i : ℕ) → track_at new i ≡ track_at mid i) → ((i : ℕ) → IsIdle new e i ⊎ IsTried new e now ts i) → (picked : List ℕ) → AreOf (may_go mid) (length mid.forest.entries) picked → All (IsSent now new) (map (request mid) picked)
+all_sent mid new e now ts same each picked due =
+    All-map (IsSent now new) (request mid) picked (λ k d within. sent_of_one mid new e now ts same each _ (due k d within).1)
 
 pub sends : (mid new : State) (e : ℕ → ℕ) (now : Wake) (ts : List ℕ) (command : Command) → ((i : ℕ) → IsIdle new e i ⊎ IsTried new e now ts i) → StepCommand mid command new → All (IsSent now new) (asked_for command)
 sends mid new e now ts (Ask requests patient) each h =
     let same : (i : ℕ) → track_at new i ≡ track_at mid i = λ i. track_same mid new i (new_of mid new (Ask requests patient) h).1.1 in
-    subst (All (IsSent now new)) (sym h.1.1.1.0) (all_sent mid new e now ts (is_of_first mid) same each h.1.0 (picked_of mid (is_of_first mid) h.1.0 h.1.1.0))
+    subst (All (IsSent now new)) (sym h.1.1.1.0) (all_sent mid new e now ts same each h.1.0 (picked_of mid h.1.0 h.1.1.0))
 sends mid new e now ts (Wait until) each h = All-nil (IsSent now new)
 sends mid new e now ts Taken each h = absurd h
 
 -- whoever is unanswered behind a clock has a try
-picked_waits : (mid : State) (first : Bool) (n : ℕ) (picked : List ℕ) → AreOf (is_due mid first) n picked → (i : ℕ) → list_any (λ r. r.entry == i) (map (request mid) picked) ≡ true → attempt_at mid i ≡ None → ⊥
+picked_waits : (mid : State) (n : ℕ) (picked : List ℕ) → AreOf (may_go mid) n picked → (i : ℕ) → list_any (λ r. r.entry == i) (map (request mid) picked) ≡ true → attempt_at mid i ≡ None → ⊥
 unfolding request
-picked_waits mid first n [] due i h none = absurd cc
-picked_waits mid first n (j ∷ js) due i h none =
+picked_waits mid n [] due i h none = absurd cc
+picked_waits mid n (j ∷ js) due i h none =
     or_parts (j == i) (list_any (λ r. r.entry == i) (map (request mid) js)) ⊥ h
     (λ same. let k : j ≡ i = grind (arith, nat_tests) in
-    due_is mid first i (subst (λ m. is_due mid first m ≡ true) k (All-head (λ m. (m < n) × (is_due mid first m ≡ true)) j js due).1) none)
-    (λ later. picked_waits mid first n js (All-tail (λ m. (m < n) × (is_due mid first m ≡ true)) j js due) i later none)
+    due_is mid i (subst (λ m. may_go mid m ≡ true) k (All-head (λ m. (m < n) × (may_go mid m ≡ true)) j js due).1) none)
+    (λ later. picked_waits mid n js (All-tail (λ m. (m < n) × (may_go mid m ≡ true)) j js due) i later none)
 
 pub waits_new : (mid new : State) (command : Command) → mid.slice ≡ None → StepCommand mid command new → (i : ℕ) → list_any (λ r. r.entry == i) (unanswered_of new.slice) ≡ true → attempt_at new i ≡ None → ⊥
 waits_new mid new (Ask requests patient) closed h i waiting none =
     let same = track_same mid new i (new_of mid new (Ask requests patient) h).1.1 in
     let is : unanswered_of new.slice ≡ map (request mid) h.1.0 = ap (λ (x : State). unanswered_of x.slice) h.1.1.1.1.1 ∙ h.1.1.1.0 in
-    picked_waits mid (is_of_first mid) (length mid.forest.entries) h.1.0 (picked_of mid (is_of_first mid) h.1.0 h.1.1.0) i (sym (ap (list_any (λ r. r.entry == i)) is) ∙ waiting) (sym (ap (λ (x : Track). x.attempt) same) ∙ none)
+    picked_waits mid (length mid.forest.entries) h.1.0 (picked_of mid h.1.0 h.1.1.0) i (sym (ap (list_any (λ r. r.entry == i)) is) ∙ waiting) (sym (ap (λ (x : Track). x.attempt) same) ∙ none)
 waits_new mid new (Wait until) closed h i waiting none =
     let is : unanswered_of new.slice ≡ [] = ap (λ (x : State). unanswered_of x.slice) h.1.1 ∙ ap unanswered_of closed in
     let e = sym (ap (list_any (λ r. r.entry == i)) is) ∙ waiting in

@@ -33,7 +33,7 @@ use Rattle.keep_watch.specs.Press.{is_pressed, pressed}
 use Rattle.keep_watch.specs.Renewed.{renewed}
 use Rattle.keep_watch.specs.Round.{asked_by as round_of}
 use Rattle.keep_watch.specs.Settling.{cap_at, held, hold_after, settled, timed}
-use Rattle.keep_watch.specs.Slice.{due, is_away, is_due, is_due_try, is_empty, is_first, is_of_first, is_quiet, later_at, patience, ready, takes_first}
+use Rattle.keep_watch.specs.Slice.{due, is_away, is_due, is_due_try, is_empty, is_first, later_at, patience, ready}
 use Rattle.keep_watch.specs.State.{State, attempt_at, indices, track_at, with_tracks}
 use Rattle.keep_watch.specs.Step.{Step, StepClock, StepCommand, readied, taken, why}
 use Rattle.keep_watch.specs.Wanted.{least}
@@ -208,24 +208,19 @@ some_due s (j ∷ js) is h =
     let all = subst (λ (ys : List ℕ). All (λ k. is_due s false k ≡ true) ys) is (filter_passes (is_due s false) (indices s)) in
     later_due s (track_at s j) (attempt_at s j) (All-head (λ k. is_due s false k ≡ true) j js all)
 
-not_of_first : (s : State) (first later : List ℕ) → takes_first s first later ≡ false → is_empty first && is_empty later ≡ false → is_empty later ≡ false
-not_of_first s [] later h some = some
-not_of_first s (i ∷ first) [] h some = absurd cc
-not_of_first s (i ∷ first) (j ∷ later) h some = refl
-
-full_away : (s : State) (first : Bool) → Full ≡ patience s first → is_away s ≡ true → first ≡ false
-full_away s false full away = refl
-full_away s true full away = absurd (not_both (full ∙ ap (λ b. if b then Short else Full) away)) where
+-- while it is away, a slice has full patience where a later try is due
+full_away : (away none : Bool) → Full ≡ (if away && none then Short else Full) → away ≡ true → none ≡ false
+full_away true true full e = absurd (not_both full) where
   not_both : Full ≡ Short → ⊥
-  not_both e = cc
+  not_both e' = cc
+full_away true false full e = refl
+full_away false none full e = absurd cc
 
 full_late : (s new : State) (command : Command) → StepCommand s command new → IsFullAsk command → 0 < s.away → s.hold ≤ s.clocks.at
-unfolding is_quiet is_of_first
-full_late s new (Ask requests Full) h full away =
-    let first = full_away s (is_of_first s) h.1.1.1.1.0 (away_is s away) in
-    some_due s (due s false) refl (not_of_first s (due s true) (due s false) first h.0) where
-      away_is : (s : State) → 0 < s.away → is_away s ≡ true
-      away_is s a = grind (arith, nat_tests)
+unfolding patience
+full_late s new (Ask requests Full) h full away = some_due s (due s false) refl (full_away (is_away s) (is_empty (due s false)) h.1.1.1.1.0 (away_is s away)) where
+  away_is : (s : State) → 0 < s.away → is_away s ≡ true
+  away_is s a = grind (arith, nat_tests)
 full_late s new (Ask requests Short) h full away = absurd full
 full_late s new (Wait until) h full away = absurd full
 full_late s new Taken h full away = absurd full

@@ -1,5 +1,5 @@
 -- Picked: those that are due, sorted by rank and index, are picked as the definition says. For the slice that goes out.
-use Rattle.std.proofs.Common.{◌≡◌, ◌∙◌, ℕ, ◌+◌, ◌<◌, Bool, true, false, cond, not, ◌&&◌, ◌||◌, ◌==◌, if◌then◌else◌, List, [], ◌∷◌, ◌++◌, Some, None, All, IsPermutation, IsSortedBy, filter, get_or, length, map, nat_lt, take, refl, sym, ap, subst, arith, inl, inr}
+use Rattle.std.proofs.Common.{◌≡◌, ◌∙◌, ℕ, ◌+◌, ◌<◌, Bool, true, false, cond, not, ◌&&◌, ◌||◌, ◌==◌, if◌then◌else◌, List, [], ◌∷◌, ◌++◌, Some, None, All, IsPermutation, IsSortedBy, filter, get_or, length, map, nat_lt, take, refl, sym, ap, ap₂, subst, arith, inl, inr}
 use Rattle.std.proofs.lemmas.Bool.{cases_Bool, cond-true, cond-false}
 use Rattle.std.proofs.lemmas.Bool.Decides.{nat_tests}
 use Rattle.std.proofs.lemmas.List.{append-nil, get_or-map, length-map, map-append, take-map}
@@ -11,9 +11,10 @@ use Rattle.keep_plan.proofs.Wanted.{asked_more}
 use Rattle.keep_tree.specs.Forest.{Forest}
 use Rattle.keep_watch.specs.declared.book.Book.{Book}
 use Rattle.keep_watch.specs.declared.command.Patience.{Patience}
+use Rattle.keep_watch.specs.declared.command.Patience.TheVariants.{Full, Short}
 use Rattle.keep_watch.specs.declared.event.Request.{Request}
 use Rattle.keep_watch.specs.declared.picking.Due.{Due}
-use Rattle.keep_watch.specs.Slice.{IsPicked, due, goes_before, is_away, is_due, is_empty, is_of_first, is_quiet, patience, rank, ready, request, takes_first}
+use Rattle.keep_watch.specs.Slice.{IsOrder, IsPicked, due, goes_before, in_turn, is_away, is_due, is_empty, is_quiet, patience, rank, ready, request}
 use Rattle.keep_watch.specs.State.{State, track_at}
 use Rattle.keep_watch.specs.code.Picking.{bare, due_below, due_of, is_before, rank_of_due}
 use Rattle.keep_watch.specs.code.Watching.{state_of}
@@ -75,15 +76,12 @@ goes_as s first x y p q h =
     subst (λ r. nat_lt r (rank s first y.entry) || (r == rank s first y.entry && nat_lt x.entry y.entry) ≡ false) p
     (subst (λ r. nat_lt x.rank r || (x.rank == r && nat_lt x.entry y.entry) ≡ false) q h)
 
--- sorted, they are picked from the front
-pub is_picked :
-    (s : State) (first : Bool) (n : ℕ) (ds : List Due) → n ≡ length s.forest.entries → IsPermutation (due_below s first n) ds → IsSortedBy is_before ds →
-    IsPicked s first (take s.width (map (λ (d : Due). d.entry) ds))
-is_picked s first n ds count all sorted =
+-- sorted, they are in the order in which they go out
+is_order : (s : State) (first : Bool) (n : ℕ) (ds : List Due) → n ≡ length s.forest.entries → IsPermutation (due_below s first n) ds → IsSortedBy is_before ds → IsOrder s first (map (λ (d : Due). d.entry) ds)
+is_order s first n ds count all sorted =
     let entry = λ (d : Due). d.entry in
     let ranked = All-permutation (λ (d : Due). d.rank ≡ rank s first d.entry) (due_below s first n) ds all (all_ranked s first (filter (is_due s first) (range_with_len 0 n))) in
     record {
-      sorted = map entry ds;
       all = subst (λ is. IsPermutation is (map entry ds))
           (entries_of s first (filter (is_due s first) (range_with_len 0 n)) ∙ ap (λ k. filter (is_due s first) (range_with_len 0 k)) count)
           (IsPermutation-map entry (due_below s first n) ds all);
@@ -97,7 +95,6 @@ is_picked s first n ds count all sorted =
           subst (λ a. goes_before s first (get_or (map entry ds) (k + 1) i) a ≡ false) (sym low)
           (subst (λ b. goes_before s first b (get_or ds k d).entry ≡ false) (sym high)
           (goes_as s first (get_or ds (k + 1) d) (get_or ds k d) (ranked (k + 1) d next) (ranked k d here) (sorted k d (omega arith) next)));
-      front = refl;
     }
 
 -- the requests of the first of them
@@ -108,60 +105,63 @@ requests_of s width ds = each s (take width ds) ∙ ap (map (request s)) (sym (t
     each s [] = refl
     each s (d ∷ ds) = ap (λ rs. request s d.entry ∷ rs) (each s ds)
 
--- which kind goes out, and whether none does, by how many are due
-some_count : (i : ℕ) (is : List ℕ) → nat_lt 0 (length (i ∷ is)) ≡ true
-some_count i is = grind (arith, nat_tests)
-
-some_empty : (i : ℕ) (is : List ℕ) → (length (i ∷ is) == 0) ≡ false
-some_empty i is = grind (arith, nat_tests)
-
-takes_by : (s : State) (is js : List ℕ) → takes_first s is js ≡ nat_lt 0 (length is) && (length js == 0 || not (is_away s))
-takes_by s [] js = refl
-takes_by s (i ∷ is) [] = sym (ap (λ b. b && true) (some_count i is))
-takes_by s (i ∷ is) (j ∷ js) = sym (ap (λ b. b && (length (j ∷ js) == 0 || not (is_away s))) (some_count i is) ∙ ap (λ b. b || not (is_away s)) (some_empty j js))
-
+-- whether nobody is due, by how many are
 empty_by : (is : List ℕ) → is_empty is ≡ (length is == 0)
 empty_by [] = refl
-empty_by (i ∷ is) = sym (some_empty i is)
+empty_by (i ∷ is) = grind (arith, nat_tests)
 
 count_of : (s : State) (first : Bool) (n : ℕ) (ds : List Due) → n ≡ length s.forest.entries → ds ≡ due_below s first n → length (due s first) ≡ length ds
 count_of s first n ds count all =
     ap (λ k. length (filter (is_due s first) (range_with_len 0 k))) (sym count) ∙ sym (length-map (filter (is_due s first) (range_with_len 0 n)) (due_of s first)) ∙ ap length (sym all)
 
+none_by : (s : State) (first : Bool) (n : ℕ) (ds : List Due) → n ≡ length s.forest.entries → ds ≡ due_below s first n → is_empty (due s first) ≡ (length ds == 0)
+none_by s first n ds count all = empty_by (due s first) ∙ ap (λ k. k == 0) (count_of s first n ds count all)
+
 pub quiet_by :
     (s : State) (n : ℕ) (fs ls : List Due) → n ≡ length s.forest.entries → fs ≡ due_below s true n → ls ≡ due_below s false n → is_quiet s ≡ (length fs == 0) && (length ls == 0)
 unfolding is_quiet
-quiet_by s n fs ls count firsts laters =
-    ap (λ b. b && is_empty (due s false)) (empty_by (due s true) ∙ ap (λ k. k == 0) (count_of s true n fs count firsts))
-    ∙ ap (λ b. (length fs == 0) && b) (empty_by (due s false) ∙ ap (λ k. k == 0) (count_of s false n ls count laters))
+quiet_by s n fs ls count firsts laters = ap₂ (λ a b. a && b) (none_by s true n fs count firsts) (none_by s false n ls count laters)
 
-of_first_by :
-    (s : State) (n : ℕ) (fs ls : List Due) → n ≡ length s.forest.entries → fs ≡ due_below s true n → ls ≡ due_below s false n →
-    is_of_first s ≡ nat_lt 0 (length fs) && (length ls == 0 || not (is_away s))
-unfolding is_of_first
-of_first_by s n fs ls count firsts laters =
-    takes_by s (due s true) (due s false) ∙ ap (λ k. nat_lt 0 k && (length (due s false) == 0 || not (is_away s))) (count_of s true n fs count firsts)
-    ∙ ap (λ k. nat_lt 0 (length fs) && (k == 0 || not (is_away s))) (count_of s false n ls count laters)
+-- those whose turn it is, with their ranks
+abbrev pub ranked_in_turn : State → List Due → List Due → List Due
+ranked_in_turn s fs ls = if is_away s && not (length ls == 0) then ls else fs ++ ls
 
-either_is : (s : State) (n : ℕ) (first : Bool) (fs ls : List Due) → fs ≡ due_below s true n → ls ≡ due_below s false n → (if first then fs else ls) ≡ due_below s first n
-either_is s n true fs ls firsts laters = firsts
-either_is s n false fs ls firsts laters = laters
+-- and without them
+turn_is : (s : State) (fs ls : List Due) → map (λ (d : Due). d.entry) (ranked_in_turn s fs ls) ≡ in_turn s (map (λ (d : Due). d.entry) fs) (map (λ (d : Due). d.entry) ls)
+turn_is s fs ls =
+    let entry = λ (d : Due). d.entry in
+    let none : (length ls == 0) ≡ is_empty (map entry ls) = sym (empty_by (map entry ls) ∙ ap (λ k. k == 0) (length-map ls entry)) in
+    ap (λ b. map entry (cond (is_away s && not b) ls (fs ++ ls))) none ∙ apart (is_away s && not (is_empty (map entry ls))) where
+      apart : (b : Bool) → map (λ (d : Due). d.entry) (cond b ls (fs ++ ls)) ≡ cond b (map (λ (d : Due). d.entry) ls) (map (λ (d : Due). d.entry) fs ++ map (λ (d : Due). d.entry) ls)
+      apart true = refl
+      apart false = map-append (λ (d : Due). d.entry) fs ls
 
--- the first of those that are due, sorted, are a slice as the definition says
+-- as many of them as a slice takes are one as the definition says
 abbrev pub IsSlice : State → List Request → Patience → Type 0
-IsSlice s requests patient = (picked : List ℕ) × (IsPicked s (is_of_first s) picked × ((requests ≡ map (request s) picked) × (patient ≡ patience s (is_of_first s))))
+IsSlice s requests patient = (picked : List ℕ) × (IsPicked s picked × ((requests ≡ map (request s) picked) × (patient ≡ patience s)))
 
 pub slice_is :
-    (s : State) (n : ℕ) (fs ls ds : List Due) (first : Bool) (requests : List Request) (patient : Patience) →
+    (s : State) (n : ℕ) (fs ls front back ds : List Due) (requests : List Request) (patient : Patience) →
     n ≡ length s.forest.entries → fs ≡ due_below s true n → ls ≡ due_below s false n →
-    first ≡ nat_lt 0 (length fs) && (length ls == 0 || not (is_away s)) → IsPermutation (if first then fs else ls) ds → IsSortedBy is_before ds →
-    requests ≡ map (λ (d : Due). request s d.entry) (take s.width ds) → patient ≡ patience s first →
+    IsPermutation fs front → IsSortedBy is_before front → IsPermutation ls back → IsSortedBy is_before back → ds ≡ ranked_in_turn s front back →
+    requests ≡ map (λ (d : Due). request s d.entry) (take s.width ds) → patient ≡ (if is_away s && length ls == 0 then Short else Full) →
     IsSlice s requests patient
-slice_is s n fs ls ds first requests patient count firsts laters kind all sorted are patient_is =
-    let same : first ≡ is_of_first s = kind ∙ sym (of_first_by s n fs ls count firsts laters) in
-    let moved = subst (λ xs. IsPermutation xs ds) (either_is s n first fs ls firsts laters) all in
-    let picked = take s.width (map (λ (d : Due). d.entry) ds) in
-    (picked, (subst (λ f. IsPicked s f picked) same (is_picked s first n ds count moved sorted), (are ∙ requests_of s s.width ds, patient_is ∙ ap (patience s) same)))
+unfolding patience
+slice_is s n fs ls front back ds requests patient count firsts laters first first_sorted later later_sorted turn are patient_is =
+    let entry = λ (d : Due). d.entry in
+    let picked = take s.width (map entry ds) in (
+      picked,
+      (
+        record {
+          first = map entry front;
+          later = map entry back;
+          first_order = is_order s true n front count (subst (λ xs. IsPermutation xs front) firsts first) first_sorted;
+          later_order = is_order s false n back count (subst (λ xs. IsPermutation xs back) laters later) later_sorted;
+          front = ap (take s.width) (ap (map entry) turn ∙ turn_is s front back);
+        },
+        (are ∙ requests_of s s.width ds, patient_is ∙ ap (λ b. if is_away s && b then Short else Full) (sym (none_by s false n ls count laters))),
+      ),
+    )
 
 -- a book says the same of a watch over any forest
 pub below_bare : (g : Forest) (width : ℕ) (b : Book) (first : Bool) (n : ℕ) → due_below (bare b) first n ≡ due_below (state_of g width b) first n

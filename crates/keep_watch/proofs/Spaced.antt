@@ -22,13 +22,13 @@ use Rattle.keep_watch.specs.Press.{pressed}
 use Rattle.keep_watch.specs.Refusal.{is_same, refusal, waits_for}
 use Rattle.keep_watch.specs.Renewed.{renewed}
 use Rattle.keep_watch.specs.Round.{asked_by as round_of}
-use Rattle.keep_watch.specs.Slice.{IsPicked, is_due, is_of_first, request, sent as slice_of}
+use Rattle.keep_watch.specs.Slice.{IsPicked, request, sent as slice_of}
 use Rattle.keep_watch.specs.State.{State, attempt_at, fresh_track, opened, track_at}
 use Rattle.keep_watch.specs.Step.{Step, StepCommand, known, needed, readied}
 use Rattle.keep_watch.proofs.Answering.{looked_other, looked_rests, renewed_other, renewed_rests}
 use Rattle.keep_watch.proofs.Clocking.{IsCounted}
 use Rattle.keep_watch.proofs.Resting.{Follows, IsReady, MayFollow, Rests}
-use Rattle.keep_watch.proofs.Sending.{picked_of, picked_once, sends_one, sent_of}
+use Rattle.keep_watch.proofs.Sending.{due_as, may_go, picked_of, picked_once, sends_one, sent_of}
 use Rattle.keep_watch.proofs.Spacing.{IsSpaced, Keeps, asked_same, due_is_apart, none_same, out_of}
 use Rattle.keep_watch.proofs.Tracks.{track_same}
 use Rattle.keep_watch.proofs.Likeness.{IsLike, after_like, like_counted, looked_like, looked_slice, needed_like, renewed_like, renewed_slice, with_track_like}
@@ -65,8 +65,8 @@ module _ (s : State) (i n : ℕ) (picked : List ℕ) (requests : List Request) (
         may (Some t) h = inr h
 
   -- or with it
-  goes : (o : Option Sent) → IsMid s i n o → (first : Bool) → i < length s.forest.entries → is_due s first i ≡ true → sent_at i s.clocks.at requests ≡ sent_of s i ∷ [] → IfSome o (λ r. IsApart r (sent_of s i)) × IsSpaced going i (sent_of s i)
-  goes o mid first within due some = (
+  goes : (o : Option Sent) → IsMid s i n o → i < length s.forest.entries → may_go s i ≡ true → sent_at i s.clocks.at requests ≡ sent_of s i ∷ [] → IfSome o (λ r. IsApart r (sent_of s i)) × IsSpaced going i (sent_of s i)
+  goes o mid within due some = (
     apart o mid.before,
     record {
       within = within;
@@ -84,18 +84,18 @@ module _ (s : State) (i n : ℕ) (picked : List ℕ) (requests : List Request) (
 
     apart : (p : Option Sent) → IfSome p (λ r. (r.at ≤ s.clocks.at) × (i < n) × IsReady r (track_at s i)) → IfSome p (λ r. IsApart r (sent_of s i))
     apart None h = tt
-    apart (Some r) h = due_is_apart s first i r h.0 h.2 due
+    apart (Some r) h = let now = due_as s i due in due_is_apart s now.0 i r h.0 h.2 now.1
 
-  pub sends : (o : Option Sent) (first : Bool) → IsMid s i n o → IsPicked s first picked → Outcome going i o (sent_at i s.clocks.at requests)
-  sends o first mid pick =
-      let one = sends_one s (is_due s first) i picked (picked_of s first picked pick) (picked_once s first picked i pick) in
+  pub sends : (o : Option Sent) → IsMid s i n o → IsPicked s picked → Outcome going i o (sent_at i s.clocks.at requests)
+  sends o mid pick =
+      let one = sends_one s (may_go s) i picked (picked_of s picked pick) (picked_once s picked i pick) in
       elim one as (λ _. Outcome going i o (sent_at i s.clocks.at requests)) [
         | inl none ↦
             let here = ap (sent_at i s.clocks.at) is ∙ none in
             inl (here, passed_over o mid here)
         | inr some ↦
             let here = ap (sent_at i s.clocks.at) is ∙ some.0 in
-            let both = goes o mid first some.1.0 some.1.1 here in
+            let both = goes o mid some.1.0 some.1.1 here in
             inr (sent_of s i, (here, (both.0, both.1)))
       ]
 
@@ -104,7 +104,7 @@ commanded : (s new : State) (command : Command) (i n : ℕ) (o : Option Sent) �
 commanded s new (Ask requests patient) i n o mid closed h =
     let picked = h.1.0 in
     let parts = h.1.1 in
-    let out = sends s i n picked requests parts.1.0 o (is_of_first s) mid parts.0 in
+    let out = sends s i n picked requests parts.1.0 o mid parts.0 in
     subst (λ x. IsCounted x n × Outcome x i o (sent_at i x.clocks.at requests)) (sym parts.1.1.1) (record { entries = mid.count.entries; tracks = mid.count.tracks }, out)
 commanded s new (Wait until) i n o mid closed h =
     subst (λ x. IsCounted x n × Outcome x i o (sent_at i x.clocks.at [])) (sym h.1.1) (mid.count, inl (refl, mid_keeps s i n o mid closed))

@@ -21,7 +21,7 @@ use Rattle.keep_watch.specs.Looked.{looked}
 use Rattle.keep_watch.specs.Press.{pressed}
 use Rattle.keep_watch.specs.Renewed.{renewed}
 use Rattle.keep_watch.specs.Round.{asked_by as round_of}
-use Rattle.keep_watch.specs.Slice.{is_away, request}
+use Rattle.keep_watch.specs.Slice.{in_turn, is_away, request}
 use Rattle.keep_watch.specs.State.{State, opened, with_tracks}
 use Rattle.keep_watch.specs.Step.{Step, StepCommand, readied, why}
 use Rattle.keep_watch.specs.Settling.{settled, timed}
@@ -62,7 +62,7 @@ command_width : (s new : State) (command : Command) → StepCommand s command ne
 command_width s new (Ask requests patient) h =
     let pick = h.1.1.0 in
     let many = ap length h.1.1.1.0 ∙ length-map h.1.0 (request s) ∙ ap length pick.front in
-    let front = length-take s.width pick.sorted in
+    let front = length-take s.width (in_turn s pick.first pick.later) in
     (omega arith, ap (λ (x : State). x.width) h.1.1.1.1.1)
 command_width s new (Wait until) h = (omega arith, ap (λ (x : State). x.width) h.1.1)
 command_width s new Taken h = absurd h

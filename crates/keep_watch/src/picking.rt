@@ -1,9 +1,10 @@
-ghost use Rattle.std.specs.Prelude.{◌≡◌, ◌≤◌, ◌<◌, ◌==◌, ◌&&◌, ◌||◌, Some, IfErr, not, nat_lt, IfOk, if◌then◌else◌, IsPermutation, IsSortedBy, length, map, take};
+ghost use Rattle.std.specs.Prelude.{◌≡◌, ◌≤◌, ◌<◌, ◌==◌, ◌++◌, ◌&&◌, Some, IfErr, not, IfOk, if◌then◌else◌, IsPermutation, IsSortedBy, length, map, take};
 ghost use Rattle.keep_tree.specs.Forest.{Forest};
-ghost use Rattle.keep_watch.specs.Slice.{end_rank, is_away, is_due_try, is_first, later_at, later_rank, patience, ready, request, sent};
+ghost use Rattle.keep_watch.specs.Slice.{end_rank, is_away, is_due_try, is_first, later_at, later_rank, ready, request, sent};
 ghost use Rattle.keep_watch.specs.code.Bounds.{IsBook, IsTrack};
 ghost use Rattle.keep_watch.specs.code.Picking.{Sends, bare, due_below, is_before, rank_of_due};
 ghost use Rattle.keep_watch.specs.code.Watching.{state_of};
+ghost use Rattle.keep_watch.specs.declared.command.Patience.TheVariants.{Full, Short};
 ghost use Rattle.keep_watch.specs.declared.fault.WatchFault.TheVariants.{OutOfMemory};
 
 use crate::beginning::rested;
@@ -77,13 +78,6 @@ fn in_order(due: Vec<Due>) -> Vec<Due>
     let mut due = due;
     due.sort_unstable();
     due
-}
-
-/// The first tries, or the later ones.
-fn either(first: Vec<Due>, later: Vec<Due>, of_first: bool) -> Vec<Due>
-    ensures { result.items ≡ (if of_first then first.items else later.items) }
-{
-    if of_first { first } else { later }
 }
 
 impl Book {
@@ -187,18 +181,25 @@ impl Book {
             .collect(alloc)
     }
 
-    /// Whether the next slice is of first tries, where there are so many first and later ones.
-    fn takes_first(&self, first: usize, later: usize) -> bool
-        ensures { result ≡ (nat_lt 0 first && (later == 0 || not (is_away (bare self.now)))) }
+    /// Those whose turn it is, of all that are due: later ones behind first ones; while the broker is away later ones alone, and
+    /// first ones where there are none. The only error is want of memory.
+    fn in_turn(&self, first: Vec<Due>, later: Vec<Due>) -> Result<Vec<Due>, AllocError>
+        ensures { IfOk result (λ due. due.items ≡ (if is_away (bare self.now) && not (length later.items == 0) then later.items else first.items ++ later.items)) }
     {
-        first > 0 && (later == 0 || !self.is_away())
+        if self.is_away() && !later.is_empty() {
+            return Ok(later);
+        }
+        let mut due = first;
+        due.extend_from_slice(&later)?;
+        Ok(due)
     }
 
-    /// How long the slice may take: one of first tries has little patience while the broker is away.
-    fn patience(&self, of_first: bool) -> Patience
-        ensures { result ≡ patience (bare self.now) of_first }
+    /// How long the slice may take, where so many later tries are due: while the broker is away, one of first tries has little
+    /// patience.
+    fn patience(&self, later: usize) -> Patience
+        ensures { result ≡ (if is_away (bare self.now) && later == 0 then Short else Full) }
     {
-        if of_first && self.is_away() {
+        if self.is_away() && later == 0 {
             Patience::Short
         } else {
             Patience::Full
@@ -242,13 +243,13 @@ impl Book {
         if first.is_empty() && later.is_empty() {
             return Ok(None);
         }
-        let of_first = self.takes_first(first.len(), later.len());
-        let due = in_order(either(first, later, of_first));
+        let patience = self.patience(later.len());
+        let due = self.in_turn(in_order(first), in_order(later))?;
         let requests = self.requests(alloc, &due, width as usize)?;
         self.slice = Some(self.sent(alloc, &requests)?);
         Ok(Some(Command::Ask {
             requests: Requests { items: requests },
-            patience: self.patience(of_first),
+            patience,
         }))
     }
 }

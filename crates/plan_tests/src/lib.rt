@@ -24,6 +24,8 @@ mod rows;
 #[cfg(test)]
 mod schedules;
 #[cfg(test)]
+mod slices;
+#[cfg(test)]
 mod watches;
 #[cfg(test)]
 mod words;

@@ -34,14 +34,14 @@ fn watch_of(alloc: Global, count: u32, need: u64, width: u32) -> Result<Watch, F
 }
 
 // Both clocks show this.
-fn clock(ms: u64) -> Event {
+pub(crate) fn clock(ms: u64) -> Event {
     Event::Clock {
         wall: ms,
         elapsed: ms,
     }
 }
 
-fn told(seconds: u32) -> Reply {
+pub(crate) fn told(seconds: u32) -> Reply {
     Reply::Told {
         seconds,
         renewable: true,
@@ -49,7 +49,7 @@ fn told(seconds: u32) -> Reply {
     }
 }
 
-fn looked(entry: u32, reply: Reply) -> Event {
+pub(crate) fn looked(entry: u32, reply: Reply) -> Event {
     Event::Looked {
         entry,
         reply,

@@ -1,4 +1,5 @@
-use Rattle.std.proofs.Common.{◌≡◌, ◌∙◌, ◌==◌, ◌&&◌, ◌||◌, Some, IsPermutation, if◌then◌else◌, true, false, map, take, not, nat_lt, length, vec_len, subst, refl, ap, sym}
+use Rattle.std.proofs.Common.{◌≡◌, ◌∙◌, ◌==◌, ◌&&◌, Some, if◌then◌else◌, true, false, map, take, length, vec_len, refl, ap, sym}
+use Rattle.keep_watch.specs.declared.command.Patience.TheVariants.{Full, Short}
 use Rattle.keep_watch.specs.declared.picking.Due.{Due}
 use Rattle.keep_watch.specs.Slice.{is_away, request, sent}
 use Rattle.keep_watch.specs.code.Picking.{bare, due_below}
@@ -27,8 +28,6 @@ returns-clause-sends c = λ g count.
     let ls = c.in_ok-later.later.items in
     let firsts : fs ≡ due_below s true c.args.count = c.in_ok-first.ensures ∙ below_bare g c.args.width b true c.args.count in
     let laters : ls ≡ due_below s false c.args.count = c.in_ok-later.ensures ∙ below_bare g c.args.width b false c.args.count in
-    let ds = c.in_order-due.result.items in
-    let first = c.takes_first-of_first.result in
     let requests = c.in_ok-requests.requests.items in
     let some : (length fs == 0) && (length ls == 0) ≡ false = elim c.else-is_empty.branch [
       | else-is_empty-via-then-is_empty+else-is_empty-2 w ↦
@@ -39,15 +38,12 @@ returns-clause-sends c = λ g count.
           let first' : (length fs == 0) ≡ false = (let len = c.in_ok-first.first.ok.0 in let e = w.if-is_empty.ensures in cc) in
           ap (λ e. e && (length ls == 0)) first'
     ] in
-    let count_first : c.len.result ≡ length fs = (let len = c.in_ok-first.first.ok.0 in let e : c.len.result ≡ vec_len c.in_ok-first.first = c.len.ensures in cc) in
-    let count_later : c.len-2.result ≡ length ls = (let len = c.in_ok-later.later.ok.0 in let e : c.len-2.result ≡ vec_len c.in_ok-later.later = c.len-2.ensures in cc) in
-    let kind : first ≡ nat_lt 0 (length fs) && (length ls == 0 || not (is_away s)) =
-    c.takes_first-of_first.ensures ∙ ap (λ k. nat_lt 0 k && (c.len-2.result == 0 || not (is_away s))) count_first
-    ∙ ap (λ k. nat_lt 0 (length fs) && (k == 0 || not (is_away s))) count_later in
-    let all : IsPermutation (if first then fs else ls) ds = subst (λ xs. IsPermutation xs ds) c.either.ensures c.in_order-due.ensures.all in
-    let are : requests ≡ map (λ (d : Due). request s d.entry) (take c.args.width ds) =
+    let count_later : c.len.result ≡ length ls = (let len = c.in_ok-later.later.ok.0 in let e : c.len.result ≡ vec_len c.in_ok-later.later = c.len.ensures in cc) in
+    let are : requests ≡ map (λ (d : Due). request s d.entry) (take c.args.width c.in_ok-due.due.items) =
     c.in_ok-requests.ensures ∙ ap (λ xs. map (λ (d : Due). request (bare b) d.entry) (take c.args.width xs)) c.deref.ensures.value
-    ∙ requests_bare g c.args.width b (take c.args.width ds) in
-    let slice = slice_is s c.args.count fs ls ds first requests c.patience.result (sym count) firsts laters kind all c.in_order-due.ensures.sorted are c.patience.ensures in
+    ∙ requests_bare g c.args.width b (take c.args.width c.in_ok-due.due.items) in
+    let patient : c.patience-patience.result ≡ (if is_away s && length ls == 0 then Short else Full) = c.patience-patience.ensures ∙ ap (λ k. if is_away s && k == 0 then Short else Full) count_later in
+    let slice = slice_is s c.args.count fs ls c.in_order.result.items c.in_order-2.result.items c.in_ok-due.due.items requests c.patience-patience.result (sym count) firsts laters
+    c.in_order.ensures.all c.in_order.ensures.sorted c.in_order-2.ensures.all c.in_order-2.ensures.sorted c.in_ok-due.ensures are patient in
     let new : c.in_ok-sent.field-0 ≡ sent s requests = c.in_ok-sent.ensures ∙ ap (sent s) c.deref-2.ensures.value in
     (quiet_by s c.args.count fs ls (sym count) firsts laters ∙ some, (slice.0, (slice.1.0, (slice.1.1.0, (slice.1.1.1, ap (λ x. record s { slice = Some x }) new)))))
