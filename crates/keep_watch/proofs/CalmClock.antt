@@ -305,7 +305,7 @@ opened_tried r new asked now e us i forest forest' calm same wanted is named at 
     }
 
 with_end : (s : State) (e d : ℕ → ℕ) (i : ℕ) → e i ≡ d i → IsIdle s e i → IsIdle s d i
-with_end s e d i same idle = record { none = idle.none; end = idle.end ∙ same; owes = idle.owes; in_plan = idle.in_plan; led = idle.led; lasts = idle.lasts }
+with_end s e d i same idle = record { none = idle.none; end = idle.end ∙ same; owes = idle.owes; in_plan = idle.in_plan; led = idle.led }
 
 -- a round opens
 opening_on :
@@ -420,7 +420,6 @@ resting_on s r new g e last wakes ts s0 command round goes step to_come from is_
       keepable = keepable;
       in_plan = λ i within wanted. (idle_r i).in_plan wanted;
       led = λ i within wanted. (idle_r i).led wanted;
-      lasts = λ i within not_wanted. (idle_r i).lasts not_wanted;
       unpressed = λ i within. unpressed r i (idle_r i).none;
     } in
     by_round round step is_round calm plan same own where

@@ -176,17 +176,6 @@ idle_at_rest s rest i = record {
   owes = rest.owes i;
   in_plan = λ wanted. rest.calm.in_plan i (short_led s rest.forest rest.calm.keepable i (wanted_short s i wanted)).within wanted;
   led = λ wanted. rest.calm.led i (short_led s rest.forest rest.calm.keepable i (wanted_short s i wanted)).within wanted;
-  lasts = λ not_wanted. elim (cases_lt i (length s.forest.entries)) as (λ _. wanted_need s i ≤ (planned s i).end) [
-    | inl within ↦ rest.calm.lasts i within not_wanted
-    | inr past ↦ elim (cases_lt 0 (wanted_need s i)) as (λ _. wanted_need s i ≤ (planned s i).end) [
-      | inr none ↦ omega arith
-      | inl some ↦ absurd (
-          let c = carried_believed s rest.forest i in
-          let b = believed_count s in
-          let inside = carried_within (believed_forest s).entries (parents_first (believed_forest s) (believed_is_forest s rest.forest)) (second s) i (omega arith) in
-          omega arith)
-    ]
-  ];
 }
 
 pub calm_days : CalmLaw

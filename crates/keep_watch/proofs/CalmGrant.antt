@@ -23,11 +23,10 @@ use Rattle.keep_watch.specs.LawsOfCalm.{ends, terms}
 use Rattle.keep_watch.specs.Margins.{is_in_plan, lead, lesser}
 use Rattle.keep_watch.specs.Refusal.{is_same, waits_for}
 use Rattle.keep_watch.specs.Renewed.{from_try, granted, granted_end, is_no_further, is_topped, renewed, try_granted}
-use Rattle.keep_watch.specs.Round.{is_hoped}
 use Rattle.keep_watch.specs.Slice.{is_away, is_first}
 use Rattle.keep_watch.specs.State.{State, attempt_at, entry_of, track_at, unanswered_of, with_tracks}
 use Rattle.keep_watch.specs.Wanted.{believed, is_fixed, is_wanted, second, seen, wanted_need}
-use Rattle.keep_watch.proofs.Calming.{AreAlike, IsIdle, enough, entry_step, forest_alike, idle_on, plan_alike, planned_end, taken_so, terms_alike, unpressed}
+use Rattle.keep_watch.proofs.Calming.{AreAlike, IsIdle, entry_step, forest_alike, idle_on, plan_alike, terms_alike}
 use Rattle.keep_watch.proofs.Cases.{if_cases}
 use Rattle.keep_watch.proofs.Foreseen.{wanted_short}
 use Rattle.keep_watch.proofs.Going.{Goes, IsTried, need_alike, tried_on}
@@ -129,14 +128,6 @@ after_grant s slice i seconds date there =
     ap (λ (x : State). record x { slice = Some (answered slice i (Told seconds true date)) })
     (closed_there (with_track s i (granted s i seconds true)) (answered slice i (Told seconds true date)) (answered slice i (Told seconds true date)).unanswered (or_true slice.heard) there)
 
-cond_least : (b : Bool) (n x y : ℕ) → n ≤ x → n ≤ y → n ≤ cond b x y
-cond_least true n x y h k = h
-cond_least false n x y h k = k
-
-capped_at : (o : Option ℕ) (c t : ℕ) → o ≡ Some c → c ≤ t → capped o t ≡ c
-unfolding capped
-capped_at o c t is h = ap (λ p. capped p t) is ∙ (let l : min t c ≡ c = omega arith in l)
-
 -- those whom nobody has answered now
 left_out : (xs : List Request) (i j : ℕ) → list_any (λ r. r.entry == i) (without j xs) ≡ true → (i ≢ j) × (list_any (λ r. r.entry == i) xs ≡ true)
 unfolding without
@@ -234,10 +225,6 @@ module _ (s : State) (g : Forest) (e : ℕ → ℕ) (last : Wake) (ts : List ℕ
               owes = owes;
               in_plan = λ wanted. planned';
               led = λ wanted. same_lead ∙ sym (entry_step new s refl j);
-              lasts = λ not_wanted.
-                  let low = enough new j (ap (λ (y : Track). y.renewable) own ∙ granted_is.renewable) (ap (λ (y : Track). y.top) own ∙ granted_is.top) (ap (λ (y : Track). y.endless) own ∙ granted_is.endless) not_wanted in
-                  let taken = taken_so new j planned' (ap (λ (y : Track). is_none y.end) own ∙ ap is_none granted_is.end') (unpressed new j none) in
-                  omega arith;
             }
         | inr short ↦
             let c = now + seconds in
@@ -250,12 +237,6 @@ module _ (s : State) (g : Forest) (e : ℕ → ℕ) (last : Wake) (ts : List ℕ
               owes = owes;
               in_plan = λ wanted. absurd (never wanted);
               led = λ wanted. absurd (never wanted);
-              lasts = λ not_wanted.
-                  let p = planned_end new j in
-                  let o : (terms new j).ceiling ≡ Some c = ap (λ (y : Entry). y.ceiling) (terms_alike new s alike j) ∙ short.1 in
-                  let at = capped_at (terms new j).ceiling c (second new + lead new j) o (omega arith) in
-                  let l = cond_least (is_hoped new j) (wanted_need new j) (capped (terms new j).ceiling (second new + lead new j)) (ends new j) (omega arith) (omega arith) in
-                  omega arith;
             }
       ]
 

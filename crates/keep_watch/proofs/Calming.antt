@@ -128,77 +128,29 @@ pub ends_alike : (new old : State) (i : ℕ) → track_at new i ≡ track_at old
 unfolding ends
 ends_alike new old i same = ap believed same
 
-hoped_alike : (new old : State) (i : ℕ) → track_at new i ≡ track_at old i → is_in_plan new i ≡ is_in_plan old i → is_hoped new i ≡ is_hoped old i
-unfolding is_hoped is_pressed
-hoped_alike new old i same plan = ap₂ (λ (x : Track) (b : Bool). not x.endless && (not b || (is_none x.end || is_pressed_try x.attempt))) same plan
+-- the Asks take an entry that is not wanted as it is believed
+pub unwanted_end : (s : State) (i : ℕ) → is_wanted s i ≡ false → (planned s i).end ≡ ends s i
+unfolding planned seen ends is_hoped
+unwanted_end s i not_wanted = by_test (is_wanted s i) (not (is_in_plan s i) || (is_none (track_at s i).end || is_pressed s i)) _ _ not_wanted where
+  by_test : (b c : Bool) (x y : Entry) → b ≡ false → (cond (b && c) x y).end ≡ y.end
+  by_test true c x y h = absurd cc
+  by_test false c x y h = refl
 
--- the end with which the Asks take an entry
-pub planned_end : (s : State) (i : ℕ) → (planned s i).end ≡ cond (is_hoped s i) (capped (terms s i).ceiling (second s + lead s i)) (ends s i)
-unfolding planned terms seen ends
-planned_end s i = by_test (is_hoped s i) _ _ where
-  by_test : (b : Bool) (x y : Entry) → (cond b x y).end ≡ cond b x.end y.end
-  by_test true x y = refl
-  by_test false x y = refl
-
-capped_more : (o : Option ℕ) (t u : ℕ) → t ≤ u → capped o t ≤ capped o u
-unfolding capped
-capped_more None t u h = h
-capped_more (Some c) t u h = omega arith
-
-planned_more : (b : Bool) (x y z : ℕ) → x ≤ y → cond b x z ≤ cond b y z
-planned_more true x y z h = h
-planned_more false x y z h = omega arith
-
-end_more : (new old : State) → AreAlike new old → second old ≤ second new → (i : ℕ) → track_at new i ≡ track_at old i → (planned old i).end ≤ (planned new i).end
-end_more new old a later i same =
-    let l = lead_alike new old a.forest i (ap (λ (x : Track). x.grant) same) in
-    let hoped = hoped_alike new old i same (plan_alike new old a.forest i l) in
-    let end = ends_alike new old i same in
-    let c : (terms new i).ceiling ≡ (terms old i).ceiling = ap (λ (e : Entry). e.ceiling) (terms_alike new old a i) in
-    let is : (planned new i).end ≡ cond (is_hoped old i) (capped (terms old i).ceiling (second new + lead old i)) (ends old i) =
-    planned_end new i ∙ ap₂ (λ b o. cond b (capped o (second new + lead new i)) (ends new i)) hoped c
-    ∙ ap₂ (λ n x. cond (is_hoped old i) (capped (terms old i).ceiling (second new + n)) x) l end in
-    let was = planned_end old i in
-    let more = planned_more (is_hoped old i) (capped (terms old i).ceiling (second old + lead old i)) (capped (terms old i).ceiling (second new + lead old i)) (ends old i)
-    (capped_more (terms old i).ceiling (second old + lead old i) (second new + lead old i) (omega arith)) in
-    omega arith
-
--- an entry of which nothing is asked: it ends as it should, and the Asks will take it as it is believed
+-- an entry of which nothing is asked: it ends as it should, and a renewal leads it as far as its step
 pub record IsIdle (s : State) (e : ℕ → ℕ) (i : ℕ) : Type 0 where
   pub none : attempt_at s i ≡ None
   pub end : ends s i ≡ e i
   pub owes : (track_at s i).owes ≡ false
   pub in_plan : is_wanted s i ≡ true → is_in_plan s i ≡ true
   pub led : is_wanted s i ≡ true → lead s i ≡ (entry_of s i).step
-  pub lasts : is_wanted s i ≡ false → wanted_need s i ≤ (planned s i).end
 
--- an entry that may be led further, and is not wanted, is not needed past its end
-none_short : (renewable unknown top endless short : Bool) → renewable ≡ true → top ≡ false → endless ≡ false → (renewable || unknown) && (not top && (not endless && short)) ≡ false → short ≡ false
-none_short true unknown false false short r t e h = h
-none_short true unknown false true short r t e h = absurd cc
-none_short true unknown true endless short r t e h = absurd cc
-none_short false unknown top endless short r t e h = absurd cc
-
-pub enough : (s : State) (i : ℕ) → (track_at s i).renewable ≡ true → (track_at s i).top ≡ false → (track_at s i).endless ≡ false → is_wanted s i ≡ false → wanted_need s i ≤ ends s i
-unfolding is_wanted ends
-enough s i renewable top endless not_wanted =
-    let x = track_at s i in
-    let low : nat_lt (believed x) (wanted_need s i) ≡ false = none_short x.renewable (is_none x.end) x.top x.endless (nat_lt (believed x) (wanted_need s i)) renewable top endless not_wanted in
-    grind (arith, nat_tests)
-
-pub no_hope : (endless planned unknown pressed : Bool) → planned ≡ true → unknown ≡ false → pressed ≡ false → not endless && (not planned || (unknown || pressed)) ≡ false
-no_hope true planned unknown pressed p u q = refl
-no_hope false true false false p u q = refl
-no_hope false true false true p u q = absurd cc
-no_hope false true true pressed p u q = absurd cc
-no_hope false false unknown pressed p u q = absurd cc
-
--- one that is in the plan, of a known end and not pressed is taken as it is believed
-pub taken_so : (s : State) (i : ℕ) → is_in_plan s i ≡ true → is_none (track_at s i).end ≡ false → is_pressed s i ≡ false → (planned s i).end ≡ ends s i
-unfolding is_hoped
-taken_so s i in_plan known unpressed =
-    let hoped : is_hoped s i ≡ false = no_hope (track_at s i).endless (is_in_plan s i) (is_none (track_at s i).end) (is_pressed s i) in_plan known unpressed in
-    planned_end s i ∙ ap (λ b. cond b (capped (terms s i).ceiling (second s + lead s i)) (ends s i)) hoped
+-- an entry in the plan, of a known end and not pressed is taken as it is believed
+pub no_hope : (wanted planned unknown pressed : Bool) → planned ≡ true → unknown ≡ false → pressed ≡ false → wanted && (not planned || (unknown || pressed)) ≡ false
+no_hope false planned unknown pressed p u q = refl
+no_hope true true false false p u q = refl
+no_hope true true false true p u q = absurd cc
+no_hope true true true pressed p u q = absurd cc
+no_hope true false unknown pressed p u q = absurd cc
 
 pub led_parts : (renewable top : Bool) → renewable && not top ≡ true → (renewable ≡ true) × (top ≡ false)
 led_parts true false h = (refl, refl)
@@ -227,13 +179,4 @@ idle_on new old e forest forest' a later keepable i same idle =
       owes = ap (λ (x : Track). x.owes) same ∙ idle.owes;
       in_plan = λ wanted. plan ∙ idle.in_plan (was wanted).wanted;
       led = λ wanted. l ∙ idle.led (was wanted).wanted ∙ sym step;
-      lasts = λ not_wanted. elim (cases_Bool (is_wanted old i)) as (λ _. wanted_need new i ≤ (planned new i).end) [
-        | inr not_before ↦ (let before = idle.lasts not_before in let more = end_more new old a later i same in omega arith)
-        | inl before ↦
-            let led = led_by old forest' e keepable i (sym idle.end) (wanted_short old i before) in
-            let parts = led_parts (track_at old i).renewable (track_at old i).top led.led in
-            let own = enough new i (ap (λ (x : Track). x.renewable) same ∙ parts.0) (ap (λ (x : Track). x.top) same ∙ parts.1) (ap (λ (x : Track). x.endless) same ∙ led.endless) not_wanted in
-            let taken = taken_so new i (plan ∙ idle.in_plan before) (ap (λ (x : Track). is_none x.end) same ∙ ap is_none led.known) (unpressed new i none) in
-            omega arith
-      ];
     }

@@ -34,7 +34,7 @@ use Rattle.keep_watch.specs.State.{State, entry_of, indices, opened, track_at}
 use Rattle.keep_watch.specs.Step.{StepClock, readied}
 use Rattle.keep_watch.specs.Wanted.{believed, is_wanted, second, seen, wanted_need}
 use Rattle.keep_watch.proofs.Believed.{AreSameNeeds, believed_at, believed_count, believed_is_forest, believed_margin, carried_believed, carried_within, same_carried, same_chain, written_at, written_count, written_same}
-use Rattle.keep_watch.proofs.Calming.{no_hope}
+use Rattle.keep_watch.proofs.Calming.{no_hope, unwanted_end}
 use Rattle.keep_watch.proofs.Cases.{if_cases}
 use Rattle.keep_watch.proofs.Foreseen.{IsScheduled, short_led, there_is_plan, time_is, wanted_short}
 use Rattle.keep_watch.proofs.Forested.{readied_forest, turned_forest}
@@ -53,7 +53,7 @@ wanted_taken s forest calm i within wanted =
     let led = short_led s forest calm.keepable i (wanted_short s i wanted) in
     let x = track_at s i in
     let in_plan = calm.in_plan i within wanted in
-    let hoped : is_hoped s i ≡ false = no_hope x.endless (is_in_plan s i) (is_none x.end) (is_pressed s i) in_plan (ap is_none led.known) (calm.unpressed i within) in
+    let hoped : is_hoped s i ≡ false = no_hope (is_wanted s i) (is_in_plan s i) (is_none x.end) (is_pressed s i) in_plan (ap is_none led.known) (calm.unpressed i within) in
     let is : planned s i ≡ record (seen s i) { renewable = x.renewable && not x.top; step = step_in_plan s i } = cond-false (is_hoped s i) _ _ hoped in
     record {
       renewable = ap (λ (e : Entry). e.renewable) is;
@@ -123,7 +123,7 @@ module _ (s : State) (forest : IsForest s.forest) (calm : IsCalm s) where
       ] in (
         own,
         elim (cases_lt i (length s.forest.entries)) as (λ _. wanted_need s i ≤ (entry_at fs i).end) [
-          | inl within ↦ subst (λ (e : Entry). wanted_need s i ≤ e.end) (sym (view_at i within)) (calm.lasts i within not_wanted)
+          | inl within ↦ (let is = ap (λ (e : Entry). e.end) (view_at i within) ∙ unwanted_end s i not_wanted in omega arith)
           | inr past ↦ elim (cases_lt 0 (wanted_need s i)) as (λ _. wanted_need s i ≤ (entry_at fs i).end) [
             | inl some ↦ absurd (let c = carried_believed s forest i in let b = believed_count s in let inside = carried_within es first now i (omega arith) in omega arith)
             | inr none ↦ omega arith

@@ -18,10 +18,10 @@ use Rattle.keep_watch.specs.Margins.{is_in_plan, lead, lesser, own_margin}
 use Rattle.keep_watch.specs.Press.{is_alive, is_fresh, is_pressed}
 use Rattle.keep_watch.specs.Round.{is_hoped, opens, plan_view, planned, step_in_plan}
 use Rattle.keep_watch.specs.State.{State, entry_of, indices, no_track, track_at}
-use Rattle.keep_watch.specs.Wanted.{limit, second, seen, view, wanted_need}
+use Rattle.keep_watch.specs.Wanted.{is_wanted, limit, second, seen, view, wanted_need}
 use Rattle.keep_watch.specs.code.Rounds.{hoped_for, opens_for, planned_for, step_for}
 use Rattle.keep_watch.specs.code.View.{IsView, seen_by, shape}
-use Rattle.keep_watch.specs.code.Tracks.{keeps_margin, own}
+use Rattle.keep_watch.specs.code.Tracks.{keeps_margin, own, wants}
 use Rattle.keep_watch.proofs.Cases.{if_both}
 use Rattle.keep_watch.proofs.Shorting.{IsAlike}
 use Rattle.keep_watch.proofs.View.{at_shape}
@@ -77,9 +77,9 @@ capped_least None t = omega arith
 capped_least (Some c) t = omega arith
 
 -- an entry as the Asks take it
-pub planned_is : (s : State) (i : ℕ) → planned_for s.forest.margin (entry_of s i) (track_at s i) (second s) (seen s i) ≡ planned s i
-unfolding planned_for planned hoped_for is_hoped keeps_margin own is_in_plan own_margin lead is_pressed seen
-planned_is s i = refl
+pub planned_is : (s : State) (i need : ℕ) → need ≡ wanted_need s i → planned_for s.forest.margin (entry_of s i) (track_at s i) need (second s) (seen s i) ≡ planned s i
+unfolding planned_for planned hoped_for is_hoped wants is_wanted keeps_margin own is_in_plan own_margin lead is_pressed seen
+planned_is s i need is = ap (λ n. planned_for s.forest.margin (entry_of s i) (track_at s i) n (second s) (seen s i)) is
 
 -- each entry below an index is written for the Asks, the others as they are seen
 abbrev pub halfway : State → ℕ → ℕ → Entry
@@ -122,10 +122,10 @@ unfolding entry_at
 planned_at s k within = get_or-map-range_with_len (planned s) 0 (length s.forest.entries) k k no_entry within (omega arith)
 
 -- what is written for the Asks is no part of an entry's shape, nor its need
-pub shape_planned : (margin now : ℕ) (e f : Entry) (x : Track) → shape (planned_for margin e x now f) ≡ shape f
+pub shape_planned : (margin need now : ℕ) (e f : Entry) (x : Track) → shape (planned_for margin e x need now f) ≡ shape f
 unfolding planned_for
-shape_planned margin now e f x =
-    if_both (λ (y : Entry). shape y ≡ shape f) (hoped_for margin e x) (record f { end = capped f.ceiling (now + lesser e.step x.grant); renewable = false })
+shape_planned margin need now e f x =
+    if_both (λ (y : Entry). shape y ≡ shape f) (hoped_for margin e x need) (record f { end = capped f.ceiling (now + lesser e.step x.grant); renewable = false })
     (record f { renewable = x.renewable && not x.top; step = step_for margin e x f.step }) refl refl
 
 need_planned : (s : State) (i : ℕ) → (planned s i).need ≡ (seen s i).need
@@ -166,27 +166,27 @@ plan_alike s v w sound first other seen_is plan_is = record {
 
 -- a view for the Asks is written by the forest, the tracks and the clocks alone
 pub plan_by : (s : State) → plan_view (seen_by s.forest s.tracks s.clocks) ≡ plan_view s
-unfolding planned is_hoped is_in_plan own_margin lead is_pressed seen limit track_at entry_of
+unfolding planned is_hoped is_wanted wanted_need is_in_plan own_margin lead is_pressed seen limit track_at entry_of
 plan_by s = refl
 
 -- what is written of an entry that counts as renewed, and of another
 pub hoped_is :
-    (m now end : ℕ) (e f : Entry) (x : Track) → hoped_for m e x ≡ true → end ≡ capped f.ceiling (now + lesser e.step x.grant) →
-    record f { end = end; renewable = false } ≡ planned_for m e x now f
+    (m need now end : ℕ) (e f : Entry) (x : Track) → hoped_for m e x need ≡ true → end ≡ capped f.ceiling (now + lesser e.step x.grant) →
+    record f { end = end; renewable = false } ≡ planned_for m e x need now f
 unfolding planned_for
-hoped_is m now end e f x hoped ends =
+hoped_is m need now end e f x hoped ends =
     ap (λ n. record f { end = n; renewable = false }) ends
-    ∙ sym (cond-true (hoped_for m e x) (record f { end = capped f.ceiling (now + lesser e.step x.grant); renewable = false }) (record f { renewable = x.renewable && not x.top; step = step_for m e x f.step }) hoped)
+    ∙ sym (cond-true (hoped_for m e x need) (record f { end = capped f.ceiling (now + lesser e.step x.grant); renewable = false }) (record f { renewable = x.renewable && not x.top; step = step_for m e x f.step }) hoped)
 
 pub kept_is :
-    (m now step : ℕ) (ceiling : Option ℕ) (renewable : Bool) (e f : Entry) (x : Track) → hoped_for m e x ≡ false → step ≡ step_for m e x f.step → ceiling ≡ f.ceiling →
-    renewable ≡ (x.renewable && not x.top) → record f { renewable = renewable; step = step; ceiling = ceiling } ≡ planned_for m e x now f
+    (m need now step : ℕ) (ceiling : Option ℕ) (renewable : Bool) (e f : Entry) (x : Track) → hoped_for m e x need ≡ false → step ≡ step_for m e x f.step → ceiling ≡ f.ceiling →
+    renewable ≡ (x.renewable && not x.top) → record f { renewable = renewable; step = step; ceiling = ceiling } ≡ planned_for m e x need now f
 unfolding planned_for
-kept_is m now step ceiling renewable e f x kept steps ceilings renewables =
+kept_is m need now step ceiling renewable e f x kept steps ceilings renewables =
     ap (λ n. record f { renewable = renewable; step = n; ceiling = ceiling }) steps
     ∙ ap (λ o. record f { renewable = renewable; step = step_for m e x f.step; ceiling = o }) ceilings
     ∙ ap (λ b. record f { renewable = b; step = step_for m e x f.step }) renewables
-    ∙ sym (cond-false (hoped_for m e x) (record f { end = capped f.ceiling (now + lesser e.step x.grant); renewable = false }) (record f { renewable = x.renewable && not x.top; step = step_for m e x f.step }) kept)
+    ∙ sym (cond-false (hoped_for m e x need) (record f { end = capped f.ceiling (now + lesser e.step x.grant); renewable = false }) (record f { renewable = x.renewable && not x.top; step = step_for m e x f.step }) kept)
 
 -- whether one opens a round, by what was read of the entries
 pub opens_any :

@@ -72,13 +72,11 @@ AllForeseen (turn ∷ turns) = IsForeseen turn.state × AllForeseen turns
 abbrev pub NextMomentLaw : Type 0
 NextMomentLaw = (g : Forest) (width : ℕ) (turns : List Turned) → IsForest g → IsRun g width turns → AllForeseen turns
 
--- a state in which nobody is being asked, and a renewal leads each entry that is wanted as far as its step. For the Asks, each other
--- one lasts as long as it is needed
+-- a state in which nobody is being asked, and a renewal leads each entry that is wanted as far as its step
 pub record IsCalm (s : State) : Type 0 where
   pub keepable : IsKeepable s
   pub in_plan : AllInPlan s
   pub led : (i : ℕ) → i < length s.forest.entries → is_wanted s i ≡ true → lead s i ≡ (entry_of s i).step
-  pub lasts : (i : ℕ) → i < length s.forest.entries → is_wanted s i ≡ false → wanted_need s i ≤ (planned s i).end
   pub unpressed : (i : ℕ) → i < length s.forest.entries → is_pressed s i ≡ false
 
 -- the Asks of now by what is believed, where the next moment is `next`

@@ -12,15 +12,15 @@ use Rattle.keep_rule.specs.Schedule.{IsNext}
 use Rattle.keep_watch.specs.Margins.{is_in_plan, lead}
 use Rattle.keep_watch.specs.Press.{is_alive, is_fresh, is_pressed}
 use Rattle.keep_watch.specs.State.{State, entry_of, indices, track_at}
-use Rattle.keep_watch.specs.Wanted.{second, seen}
+use Rattle.keep_watch.specs.Wanted.{is_wanted, second, seen}
 
 -- i opens a round: it is pressed now, in the plan, and its end is ahead
 unfoldable pub opens : State → ℕ → Bool
 opens s i = is_fresh s i && (is_in_plan s i && is_alive s i)
 
--- i counts as renewed now, in the hope that it is: it is outside the plan, its end is unknown, or it was pressed before
+-- i counts as renewed now, in the hope that it is: it is wanted, and is outside the plan, of unknown end, or pressed before
 unfoldable pub is_hoped : State → ℕ → Bool
-is_hoped s i = not (track_at s i).endless && (not (is_in_plan s i) || (is_none (track_at s i).end || is_pressed s i))
+is_hoped s i = is_wanted s i && (not (is_in_plan s i) || (is_none (track_at s i).end || is_pressed s i))
 
 -- how far a renewal of i leads in the plan
 abbrev pub step_in_plan : State → ℕ → ℕ

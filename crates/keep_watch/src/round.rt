@@ -20,6 +20,7 @@ use crate::fault::WatchFault;
 use crate::margins::{is_in_plan, lead};
 use crate::press::{is_alive, is_fresh, is_pressed};
 use crate::track::Track;
+use crate::wanted::is_wanted;
 use keep_moment::{LAST, Moment};
 use keep_needs::Carried;
 use keep_plan::asks_before;
@@ -57,13 +58,13 @@ fn opens_some(forest: &Forest, tracks: &[Track], needs: &Carried, now: u64) -> b
     false
 }
 
-/// Whether the entry counts as renewed now, in the hope that it is: it is outside the plan, its end is unknown, or it was
-/// pressed before.
+/// Whether an entry that carries that need counts as renewed now, in the hope that it is: it is wanted, and is outside the plan,
+/// of unknown end, or pressed before.
 #[tactic(auto, unfolding(crate::specs::code::Rounds::hoped_for))]
-fn is_hoped(margin: u32, entry: &Entry, track: Track) -> bool
-    ensures { result ≡ hoped_for margin entry.now track }
+fn is_hoped(margin: u32, entry: &Entry, track: Track, need: u64) -> bool
+    ensures { result ≡ hoped_for margin entry.now track need }
 {
-    !track.endless
+    is_wanted(track, need)
         && (!is_in_plan(margin, entry, track) || track.end.is_none() || is_pressed(track))
 }
 
@@ -81,14 +82,14 @@ fn step_in_plan(margin: u32, entry: &Entry, track: Track, step: u32) -> u32
     }
 }
 
-/// Writes the entry at an index, which is written as it is seen, as the Asks take it.
-fn write_planned(view: &mut Forest, entry: &Entry, track: Track, now: Moment, index: u32)
+/// Writes the entry at an index, which carries that need and is written as it is seen, as the Asks take it.
+fn write_planned(view: &mut Forest, entry: &Entry, track: Track, need: u64, now: Moment, index: u32)
     requires { index < length view.old.entries }
-    ensures { view.new ≡ record view.old { entries = slice_set view.old.entries index (planned_for view.old.margin entry.now track now (entry_at view.old.entries index)) } }
+    ensures { view.new ≡ record view.old { entries = slice_set view.old.entries index (planned_for view.old.margin entry.now track need now (entry_at view.old.entries index)) } }
 {
     let margin = view.margin();
     let ceiling = view.get(index).ceiling;
-    if is_hoped(margin, entry, track) {
+    if is_hoped(margin, entry, track, need) {
         let lead = lead(entry.step, track.grant);
         view.set_end(index, capped(ceiling, now.plus(lead)));
         view.set_renewable(index, false);
@@ -106,18 +107,33 @@ fn goes_further(track: Track) -> bool
     track.renewable && !track.top
 }
 
-/// Writes every entry, which is written as it is seen, as the Asks take it.
-fn write_plan_view(view: &mut Forest, forest: &Forest, tracks: &[Track], clocks: Clocks)
+/// Writes every entry, which is written as it is seen, as the Asks take it; `needs` has what they carry.
+fn write_plan_view(
+    view: &mut Forest,
+    forest: &Forest,
+    tracks: &[Track],
+    needs: &Carried,
+    clocks: Clocks,
+)
     requires count { length tracks.now ≡ length forest.now.entries }
     requires view { IsView view.old forest.now }
+    requires needs { length needs.now ≡ length forest.now.entries }
     requires clocks { IsClocks clocks }
     ensures view { IsView view.new forest.now }
     ensures sound { IsForest forest.now }
-    ensures planned { view.old.entries ≡ wanted.view (seen_by forest.now tracks.now clocks) → view.new.entries ≡ plan_view (seen_by forest.now tracks.now clocks) }
+    ensures planned { view.old.entries ≡ wanted.view (seen_by forest.now tracks.now clocks) → IsCarried view.old (sec clocks.at) needs.now → view.new.entries ≡ plan_view (seen_by forest.now tracks.now clocks) }
 {
     let now = moment_at(second(clocks.at));
     for index in 0..forest.len() {
-        write_planned(view, forest.get(index), tracks[index as usize], now, index);
+        let track = tracks[index as usize];
+        write_planned(
+            view,
+            forest.get(index),
+            track,
+            needs.need(index),
+            now,
+            index,
+        );
     }
 }
 
@@ -203,7 +219,7 @@ impl Book {
             return Ok(None);
         }
         let now = moment_at(now);
-        write_plan_view(view, forest, &self.tracks, self.clocks);
+        write_plan_view(view, forest, &self.tracks, needs, self.clocks);
         let next = second_round(view, needs, now);
         Ok(Some(asks_before(alloc, view, needs, now, next)?))
     }

@@ -1,4 +1,4 @@
-// The watch's slices: who goes out, in which order and with how much patience.
+// The watch's slices: who goes out, in which order and with how much patience, and whom a round asks along.
 
 use crate::rows::{Row, forest_of};
 use crate::watches::{clock, looked, told};
@@ -149,4 +149,21 @@ fn while_the_broker_is_away_they_share_none(rt: HostRuntime) -> Result<(), Fail>
     answers(alloc, &mut watch, 3, Reply::Lost)?;
     answers(alloc, &mut watch, 0, Reply::Lost)?;
     renews(&rt, alloc, &mut watch, 1_024_000, &[2, 4], Patience::Full)
+}
+
+// At 1040 entry 0 is asked, which ends at 1100. With 600 seconds from there the next moment is 1580, so entry 1, which ends at 1200,
+// cannot wait for it. Entry 2 ends at 2040, past its need: whether a renewal would lead it only to 1110 says nothing of the plan.
+#[test]
+fn a_round_hopes_for_those_who_are_wanted_alone(rt: HostRuntime) -> Result<(), Fail> {
+    let alloc = rt.alloc();
+    let rows = [token(600, 9000), token(600, 9000), token(70, 1540)];
+    let mut watch = Watch::new(alloc, forest_of(alloc, 60, &rows)?, 8)?;
+    looks_up(&rt, alloc, &mut watch, &[0, 1, 2], &[100, 200, 1040])?;
+    let output = watch.step(alloc, clock(1_040_000))?;
+    assert!(rt; asks(&output, Operation::Renew, &[0, 1], Patience::Full));
+    match &output.notes.round {
+        Some(round) => assert!(rt; round.list() == &[0, 1][..]),
+        None => assert!(rt; false, "a round"),
+    }
+    Ok(())
 }

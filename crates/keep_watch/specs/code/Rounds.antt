@@ -7,24 +7,24 @@ use Rattle.keep_watch.specs.declared.track.Track.{Track}
 use Rattle.keep_watch.specs.Margins.{lesser}
 use Rattle.keep_watch.specs.Press.{is_pressed_try}
 use Rattle.keep_watch.specs.Wanted.{believed}
-use Rattle.keep_watch.specs.code.Tracks.{is_fresh_for, keeps_margin}
+use Rattle.keep_watch.specs.code.Tracks.{is_fresh_for, keeps_margin, wants}
 
 -- an entry that carries that need opens a round
 unfoldable pub opens_for : ℕ → Entry → Track → ℕ → ℕ → Bool
 opens_for margin e x need now = is_fresh_for margin e x need now && (keeps_margin margin e x && nat_lt now (believed x))
 
 -- it counts as renewed now
-unfoldable pub hoped_for : ℕ → Entry → Track → Bool
-hoped_for margin e x = not x.endless && (not (keeps_margin margin e x) || (is_none x.end || is_pressed_try x.attempt))
+unfoldable pub hoped_for : ℕ → Entry → Track → ℕ → Bool
+hoped_for margin e x need = wants x need && (not (keeps_margin margin e x) || (is_none x.end || is_pressed_try x.attempt))
 
 -- how far a renewal leads in the plan, where the entry's own step is that one
 abbrev pub step_for : ℕ → Entry → Track → ℕ → ℕ
 step_for margin e x step = if keeps_margin margin e x then lesser e.step x.grant else step
 
--- an entry, written as it is seen, for the Asks
-unfoldable pub planned_for : ℕ → Entry → Track → ℕ → Entry → Entry
-planned_for margin e x now seen =
-    if hoped_for margin e x
+-- an entry that carries that need, written as it is seen, for the Asks
+unfoldable pub planned_for : ℕ → Entry → Track → ℕ → ℕ → Entry → Entry
+planned_for margin e x need now seen =
+    if hoped_for margin e x need
     then record seen { end = capped seen.ceiling (now + lesser e.step x.grant); renewable = false }
     else record seen { renewable = x.renewable && not x.top; step = step_for margin e x seen.step }
 

@@ -24,10 +24,10 @@ returns-then-is_hoped c =
     let f = entry_at g.entries i in
     let e = c.args.entry.now in
     let x = c.args.track in
-    let hoped : hoped_for g.margin e x ≡ true = sym (c.is_hoped.ensures ∙ ap (λ m. hoped_for m e x) c.margin-margin.ensures) ∙ c.if-is_hoped.true in
+    let hoped : hoped_for g.margin e x c.args.need ≡ true = sym (c.is_hoped.ensures ∙ ap (λ m. hoped_for m e x c.args.need) c.margin-margin.ensures) ∙ c.if-is_hoped.true in
     let ends = c.capped.ensures ∙ ap (λ (y : Entry). capped y.ceiling c.plus.result) c.get.ensures.value ∙ ap (capped f.ceiling) (c.plus.ensures.value ∙ ap (λ n. c.args.now + n) c.lead-lead.ensures) in
     set_again g c.set_end.new.self c.set_renewable.new.self i _ (λ (y : Entry). record y { renewable = false }) c.requires c.set_end.ensures c.set_renewable.ensures
-    ∙ ap (λ y. record g { entries = set g.entries i y }) (hoped_is g.margin c.args.now c.capped.result e f x hoped ends)
+    ∙ ap (λ y. record g { entries = set g.entries i y }) (hoped_is g.margin c.args.need c.args.now c.capped.result e f x hoped ends)
 
 pub returns : goal.returns
 returns c =
@@ -36,8 +36,8 @@ returns c =
     let f = entry_at g.entries i in
     let e = c.args.entry.now in
     let x = c.args.track in
-    let kept : hoped_for g.margin e x ≡ false = sym (c.is_hoped.ensures ∙ ap (λ m. hoped_for m e x) c.margin-margin.ensures) ∙ c.if-is_hoped.false in
+    let kept : hoped_for g.margin e x c.args.need ≡ false = sym (c.is_hoped.ensures ∙ ap (λ m. hoped_for m e x c.args.need) c.margin-margin.ensures) ∙ c.if-is_hoped.false in
     let steps = c.step_in_plan-step.ensures.value ∙ ap (λ m. step_for m e x c.get-2.result.now.step) c.margin-margin.ensures ∙ ap (λ (y : Entry). step_for g.margin e x y.step) c.get-2.ensures.value in
     set_again g c.set_terms.new.self c.set_renewable-2.new.self i _ (λ (y : Entry). record y { renewable = c.goes_further.result }) c.requires c.set_terms.ensures c.set_renewable-2.ensures
     ∙ ap (λ y. record g { entries = set g.entries i y })
-    (kept_is g.margin c.args.now c.step_in_plan-step.result c.get.result.now.ceiling c.goes_further.result e f x kept steps (ap (λ (y : Entry). y.ceiling) c.get.ensures.value) c.goes_further.ensures)
+    (kept_is g.margin c.args.need c.args.now c.step_in_plan-step.result c.get.result.now.ceiling c.goes_further.result e f x kept steps (ap (λ (y : Entry). y.ceiling) c.get.ensures.value) c.goes_further.ensures)

@@ -33,7 +33,7 @@ returns-clause-round c = λ width is carried.
     sym (opens_any s c.deref.result.now loads c.args.view.now c.second-now.result c.deref.ensures.value c.second-now.ensures.value c.requires.view.count is carried)
     ∙ sym c.opens_some.ensures ∙ c.if-not-opens_some.false in
     let plan : v.entries ≡ plan_view s =
-    c.write_plan_view.ensures.planned (is ∙ sym (view_by s) ∙ ap (λ ys. view (seen_by g ys b.clocks)) (sym c.deref-2.ensures.value))
+    c.write_plan_view.ensures.planned (is ∙ sym (view_by s) ∙ ap (λ ys. view (seen_by g ys b.clocks)) (sym c.deref-2.ensures.value)) carried
     ∙ ap (λ ys. plan_view (seen_by g ys b.clocks)) c.deref-2.ensures.value ∙ plan_by s in
     let margin = c.write_plan_view.ensures.view.margin in
     let at : now ≡ second s = c.moment_at-now.ensures ∙ c.second-now.ensures.value in
