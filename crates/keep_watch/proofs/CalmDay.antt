@@ -4,7 +4,6 @@ use Rattle.std.proofs.lemmas.Bool.{cases_Bool, cases_lt}
 use Rattle.std.proofs.lemmas.List.Elements.{All-nil}
 use Rattle.std.specs.List.{list_any}
 use Rattle.keep_tree.specs.Forest.{Forest}
-use Rattle.keep_tree.proofs.Placed.{parents_first}
 use Rattle.keep_rule.specs.declared.wake.Wake.{Wake}
 use Rattle.keep_rule.specs.Asks.{with_asks}
 use Rattle.keep_watch.specs.declared.clocks.Clocks.{Clocks}
@@ -24,12 +23,11 @@ use Rattle.keep_watch.specs.LawsOfLoad.{asked_by as asked_for, requests_of}
 use Rattle.keep_watch.specs.LawsOfTime.{round_of}
 use Rattle.keep_watch.specs.Refusal.{refusal}
 use Rattle.keep_watch.specs.Renewed.{renewed}
-use Rattle.keep_watch.specs.Round.{asked_by, planned}
+use Rattle.keep_watch.specs.Round.{asked_by}
 use Rattle.keep_watch.specs.State.{State, attempt_at}
 use Rattle.keep_watch.specs.Settling.{timed}
 use Rattle.keep_watch.specs.Step.{Step, StepClock, readied}
-use Rattle.keep_watch.specs.Wanted.{second, wanted_need}
-use Rattle.keep_watch.proofs.Believed.{believed_count, believed_is_forest, carried_believed, carried_within}
+use Rattle.keep_watch.specs.Wanted.{second}
 use Rattle.keep_watch.proofs.Calming.{IsIdle, unpressed}
 use Rattle.keep_watch.proofs.Clocking.{IsCounted, readied_begun, readied_clock, readied_counted}
 use Rattle.keep_watch.proofs.Foreseen.{short_led, there_is_plan, wanted_short}

@@ -1,10 +1,9 @@
 -- CalmGrant: a renewal that is granted by the rule keeps a watch on its plan. For the law of calm.
-use Rattle.std.proofs.Common.{◌≡◌, ◌≢◌, ◌⊎◌, ◌∙◌, ℕ, ◌+◌, ◌<◌, ◌≤◌, Bool, true, false, cond, not, ◌&&◌, ◌||◌, ◌==◌, List, [], ◌∷◌, Option, Some, None, filter, is_none, is_some, min, nat_le, nat_lt, unwrap_or, refl, sym, ap, ap₂, subst, arith, inl, inr}
+use Rattle.std.proofs.Common.{◌≡◌, ◌≢◌, ◌⊎◌, ◌∙◌, ℕ, ◌+◌, ◌<◌, Bool, true, false, cond, not, ◌&&◌, ◌||◌, ◌==◌, List, [], ◌∷◌, Option, Some, None, filter, is_some, min, nat_le, nat_lt, unwrap_or, refl, sym, ap, ap₂, subst, arith, inl, inr}
 use Rattle.std.proofs.lemmas.Bool.{cases_Bool, cases_eq, cases_lt, cond-true, cond-false}
 use Rattle.std.proofs.lemmas.Bool.Decides.{nat_tests}
 use Rattle.std.proofs.lemmas.List.{length-set}
 use Rattle.std.specs.List.{list_any}
-use Rattle.keep_tree.specs.declared.entry.Entry.{Entry}
 use Rattle.keep_tree.specs.declared.forest.TheConstants.{END_MAX}
 use Rattle.keep_tree.specs.Forest.{Forest, entry_at}
 use Rattle.keep_tree.specs.Push.{IsForest}
@@ -25,8 +24,8 @@ use Rattle.keep_watch.specs.Refusal.{is_same, waits_for}
 use Rattle.keep_watch.specs.Renewed.{from_try, granted, granted_end, is_no_further, is_topped, renewed, try_granted}
 use Rattle.keep_watch.specs.Slice.{is_away, is_first}
 use Rattle.keep_watch.specs.State.{State, attempt_at, entry_of, track_at, unanswered_of, with_tracks}
-use Rattle.keep_watch.specs.Wanted.{believed, is_fixed, is_wanted, second, seen, wanted_need}
-use Rattle.keep_watch.proofs.Calming.{AreAlike, IsIdle, entry_step, forest_alike, idle_on, plan_alike, terms_alike}
+use Rattle.keep_watch.specs.Wanted.{believed, is_fixed, is_wanted, second, seen}
+use Rattle.keep_watch.proofs.Calming.{AreAlike, IsIdle, entry_step, forest_alike, idle_on, plan_alike}
 use Rattle.keep_watch.proofs.Cases.{if_cases}
 use Rattle.keep_watch.proofs.Foreseen.{wanted_short}
 use Rattle.keep_watch.proofs.Going.{Goes, IsTried, need_alike, tried_on}

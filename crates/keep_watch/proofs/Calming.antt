@@ -1,8 +1,7 @@
 -- Calming: what is believed but for ends, and what is known of an entry that nobody asks, stays while time passes and others are answered.
 -- For the law of calm.
-use Rattle.std.proofs.Common.{◌≡◌, ◌∙◌, ℕ, ◌+◌, ◌*◌, ◌/◌, ◌≤◌, Bool, true, false, cond, not, ◌&&◌, ◌||◌, ◌==◌, if◌then◌else◌, List, [], ◌∷◌, Option, Some, None, filter, is_none, length, map, max, min, nat_lt, option_map, refl, sym, ap, ap₂, arith, inl, inr}
+use Rattle.std.proofs.Common.{◌≡◌, ◌∙◌, ℕ, ◌*◌, ◌/◌, ◌≤◌, Bool, true, false, cond, not, ◌&&◌, ◌||◌, ◌==◌, if◌then◌else◌, List, [], ◌∷◌, Option, None, filter, is_none, length, map, max, min, option_map, refl, sym, ap, ap₂, arith, inl, inr}
 use Rattle.std.proofs.lemmas.Bool.{cases_Bool, cases_lt}
-use Rattle.std.proofs.lemmas.Bool.Decides.{nat_tests}
 use Rattle.std.proofs.Math.Path.{fun_ext}
 use Rattle.std.specs.List.{range_with_len}
 use Rattle.keep_moment.specs.declared.moment.TheConstants.{LAST}
@@ -12,7 +11,6 @@ use Rattle.keep_tree.specs.Carried.{carried}
 use Rattle.keep_tree.specs.Forest.{Forest, entry_at}
 use Rattle.keep_tree.specs.Over.{chain}
 use Rattle.keep_tree.specs.Push.{IsForest}
-use Rattle.keep_tree.specs.Renewal.{capped}
 use Rattle.keep_tree.proofs.Carrying.{carried_at_least, carried_is_of}
 use Rattle.keep_rule.specs.Unkeepable.{AllKeepable}
 use Rattle.keep_watch.specs.declared.clocks.Offset.{Offset}

@@ -49,3 +49,5 @@ pub mod Going
 pub mod CalmClock
 pub mod CalmGrant
 pub mod CalmDay
+pub mod Counting
+pub mod Recovering

@@ -33,10 +33,10 @@ times_cons : (i j : ℕ) (xs : List ℕ) → times i (j ∷ xs) ≡ cond (j == i
 times_cons i j xs = sum_by-cons (λ k. cond (k == i) 1 0) j xs
 
 -- one more, and one that is another
-counts : (i j : ℕ) (xs : List ℕ) → (j == i) ≡ true → times i (j ∷ xs) ≡ 1 + times i xs
+pub counts : (i j : ℕ) (xs : List ℕ) → (j == i) ≡ true → times i (j ∷ xs) ≡ 1 + times i xs
 counts i j xs same = times_cons i j xs ∙ ap (λ (b : Bool). cond b 1 0 + times i xs) same
 
-skips : (i j : ℕ) (xs : List ℕ) → (j == i) ≡ false → times i (j ∷ xs) ≡ times i xs
+pub skips : (i j : ℕ) (xs : List ℕ) → (j == i) ≡ false → times i (j ∷ xs) ≡ times i xs
 skips i j xs other = times_cons i j xs ∙ ap (λ (b : Bool). cond b 1 0 + times i xs) other ∙ zero-add (times i xs)
 
 times_range : (n a i : ℕ) → (i < a → times i (range_with_len a n) ≡ 0) × (times i (range_with_len a n) ≤ 1)

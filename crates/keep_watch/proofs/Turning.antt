@@ -154,7 +154,7 @@ known_within s j end renewable h =
     grind (arith, nat_tests)
 
 -- no clock is taken while somebody is out
-closed_out : (s : State) (wall elapsed i : ℕ) → refusal s (Clock wall elapsed) ≡ None → is_out s.slice i ≡ false
+pub closed_out : (s : State) (wall elapsed i : ℕ) → refusal s (Clock wall elapsed) ≡ None → is_out s.slice i ≡ false
 unfolding refusal
 closed_out s wall elapsed i h = nobody (unanswered_of s.slice) i (none_if (is_open (unanswered_of s.slice)) SliceOpen None h).0 where
   nobody : (rest : List Request) (k : ℕ) → is_open rest ≡ false → list_any (λ q. q.entry == k) rest ≡ false

@@ -82,7 +82,7 @@ step_width old new (Need i until) output h = (none_asked output _ old.width h.0 
 step_width old new Begin output h = (none_asked output _ old.width h.0 refl, ap (λ (x : State). x.width) h.1)
 step_width old new (Known i end renewable) output h = (none_asked output _ old.width h.0 refl, ap (λ (x : State). x.width) h.1)
 
-turn_width : (old new : State) (event : Event) (result : Result Output WatchFault) → Turn old event result new → (length (requests_of result) ≤ old.width) × (new.width ≡ old.width)
+pub turn_width : (old new : State) (event : Event) (result : Result Output WatchFault) → Turn old event result new → (length (requests_of result) ≤ old.width) × (new.width ≡ old.width)
 turn_width old new event (Ok output) h = step_width old new event output h.1
 turn_width old new event (Err fault) h = (omega arith, ap (λ (x : State). x.width) (refused_stays old new event fault h))
 

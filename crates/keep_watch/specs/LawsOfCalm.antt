@@ -23,11 +23,10 @@ use Rattle.keep_watch.specs.LawsOfTime.{round_of}
 use Rattle.keep_watch.specs.Margins.{is_in_plan, lead, time}
 use Rattle.keep_watch.specs.Press.{is_pressed}
 use Rattle.keep_watch.specs.Renewed.{granted_end}
-use Rattle.keep_watch.specs.Round.{planned}
 use Rattle.keep_watch.specs.Settling.{timed}
 use Rattle.keep_watch.specs.State.{State, attempt_at, entry_of, indices, opened, track_at, unanswered_of}
 use Rattle.keep_watch.specs.Step.{readied, why}
-use Rattle.keep_watch.specs.Wanted.{believed, is_wanted, second, seen, wanted_need}
+use Rattle.keep_watch.specs.Wanted.{believed, is_wanted, second, seen}
 
 -- the believed ends
 unfoldable pub ends : State → ℕ → ℕ

@@ -20,4 +20,5 @@ pub mod LawsOfEnds
 pub mod LawsOfTime
 pub mod LawsOfWaiting
 pub mod LawsOfCalm
+pub mod LawsOfRecovery
 pub mod code
