@@ -1,0 +1,102 @@
+"""Changes that are given to whoever leads, while that one is killed, stopped or cut off; and whether those that were
+acknowledged hold at whoever leads next."""
+
+from __future__ import annotations
+
+import asyncio
+import random
+import re
+from dataclasses import replace
+from pathlib import Path
+from typing import Awaitable, Callable
+
+from leasekeep_inventory.durations import until_text
+from leasekeep_inventory.inventory import Entry, entry_text
+from leasekeepd_lib.control import ControlFault, send_command
+
+ABSENT = "absent"
+SECONDS = 10.0
+"""The longest that an answer is waited for: one that was stopped gives none."""
+PAUSE = (2.0, 8.0)
+OF_NEEDS = 0.8
+"""How many of the changes are of a need: each other one begins a process anew."""
+_LINE = re.compile(r"(\S+) [a-z]+ end \S+ need (\S+) .*")
+
+
+class Orders:
+    """Gives needs, additions and drops, one after the other, and looks at what the leader shows behind each. `leader` tells the
+    control socket of who leads, and a word that is another one once another leads; `spare` are entries to add and drop."""
+
+    def __init__(self, leader: Callable[[], Awaitable[tuple[Path, str] | None]], sockets: list[Path], kept: list[Entry],
+                 spare: list[Entry], chance: random.Random) -> None:
+        self._leader, self._sockets, self._chance = leader, sockets, chance
+        self._kept, self._spare = kept, spare
+        self._may_be = {entry.name: {until_text(entry.need)} for entry in kept} | {entry.name: {ABSENT} for entry in spare}
+        self._number = 0
+        self._turn = asyncio.Lock()
+        self.acknowledged, self.refused, self.looks = 0, 0, 0
+        self.lost: list[str] = []
+
+    async def serve(self) -> None:
+        """Runs until it is cancelled."""
+        while True:
+            await self.give()
+            await self.look()
+            await asyncio.sleep(self._chance.uniform(*PAUSE))
+
+    async def give(self) -> None:
+        """One change, mostly at who leads. What was acknowledged is what may be there; what was not may be there too."""
+        async with self._turn:
+            await self._give()
+
+    async def _give(self) -> None:
+        led = await self._leader()
+        if led is None:
+            return
+        socket = self._chance.choice(self._sockets) if self._chance.random() < 0.1 else led[0]
+        name, words, value = self._change()
+        self._may_be[name].add(value)
+        if await _say(socket, words) is None:
+            self.refused += 1
+        else:
+            self.acknowledged += 1
+            self._may_be[name] = {value}
+
+    def _change(self) -> tuple[str, list[str], str]:
+        """A change that no other is like: its entry's name, its words, and what `status` shows behind it."""
+        self._number += 1
+        if self._chance.random() < OF_NEEDS:
+            entry = self._chance.choice(self._kept)
+            until = entry.need + self._number
+            return entry.name, ["need", entry.name, str(until)], until_text(until)
+        entry = self._chance.choice(self._spare)
+        if ABSENT in self._may_be[entry.name]:
+            entry = replace(entry, need=entry.need + self._number)
+            return entry.name, ["add", entry_text(entry, is_served=True)], until_text(entry.need)
+        return entry.name, ["drop", entry.name], ABSENT
+
+    async def look(self) -> bool:
+        """Compares what the leader shows with what was acknowledged; whether one led all the while."""
+        async with self._turn:
+            return await self._look()
+
+    async def _look(self) -> bool:
+        before = await self._leader()
+        lines = None if before is None else await _say(before[0], ["status"])
+        if not lines or not lines[0].startswith("next-wake ") or await self._leader() != before:
+            return False
+        shown = {line[1]: line[2] for line in map(_LINE.fullmatch, lines[1:]) if line is not None}
+        for name, may_be in self._may_be.items():
+            if shown.get(name, ABSENT) not in may_be:
+                self.lost.append(f"{name}: {shown.get(name, ABSENT)}, and {' or '.join(sorted(may_be))} was acknowledged")
+        self.looks += 1
+        return True
+
+
+async def _say(socket: Path, words: list[str]) -> list[str] | None:
+    """The lines of the answer; None where there is none, or it is a refusal."""
+    try:
+        async with asyncio.timeout(SECONDS):
+            return await asyncio.to_thread(send_command, socket, words)
+    except (ControlFault, TimeoutError):
+        return None
