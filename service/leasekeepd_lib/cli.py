@@ -176,8 +176,8 @@ def _add_serve(commands: "argparse._SubParsersAction[argparse.ArgumentParser]", 
     serving.add_argument("--name", default="", metavar="NAME",
                        help="this agent's name, for --spread and --standby (default: the machine's name and the state folder)")
     serving.add_argument("--spread", type=_spread, default=0, metavar="SECONDS",
-                       help="wake up earlier by a fixed part of so many seconds, which follows from the name: so that many agents"
-                       " of one broker form no herd (default: 0, at most the margin)")
+                       help="wake up earlier, and start later where nothing is due, by a fixed part of so many seconds, which"
+                       " follows from the name: so that many agents of one broker form no herd (default: 0, at most the margin)")
     serving.add_argument("--standby", type=_standby, metavar="ETCD",
                        help="serve only while no other leasekeepd of this fleet does: etcd:http://[USER@]HOST:PORT/PREFIX")
     serving.add_argument("--standby-password", type=Path, metavar="FILE", help="the file of USER's password at etcd")

@@ -27,10 +27,10 @@ from .metrics import Figures, metrics_text
 from .notify import Notifier
 from .secret_watch import SecretWatch
 from .source import Loaded, Source, SourceFault
-from .spread import earlier
+from .spread import earlier, may_wait
 from .status import EntryStatus, FileReading, status_lines
 from .storage import Storage
-from .watch_lines import WatchLine
+from .watch_lines import WatchLine, read_watch_line
 from .watch_process import Watch, WatchLauncher
 from .watch_standings import Standings
 
@@ -56,6 +56,8 @@ class Surroundings:
     dropped_lines: Callable[[], int] = lambda: 0
     part: int = 0
     """Seconds by which this agent wakes up earlier."""
+    start_part: int = 0
+    """Seconds for which its start waits where nothing comes to its time by then."""
 
 
 class Service:
@@ -168,8 +170,18 @@ class Service:
             self._log.note(note)
         return inventory
 
+    def _wait_at_start(self) -> None:
+        """Lets the first process wait for this agent's part of the spread, where no entry's time comes by then."""
+        known, part = self._around.ends.known(self._handed()), self._around.start_part
+        if part and may_wait(self._handed(), known, part, self._clock.wall(), self._clock.elapsed()):
+            self.watch.hold(part)
+            self._log.info("start", "waits for", part, "s: nothing comes to its time by then")
+            for line in known:
+                self.standings.hear(read_watch_line(line.replace("known", "end", 1)))
+
     async def serve(self) -> None:
         """Runs until it is cancelled."""
+        self._wait_at_start()
         works = [self.watch.serve(), self._again_and_again(self._report), self._again_and_again(self._secrets.serve)]
         if self._around.alerts is not None:
             works.append(self._again_and_again(self._around.alerts.serve))

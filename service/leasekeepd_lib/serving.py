@@ -80,12 +80,13 @@ class _Serving:
             log.listeners.append(self._alerts.hear)
         logging.getLogger("asyncio").addHandler(_ToLog(log))
         logging.getLogger("asyncio").propagate = False
+        part = part_of(arguments.name or own_name(state), arguments.spread)
         source = Source(arguments.file, state / "inventory.toml", arguments.timeout, arguments.names_are_secrets,
                         storage)
         around = Surroundings(
             source, Journal(state / "journal", storage), KnownEnds(state / "ends", storage, boot_id(os.environ)),
             Notifier(os.environ), storage, arguments.metrics, self._alerts, lambda: outlet.dropped,
-            part_of(arguments.name or own_name(state), arguments.spread))
+            part, part)
         command = WatchCommand(arguments.leasekeep, arguments.address, arguments.timeout, arguments.width)
         broker = Broker(HttpTransport(arguments.address), arguments.timeout)
         self._service: Service | Standby = Service(around, clock, broker, command, log)

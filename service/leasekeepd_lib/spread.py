@@ -6,6 +6,7 @@ import hashlib
 import socket
 from dataclasses import replace
 from pathlib import Path
+from typing import Iterable
 
 from leasekeep_inventory.inventory import Inventory
 from leasekeep_inventory.room import Room
@@ -28,3 +29,12 @@ def earlier(inventory: Inventory, seconds: int) -> Inventory:
     most = Room.of((entry.step, entry.name) for entry in inventory.entries).most
     wider = min(inventory.margin + min(seconds, inventory.margin), most)
     return replace(inventory, margin=wider) if wider > inventory.margin else inventory
+
+
+def may_wait(inventory: Inventory, known: Iterable[str], seconds: int, wall: float, elapsed: float) -> bool:
+    """Whether nothing would be asked too late if nothing was asked for so many seconds: the end of each entry that is needed was
+    told by the broker, as these `known` lines say, and its time comes later than that. An end that only the file writes does
+    not count."""
+    ends = {name: int(end) / 1000 for _, name, end, _ in (line.split(" ") for line in known)}
+    latest = elapsed + seconds + inventory.margin
+    return all(ends.get(name, 0.0) > latest for name, need in inventory.carried.items() if need > wall)

@@ -67,6 +67,7 @@ class Watch:
         self._inventory = self._wanted = Inventory()
         self._changes: deque[str] = deque()
         self._waiter = Waiter()
+        self._held_until = 0
         self.starts = 0
 
     @property
@@ -80,6 +81,10 @@ class Watch:
         self._wanted = inventory
         self._waiter.ring()
 
+    def hold(self, seconds: int) -> None:
+        """Starts the first process so much later, unless a change comes before."""
+        self._held_until = self._elapsed() + 1000 * seconds
+
     def need(self, inventory: Inventory, name: str, until: int) -> None:
         """Goes on with an inventory in which that need alone is another."""
         is_told = self._wanted is self._inventory
@@ -91,6 +96,8 @@ class Watch:
 
     async def serve(self) -> None:
         """Runs until it is cancelled."""
+        self._inventory = self._wanted
+        await self._sleep(self._held_until)
         quick = 0
         while True:
             began = self._clock.elapsed()

@@ -44,7 +44,8 @@ def standing_by(arguments: argparse.Namespace, around: Surroundings, clock: Cloc
     prefix = arguments.standby.prefix
 
     def make(led: Led) -> Service:
-        here = replace(around, journal=led.journal, ends=led.ends, notifier=_LedNotifier(os.environ), alerts=None)
+        here = replace(around, journal=led.journal, ends=led.ends, notifier=_LedNotifier(os.environ), alerts=None,
+                       start_part=0)  # (Who takes over looks at once what has become of it all.)
         return Service(here, clock, broker, LedLauncher(launcher, led.may_ask, led.is_alone), log)
 
     def ends(told: bytes) -> SharedEnds:

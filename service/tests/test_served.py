@@ -112,7 +112,8 @@ class Room:
         storage = Storage()
         around = Surroundings(
             Source(self.file, self.folder / "copy", 5, False, storage), Journal(self.folder / "journal", storage),
-            KnownEnds(self.folder / "ends", storage, "boot"), Notifier({}), storage, part=self.part)
+            KnownEnds(self.folder / "ends", storage, "boot"), Notifier({}), storage, part=self.part,
+            start_part=self.part)
         service = Service(around, self.world, Broker(VaultTransport(self.vault), 5.0), self.launcher,
                           Log(LineForm(self.world), self.output))
         service.load()
@@ -170,6 +171,28 @@ class Served(unittest.TestCase):
             await room.after(1)
             self.assertEqual(room.launcher.children[-1].written[-2].split(" ")[:2], ["need", "web"])
             self.assertEqual(len(room.launcher.inventories), 1)
+        self.play(scene, part=17)
+
+    def test_a_start_waits_for_its_part_where_nothing_is_due_by_then(self) -> None:
+        async def scene(room: Room) -> None:
+            self.assertEqual((len(room.launcher.inventories), room.said("start")), (1, []))  # (Nothing is known yet.)
+            ahead = int((room.world.elapsed() + 1000) * 1000)
+            for service, ends, is_due in ((room.fresh(), (ahead, ahead, ahead), False), (room.fresh(), (ahead, 100_000, ahead), True)):
+                for name, end in zip(("app", "web", "db"), ends):
+                    entry = service.inventory.find(name)
+                    assert entry is not None
+                    service._around.ends.keep(entry, end, True)
+                begun = len(room.launcher.inventories)
+                serving = asyncio.create_task(service.serve())
+                await room.after(16)
+                status = await service.command(["status"], WHO)
+                self.assertEqual(len(room.launcher.inventories) - begun, 1 if is_due else 0)
+                self.assertEqual([line.split(" ")[1] for line in status[1:]], ["trying" if is_due else "kept"] * 3)
+                await room.after(2)
+                self.assertEqual(len(room.launcher.inventories) - begun, 1)
+                serving.cancel()
+                await asyncio.gather(serving, return_exceptions=True)
+            self.assertEqual(room.said("start"), ["start waits for 17 s: nothing comes to its time by then"])
         self.play(scene, part=17)
 
     def test_a_need_that_is_always(self) -> None:

@@ -6,7 +6,7 @@ import unittest
 
 from leasekeep_inventory.inventory import Entry, Inventory, Kind, inventory_text
 from leasekeep_inventory.inventory_file import read_inventory
-from leasekeepd_lib.spread import earlier, part_of
+from leasekeepd_lib.spread import earlier, may_wait, part_of
 
 
 def inventory(margin: int, *steps: int) -> Inventory:
@@ -55,6 +55,33 @@ class Margins(unittest.TestCase):
                     wider = earlier(inventory(margin, step), seconds)
                     self.assertEqual(read_inventory(inventory_text(wider).encode()).faults, [])
                     self.assertGreaterEqual(wider.margin, margin)
+
+
+class AStart(unittest.TestCase):
+    """Whether a start may wait: at 5,000 s of the wall clock, 1,000 s of the elapsed one, a margin of 60."""
+
+    def may_wait(self, seconds: int, *known: str, need: int = 9000) -> bool:
+        over, under, idle = (Entry(name, Kind.TOKEN, parent, 0, 99999, increment=3600, need=until, credential=f"s.{name}")
+                             for name, parent, until in (("over", None, 0), ("under", "over", need), ("idle", None, 4999)))
+        return may_wait(Inventory((over, under, idle), 60), known, seconds, 5000.0, 1000.0)
+
+    def test_where_all_is_known_and_far(self) -> None:
+        """Its time is its end less the margin: 1,101 s here."""
+        self.assertTrue(self.may_wait(40, "known over 1161000 yes", "known under 1161000 no"))
+        self.assertTrue(self.may_wait(100, "known over 1161000 yes", "known under 1161000 yes"))
+        self.assertFalse(self.may_wait(101, "known over 1161000 yes", "known under 1161000 yes"))
+        self.assertFalse(self.may_wait(40, "known over 1161000 yes", "known under 1100000 yes"))
+
+    def test_what_is_over_one_that_is_needed_counts(self) -> None:
+        self.assertFalse(self.may_wait(40, "known over 1100000 yes", "known under 1161000 yes"))
+        self.assertFalse(self.may_wait(40, "known under 1161000 yes"))
+
+    def test_the_end_in_the_file_does_not_count(self) -> None:
+        self.assertFalse(self.may_wait(1))
+        self.assertFalse(self.may_wait(0))
+
+    def test_where_nothing_is_needed(self) -> None:
+        self.assertTrue(self.may_wait(40, need=5000))
 
 
 if __name__ == "__main__":

@@ -70,6 +70,32 @@ class Clocks(InStage):
         words, _ = self.played(1001, script, width=4).given()
         self.assertEqual(words[3:], ["--timeout", "5", "--width", "4"])
 
+    def test_a_start_that_waits(self) -> None:
+        """No process is there before its moment; a change is not kept waiting."""
+        for happens, begins, shown in (
+            ((), 1040.0, ONE),
+            (((1003, lambda stage: stage.watch.take(TWO)),), 1003.0, TWO),
+            (((1003, lambda stage: stage.watch.need(needed(1300), "web", 1300)),), 1003.0, needed(1300)),
+        ):
+            script: Script = [[(clock(int(begins * 1000)), ["wait 9000000"])]]
+
+            async def scene(stage: WatchStage) -> None:
+                stage.watch.hold(40)
+                await stage.serve(1041, *((moment, lambda happen=happen: happen(stage)) for moment, happen in happens))
+            stage = self.play(scene, script)
+            self.assertEqual((stage.launched, stage.handed_in()), ([begins], [line for line, _ in script[0]]))
+            self.assertEqual(stage.given()[1], inventory_text(shown))
+            (self.folder / "script.0").unlink()
+
+    def test_a_start_that_waits_and_is_suspended(self) -> None:
+        """What it sleeps by does not count the suspension: it sees it within a second."""
+        script: Script = [[(clock(1_056_000), ["wait 9000000"])]]
+
+        async def scene(stage: WatchStage) -> None:
+            stage.watch.hold(40)
+            await stage.serve(1057, (1010.5, lambda: setattr(stage.world, "suspended", 1045.0)))
+        self.assertEqual(self.play(scene, script).handed_in(), [script[0][0][0]])
+
     def test_each_clock_by_itself(self) -> None:
         """The wall clock may be set; what is waited for is the other."""
         script: Script = [[(clock(1_000_000), ["wait 1010000"]), (clock(4_610_000, 1_010_000), ["wait 1010001"]),
