@@ -3,6 +3,7 @@
 from __future__ import annotations
 
 import asyncio
+import os
 import time
 from dataclasses import replace
 from pathlib import Path
@@ -13,7 +14,7 @@ from leasekeep_inventory.inventory import Entry, Inventory, Kind, inventory_text
 
 from .relay import LiveBroker, Relay
 
-LEASEKEEPD = Path(__file__).resolve().parents[1] / "leasekeepd"
+LEASEKEEPD = Path(os.environ.get("LEASEKEEPD", Path(__file__).resolve().parents[1] / "leasekeepd"))
 
 
 def short_leases(now: int, seconds: int) -> Inventory:
