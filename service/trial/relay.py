@@ -59,11 +59,12 @@ class LiveBroker:
 
 
 class Relay:
-    """Listens at a UNIX socket, or with a certificate at a port of 127.0.0.1, and has each request served by the
-    broker."""
+    """Listens at a UNIX socket, or with a certificate at a port of 127.0.0.1, and has each request served by the broker, `delay`
+    seconds after it came."""
 
     def __init__(self, path: Path, certificate: ssl.SSLContext | None = None) -> None:
         self._path, self._certificate = path, certificate
+        self.delay = 0.0
         self.port = 0
         self.last_head = b""
         self.broker: LiveBroker | None = None
@@ -88,6 +89,7 @@ class Relay:
             async with asyncio.timeout(TALK_SECONDS):
                 request = await read_request(reader)
                 self.last_head = request.partition(b"\r\n\r\n")[0]
+                await asyncio.sleep(self.delay)
                 if self.broker is not None:
                     writer.write(await self.broker.exchange(request))
                     await writer.drain()
