@@ -204,7 +204,8 @@ fn hear_whole<E: Exchange, W: Sink>(
     Ok(bytes.len() - rest.len())
 }
 
-/// Hears one line, which is without its line feed and has this number, and writes and flushes its lines.
+/// Hears one line, which is without its line feed and has this number, and writes and flushes its lines. Its requests may take
+/// as long as those of the first.
 fn hear_line<E: Exchange, W: Sink>(
     alloc: Global,
     keeper: &mut Keeper,
@@ -223,6 +224,7 @@ fn hear_line<E: Exchange, W: Sink>(
     let Some(heard) = heard_in(keeper.forest(), line) else {
         return Err(Stop::Line(number));
     };
+    exchange.begin_line();
     let mut text = Vec::new(alloc);
     hear(alloc, keeper, exchange, credentials, port, heard, &mut text)?;
     send(out, &text)

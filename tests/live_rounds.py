@@ -1,0 +1,141 @@
+"""Rounds of `leasekeep run` against a broker of this file, over a port of 127.0.0.1 and over a UNIX socket at once, in real
+time: python3 tests/live_rounds.py TRIAL LEASEKEEP. It prints what came of both, in words that tests/end-to-end-live compares.
+
+late: the first reply to a renewal comes after 6 seconds, each other one after 0.3 seconds, with a margin of 20.
+"""
+
+from __future__ import annotations
+
+import re
+import socketserver
+import sys
+import tempfile
+import threading
+import time
+from pathlib import Path
+
+from trying import Agent, framed, read_request
+
+START = 1000
+MARGIN = 20
+NAMES = ("a", "b", "c")
+TOLD = 26
+"""What each lookup and each renewal tells, in seconds: the next round is six seconds later."""
+
+INVENTORY = f"margin = {MARGIN}\n" + "".join(
+    f'[[token]]\nname = "{name}"\nsecret = "s.{name}"\nissued = {START}\nend = {START + TOLD}\nincrement = {TOLD}\n'
+    f"max_ttl = 9000\nneed = 9000\n"
+    for name in NAMES
+)
+
+
+class Clock:
+    """The moment now: START and the real seconds since."""
+
+    def __init__(self) -> None:
+        self._began = time.monotonic()
+
+    def now(self) -> float:
+        return START + time.monotonic() - self._began
+
+    def wait_until(self, moment: float) -> None:
+        time.sleep(max(0.0, moment - self.now()))
+
+
+class Broker:
+    """Keeps the end of each token, and whether one was asked for that had ended. A request is served when it comes, by a thread
+    of its own, and its reply comes as late as `lateness` says, by the number of the renewal (0 for a lookup)."""
+
+    def __init__(self, clock: Clock) -> None:
+        self._clock = clock
+        self._lock = threading.Lock()
+        self._ends = dict.fromkeys((f"s.{name}" for name in NAMES), float(START + TOLD))
+        self._renewals = 0
+        self.has_lost = False
+
+    def serve(self, request: bytes) -> tuple[float, bytes]:
+        """How late the reply comes, and its bytes."""
+        found = re.search(rb"\r\nX-Vault-Token: (\S+)", request)
+        secret = "" if found is None else found[1].decode()
+        with self._lock:
+            now = self._clock.now()
+            if self._ends.get(secret, 0.0) <= now:
+                self.has_lost = True
+                return 0.0, framed(b'{"errors":["permission denied"]}', b"403 Forbidden")
+            if b"/lookup-self" in request:
+                return 0.3, framed(b'{"data":{"creation_time":%d,"renewable":true,"ttl":%d}}' % (START, TOLD))
+            self._renewals += 1
+            self._ends[secret] = now + TOLD
+            late = 6.0 if self._renewals == 1 else 0.3
+            return late, framed(b'{"auth":{"lease_duration":%d,"renewable":true}}' % TOLD)
+
+
+def listen(broker: Broker, path: Path | None) -> tuple[socketserver.BaseServer, str]:
+    """Serves at a free port, or at the socket of that path; the server, and the word for its place."""
+
+    class Handler(socketserver.BaseRequestHandler):
+        def handle(self) -> None:
+            try:
+                late, reply = broker.serve(read_request(self.request))
+                time.sleep(late)
+                self.request.sendall(reply)
+            except OSError:
+                pass
+
+    kind = socketserver.ThreadingTCPServer if path is None else socketserver.ThreadingUnixStreamServer
+    server = kind(("127.0.0.1", 0) if path is None else str(path), Handler)
+    server.daemon_threads = True
+    threading.Thread(target=server.serve_forever, daemon=True).start()
+    return server, str(server.server_address[1]) if path is None else str(path)
+
+
+def drive(program: Path, room: Path, clock: Clock, place: str) -> list[list[str]]:
+    """Sends each tick when its moment has come, and again a second later where the round has to be made again, as
+    docs/commands/run.md has it, for 22 seconds or six rounds; the answers of each round."""
+    agent = Agent(program, room, "tokens.toml", place)
+    for _ in NAMES:
+        agent.hear()
+    rounds = []
+    moment = START
+    while moment < START + 22 and len(rounds) < 6:
+        clock.wait_until(moment)
+        lines = [line.split() for line in agent.say(b"tick %d" % moment).decode().splitlines()]
+        answers = [words[0] for words in lines if words[0] in ("told", "refused", "lost")]
+        if answers:
+            rounds.append(answers)
+        if lines[-1][0] not in ("next", "sleep") or lines[-1][1] == "none":
+            break
+        if lines[-1][1] == str(moment):
+            time.sleep(1)
+        moment = int(lines[-1][1])
+    agent.end()
+    return rounds
+
+
+def late(program: Path) -> None:
+    """Prints the answers of each round, and whether a token ended."""
+    with tempfile.TemporaryDirectory() as folder:
+        room = Path(folder)
+        (room / "tokens.toml").write_text(INVENTORY)
+        said: dict[str, str] = {}
+
+        def one(name: str, path: Path | None) -> None:
+            clock = Clock()
+            broker = Broker(clock)
+            server, place = listen(broker, path)
+            rounds = drive(program, room, clock, place)
+            server.shutdown()
+            words = "; ".join(" ".join(answers) for answers in rounds)
+            said[name] = f"{name}: {words}{'; a token has ended' if broker.has_lost else ''}"
+
+        trials = [threading.Thread(target=one, args=pair) for pair in (("port", None), ("socket", room / "socket"))]
+        for trial in trials:
+            trial.start()
+        for trial in trials:
+            trial.join()
+        for name in sorted(said):
+            print(said[name])
+
+
+if __name__ == "__main__":
+    {"late": late}[sys.argv[1]](Path(sys.argv[2]).resolve())
