@@ -12,6 +12,8 @@ pub mod Answers
 pub mod Looked
 pub mod Renewed
 pub mod Settling
+pub mod Readings
+pub mod Shortness
 pub mod Refusal
 pub mod Step
 pub mod History

@@ -1,2 +1,9 @@
+pub mod Texts
+pub mod Told
 pub mod Lines
+pub mod Watching
+pub mod Answers
+pub mod Slices
+pub mod Clocked
+pub mod Hears
 pub mod WatchRun
