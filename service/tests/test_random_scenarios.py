@@ -239,9 +239,13 @@ def wrongly_lost(stage: Stage, happened: list[str]) -> list[str]:
     return lost
 
 
+LOOKUPS_OWED_FOR_EVER = (305, 323, 347)
+"""Seeds in which an entry is never looked up: its grants are too short to leave time for it."""
+
+
 class RandomTerms(unittest.TestCase):
     def test_what_ends_is_told_and_nothing_ends_that_could_be_kept(self) -> None:
-        for seed in range(FIRST, FIRST + SCENARIOS):
+        for seed in (*range(FIRST, FIRST + SCENARIOS), *LOOKUPS_OWED_FOR_EVER):
             with self.subTest(seed=seed):
                 stage, happened = simulate(act_out_real(seed))
                 log = f"{happened}\n{stage.output.getvalue()[-4000:]}"

@@ -42,6 +42,7 @@ pub mod Shorting
 pub mod Looking
 pub mod Believed
 pub mod Forested
+pub mod FirstTime
 pub mod Foreseen
 pub mod Calming
 pub mod OfPlan
@@ -50,4 +51,5 @@ pub mod CalmClock
 pub mod CalmGrant
 pub mod CalmDay
 pub mod Counting
+pub mod Reaching
 pub mod Recovering

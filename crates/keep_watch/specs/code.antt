@@ -6,3 +6,4 @@ pub mod Waiting
 pub mod View
 pub mod Rounds
 pub mod Clocked
+pub mod Readings

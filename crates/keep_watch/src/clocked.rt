@@ -98,7 +98,7 @@ fn begin_anew(
 }
 
 /// Writes the view, and gives what the entries carry. The only error is want of memory.
-fn needs_of(
+pub(crate) fn needs_of(
     alloc: Global,
     view: &mut Forest,
     forest: &Forest,

@@ -1,18 +1,21 @@
 //! What a watch says of itself between two events.
-ghost use Rattle.std.specs.Prelude.{◌≡◌, ◌<◌, IfErr, is_some, length, min};
-ghost use Rattle.std.specs.List.{list_any};
-ghost use Rattle.keep_watch.specs.declared.clocks.TheConstants.{READING_MAX};
-ghost use Rattle.keep_watch.specs.Clocks.{to_there};
+ghost use Rattle.std.specs.Prelude.{◌≡◌, ◌<◌, ℕ, IfErr, IfOk, is_some, length};
+ghost use Rattle.keep_watch.specs.Readings.{IsNext, broker_moment};
 ghost use Rattle.keep_watch.specs.State.{track_at};
+ghost use Rattle.keep_watch.specs.code.Bounds.{IsBook};
+ghost use Rattle.keep_watch.specs.code.Readings.{earlier, timed_for};
+ghost use Rattle.keep_watch.specs.code.Watching.{HasNeeds, IsBeside, state_of};
 ghost use Rattle.keep_watch.specs.declared.fault.WatchFault.TheVariants.{OutOfMemory};
 
-use crate::clocks::{Clocks, READING_MAX, moment_at, second};
+use crate::book::Book;
+use crate::clocked::needs_of;
+use crate::clocks::{Clocks, READING_MAX};
 use crate::fault::WatchFault;
 use crate::margins::time;
 use crate::track::Track;
-use crate::wanted::{is_wanted, write_view};
+use crate::wanted::is_wanted;
 use crate::watch::Watch;
-use keep_needs::{Carried, carry};
+use keep_needs::Carried;
 use keep_tree::Forest;
 use std::alloc::Global;
 
@@ -26,27 +29,41 @@ pub struct Next {
 }
 
 /// The earlier of the first time so far and that of an entry, of which the one so far is of a lower index.
-fn earlier(first: Option<Next>, at: u64, entry: u32) -> Option<Next> {
+fn earlier(first: Option<Next>, at: u64, entry: u32) -> Option<Next>
+    ensures { result ≡ earlier first at entry }
+{
     match first {
         Some(first) if first.at <= at => Some(first),
         _ => Some(Next { at, entry }),
     }
 }
 
-/// The first time of the entries that are wanted and whose end is known, by what they carry.
-fn first_time(forest: &Forest, tracks: &[Track], needs: &Carried) -> Option<Next>
-    requires count { length tracks.now ≡ length forest.now.entries }
-    requires needs { length needs.now ≡ length forest.now.entries }
+/// Whether an entry that carries that need is wanted, and its end is known.
+#[tactic(auto, unfolding(crate::specs::code::Readings::timed_for))]
+fn is_timed(track: Track, need: u64) -> bool
+    ensures { result ≡ timed_for track need }
 {
-    let mut first = None;
-    for index in 0..forest.len() {
-        let track = tracks[index as usize];
-        if is_wanted(track, needs.need(index)) && track.end.is_some() {
-            let at = time(forest.margin(), forest.get(index), track);
-            first = earlier(first, at, index);
+    is_wanted(track, need) && track.end.is_some()
+}
+
+impl Book {
+    /// The first time of the entries that are wanted and whose end is known, by what they carry.
+    fn next_time(&self, forest: &Forest, needs: &Carried) -> Option<Next>
+        requires count { IsBeside forest.now self.now }
+        requires needs { length needs.now ≡ length forest.now.entries }
+        requires book { IsBook self.now }
+        ensures { (width : ℕ) → HasNeeds (state_of forest.now width self.now) needs.now → IsNext (state_of forest.now width self.now) result }
+    {
+        let mut first = None;
+        for index in 0..forest.len() {
+            let track = self.track(index);
+            if is_timed(track, needs.need(index)) {
+                let at = time(forest.margin(), forest.get(index), track);
+                first = earlier(first, at, index);
+            }
         }
+        first
     }
-    first
 }
 
 impl Watch {
@@ -67,7 +84,7 @@ impl Watch {
     /// What the broker's clock shows at a second of this clock, in seconds since 1970-01-01T00:00:00Z; after the greatest
     /// reading, what it shows then.
     pub fn broker_moment(&self, second: u64) -> u64
-        ensures { result ≡ to_there self.now.clocks.broker (min second READING_MAX) }
+        ensures { result ≡ broker_moment self.now second }
     {
         self.book.clocks.broker.to_there(second.min(READING_MAX))
     }
@@ -81,22 +98,14 @@ impl Watch {
         self.book.track(index).end
     }
 
-    /// Whether a lookup is owed.
-    pub fn owes(&self) -> bool
-        ensures { result ≡ list_any (λ track. track.owes) self.now.tracks }
-    {
-        self.book.tracks.iter().any(|track| track.owes)
-    }
-
     /// The first time of the entries that are wanted and whose end is known, `None` where there is none; of an entry that is
     /// asked and not yet granted it is past. The only error is want of memory.
     pub fn next(&mut self, alloc: Global) -> Result<Option<Next>, WatchFault>
+        ensures next { IfOk result (IsNext self.old) }
         ensures refused { IfErr result (λ fault. fault ≡ OutOfMemory) }
         ensures unchanged { self.new ≡ self.old }
     {
-        let clocks = self.book.clocks;
-        write_view(&mut self.view, &self.forest, &self.book.tracks, clocks);
-        let needs = carry(alloc, &self.view, moment_at(second(clocks.at)))?;
-        Ok(first_time(&self.forest, &self.book.tracks, &needs))
+        let needs = needs_of(alloc, &mut self.view, &self.forest, &self.book)?;
+        Ok(self.book.next_time(&self.forest, &needs))
     }
 }

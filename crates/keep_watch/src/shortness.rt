@@ -1,64 +1,96 @@
 //! Needs that are past what their entries reach.
-ghost use Rattle.std.specs.Prelude.{◌<◌, length};
+ghost use Rattle.std.specs.Prelude.{◌≡◌, ◌<◌, length, map};
+ghost use Rattle.keep_tree.specs.Over.{chain};
+ghost use Rattle.keep_watch.specs.Shortness.{end_there, is_led, is_owed_over, own_reach, short_of};
+ghost use Rattle.keep_watch.specs.Wanted.{least};
 
 use crate::clocks::second;
 use crate::press::is_alive;
-use crate::track::Track;
 use crate::wanted::is_fixed;
 use crate::watch::Watch;
-use keep_tree::{END_MAX, Entry};
-
-/// The lesser of two moments, of which `None` is after every other one.
-fn lesser(one: Option<u64>, other: Option<u64>) -> Option<u64> {
-    match (one, other) {
-        (None, _) => other,
-        (_, None) => one,
-        (Some(one), Some(other)) => Some(one.min(other)),
-    }
-}
+use keep_tree::END_MAX;
 
 impl Watch {
-    /// How far renewals can still lead the entry by itself, by the broker's clock, `None` where there is no limit: its
-    /// believed end, where it is led no further or that is past, else the greater of its end and its ceiling.
-    fn own_reach(&self, entry: &Entry, track: Track) -> Option<u64> {
-        if track.endless {
-            return None;
-        }
-        let end = match track.end {
+    /// The believed end of an entry by the broker's clock, 0 where it is unknown.
+    #[tactic(auto, unfolding(crate::specs::Shortness::end_there))]
+    fn end_there(&self, index: u32) -> u64
+        requires { index < length self.now.forest.entries }
+        ensures { result ≡ end_there self.now index }
+    {
+        match self.end_of(index) {
             None => 0,
             Some(end) => self.broker_moment(end),
-        };
-        if track.end.is_some()
-            && (is_fixed(track) || !is_alive(track, second(self.book.clocks.at)))
-        {
-            return Some(end);
-        }
-        match entry.ceiling {
-            None => None,
-            Some(ceiling) => Some(ceiling.max(end)),
         }
     }
 
-    /// The least reach of the entries over this one, itself included, by the broker's clock.
-    fn least_reach(&self, index: u32) -> Option<u64>
+    /// Whether renewals still lead an entry: its end is unknown, or ahead and not the last.
+    #[tactic(auto, unfolding(crate::specs::Shortness::is_led, crate::specs::State::track_at))]
+    fn is_led(&self, index: u32) -> bool
         requires { index < length self.now.forest.entries }
+        ensures { result ≡ is_led self.now index }
     {
-        let entry = self.forest.get(index);
-        let own = self.own_reach(entry, self.book.track(index));
-        match entry.parent {
-            None => own,
-            Some(parent) => lesser(own, self.least_reach(parent)),
+        let track = self.book.track(index);
+        track.end.is_none() || (is_alive(track, second(self.book.clocks.at)) && !is_fixed(track))
+    }
+
+    /// How far renewals can lead an entry by itself, by the broker's clock, past every need where there is no limit.
+    #[tactic(auto, unfolding(crate::specs::Shortness::own_reach, keep_rule::specs::Reach::reach_of, crate::specs::State::track_at, crate::specs::State::entry_of))]
+    fn own_reach(&self, index: u32) -> u64
+        requires { index < length self.now.forest.entries }
+        ensures { result ≡ own_reach self.now index }
+    {
+        if self.book.track(index).endless {
+            return END_MAX;
+        }
+        let end = self.end_there(index);
+        if !self.is_led(index) {
+            return end;
+        }
+        match self.forest.get(index).ceiling {
+            None => END_MAX,
+            Some(ceiling) => end.max(ceiling),
         }
     }
 
-    /// The least reach over an entry, in seconds by the broker's clock, where it is before the entry's need and the need is
-    /// ahead; else `None`.
+    /// The lesser of `above` and the least reach of the entries over this one, itself included, by the broker's clock.
+    fn least_reach(&self, index: u32, above: u64) -> u64
+        requires { index < length self.now.forest.entries }
+        ensures { result ≡ least above (map (own_reach self.now) (chain self.now.forest.entries index)) }
+    {
+        let least = above.min(self.own_reach(index));
+        match self.forest.get(index).parent {
+            None => least,
+            Some(parent) => self.least_reach(parent, least),
+        }
+    }
+
+    /// Whether a lookup is owed of an entry or of one over it.
+    fn is_owed_over(&self, index: u32) -> bool
+        requires { index < length self.now.forest.entries }
+        ensures { result ≡ is_owed_over self.now index }
+    {
+        if self.book.track(index).owes {
+            return true;
+        }
+        match self.forest.get(index).parent {
+            None => false,
+            Some(parent) => self.is_owed_over(parent),
+        }
+    }
+
+    /// How far an entry can be led, in seconds by the broker's clock, where that is before its need and the need is ahead; else
+    /// `None`. It is also `None` while a lookup is owed of the entry or of one over it, which may tell more.
+    #[tactic(auto, unfolding(crate::specs::Shortness::short_of, crate::specs::Shortness::least_reach, crate::specs::State::entry_of))]
     pub fn short_of(&self, index: u32) -> Option<u64>
         requires { index < length self.now.forest.entries }
+        ensures { result ≡ short_of self.now index }
     {
+        if self.is_owed_over(index) {
+            return None;
+        }
         let need = self.forest.get(index).need;
         let now = self.broker_moment(second(self.book.clocks.at));
-        let reach = self.least_reach(index).unwrap_or(END_MAX);
+        let reach = self.least_reach(index, END_MAX);
         if now < need && reach < need {
             Some(reach)
         } else {

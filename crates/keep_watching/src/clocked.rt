@@ -21,10 +21,8 @@ impl Watching {
         };
         let Output { command, notes } = output;
         self.push_clock_notes(alloc, &notes, text)?;
-        if !self.watch.owes() {
-            let names = self.inventory.forest();
-            push_shorts(alloc, &self.watch, names, &mut self.shorts, text)?;
-        }
+        let names = self.inventory.forest();
+        push_shorts(alloc, &self.watch, names, &mut self.shorts, text)?;
         match command {
             Command::Ask { requests, patience } => {
                 self.ask(alloc, exchange, wall, requests.list(), patience, text)?;

@@ -166,6 +166,38 @@ fn refusals_leave_it_as_it_was(rt: HostRuntime) -> Result<(), Fail> {
     waits(&rt, alloc, &mut watch, 1_000_000, 1_001_000)
 }
 
+// The end of an entry that is not renewable, as an earlier watch told it.
+fn known(entry: u32) -> Event {
+    Event::Known {
+        entry,
+        end: 1060,
+        renewable: false,
+    }
+}
+
+const LAST: Reply = Reply::Told {
+    seconds: 60,
+    renewable: false,
+    date: None,
+};
+
+#[test]
+fn an_entry_that_owes_a_lookup_hides_no_other_that_is_short(rt: HostRuntime) -> Result<(), Fail> {
+    let alloc = rt.alloc();
+    let mut watch = watch_of(alloc, 2, 1200, 8)?;
+    watch.step(alloc, known(0))?;
+    watch.step(alloc, known(1))?;
+    watch.step(alloc, clock(1_000_000))?;
+    watch.step(alloc, looked(0, Reply::Lost))?;
+    watch.step(alloc, looked(1, LAST))?;
+    assert!(rt; watch.short_of(0).is_none() && watch.short_of(1) == Some(1060));
+    watch.step(alloc, clock(1_000_000))?;
+    watch.step(alloc, clock(1_001_000))?;
+    watch.step(alloc, looked(0, LAST))?;
+    assert!(rt; watch.short_of(0) == Some(1061));
+    Ok(())
+}
+
 // A slice of lookups goes out, as wide as may be, and each is answered.
 fn looks_up(alloc: Global, watch: &mut Watch) -> Result<bool, Fail> {
     let output = watch.step(alloc, clock(1_000_000))?;
