@@ -52,7 +52,7 @@ class Proxy:
 
     async def start(self) -> None:
         self.socket.unlink(missing_ok=True)
-        words, environment = self._haproxy() if self.name == "haproxy" else self._nginx()
+        words, environment = self.command()
         self._process = await asyncio.create_subprocess_exec(
             *words, env={**os.environ, **environment}, stdout=asyncio.subprocess.DEVNULL,
             stderr=asyncio.subprocess.DEVNULL)
@@ -64,6 +64,10 @@ class Proxy:
         if self._process is not None and self._process.returncode is None:
             self._process.terminate()
             await self._process.wait()
+
+    def command(self) -> tuple[list[str], dict[str, str]]:
+        """What is to be run, and what of the environment it reads."""
+        return self._haproxy() if self.name == "haproxy" else self._nginx()
 
     def _haproxy(self) -> tuple[list[str], dict[str, str]]:
         environment = {
