@@ -18,7 +18,8 @@ TALK_SECONDS = 10.0
 CLIENTS_MOST = 32
 ACCEPTED_AT_ONCE = 16
 """Fewer than there may be clients: so a client that has sent its line is read before others can push it out."""
-CLIENT_SECONDS = 60
+CLIENT_SECONDS = 150
+"""Longer than the longest lookup of `replace`: with a time-out of 60, `leasekeep watch` may say nothing for 135."""
 MODE = 0o660
 
 Handler = Callable[[list[str], str], Awaitable[list[str]]]

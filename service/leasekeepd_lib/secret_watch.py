@@ -13,13 +13,14 @@ from .changes import Change, ChangeFault, What
 from .clock import Clock
 from .draft import changed
 from .events import Log
+from .lookups import Looked
 
 EVERY = 2.0
 """Seconds between two looks at the files."""
 LONGEST_PAUSE = 300.0
 
-Refusal = Callable[[Inventory, Entry], Awaitable[str | None]]
-"""Looks an entry up with a new credential: why it may not be taken, in words; None where it may."""
+LookUp = Callable[[Inventory, Entry], Awaitable[Looked]]
+"""Looks an entry up with a new credential."""
 
 
 @dataclass
@@ -35,9 +36,9 @@ class SecretWatch:
     """Looks at the files every two seconds. `inventory` gives the one that is served, `take` serves another, and its words
     say whose secret has changed."""
 
-    def __init__(self, files: SecretFiles, inventory: Callable[[], Inventory], refusal: Refusal,
+    def __init__(self, files: SecretFiles, inventory: Callable[[], Inventory], look_up: LookUp,
                  take: Callable[[Inventory, str], None], clock: Clock, log: Log) -> None:
-        self._files, self._inventory, self._refusal, self._take = files, inventory, refusal, take
+        self._files, self._inventory, self._look_up, self._take = files, inventory, look_up, take
         self._clock, self._log = clock, log
         self._troubles: dict[str, _Trouble] = {}
 
@@ -69,8 +70,8 @@ class SecretWatch:
             new = ready(inventory).find(entry.name)
             if new is None:  # Its token waits for a file of its own.
                 return
-            why = await self._refusal(inventory, new)
-            if why is None:
+            why = (await self._look_up(inventory, new)).refused
+            if not why:
                 now = self._inventory().find(entry.name)
                 if now is not None and now.credential_file == entry.credential_file:
                     self._take(changed(self._inventory(), change, True), entry.name)

@@ -8,7 +8,6 @@ from dataclasses import dataclass, replace
 from pathlib import Path
 from typing import Any, Callable, Coroutine
 
-from leasekeep_inventory.broker import Broker, Heard, Verdict
 from leasekeep_inventory.durations import until_text
 from leasekeep_inventory.inventory import ALWAYS, Entry, Inventory, inventory_text
 from leasekeep_inventory.rfc3339 import date_text
@@ -23,6 +22,7 @@ from .events import Alerts, Log
 from .health import unkept
 from .journal import Journal
 from .known_ends import KnownEnds
+from .lookups import Lookups
 from .metrics import Figures, metrics_text
 from .notify import Notifier
 from .secret_watch import SecretWatch
@@ -63,13 +63,13 @@ class Surroundings:
 class Service:
     """One running daemon."""
 
-    def __init__(self, surroundings: Surroundings, clock: Clock, broker: Broker, launcher: WatchLauncher, log: Log) -> None:
-        self._around, self._clock, self._broker, self._log = surroundings, clock, broker, log
+    def __init__(self, surroundings: Surroundings, clock: Clock, lookups: Lookups, launcher: WatchLauncher, log: Log) -> None:
+        self._around, self._clock, self._lookups, self._log = surroundings, clock, lookups, log
         self._file = Loaded(b"", Inventory())
         self.inventory = Inventory()
         self.standings = Standings(clock)
         self._files = SecretFiles(surroundings.source.path.parent)
-        self._secrets = SecretWatch(self._files, lambda: self.inventory, self._refusal, self._take_file, clock, log)
+        self._secrets = SecretWatch(self._files, lambda: self.inventory, lookups.look_up, self._take_file, clock, log)
         self._day_before = DayBefore(self.standings.moment, self._hear)
         self.watch = Watch(launcher, clock, surroundings.ends, log, self._day_before.hear)
         self._soon: asyncio.TimerHandle | None = None
@@ -312,15 +312,11 @@ class Service:
         assert entry is not None
         if entry.credential_file is not None:
             raise ChangeFault(f"{name} has its credential in a file, {entry.credential_file}: write it there")
-        heard = await self._broker.look_up(inventory, entry)
-        why = _refused(heard)
-        if why is not None:
-            raise ChangeFault(f"{why}: {name} keeps the old one")
+        looked = await self._lookups.look_up(inventory, entry)
+        if looked.refused:
+            raise ChangeFault(f"{looked.refused}: {name} keeps the old one")
         self._change(self._described(change), who)
-        return [] if heard.verdict is Verdict.GOOD else [f"it could not be looked up ({heard.why}), and is taken"]
-
-    async def _refusal(self, inventory: Inventory, entry: Entry) -> str | None:
-        return _refused(await self._broker.look_up(inventory, entry))
+        return [f"it could not be looked up ({looked.missing}), and is taken"] if looked.missing else []
 
     def _settle(self, who: str) -> list[str]:
         path = self._around.source.path
@@ -333,10 +329,3 @@ class Service:
         self._keep_copy()
         self._log.info("settle", "by", who)
         return [f"{path} holds every change"]
-
-
-def _refused(heard: Heard) -> str | None:
-    """Why a new credential is not taken, by what its lookup told; None where it is."""
-    if heard.verdict is Verdict.REFUSED or heard.status == 400:
-        return f"the broker answers {heard.status} to its lookup"
-    return "it never ends (ttl 0) and needs no keeping" if heard.facts is not None and heard.facts.never_ends else None

@@ -11,8 +11,6 @@ import signal
 import traceback
 from pathlib import Path
 
-from leasekeep_inventory.broker import Broker
-from leasekeep_inventory.http_client import HttpTransport
 from leasekeepd_standby.serving import standing_by
 from leasekeepd_standby.standby import Standby
 
@@ -21,6 +19,7 @@ from .control import ControlServer
 from .events import Alerts, Level, LineForm, Log
 from .journal import Journal
 from .known_ends import KnownEnds, boot_id
+from .lookups import Lookups
 from .notify import Notifier
 from .outlet import Outlet
 from .service import Service, Surroundings
@@ -88,10 +87,9 @@ class _Serving:
             Notifier(os.environ), storage, arguments.metrics, self._alerts, lambda: outlet.dropped,
             part, part)
         command = WatchCommand(arguments.leasekeep, arguments.address, arguments.timeout, arguments.width)
-        broker = Broker(HttpTransport(arguments.address), arguments.timeout)
-        self._service: Service | Standby = Service(around, clock, broker, command, log)
+        self._service: Service | Standby = Service(around, clock, Lookups(command, clock), command, log)
         if arguments.standby is not None:
-            self._service = standing_by(arguments, around, clock, broker, command, log)
+            self._service = standing_by(arguments, around, clock, command, log)
         self._control: ControlServer | None = None
         self._held: set[Path] = set()
 

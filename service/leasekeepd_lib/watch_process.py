@@ -17,8 +17,8 @@ from .events import Log
 from .known_ends import KnownEnds
 from .watch_lines import Said, WatchLine, WatchLineFault, read_watch_line
 
-LONGEST_SILENCE = 15.0
-"""Seconds beyond twice the time-out for which a process may say nothing when it is asked."""
+SILENCE_BEYOND = 15.0
+"""Seconds beyond twice the time-out."""
 GOOD_STRETCH = 60.0
 """Seconds that a process goes on before the next one is started without a pause."""
 LONGEST_PAUSE = 30.0
@@ -36,6 +36,20 @@ class WatchLauncher(Protocol):
 
     async def launch(self, inventory: Inventory) -> Child:
         """Starts one on that inventory; LaunchFault where it cannot be started."""
+
+
+def longest_silence(launcher: WatchLauncher) -> float:
+    """Seconds that a process may say nothing when it is asked: longer than any slice of requests takes."""
+    return 2 * launcher.timeout + SILENCE_BEYOND
+
+
+def milliseconds(seconds: float) -> int:
+    return int(seconds * 1000)
+
+
+def clock_line(clock: Clock) -> str:
+    """The line that hands in both clocks."""
+    return f"clock {milliseconds(clock.wall())} {milliseconds(clock.elapsed())}"
 
 
 @dataclass(frozen=True)
@@ -122,7 +136,7 @@ class Watch:
             for line in self._ends.known(self._inventory):
                 await self._hand_in(process, line)
             while self._wanted is self._inventory:
-                wake = await self._hand_in(process, self._clocks())
+                wake = await self._hand_in(process, clock_line(self._clock))
                 if wake is not None:
                     self._write_ends()
                     await self._sleep(wake)
@@ -137,11 +151,8 @@ class Watch:
             if ending.fault:
                 self._log.warn("watch", "ended with", ending.code, ending.fault)
 
-    def _clocks(self) -> str:
-        return f"clock {int(self._clock.wall() * 1000)} {self._elapsed()}"
-
     def _elapsed(self) -> int:
-        return int(self._clock.elapsed() * 1000)
+        return milliseconds(self._clock.elapsed())
 
     async def _sleep(self, wake: int) -> None:
         """Sleeps until the elapsed clock is there, or a change comes."""
@@ -151,7 +162,8 @@ class Watch:
     async def _hand_in(self, process: Child, line: str) -> int | None:
         """Hands a line in and reads to the last that answers it; the moment to wait for, None where there is none."""
         self._waiter.beat()
-        silence = asyncio.timeout(2 * self._launcher.timeout + LONGEST_SILENCE)
+        patience = longest_silence(self._launcher)
+        silence = asyncio.timeout(patience)
         try:
             async with silence:
                 await process.write_line(line)
@@ -159,7 +171,7 @@ class Watch:
                     text = await process.read_line()
                     if text is None:
                         raise _Over("leasekeep watch ended")
-                    silence.reschedule(asyncio.get_running_loop().time() + 2 * self._launcher.timeout + LONGEST_SILENCE)
+                    silence.reschedule(asyncio.get_running_loop().time() + patience)
                     said = read_watch_line(text)
                     self._hear(said)
                     if said.said.ends_answer:

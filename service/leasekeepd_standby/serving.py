@@ -8,11 +8,11 @@ from dataclasses import replace
 from functools import partial
 from pathlib import Path
 
-from leasekeep_inventory.broker import Broker
 from leasekeep_inventory.secret_files import read_secret
 from leasekeepd_lib.clock import Clock
 from leasekeepd_lib.events import Log
 from leasekeepd_lib.known_ends import boot_id
+from leasekeepd_lib.lookups import Lookups
 from leasekeepd_lib.notify import Notifier
 from leasekeepd_lib.service import Service, Surroundings
 from leasekeepd_lib.spread import own_name
@@ -36,8 +36,7 @@ class _LedNotifier(Notifier):
             super().send(*said)
 
 
-def standing_by(arguments: argparse.Namespace, around: Surroundings, clock: Clock, broker: Broker, launcher: WatchLauncher,
-                log: Log) -> Standby:
+def standing_by(arguments: argparse.Namespace, around: Surroundings, clock: Clock, launcher: WatchLauncher, log: Log) -> Standby:
     """One of several, which serves while it leads."""
     file: Path | None = arguments.standby_password
     etcd = Etcd(arguments.standby, ETCD_SECONDS, None if file is None else partial(read_secret, file))
@@ -46,7 +45,8 @@ def standing_by(arguments: argparse.Namespace, around: Surroundings, clock: Cloc
     def make(led: Led) -> Service:
         here = replace(around, journal=led.journal, ends=led.ends, notifier=_LedNotifier(os.environ), alerts=None,
                        start_part=0)  # (Who takes over looks at once what has become of it all.)
-        return Service(here, clock, broker, LedLauncher(launcher, led.may_ask, led.is_alone), log)
+        gated = LedLauncher(launcher, led.may_ask, led.is_alone)
+        return Service(here, clock, Lookups(gated, clock), gated, log)
 
     def ends(told: bytes) -> SharedEnds:
         return SharedEnds(arguments.state / "ends", around.storage, boot_id(os.environ), clock, told)

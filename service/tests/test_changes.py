@@ -13,13 +13,13 @@ from dataclasses import replace
 from pathlib import Path
 from typing import Any, Callable, Coroutine
 
-from leasekeep_inventory.broker import Broker
 from leasekeep_inventory.inventory import Entry, Inventory, Kind, inventory_text
 from leasekeep_inventory.inventory_file import read_inventory
 from leasekeepd_lib.changes import ChangeFault
 from leasekeepd_lib.events import LineForm, Log
 from leasekeepd_lib.journal import Journal
 from leasekeepd_lib.known_ends import KnownEnds
+from leasekeepd_lib.lookups import Lookups
 from leasekeepd_lib.notify import Notifier
 from leasekeepd_lib.service import Service, Surroundings
 from leasekeepd_lib.source import Source, SourceFault
@@ -27,8 +27,9 @@ from leasekeepd_lib.status import State
 from leasekeepd_lib.storage import Storage
 from leasekeepd_lib.watch_lines import read_watch_line
 
+from .model.asked import AskedLauncher
 from .model.quiet import QuietLauncher
-from .model.vault import Act, Fault, Secret, Vault, VaultTransport
+from .model.vault import Act, Fault, Secret, Vault
 from .model.world import World, simulate
 
 BEGAN = 1_000_000
@@ -137,7 +138,7 @@ class Room:
         source = Source(self.file, self.folder / "copy.toml", 5, False, storage)
         around = Surroundings(source, Journal(self.folder / "journal", storage), KnownEnds(self.folder / "ends", storage, "boot"),
                               Notifier({}), storage, self.folder / "metrics")
-        service = Service(around, self.world, Broker(VaultTransport(self.vault), 5.0), self.launcher,
+        service = Service(around, self.world, Lookups(AskedLauncher(self.vault), self.world), self.launcher,
                           Log(LineForm(self.world), self.output))
         service.load()
         return service

@@ -18,6 +18,7 @@ from leasekeep_inventory.secret_files import SecretFault, SecretFiles, is_open_t
 from leasekeepd_lib.changes import Change, What, only_entry, said_by
 from leasekeepd_lib.draft import changed
 from leasekeepd_lib.events import LineForm, Log
+from leasekeepd_lib.lookups import Looked
 from leasekeepd_lib.secret_watch import SecretWatch
 
 LIST = """margin = 20
@@ -227,7 +228,7 @@ class Stage:
         self.looked_up = list[str]()
         self.taken = list[str]()
         self.output = io.StringIO()
-        self.watch = SecretWatch(files, lambda: self.inventory, self.refusal, self.take, self, Log(LineForm(self), self.output))
+        self.watch = SecretWatch(files, lambda: self.inventory, self.look_up, self.take, self, Log(LineForm(self), self.output))
 
     def wall(self) -> float:
         return self.now
@@ -235,9 +236,9 @@ class Stage:
     def elapsed(self) -> float:
         return self.now
 
-    async def refusal(self, inventory: Inventory, entry: Entry) -> str | None:
+    async def look_up(self, inventory: Inventory, entry: Entry) -> Looked:
         self.looked_up.append(f"{entry.name} {entry.secret} as {inventory.root_token(entry)}")
-        return self.refused.get(entry.secret)
+        return Looked(refused=self.refused.get(entry.secret, ""))
 
     def take(self, inventory: Inventory, name: str) -> None:
         self.inventory = inventory
@@ -328,10 +329,10 @@ class Changes(InFolder):
         self.assertEqual(self.stage.looked_up, [])
 
     def test_an_entry_that_changes_while_it_is_looked_up(self) -> None:
-        async def dropped(inventory: Inventory, entry: Entry) -> str | None:
+        async def dropped(inventory: Inventory, entry: Entry) -> Looked:
             self.stage.inventory = self.stage.inventory.mapped(lambda one: None if one.name != "job" else one)
-            return None
-        setattr(self.stage.watch, "_refusal", dropped)
+            return Looked()
+        setattr(self.stage.watch, "_look_up", dropped)
         self.write("app.token", "hvs.new")
         self.stage.look(1000)
         self.assertEqual((self.stage.taken, self.credentials()), ([], ["hvs.job"]))

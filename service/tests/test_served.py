@@ -11,7 +11,6 @@ from pathlib import Path
 from typing import Any, Callable, Coroutine
 from unittest import mock
 
-from leasekeep_inventory.broker import Broker
 from leasekeep_inventory.dialect import SERVED, STRICT
 from leasekeep_inventory.inventory import ALWAYS, Entry, Inventory, Kind, inventory_text
 from leasekeep_inventory.inventory_file import read_inventory
@@ -20,12 +19,14 @@ from leasekeepd_lib.child import Child, ChildExit
 from leasekeepd_lib.events import LineForm, Log
 from leasekeepd_lib.journal import Journal
 from leasekeepd_lib.known_ends import KnownEnds
+from leasekeepd_lib.lookups import Lookups
 from leasekeepd_lib.notify import Notifier
 from leasekeepd_lib.service import Service, Surroundings
 from leasekeepd_lib.source import Source
 from leasekeepd_lib.storage import Storage
 
-from .model.vault import Vault, VaultTransport
+from .model.asked import AskedLauncher
+from .model.vault import Vault
 from .model.world import World, simulate
 
 WHO = "uid 1000 pid 4711"
@@ -114,7 +115,7 @@ class Room:
             Source(self.file, self.folder / "copy", 5, False, storage), Journal(self.folder / "journal", storage),
             KnownEnds(self.folder / "ends", storage, "boot"), Notifier({}), storage, part=self.part,
             start_part=self.part)
-        service = Service(around, self.world, Broker(VaultTransport(self.vault), 5.0), self.launcher,
+        service = Service(around, self.world, Lookups(AskedLauncher(self.vault), self.world), self.launcher,
                           Log(LineForm(self.world), self.output))
         service.load()
         return service
