@@ -11,7 +11,7 @@ import struct
 from pathlib import Path
 from typing import Awaitable, Callable
 
-from .changes import ChangeFault
+from leasekeepd_journal.changes import ChangeFault
 
 LINE_MOST = 65536
 TALK_SECONDS = 10.0

@@ -9,9 +9,8 @@ from pathlib import Path
 from typing import Mapping
 
 from leasekeep_inventory.inventory import Entry, Inventory
-
-from .changes import fingerprint
-from .storage import Storage
+from leasekeepd_journal.changes import fingerprint
+from leasekeepd_journal.storage import Storage
 
 _BOOT_ID = Path("/proc/sys/kernel/random/boot_id")
 _LINE = re.compile(r"(\S+) ((?:0|[1-9]\d{0,17}) (?:yes|no)) ([0-9a-f]{64})", re.ASCII)

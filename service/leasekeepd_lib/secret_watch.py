@@ -8,10 +8,10 @@ from typing import Awaitable, Callable
 
 from leasekeep_inventory.inventory import Entry, Inventory
 from leasekeep_inventory.secret_files import Found, SecretFiles, ready
+from leasekeepd_journal.changes import Change, ChangeFault, What
+from leasekeepd_journal.draft import changed
 
-from .changes import Change, ChangeFault, What
 from .clock import Clock
-from .draft import changed
 from .events import Log
 from .lookups import Looked
 

@@ -13,14 +13,15 @@ from leasekeep_inventory.inventory import ALWAYS, Entry, Inventory, inventory_te
 from leasekeep_inventory.rfc3339 import date_text
 from leasekeep_inventory.secret_files import SecretFiles, ready
 from leasekeep_inventory.values import CREDENTIAL
+from leasekeepd_journal.changes import Change, ChangeFault, What, only_entry, read_when, said_by
+from leasekeepd_journal.draft import changed, replay
+from leasekeepd_journal.journal import Journal
+from leasekeepd_journal.storage import Storage
 
-from .changes import Change, ChangeFault, What, only_entry, read_when, said_by
 from .clock import Clock
 from .day_before import DayBefore
-from .draft import changed, replay
 from .events import Alerts, Log
 from .health import unkept
-from .journal import Journal
 from .known_ends import KnownEnds
 from .lookups import Lookups
 from .metrics import Figures, metrics_text
@@ -29,7 +30,6 @@ from .secret_watch import SecretWatch
 from .source import Loaded, Source, SourceFault
 from .spread import earlier, may_wait
 from .status import EntryStatus, FileReading, status_lines
-from .storage import Storage
 from .watch_lines import WatchLine, read_watch_line
 from .watch_process import Watch, WatchLauncher
 from .watch_standings import Standings

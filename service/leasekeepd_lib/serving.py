@@ -14,10 +14,12 @@ from pathlib import Path
 from leasekeepd_standby.serving import standing_by
 from leasekeepd_standby.standby import Standby
 
+from leasekeepd_journal.journal import Journal
+from leasekeepd_journal.storage import Storage
+
 from .clock import SystemClock
 from .control import ControlServer
 from .events import Alerts, Level, LineForm, Log
-from .journal import Journal
 from .known_ends import KnownEnds, boot_id
 from .lookups import Lookups
 from .notify import Notifier
@@ -25,7 +27,6 @@ from .outlet import Outlet
 from .service import Service, Surroundings
 from .source import Source, SourceFault
 from .spread import own_name, part_of
-from .storage import Storage
 from .watch_process import WatchCommand
 
 EXIT_FAULT = 1

@@ -10,8 +10,7 @@ from leasekeep_inventory.dialect import SERVED
 from leasekeep_inventory.inventory import Inventory
 from leasekeep_inventory.inventory_file import read_inventory
 from leasekeep_inventory.refusals import refusals
-
-from .storage import Storage
+from leasekeepd_journal.storage import Storage
 
 
 class SourceFault(Exception):

@@ -8,11 +8,11 @@ import re
 from pathlib import Path
 
 from leasekeep_inventory.inventory import Entry, Inventory
-from leasekeepd_lib.changes import Change, ChangeFault, What, compacted, only_entry
+from leasekeepd_journal.changes import Change, ChangeFault, What, compacted, only_entry
+from leasekeepd_journal.journal import COMPACT_AT, Journal
+from leasekeepd_journal.storage import Storage
 from leasekeepd_lib.clock import Clock
-from leasekeepd_lib.journal import COMPACT_AT, Journal
 from leasekeepd_lib.known_ends import KnownEnds
-from leasekeepd_lib.storage import Storage
 
 from .etcd_client import Condition, EtcdFault, Kept
 from .leadership import Leadership, Store

@@ -8,7 +8,7 @@ from functools import partial
 from typing import Any, Callable, Protocol
 
 from leasekeep_inventory.inventory import Inventory
-from leasekeepd_lib.changes import ChangeFault
+from leasekeepd_journal.changes import ChangeFault
 from leasekeepd_lib.child import Child, ChildExit, LaunchFault
 from leasekeepd_lib.clock import Clock
 from leasekeepd_lib.events import Alerts, Log

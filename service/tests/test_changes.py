@@ -15,16 +15,16 @@ from typing import Any, Callable, Coroutine
 
 from leasekeep_inventory.inventory import Entry, Inventory, Kind, inventory_text
 from leasekeep_inventory.inventory_file import read_inventory
-from leasekeepd_lib.changes import ChangeFault
+from leasekeepd_journal.changes import ChangeFault
+from leasekeepd_journal.journal import Journal
+from leasekeepd_journal.storage import Storage
 from leasekeepd_lib.events import LineForm, Log
-from leasekeepd_lib.journal import Journal
 from leasekeepd_lib.known_ends import KnownEnds
 from leasekeepd_lib.lookups import Lookups
 from leasekeepd_lib.notify import Notifier
 from leasekeepd_lib.service import Service, Surroundings
 from leasekeepd_lib.source import Source, SourceFault
 from leasekeepd_lib.status import State
-from leasekeepd_lib.storage import Storage
 from leasekeepd_lib.watch_lines import read_watch_line
 
 from .model.asked import AskedLauncher

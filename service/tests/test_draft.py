@@ -10,9 +10,9 @@ from unittest import mock
 
 from leasekeep_inventory.inventory import Entry, Inventory, Kind, inventory_text
 from leasekeep_inventory.inventory_file import LIMIT, read_inventory
-from leasekeepd_lib.changes import Change, ChangeFault, What, compacted, said_by
-from leasekeepd_lib.draft import Draft, changed, replay
-from leasekeepd_lib.journal import Journal
+from leasekeepd_journal.changes import Change, ChangeFault, What, compacted, said_by
+from leasekeepd_journal.draft import Draft, changed, replay
+from leasekeepd_journal.journal import Journal
 from leasekeepd_lib.source import SourceFault
 
 from .test_changes import BEGAN, INVENTORY, TABLE, InRoom, Room, meaning, token
@@ -118,7 +118,7 @@ class Large(InRoom):
             def noted(changes: list[Change]) -> list[Change]:
                 lengths.append(len(changes))
                 return compacted(changes)
-            with mock.patch("leasekeepd_lib.journal.compacted", noted):
+            with mock.patch("leasekeepd_journal.journal.compacted", noted):
                 for place in range(4100):
                     journal.add(Change(What.NEED, f"e{place}", until=1_080_000))
             self.assertEqual(lengths, [1000, 2000, 4000])

@@ -12,11 +12,11 @@ from pathlib import Path
 
 from leasekeep_inventory.inventory import Inventory, Kind, inventory_text
 from leasekeep_inventory.inventory_file import read_inventory
-from leasekeepd_lib import journal as journal_module
-from leasekeepd_lib.changes import Change, What, said_by
-from leasekeepd_lib.draft import replay
-from leasekeepd_lib.journal import Journal
-from leasekeepd_lib.storage import Storage
+from leasekeepd_journal.changes import Change, What, said_by
+from leasekeepd_journal.draft import replay
+from leasekeepd_journal.journal import Journal
+from leasekeepd_journal.storage import Storage
+from leasekeepd_journal import journal as journal_module
 
 from .model.vault import Secret
 from .test_changes import BEGAN, COMMANDS, INVENTORY, TABLE, WHO, FullStorage, InRoom, Room, meaning, token

@@ -18,9 +18,9 @@ from leasekeep_inventory.discover import DiscoverFault, discover, read_short_lis
 from leasekeep_inventory.inventory import Entry, Inventory, Kind, inventory_text
 from leasekeep_inventory.inventory_file import read_inventory
 from leasekeep_inventory.lint import lint
-from leasekeepd_lib.changes import only_entry
+from leasekeepd_journal.changes import only_entry
+from leasekeepd_journal.storage import Storage
 from leasekeepd_lib.source import Source
-from leasekeepd_lib.storage import Storage
 from leasekeepd_lib.widest import widest_margin
 from trial.programs import find_program
 

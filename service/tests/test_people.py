@@ -14,9 +14,9 @@ from leasekeep_inventory.durations import duration_text, meant_duration, read_du
 from leasekeep_inventory.inventory import ALWAYS, Inventory, inventory_text
 from leasekeep_inventory.inventory_file import read_inventory
 from leasekeep_inventory.lint import lint
-from leasekeepd_lib.changes import only_entry
+from leasekeepd_journal.changes import only_entry
+from leasekeepd_journal.storage import Storage
 from leasekeepd_lib.source import Source, SourceFault
-from leasekeepd_lib.storage import Storage
 
 from .model.vault import Vault, VaultTransport
 from .model.world import World, simulate

@@ -15,8 +15,8 @@ from leasekeep_inventory.inventory import Entry, Inventory, inventory_text
 from leasekeep_inventory.inventory_file import read_inventory
 from leasekeep_inventory.lint import lint
 from leasekeep_inventory.secret_files import SecretFault, SecretFiles, is_open_to_others, read_secret, ready
-from leasekeepd_lib.changes import Change, What, only_entry, said_by
-from leasekeepd_lib.draft import changed
+from leasekeepd_journal.changes import Change, What, only_entry, said_by
+from leasekeepd_journal.draft import changed
 from leasekeepd_lib.events import LineForm, Log
 from leasekeepd_lib.lookups import Looked
 from leasekeepd_lib.secret_watch import SecretWatch

@@ -14,16 +14,16 @@ from unittest import mock
 from leasekeep_inventory.dialect import SERVED, STRICT
 from leasekeep_inventory.inventory import ALWAYS, Entry, Inventory, Kind, inventory_text
 from leasekeep_inventory.inventory_file import read_inventory
-from leasekeepd_lib.changes import ChangeFault
+from leasekeepd_journal.changes import ChangeFault
+from leasekeepd_journal.journal import Journal
+from leasekeepd_journal.storage import Storage
 from leasekeepd_lib.child import Child, ChildExit
 from leasekeepd_lib.events import LineForm, Log
-from leasekeepd_lib.journal import Journal
 from leasekeepd_lib.known_ends import KnownEnds
 from leasekeepd_lib.lookups import Lookups
 from leasekeepd_lib.notify import Notifier
 from leasekeepd_lib.service import Service, Surroundings
 from leasekeepd_lib.source import Source
-from leasekeepd_lib.storage import Storage
 
 from .model.asked import AskedLauncher
 from .model.vault import Vault

@@ -14,17 +14,17 @@ from pathlib import Path
 from typing import Any, Callable
 
 from leasekeep_inventory.inventory import Entry, Inventory, Kind, inventory_text
-from leasekeepd_lib.changes import Change, ChangeFault, What
+from leasekeepd_journal.changes import Change, ChangeFault, What
+from leasekeepd_journal.storage import Storage
 from leasekeepd_lib.child import ChildExit, LaunchFault
-from leasekeepd_standby.etcd_client import Kept
 from leasekeepd_lib.events import LineForm, Log
 from leasekeepd_lib.known_ends import KnownEnds
-from leasekeepd_standby.leadership import Leadership
 from leasekeepd_lib.notify import Notifier
-from leasekeepd_standby.shared_changes import SharedEnds, SharedJournal, refuse
 from leasekeepd_lib.source import Source, SourceFault
+from leasekeepd_standby.etcd_client import Kept
+from leasekeepd_standby.leadership import Leadership
+from leasekeepd_standby.shared_changes import SharedEnds, SharedJournal, refuse
 from leasekeepd_standby.standby import Led, LedLauncher, Standby
-from leasekeepd_lib.storage import Storage
 
 from .model.etcd import Client, ModelEtcd
 from .model.world import simulate

@@ -10,7 +10,7 @@ import tempfile
 import unittest
 from pathlib import Path
 
-from leasekeepd_lib.storage import Storage
+from leasekeepd_journal.storage import Storage
 
 
 class Recorded(Storage):

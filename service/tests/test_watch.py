@@ -11,9 +11,9 @@ from pathlib import Path
 from typing import Any, Awaitable, Callable
 
 from leasekeep_inventory.inventory import Inventory, inventory_text
+from leasekeepd_journal.storage import Storage
 from leasekeepd_lib.child import END_SECONDS, Child, ChildExit
 from leasekeepd_lib.known_ends import KnownEnds, boot_id
-from leasekeepd_lib.storage import Storage
 from leasekeepd_lib.watch_lines import Said, WatchLine
 
 from .model.watch_stage import DB, ONE, SILENCE, TWO, WEB, Script, WatchStage

@@ -11,10 +11,10 @@ from typing import Any, Callable
 
 from leasekeep_inventory.http_client import Address
 from leasekeep_inventory.inventory import Entry, Inventory, Kind
+from leasekeepd_journal.storage import Storage
 from leasekeepd_lib.child import END_SECONDS, Child, ChildExit, ChildProcess, LaunchFault
 from leasekeepd_lib.events import LineForm, Log
 from leasekeepd_lib.known_ends import KnownEnds
-from leasekeepd_lib.storage import Storage
 from leasekeepd_lib.watch_lines import WatchLine
 from leasekeepd_lib.watch_process import Watch, WatchCommand
 
