@@ -1,4 +1,4 @@
-"""Changes of a running service: each as a record that stands beside what the file said then (rule 15)."""
+"""Changes of a running service: each as a record that stands beside what the file said then."""
 
 from __future__ import annotations
 

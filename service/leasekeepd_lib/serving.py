@@ -11,11 +11,10 @@ import signal
 import traceback
 from pathlib import Path
 
-from leasekeepd_standby.serving import standing_by
-from leasekeepd_standby.standby import Standby
-
 from leasekeepd_journal.journal import Journal
 from leasekeepd_journal.storage import Storage
+from leasekeepd_standby.serving import standing_by
+from leasekeepd_standby.standby import Standby
 
 from .clock import SystemClock
 from .control import ControlServer
