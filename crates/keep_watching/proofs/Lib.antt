@@ -1,2 +1,4 @@
 pub mod WatchEnding
 pub mod Messages
+pub mod Saying
+pub mod Wording

@@ -7,3 +7,4 @@ pub mod Slices
 pub mod Clocked
 pub mod Hears
 pub mod WatchRun
+pub mod code

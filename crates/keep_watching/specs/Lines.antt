@@ -26,6 +26,13 @@ of_heard (heard.Need i until) = Some (Need i until)
 of_heard heard.Unknown = Some Unknown
 of_heard (heard.Tick t) = None
 
+abbrev pub need_of : Option Heard → Option Line
+need_of said = option_and_then of_heard said
+
+-- `begin`
+abbrev pub begin_in : List ℕ → Option Line
+begin_in word = if bytes_eq word (codes "begin") then Some Begin else None
+
 -- `known NAME END yes|no`, where a name has at least one byte
 abbrev pub flag_in : List ℕ → Option Bool
 flag_in word = if bytes_eq word (codes "yes") then Some true else (if bytes_eq word (codes "no") then Some false else None)
@@ -39,9 +46,8 @@ known_in g name end flag =
     if length name == 0 then None else option_and_then (λ n. option_map (known_of (index_named g.entries name) n) (flag_in flag)) (number_in end)
 
 abbrev pub words_in : Forest → List (List ℕ) → Option Line
-words_in g (word ∷ []) = if bytes_eq word (codes "begin") then Some Begin else None
-words_in g (word ∷ name ∷ until ∷ []) =
-    if bytes_eq word (codes "clock") then clock_in name until else option_and_then of_heard (need_in g word name until)
+words_in g (word ∷ []) = begin_in word
+words_in g (word ∷ one ∷ other ∷ []) = if bytes_eq word (codes "clock") then clock_in one other else need_of (need_in g word one other)
 words_in g (word ∷ name ∷ end ∷ flag ∷ []) = if bytes_eq word (codes "known") then known_in g name end flag else None
 words_in g ws = None
 

@@ -1,11 +1,13 @@
 //! The answer to a request: it is handed in to the machine, and its lines are written.
 ghost use Rattle.std.specs.Prelude.{◌<◌, length};
 
-use crate::texts::{name_of, push_end, push_link, push_named};
+use crate::texts::{
+    name_of, push_end, push_entry, push_gone, push_link, push_lost, push_never, push_orphan,
+    push_refused, push_told, push_top,
+};
 use crate::told::{lookup_reply, no_terms, renewal_reply};
 use crate::watching::{Watching, taken};
 use keep_exchange::{ExchangeFault, hear_lookup, hear_renewal};
-use keep_run::push_numbered;
 use keep_watch::{Event, Notes, Operation, Reply, Request, Terms};
 use std::alloc::{AllocError, Global};
 use vault_http::DatedReply;
@@ -77,17 +79,15 @@ impl Watching {
                 match request.operation {
                     Operation::Look => {
                         let end = self.told_at(date).saturating_add(seconds);
-                        push_numbered(alloc, b"entry ", name, end, text)?;
+                        push_entry(alloc, name, end, text)?;
                     }
-                    Operation::Renew => push_numbered(alloc, b"told ", name, seconds, text)?,
+                    Operation::Renew => push_told(alloc, name, seconds, text)?,
                 }
                 let end = self.end_here(request.entry, seconds);
                 push_end(alloc, name, end, renewable, text)
             }
-            Reply::Refused { status, .. } => {
-                push_numbered(alloc, b"refused ", name, status as u64, text)
-            }
-            Reply::Busy | Reply::Lost => push_named(b"lost ", name, text),
+            Reply::Refused { status, .. } => { push_refused(alloc, name, status, text) }
+            Reply::Busy | Reply::Lost => push_lost(name, text),
         }
     }
 
@@ -118,17 +118,17 @@ impl Watching {
         text: &mut Vec<u8>,
     ) -> Result<(), AllocError> {
         if let Some(status) = notes.gone {
-            push_numbered(alloc, b"gone ", name, status as u64, text)?;
+            push_gone(alloc, name, status, text)?;
         }
         if let Some(end) = notes.top {
             let end = self.watch.broker_moment(end);
-            push_numbered(alloc, b"top ", name, end, text)?;
+            push_top(alloc, name, end, text)?;
         }
         if notes.orphan {
-            push_named(b"orphan ", name, text)?;
+            push_orphan(name, text)?;
         }
         if never {
-            push_named(b"never ", name, text)?;
+            push_never(name, text)?;
         }
         push_link(notes.link, text)
     }

@@ -1,6 +1,5 @@
 //! Needs that cannot be kept any more.
-use crate::texts::name_of;
-use keep_run::push_numbered;
+use crate::texts::{name_of, push_short};
 use keep_tree::Forest;
 use keep_watch::Watch;
 use std::alloc::{AllocError, Global};
@@ -16,7 +15,7 @@ pub(crate) fn push_shorts(
     for entry in 0..watch.forest().len() {
         if let Some(reach) = watch.short_of(entry) {
             if is_news(said, entry, reach) {
-                push_numbered(alloc, b"short ", name_of(names, entry), reach, text)?;
+                push_short(alloc, name_of(names, entry), reach, text)?;
             }
         }
     }

@@ -1,13 +1,24 @@
 //! The lines that a watch is written as.
-ghost use Rattle.std.specs.Prelude.{◌≡◌, ◌++◌, ◌∷◌, [], OnOk, codes, decimal};
+ghost use Rattle.std.specs.Prelude.{◌≡◌, ◌++◌, ◌∷◌, [], List, OnOk, flat_map, map};
+ghost use Rattle.std.specs.List.{list_any};
+ghost use Rattle.keep_run.specs.Text.{name_of, names_of};
+ghost use Rattle.keep_watch.specs.Refusal.{is_same};
+ghost use Rattle.keep_watching.specs.Answers.{if_some};
+ghost use Rattle.keep_watching.specs.Slices.{asked_names};
+ghost use Rattle.keep_watching.specs.Texts as lines;
+ghost use Rattle.keep_watching.specs.code.Asking.{asked_name};
 
+use keep_run::push_numbered;
 use keep_tree::Forest;
 use keep_watch::{Link, Operation, Request, Why};
 use keep_words::push_number;
 use std::alloc::{AllocError, Global};
 
 /// The name of an entry, empty where there is none at that index.
-pub(crate) fn name_of(forest: &Forest, entry: u32) -> &[u8] {
+#[tactic(auto, using(keep_tree::proofs::Entries::entry_at_past))]
+pub(crate) fn name_of(forest: &Forest, entry: u32) -> &[u8]
+    ensures { result.now ≡ name_of forest.now entry }
+{
     if entry < forest.len() {
         forest.get(entry).name.list()
     } else {
@@ -16,7 +27,9 @@ pub(crate) fn name_of(forest: &Forest, entry: u32) -> &[u8] {
 }
 
 /// Appends `begin WHY` and a line feed.
-pub(crate) fn push_begin(why: Why, text: &mut Vec<u8>) -> Result<(), AllocError> {
+pub(crate) fn push_begin(why: Why, text: &mut Vec<u8>) -> Result<(), AllocError>
+    ensures { OnOk result (text.new.items ≡ text.old.items ++ lines.begin_line why) }
+{
     let line = match why {
         Why::Start => b"begin start\n".as_slice(),
         Why::Asked => b"begin asked\n".as_slice(),
@@ -26,6 +39,24 @@ pub(crate) fn push_begin(why: Why, text: &mut Vec<u8>) -> Result<(), AllocError>
     text.extend_from_slice(line)
 }
 
+/// Appends a blank and a name.
+fn push_name(name: &[u8], text: &mut Vec<u8>) -> Result<(), AllocError>
+    ensures { OnOk result (text.new.items ≡ text.old.items ++ (32 ∷ name.now)) }
+{
+    text.push(b' ')?;
+    text.extend_from_slice(name)
+}
+
+/// Appends a blank and the name of each of these entries.
+fn push_names(forest: &Forest, asked: &[u32], text: &mut Vec<u8>) -> Result<(), AllocError>
+    ensures { OnOk result (text.new.items ≡ text.old.items ++ flat_map (λ i. 32 ∷ name_of forest.now i) asked.now) }
+{
+    for entry in asked {
+        push_name(name_of(forest, *entry), text)?;
+    }
+    Ok(())
+}
+
 /// Appends `wake T NAME..` and a line feed.
 pub(crate) fn push_wake(
     alloc: Global,
@@ -33,14 +64,59 @@ pub(crate) fn push_wake(
     t: u64,
     asked: &[u32],
     text: &mut Vec<u8>,
-) -> Result<(), AllocError> {
+) -> Result<(), AllocError>
+    ensures { OnOk result (text.new.items ≡ text.old.items ++ lines.wake_line t (names_of forest.now asked.now)) }
+{
     text.extend_from_slice(b"wake ")?;
     push_number(alloc, t, text)?;
-    for entry in asked {
-        text.push(b' ')?;
-        text.extend_from_slice(name_of(forest, *entry))?;
-    }
+    push_names(forest, asked, text)?;
     text.push(b'\n')?;
+    Ok(())
+}
+
+/// Whether this is asked of somebody.
+fn is_asked(asked: &[Request], operation: Operation) -> bool
+    ensures { result ≡ list_any (λ r. is_same r.operation operation) asked.now }
+{
+    asked
+        .iter()
+        .any(|request| is_same(request.operation, operation))
+}
+
+/// Whether both are lookups, or both renewals.
+fn is_same(one: Operation, other: Operation) -> bool
+    ensures { result ≡ is_same one other }
+{
+    one == other
+}
+
+/// Appends a blank and the name of the entry, where this is asked of it.
+fn push_asked_name(
+    forest: &Forest,
+    request: Request,
+    operation: Operation,
+    text: &mut Vec<u8>,
+) -> Result<(), AllocError>
+    ensures { OnOk result (text.new.items ≡ text.old.items ++ asked_name forest.now operation request) }
+{
+    if is_same(request.operation, operation) {
+        push_name(name_of(forest, request.entry), text)?;
+    }
+    Ok(())
+}
+
+/// Appends a blank and the name of each of whom this is asked.
+fn push_asked_names(
+    forest: &Forest,
+    asked: &[Request],
+    operation: Operation,
+    text: &mut Vec<u8>,
+) -> Result<(), AllocError>
+    ensures { OnOk result (text.new.items ≡ text.old.items ++ flat_map (asked_name forest.now operation) asked.now) }
+{
+    for request in asked {
+        push_asked_name(forest, *request, operation, text)?;
+    }
     Ok(())
 }
 
@@ -52,32 +128,81 @@ pub(crate) fn push_asked(
     asked: &[Request],
     operation: Operation,
     text: &mut Vec<u8>,
-) -> Result<(), AllocError> {
-    let mut is_first = true;
-    for request in asked {
-        if request.operation == operation {
-            if is_first {
-                text.extend_from_slice(word)?;
-            }
-            is_first = false;
-            text.push(b' ')?;
-            text.extend_from_slice(name_of(forest, request.entry))?;
-        }
+) -> Result<(), AllocError>
+    ensures { OnOk result (text.new.items ≡ text.old.items ++ lines.asked_line word.now (asked_names forest.now operation asked.now)) }
+{
+    if !is_asked(asked, operation) {
+        return Ok(());
     }
-    if !is_first {
-        text.push(b'\n')?;
-    }
+    text.extend_from_slice(word)?;
+    push_asked_names(forest, asked, operation, text)?;
+    text.push(b'\n')?;
     Ok(())
 }
 
 /// Appends these words, a name and a line feed.
-pub(crate) fn push_named(words: &[u8], name: &[u8], text: &mut Vec<u8>) -> Result<(), AllocError>
+fn push_named(words: &[u8], name: &[u8], text: &mut Vec<u8>) -> Result<(), AllocError>
     ensures { OnOk result (text.new.items ≡ text.old.items ++ (words.now ++ (name.now ++ (10 ∷ [])))) }
 {
     text.extend_from_slice(words)?;
     text.extend_from_slice(name)?;
     text.push(b'\n')?;
     Ok(())
+}
+
+/// Appends `short NAME T` and a line feed.
+pub(crate) fn push_short(
+    alloc: Global,
+    name: &[u8],
+    reach: u64,
+    text: &mut Vec<u8>,
+) -> Result<(), AllocError>
+    ensures { OnOk result (text.new.items ≡ text.old.items ++ lines.short_line name.now reach) }
+{
+    push_numbered(alloc, b"short ", name, reach, text)
+}
+
+/// Appends `entry NAME END` and a line feed.
+pub(crate) fn push_entry(
+    alloc: Global,
+    name: &[u8],
+    end: u64,
+    text: &mut Vec<u8>,
+) -> Result<(), AllocError>
+    ensures { OnOk result (text.new.items ≡ text.old.items ++ lines.entry_line name.now end) }
+{
+    push_numbered(alloc, b"entry ", name, end, text)
+}
+
+/// Appends `told NAME SECONDS` and a line feed.
+pub(crate) fn push_told(
+    alloc: Global,
+    name: &[u8],
+    seconds: u64,
+    text: &mut Vec<u8>,
+) -> Result<(), AllocError>
+    ensures { OnOk result (text.new.items ≡ text.old.items ++ lines.told_line name.now seconds) }
+{
+    push_numbered(alloc, b"told ", name, seconds, text)
+}
+
+/// Appends `refused NAME STATUS` and a line feed.
+pub(crate) fn push_refused(
+    alloc: Global,
+    name: &[u8],
+    status: u16,
+    text: &mut Vec<u8>,
+) -> Result<(), AllocError>
+    ensures { OnOk result (text.new.items ≡ text.old.items ++ lines.refused_line name.now status) }
+{
+    push_numbered(alloc, b"refused ", name, status as u64, text)
+}
+
+/// Appends `lost NAME` and a line feed.
+pub(crate) fn push_lost(name: &[u8], text: &mut Vec<u8>) -> Result<(), AllocError>
+    ensures { OnOk result (text.new.items ≡ text.old.items ++ lines.lost_line name.now) }
+{
+    push_named(b"lost ", name, text)
 }
 
 /// Appends `end NAME END yes|no` and a line feed.
@@ -87,7 +212,9 @@ pub(crate) fn push_end(
     end: u64,
     renewable: bool,
     text: &mut Vec<u8>,
-) -> Result<(), AllocError> {
+) -> Result<(), AllocError>
+    ensures { OnOk result (text.new.items ≡ text.old.items ++ lines.end_line name.now end renewable) }
+{
     text.extend_from_slice(b"end ")?;
     text.extend_from_slice(name)?;
     text.push(b' ')?;
@@ -100,6 +227,44 @@ pub(crate) fn push_end(
     text.extend_from_slice(last)
 }
 
+/// Appends `gone NAME STATUS` and a line feed.
+pub(crate) fn push_gone(
+    alloc: Global,
+    name: &[u8],
+    status: u16,
+    text: &mut Vec<u8>,
+) -> Result<(), AllocError>
+    ensures { OnOk result (text.new.items ≡ text.old.items ++ lines.gone_line name.now status) }
+{
+    push_numbered(alloc, b"gone ", name, status as u64, text)
+}
+
+/// Appends `top NAME T` and a line feed.
+pub(crate) fn push_top(
+    alloc: Global,
+    name: &[u8],
+    end: u64,
+    text: &mut Vec<u8>,
+) -> Result<(), AllocError>
+    ensures { OnOk result (text.new.items ≡ text.old.items ++ lines.top_line name.now end) }
+{
+    push_numbered(alloc, b"top ", name, end, text)
+}
+
+/// Appends `orphan NAME` and a line feed.
+pub(crate) fn push_orphan(name: &[u8], text: &mut Vec<u8>) -> Result<(), AllocError>
+    ensures { OnOk result (text.new.items ≡ text.old.items ++ lines.orphan_line name.now) }
+{
+    push_named(b"orphan ", name, text)
+}
+
+/// Appends `never NAME` and a line feed.
+pub(crate) fn push_never(name: &[u8], text: &mut Vec<u8>) -> Result<(), AllocError>
+    ensures { OnOk result (text.new.items ≡ text.old.items ++ lines.never_line name.now) }
+{
+    push_named(b"never ", name, text)
+}
+
 /// Appends `next T NAME` and a line feed.
 pub(crate) fn push_next(
     alloc: Global,
@@ -107,19 +272,18 @@ pub(crate) fn push_next(
     name: &[u8],
     text: &mut Vec<u8>,
 ) -> Result<(), AllocError>
-    ensures { OnOk result (text.new.items ≡ text.old.items ++ (codes "next " ++ (decimal t ++ (32 ∷ (name.now ++ (10 ∷ [])))))) }
+    ensures { OnOk result (text.new.items ≡ text.old.items ++ lines.next_line t name.now) }
 {
     text.extend_from_slice(b"next ")?;
     push_number(alloc, t, text)?;
-    text.push(b' ')?;
-    text.extend_from_slice(name)?;
+    push_name(name, text)?;
     text.push(b'\n')?;
     Ok(())
 }
 
 /// Appends `wait ELAPSED` and a line feed.
 pub(crate) fn push_wait(alloc: Global, until: u64, text: &mut Vec<u8>) -> Result<(), AllocError>
-    ensures { OnOk result (text.new.items ≡ text.old.items ++ (codes "wait " ++ (decimal until ++ (10 ∷ [])))) }
+    ensures { OnOk result (text.new.items ≡ text.old.items ++ lines.wait_line until) }
 {
     text.extend_from_slice(b"wait ")?;
     push_number(alloc, until, text)?;
@@ -128,7 +292,9 @@ pub(crate) fn push_wait(alloc: Global, until: u64, text: &mut Vec<u8>) -> Result
 }
 
 /// Appends whether the broker went away, or came back.
-pub(crate) fn push_link(link: Option<Link>, text: &mut Vec<u8>) -> Result<(), AllocError> {
+pub(crate) fn push_link(link: Option<Link>, text: &mut Vec<u8>) -> Result<(), AllocError>
+    ensures { OnOk result (text.new.items ≡ text.old.items ++ if_some lines.link_line link) }
+{
     match link {
         None => Ok(()),
         Some(Link::Away) => text.extend_from_slice(b"away\n"),

@@ -1,5 +1,5 @@
 -- With one more message each can still be written, and is short.
-use Rattle.std.proofs.Common.{All, IfSome, ◌≡◌, sym, subst}
+use Rattle.std.proofs.Common.{All, IfSome, sym, subst}
 use Rattle.keep_exchange.specs.Abreast.{IsShort}
 use Rattle.vault_http.specs.RoundTripRequest.{IsWritable}
 use Rattle.keep_watching.proofs.Messages.{short_more, writable_more}
