@@ -13,3 +13,4 @@ pub mod Margins
 mod Until
 mod SameRun
 pub mod Unheard
+mod SameRehearsal

@@ -45,7 +45,7 @@ one_forest bytes other d = (secrecy_law bytes other d.inventory d.other_inventor
 one_inventory : (bytes : List ℕ) (x y : Inventory) → read_inventory bytes ≡ Ok x → read_inventory bytes ≡ Ok y → x.forest ≡ y.forest
 one_inventory bytes x y a b = let same : x ≡ y = cc in ap (λ (s : Inventory). s.forest) same
 
-keeps_appends : (old new : Option (List ℕ)) → Keeps old new → Appends old new []
+pub keeps_appends : (old new : Option (List ℕ)) → Keeps old new → Appends old new []
 keeps_appends None new h = tt
 keeps_appends (Some xs) None h = absurd h
 keeps_appends (Some xs) (Some ys) h = h ∙ sym (append-nil xs)

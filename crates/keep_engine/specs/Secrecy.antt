@@ -15,6 +15,7 @@ use Rattle.keep_report.specs.Told.{Reports}
 use Rattle.keep_report.specs.Sent.{IsUntouched, Sent}
 use Rattle.keep_engine.specs.PlanRun.{PlanRun}
 use Rattle.keep_engine.specs.ReachRun.{ReachRun}
+use Rattle.keep_engine.specs.RehearseFrom.{Rehearses}
 
 -- two good inventories whose documents differ in the keys `secret` and `lease_id` and their values alone
 pub record DifferInSecrets (bytes other : List ℕ) : Type 0 where
@@ -72,3 +73,8 @@ abbrev pub CheckSecrecy : Type 0
 CheckSecrecy =
     (bytes other text : List ℕ) (asked : Option ℕ) (exit exit' : Exit) (out out' errors errors' : Sent) → DifferInSecrets bytes other →
     CheckRun bytes text asked exit out errors → CheckRun other text asked exit' out' errors' → RunAlike exit exit' out out' errors errors'
+
+abbrev pub RehearseSecrecy : Type 0
+RehearseSecrecy =
+    (bytes other : List ℕ) (start : ℕ) (words : List (List ℕ)) (exit exit' : Exit) (out out' errors errors' : Sent) → DifferInSecrets bytes other →
+    Rehearses bytes start words exit out errors → Rehearses other start words exit' out' errors' → RunAlike exit exit' out out' errors errors'

@@ -3,7 +3,7 @@ ghost use Rattle.keep_engine.specs.Laws.{OneCheckText, OnePlanText, OwnCertifica
 ghost use Rattle.keep_engine.specs.MarginText.{OneMarginText};
 ghost use Rattle.keep_engine.specs.ReachLaws.{BoundLaw, UntilLaw, WhateverIsNeeded};
 ghost use Rattle.keep_engine.specs.ReachText.{OneReachText};
-ghost use Rattle.keep_engine.specs.Secrecy.{CheckSecrecy, EndsSecrecy, MarginSecrecy, PlanSecrecy, ReachSecrecy};
+ghost use Rattle.keep_engine.specs.Secrecy.{CheckSecrecy, EndsSecrecy, MarginSecrecy, PlanSecrecy, ReachSecrecy, RehearseSecrecy};
 
 /// The law that own certificates are accepted. What `print` writes of a decision as `plan` gave it, with the start it was
 /// planned from, is read back over the same forest, and `keep_check::check` can answer nothing but Yes. And what the command
@@ -30,13 +30,15 @@ pub fn no_secret_shows()
 
 /// The law of secrecy over bytes. Of two good inventories whose documents differ in the keys `secret` and `lease_id` and
 /// their values alone, and with the same other arguments, each run writes a front of one text on `out`; and where no device
-/// and no want of memory cuts them short, the runs have one exit, write that text, and report by one fault line, or none.
+/// and no want of memory cuts them short, the runs have one exit, write that text, and report by one fault line, or none. So it
+/// is of `rehearse` too, whatever its FAULT words make the broker do.
 pub fn secrets_change_no_run()
     ensures ends { EndsSecrecy }
     ensures plan { PlanSecrecy }
     ensures margin { MarginSecrecy }
     ensures reach { ReachSecrecy }
     ensures check { CheckSecrecy }
+    ensures rehearse { RehearseSecrecy }
 {}
 
 /// The law of whom `reach` names: BY is over the entry, its reach is UNTIL, which is the least reach over the entry, and no

@@ -29,3 +29,11 @@ pub mod Cut
 pub mod LineByLine
 pub mod EventsRead
 pub mod LiveListening
+pub mod Alike
+pub mod AlikeRows
+pub mod AlikeSteps
+pub mod AlikeAnswers
+pub mod AlikeRuns
+pub mod NextAsks
+pub mod AlikeCourses
+pub mod AlikeFronts

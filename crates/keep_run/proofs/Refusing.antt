@@ -164,7 +164,7 @@ needed_closed old i until (out.Round next) new closed turn = absurd turn.1
 
 -- ---- an answer
 
-answer_steps : (old new : State) (event : Event) (output : Output) → IsAnswer event → Turn old event (Ok output) new → StepAnswer old event output new
+pub answer_steps : (old new : State) (event : Event) (output : Output) → IsAnswer event → Turn old event (Ok output) new → StepAnswer old event output new
 answer_steps old new (Told j seconds renewable) output is turn = turn.1
 answer_steps old new (Refused j) output is turn = turn.1
 answer_steps old new (Lost j) output is turn = turn.1

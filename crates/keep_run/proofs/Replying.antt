@@ -43,7 +43,7 @@ body_told Lease id i t row body same text is =
     ∙ ap (of_lease id i) (renewed_lease_is_read id n row.renewable (text refl) (omega arith))
     ∙ cond-true (bytes_eq id id) (Told i n row.renewable) (Lost i) ((bytes_decides id id).1 refl)
 
-sent_told :
+pub sent_told :
     (kind : Kind) (id : List ℕ) (i t : ℕ) (row : Row) → row.credential ≡ id → (kind ≡ Lease → IsUtf8 id) → (sent : Served) → Tells t (call_for kind) row sent →
     event_of kind id i (reply_in sent) ≡ Told i (seconds_to row.end t) row.renewable
 sent_told kind id i t row same text (served.Reply reply) says = ok_is_told kind id i reply says.0 ∙ body_told kind id i t row reply.body same text says.1

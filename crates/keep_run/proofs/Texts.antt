@@ -36,7 +36,7 @@ module _ (g h : Forest) (like : IsShaped g h) where
   same_wake t (out.Round next) = refl
   same_wake t out.Planned = refl
 
-  same_event : (cs : List (List ℕ)) (x : Exchanged) → event_in cs h x ≡ event_in cs g x
+  pub same_event : (cs : List (List ℕ)) (x : Exchanged) → event_in cs h x ≡ event_in cs g x
   unfolding event_in
   same_event cs x = ap (λ (e : Entry). event_of e.kind (credential_at cs x.entry) x.entry (reply_in x.sent)) (like.each x.entry)
 

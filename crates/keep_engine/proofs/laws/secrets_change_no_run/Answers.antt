@@ -1,4 +1,5 @@
 use Rattle.keep_engine.proofs.SameRun.{check_secrecy, ends_secrecy, margin_secrecy, plan_secrecy, reach_secrecy}
+use Rattle.keep_engine.proofs.SameRehearsal.{rehearse_secrecy}
 use Rattle.keep_engine.proofs.laws.secrets_change_no_run.Goals as goal
 
 pub returns-clause-ends : goal.returns-clause-ends
@@ -15,3 +16,6 @@ returns-clause-reach c = reach_secrecy
 
 pub returns-clause-check : goal.returns-clause-check
 returns-clause-check c = check_secrecy
+
+pub returns-clause-rehearse : goal.returns-clause-rehearse
+returns-clause-rehearse c = rehearse_secrecy

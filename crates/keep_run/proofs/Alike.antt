@@ -1,0 +1,21 @@
+-- Alike: tables of two brokers that differ in credentials alone, where one has the credential of an entry the other has its own
+-- for the same entry.
+-- Source: this project's own.
+use Rattle.std.specs.Prelude.{◌≡◌, ◌↔◌, ℕ, ◌<◌, List, length}
+use Rattle.std.specs.List.{AllZip}
+use Rattle.keep_tree.specs.Forest.{Forest, entry_at}
+use Rattle.keep_inventory.specs.Inventories.{credential_at}
+use Rattle.mini_broker.specs.declared.row.Row.{Row}
+use Rattle.mini_broker.specs.Table.{Table}
+
+-- two rows that differ in their credentials alone; the one has the credential of an entry of its kind by these credentials
+-- exactly where the other has it by those
+pub record AreRowsAlike (g : Forest) (cs ds : List (List ℕ)) (r q : Row) : Type 0 where
+  pub same : q ≡ record r { credential = q.credential }
+  pub found : (i : ℕ) → i < length g.entries → (entry_at g.entries i).kind ≡ r.kind → (r.credential ≡ credential_at cs i) ↔ (q.credential ≡ credential_at ds i)
+
+-- two tables of such rows, in one order, with the same faults and counts
+pub record AreTablesAlike (g : Forest) (cs ds : List (List ℕ)) (l m : Table) : Type 0 where
+  pub rows : AllZip (AreRowsAlike g cs ds) l.rows m.rows
+  pub faults : m.faults ≡ l.faults
+  pub count : m.count ≡ l.count

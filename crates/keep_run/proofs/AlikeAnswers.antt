@@ -1,0 +1,208 @@
+-- Alike answers: over two brokers whose tables differ in credentials alone, the answers of a round are told by one text, and
+-- leave one keeper.
+use Rattle.std.proofs.Common.{◌≡◌, ◌∙◌, ◌==◌, ℕ, suc, ◌<◌, Bool, cond, List, [], ◌∷◌, ◌++◌, Option, Some, Result, Ok, codes, decimal, flat_map, length, map, refl, sym, ap, subst}
+use Rattle.std.proofs.lemmas.List.Elements.{All-head, All-tail}
+use Rattle.std.specs.List.{All}
+use Rattle.keep_tree.specs.declared.entry.Entry.{Entry}
+use Rattle.keep_tree.specs.declared.entry.Kind.{Kind}
+use Rattle.keep_tree.specs.declared.entry.Kind.TheVariants.{Token, Lease}
+use Rattle.keep_tree.specs.Forest.{Forest, entry_at}
+use Rattle.keep_inventory.specs.Inventories.{IsInventory, Inventory, credential_at}
+use Rattle.keep_inventory.specs.declared.terms.Terms.{Terms}
+use Rattle.keep_inventory.proofs.Inventories.{credential_text}
+use Rattle.vault_http.specs.declared.reply.Reply.{Reply}
+use Rattle.vault_http.specs.declared.request.Request.{Request}
+use Rattle.mini_broker.specs.declared.call.Call.{Call}
+use Rattle.mini_broker.specs.declared.refusal.Refusal.{Refusal}
+use Rattle.mini_broker.specs.declared.refusal.Refusal.TheVariants.{UnsupportedPath, UnsupportedMethod, PermissionDenied, BadRequest, UnknownLease, NotRenewable}
+use Rattle.mini_broker.specs.declared.row.Row.{Row}
+use Rattle.mini_broker.specs.declared.served.Served.{Served}
+use Rattle.mini_broker.specs.declared.served.Served.TheVariants as served
+use Rattle.mini_broker.specs.Granted.{call_for}
+use Rattle.mini_broker.specs.Request.{status_of}
+use Rattle.mini_broker.specs.Step.{Answer, Says, Tells, drops, refuses as answer_refuses, seconds_to, step, tells}
+use Rattle.keep_core.specs.declared.event.Event.{Event}
+use Rattle.keep_core.specs.declared.event.Event.TheVariants.{Tick, Told, Refused, Lost, Need}
+use Rattle.keep_core.specs.declared.event.Output.{Output}
+use Rattle.keep_core.specs.declared.fault.StepFault.{StepFault}
+use Rattle.keep_core.specs.LawsOfSteps.{IsShaped}
+use Rattle.keep_core.specs.History.{Turn}
+use Rattle.keep_core.specs.State.{State}
+use Rattle.keep_core.proofs.Once.{once}
+use Rattle.keep_core.proofs.Shaped.{both_shaped, shape}
+use Rattle.keep_exchange.specs.Exchanges.{Behind}
+use Rattle.keep_exchange.specs.Requests.{asked_as, reply_in, request_of}
+use Rattle.keep_run.proofs.Alike.{AreTablesAlike}
+use Rattle.keep_run.specs.Closed.{AreAnswered, Exchanged, IsAnswered, World, closing, event_in, taken, told_next}
+use Rattle.keep_run.specs.Renewing.{event_of, refuses, told_by}
+use Rattle.keep_run.specs.Stops.{both}
+use Rattle.keep_run.specs.Text.{answer_line, answer_text, line, name_of, short_lines, status_in}
+use Rattle.keep_run.proofs.AlikeSteps.{AnswersOf, OutcomesOf, steps_both}
+use Rattle.keep_run.proofs.Replying.{sent_told}
+use Rattle.keep_run.proofs.Texts.{same_event}
+
+-- ---- what is said of it
+
+by_status : (kind : Kind) (id : List ℕ) (i : ℕ) (body : List ℕ) (n : ℕ) → Event
+by_status kind id i body n = cond (n == 200) (told_by kind id i body) (refuses n (Refused i) (Lost i))
+
+refused_status : (kind : Kind) (id : List ℕ) (i : ℕ) (body : List ℕ) (v : Refusal) → by_status kind id i body (status_of v) ≡ refuses (status_of v) (Refused i) (Lost i)
+unfolding by_status
+refused_status kind id i body UnsupportedPath = refl
+refused_status kind id i body UnsupportedMethod = refl
+refused_status kind id i body PermissionDenied = refl
+refused_status kind id i body BadRequest = refl
+refused_status kind id i body UnknownLease = refl
+refused_status kind id i body NotRenewable = refl
+
+refused_by : (kind : Kind) (id : List ℕ) (i : ℕ) (v : Refusal) (r : Reply) → r.status ≡ status_of v → event_of kind id i (Some r) ≡ refuses (status_of v) (Refused i) (Lost i)
+unfolding event_of by_status
+refused_by kind id i v r is = ap (by_status kind id i r.body) is ∙ refused_status kind id i r.body v
+
+asked_shaped : (k : Kind) (port : ℕ) (xs : List (List ℕ)) (i : ℕ) (e : Entry) (end : ℕ) (renewable : Bool) (need : ℕ) → asked_as k port xs i (record e { end = end; renewable = renewable; need = need }) ≡ asked_as k port xs i e
+asked_shaped Token port xs i e end renewable need = refl
+asked_shaped Lease port xs i e end renewable need = refl
+
+-- one meaning, and one status
+abbrev pub MeanSame : Kind → List ℕ → List ℕ → ℕ → Served → Served → Type 0
+MeanSame kind c d i x y = (event_of kind d i (reply_in y) ≡ event_of kind c i (reply_in x)) × (status_in (reply_in y) ≡ status_in (reply_in x))
+
+refused_same : (kind : Kind) (c d : List ℕ) (i t : ℕ) (v w : Refusal) → w ≡ v → (x y : Served) → Says t (answer_refuses v) x → Says t (answer_refuses w) y → MeanSame kind c d i x y
+refused_same kind c d i t v w same served.Dropped y a b = absurd a
+refused_same kind c d i t v w same (served.Reply r) served.Dropped a b = absurd b
+refused_same kind c d i t v w same (served.Reply r) (served.Reply q) a b =
+    let status : q.status ≡ status_of v = b.0 ∙ ap status_of same in
+    (refused_by kind d i v q status ∙ sym (refused_by kind c i v r a.0), status ∙ sym a.0)
+
+dropped_same : (kind : Kind) (c d : List ℕ) (i t : ℕ) (x y : Served) → Says t drops x → Says t drops y → MeanSame kind c d i x y
+unfolding event_of
+dropped_same kind c d i t served.Dropped served.Dropped a b = (refl, refl)
+dropped_same kind c d i t (served.Reply r) y a b = absurd a
+dropped_same kind c d i t served.Dropped (served.Reply q) a b = absurd b
+
+told_status : (t : ℕ) (call : Call) (r : Row) (x : Served) → Tells t call r x → status_in (reply_in x) ≡ 200
+told_status t call r (served.Reply reply) is = is.0
+told_status t call r served.Dropped is = absurd is
+
+module _ (g : Forest) (cs ds : List (List ℕ)) (ts : List Terms) (one : IsInventory (record { forest = g; credentials = cs; terms = ts })) (two : IsInventory (record { forest = g; credentials = ds; terms = ts })) where
+  abbrev s : Inventory
+  s = record { forest = g; credentials = cs; terms = ts }
+
+  abbrev u : Inventory
+  u = record { forest = g; credentials = ds; terms = ts }
+
+  said_same : (i t : ℕ) → i < length g.entries → (a b : Answer) → AnswersOf g cs ds i a b → (x y : Served) → Says t a x → Says t b y → MeanSame (entry_at g.entries i).kind (credential_at cs i) (credential_at ds i) i x y
+  said_same i t within (answer_refuses v) (answer_refuses w) same x y a b = refused_same (entry_at g.entries i).kind (credential_at cs i) (credential_at ds i) i t v w same x y a b
+  said_same i t within (answer_refuses v) (tells d q) same x y a b = absurd same
+  said_same i t within (answer_refuses v) drops same x y a b = absurd same
+  said_same i t within (tells c r) (answer_refuses w) same x y a b = absurd same
+  said_same i t within (tells c r) drops same x y a b = absurd same
+  said_same i t within drops (answer_refuses w) same x y a b = absurd same
+  said_same i t within drops (tells d q) same x y a b = absurd same
+  said_same i t within drops drops same x y a b = dropped_same (entry_at g.entries i).kind (credential_at cs i) (credential_at ds i) i t x y a b
+  said_same i t within (tells c r) (tells d q) same x y a b =
+      let kind = (entry_at g.entries i).kind in
+      let first = subst (λ call. Tells t call r x) same.0 a in
+      let second = subst (λ call. Tells t call q y) same.1.0 b in
+      let rows = same.1.1 in (
+        sent_told kind (credential_at ds i) i t q rows.1.1 (λ lease. credential_text u two i within) y second
+            ∙ ap (λ (row : Row). Told i (seconds_to row.end t) row.renewable) rows.0.same
+            ∙ sym (sent_told kind (credential_at cs i) i t r rows.1.0 (λ lease. credential_text s one i within) x first),
+        told_status t (call_for kind) q y second ∙ sym (told_status t (call_for kind) r x first),
+      )
+
+  -- ---- one answer
+
+  ask_same : (port : ℕ) (xs : List (List ℕ)) (h : Forest) → IsShaped g h → (i : ℕ) → request_of port xs h i ≡ request_of port xs g i
+  unfolding request_of
+  ask_same port xs h like i =
+      let e = entry_at g.entries i in
+      let f = entry_at h.entries i in
+      ap (λ (x : Entry). asked_as x.kind port xs i x) (like.each i) ∙ asked_shaped e.kind port xs i e f.end f.renewable f.need
+
+  line_same : (event : Event) (x y : Option Reply) → status_in y ≡ status_in x → answer_line g event y ≡ answer_line g event x
+  line_same (Told i seconds renewable) x y same = refl
+  line_same (Refused i) x y same = ap (λ n. line (codes "refused" ∷ name_of g i ∷ decimal n ∷ [])) same
+  line_same (Lost i) x y same = refl
+  line_same (Tick t) x y same = refl
+  line_same (Need i until) x y same = refl
+
+  -- what the answers x and y leave
+  pub record AreAnswersAlike (x y : Exchanged) (new last : World) : Type 0 where
+    pub output : y.output ≡ x.output
+    pub keeper : last.keeper ≡ new.keeper
+    pub tables : AreTablesAlike g cs ds new.behind.table last.behind.table
+    pub text : answer_text u y ≡ answer_text s x
+    pub shaped : IsShaped g new.keeper.forest
+
+  answer_both : (port other t : ℕ) (k : State) (b c : Behind) (x y : Exchanged) (new last : World) → IsShaped g k.forest → x.entry < length g.entries → y.entry ≡ x.entry → AreTablesAlike g cs ds b.table c.table →
+      IsAnswered port cs t (both k b) x new → IsAnswered other ds t (both k c) y last → AreAnswersAlike x y new last
+  unfolding event_in answer_text
+  answer_both port other t k b c x y new last like within here alike a d =
+      let i = x.entry in
+      let h = k.forest in
+      let r = request_of port cs g i in
+      let q = request_of other ds g i in
+      let ask : request_of port cs h i ≡ r = ask_same port cs h like i in
+      let ask' : request_of other ds h y.entry ≡ q = ap (request_of other ds h) here ∙ ask_same other ds h like i in
+      let outcome : OutcomesOf g cs ds i (step b.table t r) (step c.table t q) = steps_both g cs ds ts ts one two port other t i b.table c.table within alike in
+      let says = subst (λ (p : Request). Says t (step b.table t p).answer x.sent) ask a.says in
+      let says' = subst (λ (p : Request). Says t (step c.table t p).answer y.sent) ask' d.says in
+      let means = said_same i t within (step b.table t r).answer (step c.table t q).answer outcome.0 x.sent y.sent says says' in
+      let event : event_in ds g y ≡ event_in cs g x = ap (λ j. event_of (entry_at g.entries j).kind (credential_at ds j) j (reply_in y.sent)) here ∙ means.0 in
+      let event' : event_in ds h y ≡ event_in cs h x = same_event g h like ds y ∙ event ∙ sym (same_event g h like cs x) in
+      let turns = once k a.keeper d.keeper (event_in cs h x) (Ok x.output) (Ok y.output) (λ bad. cc) (λ bad. cc) a.turn (subst (λ e. Turn k e (Ok y.output) d.keeper) event' d.turn) in
+      let output : y.output ≡ x.output = (let same : ◌≡◌ {A = Result Output StepFault} (Ok x.output) (Ok y.output) = turns.0 in cc) in
+      let short : y.short ≡ x.short = d.short ∙ ap (λ (z : State). z.shortened) (sym turns.1) ∙ sym a.short in
+      let table : new.behind.table ≡ (step b.table t r).table = ap (λ (w : World). w.behind.table) a.is ∙ ap (λ (p : Request). (step b.table t p).table) ask in
+      let table' : last.behind.table ≡ (step c.table t q).table = ap (λ (w : World). w.behind.table) d.is ∙ ap (λ (p : Request). (step c.table t p).table) ask' in
+      let first : new.keeper ≡ taken a.keeper = ap (λ (w : World). w.keeper) a.is in
+      record {
+        output = output;
+        keeper = ap (λ (w : World). w.keeper) d.is ∙ ap taken (sym turns.1) ∙ sym first;
+        tables = subst (λ l. AreTablesAlike g cs ds l last.behind.table) (sym table) (subst (AreTablesAlike g cs ds (step b.table t r).table) (sym table') outcome.1);
+        text = ap (λ e. answer_line g e (reply_in y.sent) ++ short_lines g y.short) event
+            ∙ ap (λ l. l ++ short_lines g y.short) (line_same (event_in cs g x) (reply_in x.sent) (reply_in y.sent) means.1)
+            ∙ ap (λ ps. answer_line g (event_in cs g x) (reply_in x.sent) ++ short_lines g ps) short;
+        shaped = subst (λ (z : State). IsShaped g z.forest) (sym first) (both_shaped g h a.keeper.forest like (shape k a.keeper (event_in cs h x) (Ok x.output) a.turn));
+      }
+
+  -- ---- the answers of a round
+
+  pub record AreAllAlike (xs ys : List Exchanged) (new last : World) : Type 0 where
+    pub closes : (next : Option ℕ) → closing next ys ≡ closing next xs
+    pub count : length ys ≡ length xs
+    pub keeper : last.keeper ≡ new.keeper
+    pub tables : AreTablesAlike g cs ds new.behind.table last.behind.table
+    pub text : flat_map (answer_text u) ys ≡ flat_map (answer_text s) xs
+    pub shaped : IsShaped g new.keeper.forest
+
+  pub answers_both : (port other t : ℕ) (k : State) (b c : Behind) (xs ys : List Exchanged) (new last : World) → IsShaped g k.forest → All (λ i. i < length g.entries) (map (λ (x : Exchanged). x.entry) xs) →
+      map (λ (y : Exchanged). y.entry) ys ≡ map (λ (x : Exchanged). x.entry) xs → AreTablesAlike g cs ds b.table c.table → AreAnswered port cs t (both k b) xs new → AreAnswered other ds t (both k c) ys last → AreAllAlike xs ys new last
+  answers_both port other t k b c [] [] new last like within who alike a d =
+      record {
+        closes = λ next. refl;
+        count = refl;
+        keeper = ap (λ (w : World). w.keeper) d ∙ ap (λ (w : World). w.keeper) (sym a);
+        tables = subst (λ (w : World). AreTablesAlike g cs ds w.behind.table last.behind.table) (sym a) (subst (λ (w : World). AreTablesAlike g cs ds b.table w.behind.table) (sym d) alike);
+        text = refl;
+        shaped = subst (λ (w : World). IsShaped g w.keeper.forest) (sym a) like;
+      }
+  answers_both port other t k b c [] (y ∷ ys) new last like within who alike a d = absurd cc
+  answers_both port other t k b c (x ∷ xs) [] new last like within who alike a d = absurd cc
+  answers_both port other t k b c (x ∷ xs) (y ∷ ys) new last like within who alike a d =
+      let here : y.entry ≡ x.entry = cc in
+      let rest : map (λ (z : Exchanged). z.entry) ys ≡ map (λ (z : Exchanged). z.entry) xs = cc in
+      let mid = a.0 in
+      let mid' = d.0 in
+      let first = answer_both port other t k b c x y mid mid' like (All-head (λ i. i < length g.entries) x.entry (map (λ (z : Exchanged). z.entry) xs) within) here alike a.1.0 d.1.0 in
+      let more = answers_both port other t mid.keeper mid.behind mid'.behind xs ys new last first.shaped (All-tail (λ i. i < length g.entries) x.entry (map (λ (z : Exchanged). z.entry) xs) within) rest first.tables a.1.1
+      (subst (λ (z : State). AreAnswered other ds t (both z mid'.behind) ys last) first.keeper d.1.1) in
+      record {
+        closes = λ next. ap (λ (o : Output). closing (told_next next o) ys) first.output ∙ more.closes (told_next next x.output);
+        count = ap (λ n. suc n) more.count;
+        keeper = more.keeper;
+        tables = more.tables;
+        text = ap (λ l. l ++ flat_map (answer_text u) ys) first.text ∙ ap (λ l. answer_text s x ++ l) more.text;
+        shaped = more.shaped;
+      }
