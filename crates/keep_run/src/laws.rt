@@ -2,7 +2,7 @@
 ghost use Rattle.std.specs.Prelude.{◌≡◌};
 ghost use Rattle.keep_run.specs.declared.event_line.TheConstants.{MOST_LINE};
 ghost use Rattle.keep_run.specs.declared.fault_words.TheConstants.{MOST_NUMBER};
-ghost use Rattle.keep_run.specs.declared.listening.TheConstants.{MOST_EVENTS, MOST_EVENT_READS};
+ghost use Rattle.keep_run.specs.declared.listening.TheConstants.{EVENT_ROOM, MOST_EVENTS, MOST_EVENT_READS};
 ghost use Rattle.keep_run.specs.declared.playing.TheConstants.{MOST_WAKES};
 ghost use Rattle.keep_run.specs.Laws.{AnswersTakenLaw, LeastLaw, PlannedRunLaw, RehearsalLaw, SoFarLaw, StandsLaw};
 ghost use Rattle.keep_run.specs.PlannedRehearsal.{PlannedRehearsalLaw};
@@ -78,10 +78,11 @@ pub fn limits_of_rehearsals()
     ensures number { MOST_NUMBER ≡ 1000000 }
 {}
 
-/// The limits of live runs as numbers: the bytes of one event line with its line feed, the bytes of all of them, and the reads
-/// that are made for them. It does nothing.
+/// The limits of live runs as numbers: the bytes of one event line with its line feed, the bytes of all of them, the reads that
+/// are made for them, and the bytes that one read hands out at most. It does nothing.
 pub fn limits_of_live_runs()
     ensures line { MOST_LINE ≡ 256 }
     ensures events { MOST_EVENTS ≡ 1048576 }
     ensures reads { MOST_EVENT_READS ≡ 65536 }
+    ensures room { EVENT_ROOM ≡ 4096 }
 {}
