@@ -1,5 +1,8 @@
 //! What the machine is told of an answer.
-ghost use Rattle.std.specs.Prelude.{◌<◌, length};
+ghost use Rattle.std.specs.Prelude.{◌≡◌, ◌<◌, length};
+ghost use Rattle.keep_inventory.specs.Lookup.{lookup_fault};
+ghost use Rattle.keep_watch.specs.declared.event.Reply.TheVariants as replies;
+ghost use Rattle.keep_watching.specs.Told.{end_told, is_of_another, lookup_reply, lookup_terms, no_terms, renewal_reply, terms_told};
 
 use keep_exchange::{Heard, Terms as Told};
 use keep_inventory::{Inventory, LookupFault, told_terms};
@@ -8,7 +11,9 @@ use keep_watch::{Reply, Terms};
 use vault_json::{Lookup, Renewed};
 
 /// The terms of a reply that tells none.
-pub(crate) fn no_terms() -> Terms {
+pub(crate) fn no_terms() -> Terms
+    ensures { result ≡ no_terms }
+{
     Terms {
         step: None,
         ceiling: None,
@@ -18,7 +23,9 @@ pub(crate) fn no_terms() -> Terms {
 }
 
 /// What the machine is told of an answer to a renewal.
-pub(crate) fn renewal_reply(heard: &Heard<Renewed>) -> Reply {
+pub(crate) fn renewal_reply(heard: &Heard<Renewed>) -> Reply
+    ensures { result ≡ renewal_reply heard.now }
+{
     match heard {
         Heard::Told(renewed, date) => told(renewed.seconds, renewed.renewable, *date),
         Heard::Refused(status, date) => refused(*status, *date),
@@ -29,17 +36,19 @@ pub(crate) fn renewal_reply(heard: &Heard<Renewed>) -> Reply {
 
 /// What the machine is told of an answer to the lookup of an entry. One that is said of another entry, or of the other kind,
 /// counts as lost.
+#[tactic(auto, unfolding(crate::specs::Told::lookup_reply, crate::specs::Told::lookup_terms))]
 pub(crate) fn lookup_reply(inventory: &Inventory, entry: u32, heard: &Heard<Told>) -> (Reply, Terms)
     requires { entry < length inventory.now.forest.entries }
+    ensures reply { result.0 ≡ lookup_reply inventory.now entry heard.now }
+    ensures terms { result.1 ≡ lookup_terms inventory.now entry heard.now }
 {
     match heard {
         Heard::Told(said, date) => {
             if is_of_another(inventory, entry, &said.lookup) {
                 return (Reply::Lost, no_terms());
             }
-            let (seconds, renewable) = end_in(&said.lookup);
             let terms = terms_of(inventory, entry, said);
-            (told(seconds, renewable, *date), terms)
+            (end_told(&said.lookup, *date), terms)
         }
         Heard::Refused(status, date) => (refused(*status, *date), no_terms()),
         Heard::Busy => (Reply::Busy, no_terms()),
@@ -47,7 +56,9 @@ pub(crate) fn lookup_reply(inventory: &Inventory, entry: u32, heard: &Heard<Told
     }
 }
 
-fn told(seconds: Span, renewable: bool, date: Option<Moment>) -> Reply {
+fn told(seconds: Span, renewable: bool, date: Option<Moment>) -> Reply
+    ensures { result ≡ replies.Told seconds renewable date }
+{
     Reply::Told {
         seconds,
         renewable,
@@ -55,14 +66,18 @@ fn told(seconds: Span, renewable: bool, date: Option<Moment>) -> Reply {
     }
 }
 
-fn refused(status: u16, date: Option<Moment>) -> Reply {
+fn refused(status: u16, date: Option<Moment>) -> Reply
+    ensures { result ≡ replies.Refused status date }
+{
     Reply::Refused {
         status,
         date: seconds_of(date),
     }
 }
 
-fn seconds_of(date: Option<Moment>) -> Option<u64> {
+fn seconds_of(date: Option<Moment>) -> Option<u64>
+    ensures { result ≡ date }
+{
     match date {
         None => None,
         Some(date) => Some(date.get()),
@@ -72,6 +87,7 @@ fn seconds_of(date: Option<Moment>) -> Option<u64> {
 /// Whether the lookup is said of another entry, or of the other kind.
 fn is_of_another(inventory: &Inventory, entry: u32, lookup: &Lookup) -> bool
     requires { entry < length inventory.now.forest.entries }
+    ensures { result ≡ is_of_another (lookup_fault inventory.now entry lookup.now) }
 {
     match inventory.lookup_fault(entry, lookup) {
         Some(LookupFault::OtherKind | LookupFault::OtherEntry) => true,
@@ -79,17 +95,21 @@ fn is_of_another(inventory: &Inventory, entry: u32, lookup: &Lookup) -> bool
     }
 }
 
-/// The seconds to the end, and whether the entry can be renewed.
-fn end_in(lookup: &Lookup) -> (Span, bool) {
+/// The end that a lookup tells, and whether the entry can be renewed.
+fn end_told(lookup: &Lookup, date: Option<Moment>) -> Reply
+    ensures { result ≡ end_told lookup.now date }
+{
     match lookup {
-        Lookup::Token { ttl, renewable, .. } => (*ttl, *renewable),
-        Lookup::Lease { ttl, renewable, .. } => (*ttl, *renewable),
+        Lookup::Token { ttl, renewable, .. } | Lookup::Lease { ttl, renewable, .. } => {
+            told(*ttl, *renewable, date)
+        }
     }
 }
 
 /// The terms that a lookup tells: a step and an orphan are a token's alone, and the ceiling counts from the issue that it tells.
 fn terms_of(inventory: &Inventory, entry: u32, said: &Told) -> Terms
     requires { entry < length inventory.now.forest.entries }
+    ensures { result ≡ terms_told inventory.now entry said.now }
 {
     let terms = told_terms(&said.lookup, inventory.terms(entry));
     let (step, orphan) = match &said.lookup {
