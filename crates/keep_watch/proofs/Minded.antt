@@ -89,12 +89,12 @@ unfolding latest
 latest_ahead s = let m = le-max_left 1000 (min 30000 (s.forest.margin * 250)) in omega arith
 
 -- a second that is ahead begins later than now
-second_ahead : (at t : ℕ) → sec at < t → at < ms t
+pub second_ahead : (at t : ℕ) → sec at < t → at < ms t
 unfolding sec
 second_ahead at t h = omega arith
 
 -- who is wanted and not pressed has his time ahead
-time_is_ahead : (s : State) (round : List ℕ) (i : ℕ) → is_wanted s i ≡ true → is_pressed_try (attempt_after s round i) ≡ false → has_come s i ≡ false
+pub time_is_ahead : (s : State) (round : List ℕ) (i : ℕ) → is_wanted s i ≡ true → is_pressed_try (attempt_after s round i) ≡ false → has_come s i ≡ false
 unfolding attempt_after is_fresh is_pressed press
 time_is_ahead s round i wanted unpressed =
     elim (cases_Bool (has_come s i)) as (λ _. has_come s i ≡ false) [
@@ -205,7 +205,7 @@ step_minded old new (Need i until) output n count step = taken_minded output _ n
 step_minded old new Begin output n count step = taken_minded output _ new step.0 refl
 step_minded old new (Known i end renewable) output n count step = taken_minded output _ new step.0 refl
 
-turn_minded : (old new : State) (event : Event) (result : Result Output WatchFault) (n : ℕ) → IsCounted old n → Turn old event result new → EndsRight result new
+pub turn_minded : (old new : State) (event : Event) (result : Result Output WatchFault) (n : ℕ) → IsCounted old n → Turn old event result new → EndsRight result new
 turn_minded old new event (Ok output) n count turn = step_minded old new event output n count turn.1
 turn_minded old new event (Err fault) n count turn = tt
 

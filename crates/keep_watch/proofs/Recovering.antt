@@ -41,7 +41,7 @@ use Rattle.keep_watch.proofs.Width.{turn_width}
 -- ---- a slice while the broker is there
 
 -- who may go is among those whose turn it is
-in_its_turn : (s : State) (picked : List ℕ) (i : ℕ) (h : IsPicked s picked) → is_away s ≡ false → i < length s.forest.entries → may_go s i ≡ true → 1 ≤ times i (in_turn s h.first h.later)
+pub in_its_turn : (s : State) (picked : List ℕ) (i : ℕ) (h : IsPicked s picked) → is_away s ≡ false → i < length s.forest.entries → may_go s i ≡ true → 1 ≤ times i (in_turn s h.first h.later)
 in_its_turn s picked i h there within goes =
     let is : ℕ → ℕ = λ j. cond (j == i) 1 0 in
     let n = length s.forest.entries in
@@ -59,14 +59,14 @@ in_its_turn s picked i h there within goes =
           omega (arith, range, later, both, same, kept)
     ]
 
-take_all : {X : Type 0} (n : ℕ) (xs : List X) → length xs ≤ n → take n xs ≡ xs
+pub take_all : {X : Type 0} (n : ℕ) (xs : List X) → length xs ≤ n → take n xs ≡ xs
 take_all zero [] h = refl
 take_all (suc n) [] h = refl
 take_all zero (x ∷ xs) h = absurd (omega (arith, h))
 take_all (suc n) (x ∷ xs) h = ap (λ ys. x ∷ ys) (take_all n xs (omega (arith, h)))
 
 -- a slice that passes over one who may go is full
-is_full : (s : State) (picked : List ℕ) (i : ℕ) → IsPicked s picked → is_away s ≡ false → i < length s.forest.entries → may_go s i ≡ true → has picked i ≡ false → length picked ≡ s.width
+pub is_full : (s : State) (picked : List ℕ) (i : ℕ) → IsPicked s picked → is_away s ≡ false → i < length s.forest.entries → may_go s i ≡ true → has picked i ≡ false → length picked ≡ s.width
 is_full s picked i h there within goes not' =
     let whole = in_turn s h.first h.later in
     let many = length-take s.width whole in
@@ -84,12 +84,12 @@ is_full s picked i h there within goes not' =
 
 -- ---- who waits
 
-out_is : (s : State) (picked : List ℕ) (k : ℕ) → list_any (λ r. r.entry == k) (map (request s) picked) ≡ has picked k
+pub out_is : (s : State) (picked : List ℕ) (k : ℕ) → list_any (λ r. r.entry == k) (map (request s) picked) ≡ has picked k
 unfolding request
 out_is s [] k = refl
 out_is s (j ∷ js) k = ap (λ b. (j == k) || b) (out_is s js k)
 
-passes : (p : ℕ → Bool) (n : ℕ) (xs : List ℕ) (k : ℕ) → AreOf p n xs → has xs k ≡ true → (k < n) × (p k ≡ true)
+pub passes : (p : ℕ → Bool) (n : ℕ) (xs : List ℕ) (k : ℕ) → AreOf p n xs → has xs k ≡ true → (k < n) × (p k ≡ true)
 passes p n [] k all there = absurd cc
 passes p n (x ∷ xs) k all there =
     let P : ℕ → Type 0 = λ i. (i < n) × (p i ≡ true) in
@@ -99,7 +99,7 @@ passes p n (x ∷ xs) k all there =
     ]
 
 -- without a slice
-one_state : (tn on to oo : Bool) → one_if (tn && not on) ≤ one_if (to && not oo) + one_if (tn && (not to || (oo && not on)))
+pub one_state : (tn on to oo : Bool) → one_if (tn && not on) ≤ one_if (to && not oo) + one_if (tn && (not to || (oo && not on)))
 one_state false on to oo = omega arith
 one_state true true to oo = omega arith
 one_state true false true true = omega arith
@@ -107,7 +107,7 @@ one_state true false true false = omega arith
 one_state true false false oo = omega arith
 
 -- and with one: nobody was out before it, and each whom it takes was tried
-two_states : (tn on to oo : Bool) → oo ≡ false → (on ≡ true → tn ≡ true) → one_if (tn && not on) + one_if on ≤ one_if (to && not oo) + one_if (tn && (not to || (oo && not on)))
+pub two_states : (tn on to oo : Bool) → oo ≡ false → (on ≡ true → tn ≡ true) → one_if (tn && not on) + one_if on ≤ one_if (to && not oo) + one_if (tn && (not to || (oo && not on)))
 two_states tn on to true none tried = absurd cc
 two_states false true to false none tried = absurd (let bad = tried refl in cc)
 two_states false false to false none tried = omega arith
@@ -117,14 +117,14 @@ two_states true true true false none tried = omega arith
 two_states true true false false none tried = omega arith
 
 -- an entry that may go is tried
-due_tried : (s : State) (first : Bool) (k : ℕ) → is_due s first k ≡ true → is_tried s k ≡ true
+pub due_tried : (s : State) (first : Bool) (k : ℕ) → is_due s first k ≡ true → is_tried s k ≡ true
 unfolding is_due is_tried
 due_tried s first k due' = some (attempt_at s k) due' where
   some : (o : Option Try) → is_due_try s (track_at s k) first o ≡ true → is_some o ≡ true
   some None h = absurd cc
   some (Some t) h = refl
 
-may_tried : (s : State) (k : ℕ) → may_go s k ≡ true → is_tried s k ≡ true
+pub may_tried : (s : State) (k : ℕ) → may_go s k ≡ true → is_tried s k ≡ true
 may_tried s k goes =
     elim (cases_Bool (is_due s true k)) as (λ _. is_tried s k ≡ true) [
       | inl is' ↦ due_tried s true k is'
@@ -186,7 +186,7 @@ module _ (n : ℕ) (old mid : State) (picked : List ℕ) (requests : List Reques
 
 -- ---- the count of entries stays
 
-entries_of : (old new : State) (event : Event) (output : Output) → Step old event output new → length new.forest.entries ≡ length old.forest.entries
+pub entries_of : (old new : State) (event : Event) (output : Output) → Step old event output new → length new.forest.entries ≡ length old.forest.entries
 entries_of old new (Clock wall elapsed) output h = commanded (pressed (readied old wall elapsed) (asked_by h.round)) output.command h.command ∙ ap (λ (g : Forest). length g.entries) (readied_forest old wall elapsed) where
   commanded : (mid : State) (command : Command) → StepCommand mid command new → length new.forest.entries ≡ length mid.forest.entries
   commanded mid (Ask requests patient) c = ap (λ (x : State). length x.forest.entries) c.1.1.1.1.1
@@ -232,7 +232,7 @@ module _ (n i c : ℕ) (old new : State) (w : ℕ) (width : new.width ≡ w) (aw
   commanded mid (Wait until) h count nobody goes = quiet_turn n w c c old new refl
   commanded mid Taken h count nobody goes = absurd h
 
-nobody_out : (s : State) (wall elapsed : ℕ) → refusal s (Clock wall elapsed) ≡ None → (k : ℕ) → is_out s k ≡ false
+pub nobody_out : (s : State) (wall elapsed : ℕ) → refusal s (Clock wall elapsed) ≡ None → (k : ℕ) → is_out s k ≡ false
 unfolding is_out
 nobody_out s wall elapsed free k = closed_out s wall elapsed k free
 
@@ -249,7 +249,7 @@ turn_counts n i c old new (Need j until) (Ok output) turn count within away stay
 turn_counts n i c old new Begin (Ok output) turn count within away stays goes = quiet_turn n old.width c _ old new (ap (λ (o : Output). one_more o.command c) turn.1.0)
 turn_counts n i c old new (Known j end renewable) (Ok output) turn count within away stays goes = quiet_turn n old.width c _ old new (ap (λ (o : Output). one_more o.command c) turn.1.0)
 
-turn_entries : (old new : State) (event : Event) (result : Result Output WatchFault) → Turn old event result new → length new.forest.entries ≡ length old.forest.entries
+pub turn_entries : (old new : State) (event : Event) (result : Result Output WatchFault) → Turn old event result new → length new.forest.entries ≡ length old.forest.entries
 turn_entries old new event (Ok output) turn = entries_of old new event output turn.1
 turn_entries old new event (Err fault) turn = ap (λ (x : State). length x.forest.entries) (refused_stays old new event fault turn)
 

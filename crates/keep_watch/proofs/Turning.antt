@@ -77,11 +77,11 @@ any_less p q (x ∷ xs) h =
         or_right true b e = refl
         or_right false b e = e
 
-still_waits : (slice : Slice) (j i : ℕ) (reply : Reply) (operation : Operation) → list_any (λ q. q.entry == i && is_same q.operation operation) (answered slice j reply).unanswered ≡ true → list_any (λ q. q.entry == i && is_same q.operation operation) slice.unanswered ≡ true
+pub still_waits : (slice : Slice) (j i : ℕ) (reply : Reply) (operation : Operation) → list_any (λ q. q.entry == i && is_same q.operation operation) (answered slice j reply).unanswered ≡ true → list_any (λ q. q.entry == i && is_same q.operation operation) slice.unanswered ≡ true
 unfolding answered without
 still_waits slice j i reply operation h = any_less (λ q. q.entry == i && is_same q.operation operation) (λ q. not (q.entry == j)) slice.unanswered h
 
-still_out : (slice : Slice) (j i : ℕ) (reply : Reply) → i ≢ j → is_out (Some (answered slice j reply)) i ≡ is_out (Some slice) i
+pub still_out : (slice : Slice) (j i : ℕ) (reply : Reply) → i ≢ j → is_out (Some (answered slice j reply)) i ≡ is_out (Some slice) i
 unfolding answered without
 still_out slice j i reply other =
     any-filter_same (λ q. q.entry == i) (λ q. not (q.entry == j)) true (λ q here. not_both q.entry here) slice.unanswered where

@@ -29,13 +29,13 @@ use Rattle.keep_watch.proofs.Cases.{if_cases}
 use Rattle.keep_watch.proofs.Spaced.{refused_stays}
 
 -- no turn changes the width
-looked_width : (s : State) (i : ℕ) (reply : Reply) (terms : Terms) → (looked s i reply terms).width ≡ s.width
+pub looked_width : (s : State) (i : ℕ) (reply : Reply) (terms : Terms) → (looked s i reply terms).width ≡ s.width
 looked_width s i (Told seconds renewable date) terms = refl
 looked_width s i (Refused status date) terms = refl
 looked_width s i Busy terms = refl
 looked_width s i Lost terms = refl
 
-renewed_width : (s : State) (i : ℕ) (reply : Reply) → (renewed s i reply).width ≡ s.width
+pub renewed_width : (s : State) (i : ℕ) (reply : Reply) → (renewed s i reply).width ≡ s.width
 renewed_width s i (Told seconds renewable date) = refl
 renewed_width s i (Refused status date) = refl
 renewed_width s i Busy = refl

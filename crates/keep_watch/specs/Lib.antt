@@ -23,4 +23,6 @@ pub mod LawsOfTime
 pub mod LawsOfWaiting
 pub mod LawsOfCalm
 pub mod LawsOfRecovery
+pub mod Outage
+pub mod LawsOfOutage
 pub mod code

@@ -1,0 +1,8 @@
+ghost use Rattle.keep_watch.specs.LawsOfOutage.{OutageLaw};
+
+/// The law of outages: from a clock on at which the time of an entry is ahead that is wanted and in the plan, and until it is granted,
+/// its end is ahead, through any outage that the margin outlasts: it is no longer than the margin less the slice that its end cuts, two
+/// slices more, all the slices that hold those who wait meanwhile, and one pause.
+pub fn outage_law()
+    ensures { OutageLaw }
+{}
