@@ -32,7 +32,7 @@ use Rattle.keep_core.proofs.Once.{once}
 use Rattle.keep_core.proofs.Shaped.{both_shaped, shape}
 use Rattle.keep_exchange.specs.Exchanges.{Behind}
 use Rattle.keep_exchange.specs.Requests.{asked_as, reply_in, request_of}
-use Rattle.keep_run.proofs.Alike.{AreTablesAlike}
+use Rattle.keep_run.specs.Alike.{AreTablesAlike}
 use Rattle.keep_run.specs.Closed.{AreAnswered, Exchanged, IsAnswered, World, closing, event_in, taken, told_next}
 use Rattle.keep_run.specs.Renewing.{event_of, refuses, told_by}
 use Rattle.keep_run.specs.Stops.{both}

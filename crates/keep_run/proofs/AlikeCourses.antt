@@ -19,7 +19,7 @@ use Rattle.keep_core.specs.State.{State, unplanned}
 use Rattle.keep_core.proofs.Once.{once}
 use Rattle.keep_core.proofs.Orders.{replan_once}
 use Rattle.keep_core.proofs.Shaped.{replanned, same as same_shape}
-use Rattle.keep_run.proofs.Alike.{AreRowsAlike, AreTablesAlike}
+use Rattle.keep_run.specs.Alike.{AreRowsAlike, AreTablesAlike}
 use Rattle.keep_run.specs.Closed.{Beat, Course, IsClosedRun, IsOpening, Played, World, requests_of, rounds, taken}
 use Rattle.keep_run.specs.Stops.{IsStopped, both}
 use Rattle.keep_run.specs.Text.{beat_text, course_text, done_text, short_lines}

@@ -15,7 +15,7 @@ use Rattle.mini_broker.specs.Renewing.{with_row}
 use Rattle.mini_broker.specs.Rows.{row_named}
 use Rattle.mini_broker.specs.Subject.{is_lease_with, is_token_with, lease_with, token_with}
 use Rattle.mini_broker.specs.Sweep.{lives, lives_of, parent_passes, passes, swept}
-use Rattle.keep_run.proofs.Alike.{AreRowsAlike}
+use Rattle.keep_run.specs.Alike.{AreRowsAlike}
 
 -- ---- two lists, row by row
 

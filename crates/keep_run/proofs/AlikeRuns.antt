@@ -16,7 +16,7 @@ use Rattle.keep_core.specs.State.{State}
 use Rattle.keep_core.proofs.Once.{once}
 use Rattle.keep_core.proofs.Shaped.{both_shaped, shape}
 use Rattle.keep_exchange.specs.Exchanges.{Behind}
-use Rattle.keep_run.proofs.Alike.{AreTablesAlike}
+use Rattle.keep_run.specs.Alike.{AreTablesAlike}
 use Rattle.keep_run.specs.Closed.{AreAnswered, Beat, Exchanged, IsBeat, Played, World, asked_in, asks_some, closing, next_by, next_tick, requests_of, rounds, taken}
 use Rattle.keep_run.specs.Stops.{both}
 use Rattle.keep_run.specs.Text.{answer_text, beat_text, short_lines, wake_line}

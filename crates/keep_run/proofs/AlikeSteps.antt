@@ -28,7 +28,7 @@ use Rattle.mini_broker.specs.Request.{asked, is_write}
 use Rattle.mini_broker.specs.Step.{Answer, Outcome, after_sweep, by_call, counted, drops, is_drop, refuses, renews, step, tells}
 use Rattle.mini_broker.specs.Subject.{Subject, bearer, belongs, is_lease_with, is_token_with, lease_with, owned, subject, token_with, with_asked, with_bearer}
 use Rattle.keep_exchange.specs.Requests.{request_of}
-use Rattle.keep_run.proofs.Alike.{AreRowsAlike, AreTablesAlike}
+use Rattle.keep_run.specs.Alike.{AreRowsAlike, AreTablesAlike}
 use Rattle.keep_run.proofs.AlikeRows.{BothFound, by_test, lease_found_both, name_both, swept_both, token_found_both, with_both}
 use Rattle.keep_run.proofs.Serving.{asks_renewal}
 

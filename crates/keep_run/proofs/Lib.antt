@@ -29,7 +29,6 @@ pub mod Cut
 pub mod LineByLine
 pub mod EventsRead
 pub mod LiveListening
-pub mod Alike
 pub mod AlikeRows
 pub mod AlikeSteps
 pub mod AlikeAnswers
@@ -37,3 +36,4 @@ pub mod AlikeRuns
 pub mod NextAsks
 pub mod AlikeCourses
 pub mod AlikeFronts
+pub mod AlikeLines

@@ -62,7 +62,7 @@ module _ (s u : Inventory) (like : IsShaped s.forest u.forest) (credentials : u.
   same_answer_texts [] = refl
   same_answer_texts (x ∷ xs) = ap (λ l. l ++ flat_map (answer_text u) xs) (same_answer_text x) ∙ ap (λ l. answer_text s x ++ l) (same_answer_texts xs)
 
-  same_beat_text : (b : Beat) → beat_text u b ≡ beat_text s b
+  pub same_beat_text : (b : Beat) → beat_text u b ≡ beat_text s b
   unfolding beat_text
   same_beat_text b =
       ap (λ l. l ++ (wake_line u.forest b.at b.output ++ flat_map (answer_text u) b.answers)) (same_shorts s.forest u.forest like b.short)

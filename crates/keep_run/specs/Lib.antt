@@ -14,3 +14,5 @@ pub mod Looking
 pub mod Listening
 pub mod LineByLine
 pub mod LiveRun
+pub mod Alike
+pub mod Secrecy

@@ -6,6 +6,7 @@ ghost use Rattle.keep_run.specs.declared.listening.TheConstants.{EVENT_ROOM, MOS
 ghost use Rattle.keep_run.specs.declared.playing.TheConstants.{MOST_WAKES};
 ghost use Rattle.keep_run.specs.Laws.{AnswersTakenLaw, LeastLaw, PlannedRunLaw, RehearsalLaw, SoFarLaw, StandsLaw};
 ghost use Rattle.keep_run.specs.PlannedRehearsal.{PlannedRehearsalLaw};
+ghost use Rattle.keep_run.specs.Secrecy.{AlikeAnswersLaw};
 ghost use Rattle.keep_run.specs.Stops.{AnswerMoreLaw, EndLaw, NeverRefusedLaw, SplitLaw, TickMoreLaw};
 
 /// The law of a run so far: without faults, the run of an inventory that a plan keeps has its rounds at the plan's moments,
@@ -70,6 +71,12 @@ pub fn stands_law()
 /// FAULT words comes to its end but for a writer that fails and want of memory, and makes exactly these wake-ups.
 pub fn planned_rehearsal_law()
     ensures { PlannedRehearsalLaw }
+{}
+
+/// The law that secrets change no answer of a live run: of two inventories that differ in their credentials alone, and over two
+/// brokers that do, the same event lines are answered by the same lines, and leave one keeper.
+pub fn secrets_change_no_answer()
+    ensures { AlikeAnswersLaw }
 {}
 
 /// The limits of rehearsals as numbers: the most wake-ups, and the greatest number that a FAULT word names. It does nothing.

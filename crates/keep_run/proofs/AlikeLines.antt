@@ -1,0 +1,145 @@
+-- Alike lines: over two brokers whose tables differ in credentials alone, one keeper says the same to the same event lines.
+use Rattle.std.proofs.Common.{◌≡◌, ◌∙◌, ℕ, ◌<◌, true, List, [], ◌∷◌, ◌++◌, Some, None, Ok, codes, nat_lt, refl, sym, ap, subst, arith, inl, inr}
+use Rattle.std.proofs.lemmas.Bool.{cases_Bool, cond-true, cond-false}
+use Rattle.std.proofs.lemmas.Bool.Decides.{nat_tests}
+use Rattle.keep_moment.specs.declared.moment.TheConstants.{LAST}
+use Rattle.keep_tree.specs.Forest.{Forest}
+use Rattle.keep_inventory.specs.Inventories.{IsInventory, Inventory}
+use Rattle.keep_inventory.specs.declared.terms.Terms.{Terms}
+use Rattle.keep_core.specs.declared.event.Event.TheVariants as events
+use Rattle.keep_core.specs.declared.event.Output.{Output}
+use Rattle.keep_core.specs.declared.event.Output.TheVariants as out
+use Rattle.keep_core.specs.declared.fault.StepFault.TheVariants.{ClockBack, OutOfRange}
+use Rattle.keep_core.specs.LawsOfSteps.{IsShaped}
+use Rattle.keep_core.specs.History.{Turn}
+use Rattle.keep_core.specs.Refusal.{refusal, unless_closed}
+use Rattle.keep_core.specs.State.{State}
+use Rattle.keep_core.proofs.Once.{once}
+use Rattle.keep_core.proofs.Shaped.{both_shaped, shape}
+use Rattle.keep_exchange.specs.Exchanges.{Behind}
+use Rattle.keep_run.specs.Alike.{AreTablesAlike}
+use Rattle.keep_run.specs.Secrecy.{AlikeAnswersLaw, AreSidesAlike}
+use Rattle.keep_run.specs.Closed.{Exchanged, World, next_by, taken}
+use Rattle.keep_run.specs.declared.event_line.Heard.{Heard}
+use Rattle.keep_run.specs.declared.event_line.Heard.TheVariants.{Tick, Need, Unknown}
+use Rattle.keep_run.specs.Listening.{AreHeard, IsLineHeard}
+use Rattle.keep_run.specs.Live.{IsHeard, IsNeeded, Side, TicksLive, last_line, next_line, side}
+use Rattle.keep_run.specs.Playing.{inventory_with}
+use Rattle.keep_run.specs.Stops.{both}
+use Rattle.keep_run.specs.Text.{beat_text, short_lines}
+use Rattle.keep_run.proofs.AlikeRuns.{beats_both}
+use Rattle.keep_run.proofs.Texts.{same_beat_text}
+
+-- a tick before the last moment is no step
+late_refused : (s k : State) (t : ℕ) (output : Output) → t < s.last → Turn s (events.Tick t) (Ok output) k → ⊥
+unfolding refusal
+late_refused s k t output late turn =
+    let back : nat_lt t s.last ≡ true = grind (arith, nat_tests) in
+    let rest = cond-true (nat_lt t s.last) (Some ClockBack) (unless_closed s) back in
+    elim (cases_Bool (nat_lt LAST t)) [
+      | inl far ↦ (let bad : None ≡ Some OutOfRange = sym turn.0 ∙ cond-true (nat_lt LAST t) (Some OutOfRange) _ far in cc)
+      | inr near ↦ (let bad : None ≡ Some ClockBack = sym turn.0 ∙ cond-false (nat_lt LAST t) (Some OutOfRange) _ near ∙ rest in cc)
+    ]
+
+last_of : (o : Output) (xs ys : List Exchanged) → next_by o ys ≡ next_by o xs → last_line o ys ≡ last_line o xs
+last_of (out.Ask asked) xs ys same = ap next_line same
+last_of (out.Sleep w) xs ys same = refl
+last_of out.Idle xs ys same = refl
+last_of out.Waiting xs ys same = refl
+last_of (out.Round next) xs ys same = refl
+last_of out.Planned xs ys same = refl
+
+last_same : (o p : Output) (xs ys : List Exchanged) → p ≡ o → next_by p ys ≡ next_by o xs → last_line p ys ≡ last_line o xs
+last_same o p xs ys same next = ap (λ (q : Output). last_line q ys) same ∙ last_of o xs ys (ap (λ (q : Output). next_by q ys) (sym same) ∙ next)
+
+module _ (g : Forest) (cs ds : List (List ℕ)) (ts : List Terms) (one : IsInventory (record { forest = g; credentials = cs; terms = ts })) (two : IsInventory (record { forest = g; credentials = ds; terms = ts })) where
+  abbrev s : Inventory
+  s = record { forest = g; credentials = cs; terms = ts }
+
+  abbrev u : Inventory
+  u = record { forest = g; credentials = ds; terms = ts }
+
+  -- what one line leaves
+  record AreHeardAlike (new last : World) (text more : List ℕ) : Type 0 where
+    text_is : more ≡ text
+    keeper : last.keeper ≡ new.keeper
+    tables : AreTablesAlike g cs ds new.behind.table last.behind.table
+    shaped : IsShaped g new.keeper.forest
+
+  nothing_done : (k : State) (b c : Behind) (new last : World) (text more said : List ℕ) → IsShaped g k.forest → AreTablesAlike g cs ds b.table c.table → new ≡ both k b → last ≡ both k c → text ≡ said → more ≡ said → AreHeardAlike new last text more
+  nothing_done k b c new last text more said like alike stays stays' is is' = record {
+    text_is = is' ∙ sym is;
+    keeper = ap (λ (w : World). w.keeper) stays' ∙ ap (λ (w : World). w.keeper) (sym stays);
+    tables = subst (λ (w : World). AreTablesAlike g cs ds w.behind.table last.behind.table) (sym stays) (subst (λ (w : World). AreTablesAlike g cs ds b.table w.behind.table) (sym stays') alike);
+    shaped = subst (λ (w : World). IsShaped g w.keeper.forest) (sym stays) like;
+  }
+
+  ticks_alike : (port other t : ℕ) (k : State) (b c : Behind) (new last : World) (text more : List ℕ) → IsShaped g k.forest → AreTablesAlike g cs ds b.table c.table → TicksLive port cs t (both k b) new text → TicksLive other ds t (both k c) last more →
+      AreHeardAlike new last text more
+  ticks_alike port other t k b c new last text more like alike a d =
+      let x = a.0 in
+      let y = d.0 in
+      let beats = beats_both g cs ds ts one two port other k b c x y new last like (d.1.0 ∙ sym a.1.0) alike a.1.1.0 d.1.1.0 in
+      record {
+        text_is = d.1.1.1
+            ∙ ap (λ l. l ++ last_line y.output y.answers) (same_beat_text u (inventory_with ds k.forest) like refl y ∙ beats.text ∙ sym (same_beat_text s (inventory_with cs k.forest) like refl x))
+            ∙ ap (λ l. beat_text (inventory_with cs k.forest) x ++ l) (last_same x.output y.output x.answers y.answers beats.output beats.next)
+            ∙ sym a.1.1.1;
+        keeper = beats.keeper;
+        tables = beats.tables;
+        shaped = beats.shaped;
+      }
+
+  needs_alike : (i until : ℕ) (k : State) (b c : Behind) (new last : World) (text more : List ℕ) → IsShaped g k.forest → AreTablesAlike g cs ds b.table c.table → IsNeeded i until (both k b) new text → IsNeeded i until (both k c) last more → AreHeardAlike new last text more
+  needs_alike i until k b c new last text more like alike a d =
+      let event = events.Need i until in
+      let turns = once k a.keeper d.keeper event (Ok out.Planned) (Ok out.Planned) (λ bad. cc) (λ bad. cc) a.turn d.turn in
+      let first : new.keeper ≡ taken a.keeper = ap (λ (w : World). w.keeper) a.is in
+      record {
+        text_is = d.text_is ∙ ap (λ (z : State). short_lines z.forest z.shortened ++ codes "planned\n") (sym turns.1) ∙ sym a.text_is;
+        keeper = ap (λ (w : World). w.keeper) d.is ∙ ap taken (sym turns.1) ∙ sym first;
+        tables = subst (λ (w : World). AreTablesAlike g cs ds w.behind.table last.behind.table) (sym a.is) (subst (λ (w : World). AreTablesAlike g cs ds b.table w.behind.table) (sym d.is) alike);
+        shaped = subst (λ (z : State). IsShaped g z.forest) (sym first) (both_shaped g k.forest a.keeper.forest like (shape k a.keeper event (Ok out.Planned) a.turn));
+      }
+
+  heard_alike : (port other : ℕ) (says : Heard) (k : State) (b c : Behind) (new last : World) (text more : List ℕ) → IsShaped g k.forest → AreTablesAlike g cs ds b.table c.table → IsHeard port cs (both k b) says new text → IsHeard other ds (both k c) says last more →
+      AreHeardAlike new last text more
+  heard_alike port other (Tick t) k b c new last text more like alike (inl a) (inl d) = nothing_done k b c new last text more (codes "fault clock-back\n") like alike a.1.0 d.1.0 a.1.1 d.1.1
+  heard_alike port other (Tick t) k b c new last text more like alike (inl a) (inr d) =
+      absurd (late_refused k d.1.1.0.keeper t d.0.output a.0 (subst (λ n. Turn k (events.Tick n) (Ok d.0.output) d.1.1.0.keeper) d.1.0 d.1.1.0.turn))
+  heard_alike port other (Tick t) k b c new last text more like alike (inr a) (inl d) =
+      absurd (late_refused k a.1.1.0.keeper t a.0.output d.0 (subst (λ n. Turn k (events.Tick n) (Ok a.0.output) a.1.1.0.keeper) a.1.0 a.1.1.0.turn))
+  heard_alike port other (Tick t) k b c new last text more like alike (inr a) (inr d) = ticks_alike port other t k b c new last text more like alike a d
+  heard_alike port other (Need i until) k b c new last text more like alike a d = needs_alike i until k b c new last text more like alike a d
+  heard_alike port other Unknown k b c new last text more like alike a d = nothing_done k b c new last text more (codes "fault unknown-name\n") like alike a.0 d.0 a.1 d.1
+
+  line_alike : (port other : ℕ) (k : State) (b c : Behind) (line : List ℕ) (new last : Side) (text more : List ℕ) → IsShaped g k.forest → AreTablesAlike g cs ds b.table c.table → IsLineHeard port cs (side k (Some b)) line new text →
+      IsLineHeard other ds (side k (Some c)) line last more → (more ≡ text) × (AreSidesAlike g cs ds new last × IsShaped g new.keeper.forest)
+  line_alike port other k b c line new last text more like alike a d =
+      let says : d.says ≡ a.says = (let e = sym d.is ∙ a.is in cc) in
+      let x = a.heard in
+      let y = d.heard in
+      let heard = heard_alike port other a.says k b c (both new.keeper x.0) (both last.keeper y.0) text more like alike x.1.1 (subst (λ (h : Heard). IsHeard other ds (both k c) h (both last.keeper y.0) more) says y.1.1) in (
+        heard.text_is,
+        (
+          record { keeper = heard.keeper; behind = x.0; known = x.1.0; other_behind = y.0; other_known = y.1.0; tables = heard.tables },
+          heard.shaped,
+        ),
+      )
+
+  lines_alike : (port other : ℕ) (old begun new last : Side) (lines : List (List ℕ)) (text more : List ℕ) → IsShaped g old.keeper.forest → AreSidesAlike g cs ds old begun → AreHeard port cs old lines new text → AreHeard other ds begun lines last more →
+      (more ≡ text) × AreSidesAlike g cs ds new last
+  lines_alike port other old begun new last [] text more like alike a d = (
+    d.1 ∙ sym a.1,
+    subst (λ (x : Side). AreSidesAlike g cs ds x last) (sym a.0) (subst (AreSidesAlike g cs ds old) (sym d.0) alike),
+  )
+  lines_alike port other old begun new last (line ∷ lines) text more like alike a d =
+      let k = old.keeper in
+      let first = subst (λ o. IsLineHeard port cs (side k o) line a.0 a.1.0) alike.known a.1.1.1.0 in
+      let second = subst (λ o. IsLineHeard other ds (side k o) line d.0 d.1.0) alike.other_known (subst (λ (z : State). IsLineHeard other ds (side z begun.behind) line d.0 d.1.0) alike.keeper d.1.1.1.0) in
+      let here = line_alike port other k alike.behind alike.other_behind line a.0 d.0 a.1.0 d.1.0 like alike.tables first second in
+      let rest = lines_alike port other a.0 d.0 new last lines a.1.1.0 d.1.1.0 here.1.1 here.1.0 a.1.1.1.1.0 d.1.1.1.1.0 in
+      (d.1.1.1.1.1 ∙ ap (λ l. l ++ d.1.1.0) here.0 ∙ ap (λ l. a.1.0 ++ l) rest.0 ∙ sym a.1.1.1.1.1, rest.1)
+
+pub alike_answers : AlikeAnswersLaw
+alike_answers g cs ds ts one two port other old begun new last lines text more like alike a d = lines_alike g cs ds ts one two port other old begun new last lines text more like alike a d
