@@ -112,7 +112,7 @@ async def discover(broker: Broker, wall: Callable[[], float], wanted: Inventory)
     if faults:
         raise DiscoverFault("\n".join(faults))
     year = math.floor(wall()) + _YEAR
-    strict = inventory.mapped(lambda entry: replace(entry, need=_reach(inventory, entry, year)) if entry.need == ALWAYS else entry)
+    strict = inventory.mapped(lambda entry: replace(entry, need=inventory.reach(entry, year)) if entry.need == ALWAYS else entry)
     texts = [_noted(entry, filled, facts) for (entry, facts), filled in zip(found, strict.entries)]
     head = f"# By leasekeepd inventory, {date_text(wall())}\nsystem_max = {wanted.system_max}\n" \
            f"margin = {wanted.margin}\n"
@@ -126,14 +126,6 @@ def _filled(wanted: Inventory, entry: Entry, facts: Facts, now: int) -> Entry:
     parent = None if facts.orphan and entry.kind is Kind.TOKEN else entry.parent
     return replace(entry, issued=facts.issued, end=now + facts.ttl, renewable=facts.renewable, increment=increment,
                    period=facts.period, explicit_max_ttl=facts.explicit_max, parent=parent)
-
-
-def _reach(inventory: Inventory, entry: Entry, most: int) -> int:
-    """The moment up to which the entry can be kept, by the ceilings and ends over it, at most that one."""
-    for over in inventory.over(entry.name):
-        ceiling = inventory.ceiling(over, over.issued, over.period, over.explicit_max_ttl) if over.renewable else over.end
-        most = min(most, most if ceiling is None else max(ceiling, over.end))
-    return most
 
 
 def _noted(entry: Entry, filled: Entry, facts: Facts) -> str:

@@ -116,6 +116,13 @@ class Inventory:
             return None
         return issued + self.max_ttl_of(entry)
 
+    def reach(self, entry: Entry, most: int) -> int:
+        """The moment up to which the entry can be kept, by the ceilings and ends over it, at most that one."""
+        for over in self.over(entry.name):
+            ceiling = self.ceiling(over, over.issued, over.period, over.explicit_max_ttl) if over.renewable else over.end
+            most = min(most, most if ceiling is None else max(ceiling, over.end))
+        return most
+
     def max_ttl_of(self, entry: Entry) -> int:
         return entry.max_ttl or self.system_max
 

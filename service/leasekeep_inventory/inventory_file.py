@@ -38,6 +38,7 @@ class Reading:
     sound: Inventory = field(default_factory=Inventory)
     rows: list[Row] = field(default_factory=list)
     margin: int | None = None
+    has_margin: bool = False
     lines: Lines = field(default_factory=Lines)
     findings: list[Finding] = field(default_factory=list)
 
@@ -121,6 +122,7 @@ def read_inventory(data: bytes, dialect: Dialect = STRICT) -> Reading:
     margin = table.take("margin", dialect.margin)
     is_written = "margin" in top or "margin" in table.slips
     reading.margin = margin if is_written else dialect.absent_margin
+    reading.has_margin = is_written
     reading.rows = list(_rows(table))
     whole = Inventory((), reading.margin or 1, system_max or SYSTEM_MAX)
     reading.findings += judge_rows(reading.rows, whole, reading.margin, reading.lines)

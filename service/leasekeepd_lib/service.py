@@ -6,7 +6,7 @@ import asyncio
 import stat
 from dataclasses import dataclass, replace
 from pathlib import Path
-from typing import Any, Callable, Coroutine
+from typing import Any, Awaitable, Callable, Coroutine
 
 from leasekeep_inventory.durations import until_text
 from leasekeep_inventory.inventory import ALWAYS, Entry, Inventory, inventory_text
@@ -33,6 +33,7 @@ from .status import EntryStatus, FileReading, status_lines
 from .watch_lines import WatchLine, read_watch_line
 from .watch_process import Watch, WatchLauncher
 from .watch_standings import Standings
+from .widest import as_it_stands
 
 TOGETHER = 5.0
 """Seconds within which changes are one new process."""
@@ -54,6 +55,8 @@ class Surroundings:
     metrics: Path | None = None
     alerts: Alerts | None = None
     dropped_lines: Callable[[], int] = lambda: 0
+    widest: Callable[[Inventory, int], Awaitable[int | None]] | None = None
+    """Asks for the widest margin that takes no more wake-ups from that moment on."""
     part: int = 0
     """Seconds by which this agent wakes up earlier."""
     start_part: int = 0
@@ -247,7 +250,7 @@ class Service:
         """One command of the control socket, and who gave it; the lines of its answer."""
         match words:
             case ["status"]:
-                return status_lines(self.standings.next_wake, self.standings.beginnings, self._entries())
+                return await self._status()
             case ["health"]:
                 return unkept(self._entries(), self.standings.moment(), self._is_alive())
             case ["need", name, when]:
@@ -261,6 +264,13 @@ class Service:
             case ["settle"]:
                 return self._settle(who)
         raise ChangeFault("the commands are: need NAME WHEN, replace NAME, add, drop NAME, status, health, settle")
+
+    async def _status(self) -> list[str]:
+        entries, now, widest = self._entries(), int(self.standings.moment()), None
+        if self._around.widest is not None:
+            present = as_it_stands(ready(self.inventory), {entry.name: entry.end for entry in entries}, now)
+            widest = await self._around.widest(present, now)
+        return status_lines(self.standings.next_wake, self.standings.beginnings, self.inventory.margin, widest, entries)
 
     def _described(self, change: Change) -> Change:
         """The change beside what the file says now."""

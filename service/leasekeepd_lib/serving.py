@@ -9,6 +9,7 @@ import logging
 import os
 import signal
 import traceback
+from functools import partial
 from pathlib import Path
 
 from leasekeepd_journal.journal import Journal
@@ -27,6 +28,7 @@ from .service import Service, Surroundings
 from .source import Source, SourceFault
 from .spread import own_name, part_of
 from .watch_process import WatchCommand
+from .widest import widest_served
 
 EXIT_FAULT = 1
 SOCKET = "control.sock"
@@ -85,7 +87,7 @@ class _Serving:
         around = Surroundings(
             source, Journal(state / "journal", storage), KnownEnds(state / "ends", storage, boot_id(os.environ)),
             Notifier(os.environ), storage, arguments.metrics, self._alerts, lambda: outlet.dropped,
-            part, part)
+            partial(widest_served, arguments.leasekeep), part, part)
         command = WatchCommand(arguments.leasekeep, arguments.address, arguments.timeout, arguments.width)
         self._service: Service | Standby = Service(around, clock, Lookups(command, clock), command, log)
         if arguments.standby is not None:

@@ -54,6 +54,8 @@ class EntryStatus:
                 f" {moment(self.in_force)} last-success {moment(self.last_success)} wrong {self.trouble or '-'}")
 
 
-def status_lines(next_wake: int | None, beginnings: int, entries: list[EntryStatus]) -> list[str]:
-    head = f"next-wake {'-' if next_wake is None else date_text(next_wake)} beginnings {beginnings}"
+def status_lines(next_wake: int | None, beginnings: int, margin: int, widest: int | None, entries: list[EntryStatus]) -> list[str]:
+    """What `status` shows. `widest` is the widest margin that takes no more wake-ups, None where it is not known."""
+    head = (f"next-wake {'-' if next_wake is None else date_text(next_wake)} beginnings {beginnings} margin {margin} widest"
+            f" {widest or '-'}")
     return [head, *(entry.text() for entry in entries)]

@@ -114,6 +114,22 @@ def table(kind: str, name: str, *more: str) -> str:
                       "need = 1050000", f'{credential} = "x.{name}"', *more, ""))
 
 
+class WrittenMargin(unittest.TestCase):
+    def test_one_that_is_not_written_is_doubted(self) -> None:
+        """It means 60 to leasekeepd and 1 to leasekeep."""
+        def doubts(text: str, dialect: Dialect = SERVED) -> list[str]:
+            found = lint(text.encode(), 0o600, 5, 1000.0, True, dialect)
+            return [finding.text("f") for finding in found if finding.key == "margin"]
+        entry = '[[token]]\nname = "web"\nissued = 900\nend = 2000\nincrement = 600\nneed = 9000\n'
+        said = "f: doubt: margin: is not written: leasekeepd takes 60 s, and leasekeep 1 s; write one, so that both plan for the same"
+        self.assertEqual(doubts(entry), [said])
+        self.assertIn(said, doubts(entry, STRICT))
+        for margin in ("60", "90"):
+            self.assertEqual(doubts(f"margin = {margin}\n{entry}"), [])
+        self.assertEqual(doubts(f"Margin = 60\n{entry}"), [])  # (A slip, which is a fault.)
+        self.assertEqual(doubts(""), [])
+
+
 class Slips(unittest.TestCase):
     """Mistakes of a first inventory: each is told where it is, and none that is not there."""
 
