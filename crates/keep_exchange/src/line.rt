@@ -13,14 +13,15 @@ ghost use Rattle.vault_http.specs.Written.{request_text};
 use crate::fault::ExchangeFault;
 use std::alloc::{AllocError, Global};
 use vault_http::{
-    DatedReply, HttpFault, MOST_MESSAGE, Reply, Request, SendFault, Sink, Source, read_dated_reply,
-    read_reply, write_request,
+    DatedReply, HttpFault, MOST_MESSAGE, Reply, Request, Room, SendFault, Sink, Source,
+    write_request,
 };
 
 /// Writes the request, once, and reads the reply.
 pub(crate) fn carry<S: Source + Sink>(
     alloc: Global,
     line: &mut S,
+    room: &mut Room,
     request: &Request,
 ) -> Result<Reply, ExchangeFault>
     requires { IsWritable request.now }
@@ -28,7 +29,7 @@ pub(crate) fn carry<S: Source + Sink>(
     ensures heard { IfOk result (λ reply. IfSome (S.remaining line.old) (λ bytes. SettlesReply MOST_MESSAGE bytes (S.remaining line.new) (S.reads_left line.old) (S.reads_left line.new) (Ok reply))) }
 {
     write_request(alloc, line, request)?;
-    Ok(read_reply(alloc, line, MOST_MESSAGE)?)
+    Ok(room.read_reply(alloc, line, MOST_MESSAGE)?)
 }
 
 /// Writes the request, once. `WriteFailed`: no more than a front of its text went out. The only error of its own is out of
@@ -55,11 +56,12 @@ pub(crate) fn send<S: Sink>(
 pub(crate) fn hear<S: Source>(
     alloc: Global,
     line: &mut S,
+    room: &mut Room,
 ) -> Result<Result<DatedReply, ExchangeFault>, AllocError>
     ensures heard { IfOk result (λ answer. IfSome (S.remaining line.old) (λ bytes. Hears bytes (S.remaining line.new) (S.reads_left line.old) (S.reads_left line.new) answer)) }
     ensures written { Keeps (S.written line.old) (S.written line.new) }
 {
-    match read_dated_reply(alloc, line, MOST_MESSAGE) {
+    match room.read_dated_reply(alloc, line, MOST_MESSAGE) {
         Ok(dated) => Ok(Ok(dated)),
         Err(HttpFault::OutOfMemory) => Err(AllocError),
         Err(fault) => Ok(Err(ExchangeFault::Http(fault))),

@@ -8,7 +8,7 @@ use mini_broker::Table;
 use std::alloc::Global;
 use std::fmt;
 use std::marker::Model;
-use vault_http::{Device, Reply, Request};
+use vault_http::{Device, Reply, Request, Room};
 
 /// An exchange with a broker's table in memory: each message is written as text and read of that text.
 ///
@@ -17,6 +17,7 @@ use vault_http::{Device, Reply, Request};
 pub struct MemoryExchange {
     table: Table,
     wire: Vec<u8>,
+    room: Room,
 }
 
 impl Model for MemoryExchange {
@@ -46,6 +47,7 @@ impl MemoryExchange {
         MemoryExchange {
             table,
             wire: Vec::new(alloc),
+            room: Room::new(),
         }
     }
 
@@ -98,9 +100,9 @@ impl Exchange for MemoryExchange {
     ) -> Result<Reply, ExchangeFault> {
         self.wire.clear();
         let mut wire = text_of_request(alloc, request)?;
-        let heard = request_of_text(alloc, &wire, request)?;
+        let heard = request_of_text(alloc, &mut self.room, &wire, request)?;
         let served = self.table.serve(t, &heard)?;
-        let delivery = deliver(alloc, &served)?;
+        let delivery = deliver(alloc, &mut self.room, &served)?;
         wire.extend_from_slice(&delivery.text)?;
         self.wire = wire;
         delivery.reply

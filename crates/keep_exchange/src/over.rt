@@ -7,19 +7,20 @@ use crate::line::carry;
 use crate::patience::{Patience, Watched};
 use std::alloc::Global;
 use std::io::{Read, Write};
-use vault_http::{Counted, HttpFault, Reply, Request};
+use vault_http::{Counted, HttpFault, Reply, Request, Room};
 
 /// Writes the request and reads the reply, and learns from it how long the next ones may take.
 pub(crate) fn exchange_over<S: Read + Write + Drop>(
     alloc: Global,
     stream: S,
+    room: &mut Room,
     request: &Request,
     patience: &mut Patience,
 ) -> Result<Reply, ExchangeFault>
     requires { IsWritable request.now }
 {
     let mut line = Counted::new(Watched::new(stream));
-    let result = carry(alloc, &mut line, request);
+    let result = carry(alloc, &mut line, room, request);
     patience.learn(line.into_inner().is_late(), result.is_ok());
     result
 }

@@ -8,9 +8,7 @@ use keep_moment::Moment;
 use mini_broker::{StreamFault, Table};
 use std::alloc::Global;
 use std::net::{IpAddr, Ipv4Addr, Net, OpenListener, SocketAddr, TcpListener, TcpStream};
-use vault_http::{
-    Counted, Device, HttpFault, MOST_MESSAGE, Reply, Request, read_reply, write_request,
-};
+use vault_http::{Counted, Device, HttpFault, MOST_MESSAGE, Reply, Request, Room, write_request};
 
 /// An exchange over 127.0.0.1 with a broker's table that is served in the same thread: it connects, writes the request,
 /// accepts, serves it, and reads the reply.
@@ -20,6 +18,7 @@ pub struct SelfServed<'a, R: Net> {
     listener: R::Listener,
     port: u16,
     table: Table,
+    room: Room,
     failures: u64,
 }
 
@@ -44,6 +43,7 @@ impl<'a, R: Net> SelfServed<'a, R> {
             listener,
             port: address.port(),
             table,
+            room: Room::new(),
             failures: 0,
         })
     }
@@ -63,7 +63,7 @@ impl<'a, R: Net> SelfServed<'a, R> {
         let mut client = Counted::new(client);
         write_request(alloc, &mut client, request)?;
         self.serve(t)?;
-        Ok(read_reply(alloc, &mut client, MOST_MESSAGE)?)
+        Ok(self.room.read_reply(alloc, &mut client, MOST_MESSAGE)?)
     }
 
     /// Accepts one connection and serves its request; the connection is closed behind it.

@@ -11,7 +11,7 @@ use crate::waits::Waits;
 use keep_moment::Moment;
 use std::alloc::{AllocError, Global};
 use std::net::Net;
-use vault_http::{Counted, DatedReply, Device, Request};
+use vault_http::{Counted, DatedReply, Device, Request, Room};
 
 /// Exchanges abreast with the broker that listens at a port of 127.0.0.1 or on a UNIX socket: a connection for each request,
 /// over plain HTTP.
@@ -25,6 +25,7 @@ pub struct SocketSlices<'a, R: Net> {
     rt: &'a R,
     place: Place<'a>,
     seconds: u32,
+    room: Room,
     failures: u64,
 }
 
@@ -36,6 +37,7 @@ impl<'a, R: Net> SocketSlices<'a, R> {
             rt,
             place: Place::Port(port),
             seconds,
+            room: Room::new(),
             failures: 0,
         }
     }
@@ -46,25 +48,17 @@ impl<'a, R: Net> SocketSlices<'a, R> {
             rt,
             place: Place::Path(path),
             seconds,
+            room: Room::new(),
             failures: 0,
         }
     }
 
-    fn carry(
-        &self,
-        alloc: Global,
-        requests: &[Request],
-        waiting: Waiting,
-    ) -> Result<Vec<Result<DatedReply, ExchangeFault>>, AllocError>
-        requires writable { All IsWritable requests.now }
-        ensures { IfOk result (λ answers. vec_len answers ≡ length requests.now) }
-    {
-        let mut shared = Shared {
+    /// What the lines of a slice share.
+    fn shared(&self, alloc: Global, waiting: Waiting) -> Result<Shared, AllocError> {
+        Ok(Shared {
             bell: Bell::new(self.rt, alloc)?,
             waits: Waits::new(self.seconds, waiting),
-        };
-        let mut lines = self.send_each(alloc, requests, &mut shared)?;
-        hear_each(alloc, &mut lines, &mut shared)
+        })
     }
 
     /// Opens a line for each request, and writes it over this.
@@ -110,12 +104,13 @@ fn hear_each(
     alloc: Global,
     lines: &mut [Sent],
     shared: &mut Shared,
+    room: &mut Room,
 ) -> Result<Vec<Result<DatedReply, ExchangeFault>>, AllocError>
     ensures { IfOk result (λ answers. vec_len answers ≡ length lines.old) }
 {
     let mut answers = Vec::with_capacity(alloc, lines.len())?;
     for line in lines.iter_mut() {
-        let answer = hear_over(alloc, line, shared)?;
+        let answer = hear_over(alloc, line, shared, room)?;
         answers.push_reserved(answer);
     }
     Ok(answers)
@@ -125,6 +120,7 @@ fn hear_over(
     alloc: Global,
     line: &mut Sent,
     shared: &mut Shared,
+    room: &mut Room,
 ) -> Result<Result<DatedReply, ExchangeFault>, AllocError> {
     match line.outcome {
         Err(fault) => Ok(Err(fault)),
@@ -134,6 +130,7 @@ fn hear_over(
                 link: &mut line.link,
                 shared,
             }),
+            room,
         ),
     }
 }
@@ -165,7 +162,9 @@ impl<'a, R: Net> Abreast for SocketSlices<'a, R> {
         requests: &[Request],
         waiting: Waiting,
     ) -> Result<Vec<Result<DatedReply, ExchangeFault>>, AllocError> {
-        let answers = self.carry(alloc, requests, waiting)?;
+        let mut shared = self.shared(alloc, waiting)?;
+        let mut lines = self.send_each(alloc, requests, &mut shared)?;
+        let answers = hear_each(alloc, &mut lines, &mut shared, &mut self.room)?;
         self.failures = count_answers(self.failures, &answers);
         Ok(answers)
     }

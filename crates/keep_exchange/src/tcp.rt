@@ -8,7 +8,7 @@ use keep_moment::Moment;
 use std::alloc::Global;
 use std::net::{IpAddr, Ipv4Addr, Net, OpenStream, SocketAddr, TcpStream};
 use std::time::Duration;
-use vault_http::{Device, Reply, Request};
+use vault_http::{Device, Reply, Request, Room};
 
 /// An exchange with the broker that listens on 127.0.0.1 at a port: one connection for each request, over plain HTTP.
 #[derive(Drop)]
@@ -16,6 +16,7 @@ pub struct TcpExchange<'a, R: Net> {
     rt: &'a R,
     port: u16,
     patience: Patience,
+    room: Room,
     failures: u64,
 }
 
@@ -33,6 +34,7 @@ impl<'a, R: Net> TcpExchange<'a, R> {
             rt,
             port,
             patience: Patience::new(longest),
+            room: Room::new(),
             failures: 0,
         }
     }
@@ -88,7 +90,7 @@ impl<'a, R: Net> Exchange for TcpExchange<'a, R> {
     ) -> Result<Reply, ExchangeFault> {
         let before = self.failures;
         let result = match self.connect() {
-            Ok(stream) => exchange_over(alloc, stream, request, &mut self.patience),
+            Ok(stream) => exchange_over(alloc, stream, &mut self.room, request, &mut self.patience),
             Err(fault) => Err(fault),
         };
         self.failures = count_after(before, &result);

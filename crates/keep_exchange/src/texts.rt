@@ -15,8 +15,8 @@ use mini_broker::Served;
 use std::alloc::Global;
 use std::fmt;
 use vault_http::{
-    HttpFault, MOST_MESSAGE, Reply, Request, read_reply, read_request, reply_reads_back,
-    request_reads_back, write_reply, write_request,
+    HttpFault, MOST_MESSAGE, Reply, Request, Room, reply_reads_back, request_reads_back,
+    write_reply, write_request,
 };
 
 /// The text of a request.
@@ -33,6 +33,7 @@ pub(crate) fn text_of_request(alloc: Global, request: &Request) -> Result<Vec<u8
 /// The request as it is read of its text: the same but for its port.
 pub(crate) fn request_of_text(
     alloc: Global,
+    room: &mut Room,
     text: &[u8],
     request: &Request,
 ) -> Result<Request, ExchangeFault>
@@ -45,7 +46,7 @@ pub(crate) fn request_of_text(
     request_reads_back(request);
     is_port(request.port);
     let mut source = SureSource::of(alloc, text)?;
-    Ok(read_request(alloc, &mut source, MOST_MESSAGE)?)
+    Ok(room.read_request(alloc, &mut source, MOST_MESSAGE)?)
 }
 
 /// The law that a port is one of 65,536 numbers.
@@ -73,14 +74,18 @@ impl fmt::Debug for Delivery {
 }
 
 /// Sends what the broker has for a request, and reads it.
-pub(crate) fn deliver(alloc: Global, served: &Served) -> Result<Delivery, ExchangeFault>
+pub(crate) fn deliver(
+    alloc: Global,
+    room: &mut Room,
+    served: &Served,
+) -> Result<Delivery, ExchangeFault>
     requires { MaySend served.now }
     ensures text { IfOk result (λ d. d.text.items ≡ sent_of served.now) }
     ensures reply { IfOk result (λ d. d.reply ≡ received served.now) }
     ensures memory { IsOkUnless result OutOfMemory }
 {
     match served {
-        Served::Reply(reply) => deliver_reply(alloc, reply),
+        Served::Reply(reply) => deliver_reply(alloc, room, reply),
         Served::Dropped => Ok(Delivery {
             text: Vec::new(alloc),
             reply: Err(ExchangeFault::Http(HttpFault::Truncated)),
@@ -88,7 +93,7 @@ pub(crate) fn deliver(alloc: Global, served: &Served) -> Result<Delivery, Exchan
     }
 }
 
-fn deliver_reply(alloc: Global, reply: &Reply) -> Result<Delivery, ExchangeFault>
+fn deliver_reply(alloc: Global, room: &mut Room, reply: &Reply) -> Result<Delivery, ExchangeFault>
     requires { IsTrue (is_sent reply.now.status) }
     ensures text { IfOk result (λ d. d.text.items ≡ reply_text reply.now) }
     ensures reply { IfOk result (λ d. d.reply ≡ received (served.Reply reply.now)) }
@@ -101,7 +106,7 @@ fn deliver_reply(alloc: Global, reply: &Reply) -> Result<Delivery, ExchangeFault
             reply: Err(ExchangeFault::Http(HttpFault::TooLong)),
         });
     }
-    let read = reply_of_text(alloc, &text, reply)?;
+    let read = reply_of_text(alloc, room, &text, reply)?;
     Ok(Delivery {
         text,
         reply: Ok(read),
@@ -120,7 +125,12 @@ fn text_of_reply(alloc: Global, reply: &Reply) -> Result<Vec<u8>, ExchangeFault>
 }
 
 /// The reply as it is read of its text: the same.
-fn reply_of_text(alloc: Global, text: &[u8], reply: &Reply) -> Result<Reply, ExchangeFault>
+fn reply_of_text(
+    alloc: Global,
+    room: &mut Room,
+    text: &[u8],
+    reply: &Reply,
+) -> Result<Reply, ExchangeFault>
     requires status { IsTrue (is_sent reply.now.status) }
     requires short { length (reply_text reply.now) ≤ MOST_MESSAGE }
     requires text { text.now ≡ reply_text reply.now }
@@ -129,5 +139,5 @@ fn reply_of_text(alloc: Global, text: &[u8], reply: &Reply) -> Result<Reply, Exc
 {
     reply_reads_back(reply);
     let mut source = SureSource::of(alloc, text)?;
-    Ok(read_reply(alloc, &mut source, MOST_MESSAGE)?)
+    Ok(room.read_reply(alloc, &mut source, MOST_MESSAGE)?)
 }

@@ -11,7 +11,7 @@ use std::alloc::Global;
 use std::net::Net;
 use std::os::unix::net::UnixStream;
 use std::time::Duration;
-use vault_http::{Device, Reply, Request};
+use vault_http::{Device, Reply, Request, Room};
 
 /// An exchange with the broker that listens on a UNIX socket: whoever may not enter the socket's folder can neither listen
 /// in its place nor connect to it.
@@ -20,6 +20,7 @@ pub struct UnixExchange<'a, R: Net> {
     rt: &'a R,
     path: &'a str,
     patience: Patience,
+    room: Room,
     failures: u64,
 }
 
@@ -32,6 +33,7 @@ impl<'a, R: Net> UnixExchange<'a, R> {
             rt,
             path,
             patience: Patience::new(longest),
+            room: Room::new(),
             failures: 0,
         }
     }
@@ -90,7 +92,7 @@ impl<'a, R: Net> Exchange for UnixExchange<'a, R> {
     ) -> Result<Reply, ExchangeFault> {
         let before = self.failures;
         let result = match self.connect(alloc) {
-            Ok(stream) => exchange_over(alloc, stream, request, &mut self.patience),
+            Ok(stream) => exchange_over(alloc, stream, &mut self.room, request, &mut self.patience),
             Err(fault) => Err(fault),
         };
         self.failures = count_after(before, &result);

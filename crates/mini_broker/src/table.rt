@@ -1,7 +1,7 @@
 ghost use Rattle.std.specs.Prelude.{◌≡◌, ◌++◌, ◌∷◌, [], None, Err, IfErr, IfOk, IfSome, IsErrOf, OnErr, OnOk, IsOkUnless, is_some, option_map};
 ghost use Rattle.std.specs.Io.KnownBytes.{Keeps};
 ghost use Rattle.vault_http.specs.declared.known.TheConstants.{MOST_MESSAGE};
-ghost use Rattle.vault_http.specs.Reading.{HandedNoRequest};
+ghost use Rattle.vault_http.specs.Reading.{CountsMessage, HandedNoRequest, SettlesRequest};
 ghost use Rattle.keep_device.specs.declared.limits.TheConstants.{MOST_READS};
 ghost use Rattle.keep_device.specs.Whole.{MakesAtMost};
 ghost use Rattle.mini_broker.specs.Rows.{rows_of, row_named};
@@ -22,7 +22,7 @@ use keep_inventory::Inventory;
 use keep_moment::Moment;
 use std::alloc::{AllocError, Global};
 use std::marker::Model;
-use vault_http::{HttpFault, MOST_MESSAGE, Request, Sink, Source, read_request};
+use vault_http::{HttpFault, MOST_MESSAGE, Request, Room, Sink, Source};
 
 /// The tokens and leases of a broker, with the faults to come and the count of renewal requests.
 ///
@@ -34,6 +34,8 @@ pub struct Table {
     soonest: u64,
     index: Index,
     faults: Faults,
+    /// What the requests of streams are read into.
+    room: Room,
 }
 
 impl Model for Table {
@@ -60,6 +62,7 @@ impl Table {
             soonest: 0,
             index,
             faults: Faults::new(alloc),
+            room: Room::new(),
         })
     }
 
@@ -140,9 +143,26 @@ impl Table {
         ensures unwritten { IsErrOf result StreamFault.ReadFailed → Keeps (S.written stream.old) (S.written stream.new) }
     {
         let alloc = *self.slots.allocator();
-        let message = read_request(alloc, stream, MOST_MESSAGE);
+        let message = self.read_request(alloc, stream);
         let served = self.handle(t, message)?;
         send(alloc, stream, &served)
+    }
+
+    /// Reads one request of at most 1 MiB into the table's room.
+    fn read_request<S: Source>(
+        &mut self,
+        alloc: Global,
+        stream: &mut S,
+    ) -> Result<Request, HttpFault>
+        ensures kept { self.new ≡ self.old }
+        ensures answer { IfSome (S.remaining stream.old) (λ bytes.
+            SettlesRequest MOST_MESSAGE bytes (S.remaining stream.new) (S.reads_left stream.old) (S.reads_left stream.new) result) }
+        ensures reads { MakesAtMost MOST_READS (S.remaining stream.old) (S.reads_made stream.old) (S.reads_made stream.new) }
+        ensures written { Keeps (S.written stream.old) (S.written stream.new) }
+        ensures count { CountsMessage result (S.failed_calls stream.old) (S.failed_calls stream.new) }
+        ensures prompt { IsErrOf result HttpFault.ReadFailed → HandedNoRequest MOST_MESSAGE (S.remaining stream.old) (S.remaining stream.new) }
+    {
+        self.room.read_request(alloc, stream, MOST_MESSAGE)
     }
 
     /// Serves a request that was read, and refuses one that was not.

@@ -23,6 +23,7 @@ mod reply;
 mod reply_message;
 mod request;
 mod request_message;
+mod room;
 mod round_trip;
 mod verdict;
 mod writing;
@@ -38,6 +39,7 @@ pub use known::{MOST_MESSAGE, SMALL_HEAD};
 pub use receive::{read_dated_reply, read_reply, read_request};
 pub use reply::Reply;
 pub use request::Request;
+pub use room::Room;
 pub use round_trip::{
     held_is_read, http_limits_law, reply_reads_back, request_reads_back, undated_reply_reads_back,
 };

@@ -9,9 +9,10 @@ ghost use Rattle.vault_http.specs.Reading.{Settles, SettlesDated, SettlesReply, 
 
 use crate::known::{Known, go_on, look};
 use crate::message::Message;
+use crate::room::Room;
 use crate::verdict::Verdict;
 use crate::{DatedReply, HttpFault, Reply, Request, Source};
-use keep_device::{MOST_READS, MOST_ROOM, read_more};
+use keep_device::{MOST_READS, read_more};
 use std::alloc::Global;
 
 /// Reads one reply of at most `max` bytes, its head included. What stands behind it is not looked at. It makes at most 4,096
@@ -34,7 +35,7 @@ pub fn read_reply<R: Source>(alloc: Global, reader: &mut R, max: usize) -> Resul
     // Any read may be the one that fails, so none is made but where more bytes are rightly waited for.
     ensures prompt { IsErrOf result faults.ReadFailed → HandedNoReply max (R.remaining reader.old) (R.remaining reader.new) }
 {
-    read_message(alloc, reader, max)
+    Room::new().read_reply(alloc, reader, max)
 }
 
 /// Reads one reply as [`read_reply`] does, with what its field `Date` tells.
@@ -52,7 +53,7 @@ pub fn read_dated_reply<R: Source>(
     // Any read may be the one that fails, so none is made but where more bytes are rightly waited for.
     ensures prompt { IsErrOf result faults.ReadFailed → HandedNoDated max (R.remaining reader.old) (R.remaining reader.new) }
 {
-    read_message(alloc, reader, max)
+    Room::new().read_dated_reply(alloc, reader, max)
 }
 
 /// Reads one request, as [`read_reply`] does a reply. It has port 0.
@@ -70,13 +71,67 @@ pub fn read_request<R: Source>(
     // Any read may be the one that fails, so none is made but where more bytes are rightly waited for.
     ensures prompt { IsErrOf result faults.ReadFailed → HandedNoRequest max (R.remaining reader.old) (R.remaining reader.new) }
 {
-    read_message(alloc, reader, max)
+    Room::new().read_request(alloc, reader, max)
+}
+
+impl Room {
+    /// Reads one reply into this room, as [`read_reply`] does.
+    pub fn read_reply<R: Source>(
+        &mut self,
+        alloc: Global,
+        reader: &mut R,
+        max: usize,
+    ) -> Result<Reply, HttpFault>
+        ensures answer { IfSome (R.remaining reader.old) (λ bytes.
+            SettlesReply max bytes (R.remaining reader.new) (R.reads_left reader.old) (R.reads_left reader.new) result) }
+        ensures reads { MakesAtMost MOST_READS (R.remaining reader.old) (R.reads_made reader.old) (R.reads_made reader.new) }
+        ensures written { Keeps (R.written reader.old) (R.written reader.new) }
+        ensures count { CountsMessage result (R.failed_calls reader.old) (R.failed_calls reader.new) }
+        ensures prompt { IsErrOf result faults.ReadFailed → HandedNoReply max (R.remaining reader.old) (R.remaining reader.new) }
+    {
+        read_message(alloc, reader, self, max)
+    }
+
+    /// Reads one reply into this room, as [`read_dated_reply`] does.
+    pub fn read_dated_reply<R: Source>(
+        &mut self,
+        alloc: Global,
+        reader: &mut R,
+        max: usize,
+    ) -> Result<DatedReply, HttpFault>
+        ensures answer { IfSome (R.remaining reader.old) (λ bytes.
+            SettlesDated max bytes (R.remaining reader.new) (R.reads_left reader.old) (R.reads_left reader.new) result) }
+        ensures reads { MakesAtMost MOST_READS (R.remaining reader.old) (R.reads_made reader.old) (R.reads_made reader.new) }
+        ensures written { Keeps (R.written reader.old) (R.written reader.new) }
+        ensures count { CountsMessage result (R.failed_calls reader.old) (R.failed_calls reader.new) }
+        ensures prompt { IsErrOf result faults.ReadFailed → HandedNoDated max (R.remaining reader.old) (R.remaining reader.new) }
+    {
+        read_message(alloc, reader, self, max)
+    }
+
+    /// Reads one request into this room, as [`read_request`] does.
+    pub fn read_request<R: Source>(
+        &mut self,
+        alloc: Global,
+        reader: &mut R,
+        max: usize,
+    ) -> Result<Request, HttpFault>
+        ensures answer { IfSome (R.remaining reader.old) (λ bytes.
+            SettlesRequest max bytes (R.remaining reader.new) (R.reads_left reader.old) (R.reads_left reader.new) result) }
+        ensures reads { MakesAtMost MOST_READS (R.remaining reader.old) (R.reads_made reader.old) (R.reads_made reader.new) }
+        ensures written { Keeps (R.written reader.old) (R.written reader.new) }
+        ensures count { CountsMessage result (R.failed_calls reader.old) (R.failed_calls reader.new) }
+        ensures prompt { IsErrOf result faults.ReadFailed → HandedNoRequest max (R.remaining reader.old) (R.remaining reader.new) }
+    {
+        read_message(alloc, reader, self, max)
+    }
 }
 
 /// Reads one message of at most `max` bytes.
 fn read_message<M: Message, R: Source>(
     alloc: Global,
     reader: &mut R,
+    room: &mut Room,
     max: usize,
 ) -> Result<M, HttpFault>
     ensures answer { IfSome (R.remaining reader.old) (λ whole.
@@ -87,19 +142,16 @@ fn read_message<M: Message, R: Source>(
     ensures prompt { IsErrOf result faults.ReadFailed → HandedNone M.has_no_head (M.is_answer max) (R.remaining reader.old) (R.remaining reader.new) }
 {
     M::laws();
-    let mut room = empty_room();
     let mut bytes = Vec::new(alloc);
     match look(alloc, &bytes, max, false, 0) {
         Verdict::Done(answer) => answer,
-        Verdict::More(known) => message_from(alloc, reader, &mut room, &mut bytes, max, known),
+        Verdict::More(known) => {
+            let mut taken = room.take(alloc)?;
+            let answer = message_from(alloc, reader, &mut taken, &mut bytes, max, known);
+            room.put(taken);
+            answer
+        }
     }
-}
-
-/// Room for one read. It lies in the frame of the caller, so that a message costs no list of so many bytes.
-fn empty_room() -> [u8; MOST_ROOM]
-    ensures { length result ≡ MOST_ROOM }
-{
-    [0; MOST_ROOM]
 }
 
 /// Reads a message behind `bytes`, which are empty.

@@ -1,8 +1,9 @@
 use crate::devices::source;
+use keep_moment::Text;
 use std::alloc::Global;
 use std::process::Abort;
 use std::test::Fail;
-use vault_http::{HttpFault, MemorySource, read_reply, read_request};
+use vault_http::{HttpFault, MemorySource, Room, read_reply, read_request};
 
 /// A message of `n` bytes with this first line of 15, one byte a piece.
 fn one_by_one(alloc: Global, line: &str, n: usize) -> Result<MemorySource, Fail> {
@@ -101,5 +102,28 @@ fn reads_nothing_where_nothing_fits(rt: HostRuntime) -> Result<(), Fail> {
     let got = read_request(alloc, &mut source, 0);
     assert!(rt; got.err() == Some(HttpFault::TooLong));
     assert!(rt; source.reads() == 0);
+    Ok(())
+}
+
+// The body of the reply that these bytes are, read into this room.
+fn body_in(alloc: Global, room: &mut Room, bytes: &[u8]) -> Result<Result<Text, HttpFault>, Fail> {
+    let mut source = source(alloc, bytes, &[], None)?;
+    Ok(
+        room.read_reply(alloc, &mut source, 1048576)
+            .map(|reply| reply.body),
+    )
+}
+
+// A short reply, and one that is cut off, behind a longer one: nothing of the longer one is read again.
+#[test]
+fn one_room_serves_one_message_after_another(rt: HostRuntime) -> Result<(), Fail> {
+    let alloc = rt.alloc();
+    let mut room = Room::new();
+    let long = b"HTTP/1.1 200 OK\r\nContent-Length: 10\r\n\r\n0123456789";
+    assert!(rt; body_in(alloc, &mut room, long)??.list() == b"0123456789".as_slice());
+    let short = b"HTTP/1.1 200 OK\r\nContent-Length: 2\r\n\r\nab";
+    assert!(rt; body_in(alloc, &mut room, short)??.list() == b"ab".as_slice());
+    let cut = b"HTTP/1.1 200 OK\r\nContent-Length: 10\r\n\r\n012";
+    assert!(rt; body_in(alloc, &mut room, cut)?.err() == Some(HttpFault::Truncated));
     Ok(())
 }
