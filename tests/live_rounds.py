@@ -1,20 +1,25 @@
-"""Rounds of `leasekeep run` against a broker of this file, over a port of 127.0.0.1 and over a UNIX socket at once, in real
-time: python3 tests/live_rounds.py TRIAL LEASEKEEP. It prints what came of both, in words that tests/end-to-end-live compares.
+"""Rounds of `leasekeep run` against brokers of this file, over a port of 127.0.0.1 and over a UNIX socket:
+python3 tests/live_rounds.py TRIAL LEASEKEEP. It prints what came of both, in words that tests/end-to-end-live compares.
 
-late: the first reply to a renewal comes after 6 seconds, each other one after 0.3 seconds, with a margin of 20.
+late: in real time, the first reply to a renewal comes after 6 seconds, each other one after 0.3 seconds, with a margin of 20.
+hanging: the reply to the first renewal waits until the program has written something.
+killed: the program is killed as its first, second or third renewal comes to the broker.
 """
 
 from __future__ import annotations
 
 import re
+import socket
 import socketserver
 import sys
 import tempfile
 import threading
 import time
+from collections.abc import Iterator
+from contextlib import contextmanager
 from pathlib import Path
 
-from trying import Agent, framed, read_request
+from trying import SECONDS, Agent, Behave, Peer, framed, good, read_request
 
 START = 1000
 MARGIN = 20
@@ -22,11 +27,13 @@ NAMES = ("a", "b", "c")
 TOLD = 26
 """What each lookup and each renewal tells, in seconds: the next round is six seconds later."""
 
-INVENTORY = f"margin = {MARGIN}\n" + "".join(
-    f'[[token]]\nname = "{name}"\nsecret = "s.{name}"\nissued = {START}\nend = {START + TOLD}\nincrement = {TOLD}\n'
-    f"max_ttl = 9000\nneed = 9000\n"
-    for name in NAMES
-)
+def inventory(margin: int, step: int) -> str:
+    """Three tokens, which end a step after START."""
+    return f"margin = {margin}\n" + "".join(
+        f'[[token]]\nname = "{name}"\nsecret = "s.{name}"\nissued = {START}\nend = {START + step}\nincrement = {step}\n'
+        f"max_ttl = 9000\nneed = 9000\n"
+        for name in NAMES
+    )
 
 
 class Clock:
@@ -116,7 +123,7 @@ def late(program: Path) -> None:
     """Prints the answers of each round, and whether a token ended."""
     with tempfile.TemporaryDirectory() as folder:
         room = Path(folder)
-        (room / "tokens.toml").write_text(INVENTORY)
+        (room / "tokens.toml").write_text(inventory(MARGIN, TOLD))
         said: dict[str, str] = {}
 
         def one(name: str, path: Path | None) -> None:
@@ -137,5 +144,61 @@ def late(program: Path) -> None:
             print(said[name])
 
 
+# ---- within a round
+
+
+@contextmanager
+def asking(program: Path, behave: Behave, is_socket: bool) -> Iterator[Agent]:
+    """A run against such a broker, whose lookups are done: three tokens that end at 1060, and a tick at 1059."""
+    with tempfile.TemporaryDirectory() as folder:
+        room = Path(folder)
+        (room / "tokens.toml").write_text(inventory(1, 60))
+        with Peer(behave, room / "socket" if is_socket else None) as peer:
+            agent = Agent(program, room, "tokens.toml", peer.word)
+            for _ in NAMES:
+                agent.hear()
+            yield agent
+
+
+def hanging(program: Path) -> None:
+    """Prints the first line of the round, whether it was written before the first reply, and the other lines."""
+    for name in ("port", "socket"):
+        is_read = threading.Event()
+        came_first = []
+
+        def behave(number: int, stream: socket.socket, request: bytes) -> None:
+            if number == len(NAMES) + 1:
+                came_first.append(is_read.wait(3))
+            stream.sendall(good(request))
+
+        with asking(program, behave, name == "socket") as agent:
+            agent.tell(b"tick 1059")
+            first = agent.hear().decode().strip()
+            is_read.set()
+            rest = agent.left().decode().splitlines()
+            print(f"{name}: {first}; before the reply: {came_first == [True]}; {'; '.join(rest)}")
+
+
+def killed(program: Path) -> None:
+    """Prints what stood on the pipe of a program that was killed as a renewal came to the broker, by the number of that one."""
+    for name in ("port", "socket"):
+        for last in range(1, len(NAMES) + 1):
+            agents = []
+            is_begun = threading.Event()
+
+            def behave(number: int, stream: socket.socket, request: bytes) -> None:
+                if number < len(NAMES) + last:
+                    stream.sendall(good(request))
+                else:
+                    is_begun.wait(SECONDS)
+                    agents[0].kill()
+
+            with asking(program, behave, name == "socket") as agent:
+                agents.append(agent)
+                is_begun.set()
+                agent.tell(b"tick 1059")
+                print(f"{name} {last}: {'; '.join(agent.left().decode().splitlines())}")
+
+
 if __name__ == "__main__":
-    {"late": late}[sys.argv[1]](Path(sys.argv[2]).resolve())
+    {"late": late, "hanging": hanging, "killed": killed}[sys.argv[1]](Path(sys.argv[2]).resolve())

@@ -123,6 +123,18 @@ class Agent:
         self._process.stdin.write(event + b"\n")
         self._process.stdin.close()
 
+    def kill(self) -> None:
+        """Ends it at once, as SIGKILL does."""
+        self._process.kill()
+
+    def left(self) -> bytes:
+        """What still stands on its pipe, once it has ended."""
+        assert self._process.stdout is not None
+        out = self._process.stdout.read()
+        self._process.wait(SECONDS)
+        self._watch.cancel()
+        return out
+
     def ended(self) -> tuple[int, bytes]:
         """Its exit and its fault line, once it has ended by itself."""
         assert self._process.stderr is not None

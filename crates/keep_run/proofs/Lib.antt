@@ -22,11 +22,13 @@ pub mod Rehearsed
 pub mod FaultWord
 pub mod PlannedRun
 pub mod LiveTicks
+pub mod SentTicks
 pub mod LiveEnding
 pub mod LookedUp
 pub mod LiveOpening
 pub mod Cut
 pub mod LineByLine
+pub mod ToldRounds
 pub mod EventsRead
 pub mod LiveListening
 pub mod AlikeRows

@@ -1,5 +1,5 @@
 -- LineByLine: lines behind lines, and a stop behind lines.
-use Rattle.std.proofs.Common.{◌≡◌, ℕ, ◌+◌, ◌<◌, ◌≤◌, ◌-◌, inl, inr, List, [], ◌∷◌, ◌++◌, Option, Some, OnOk, Result, Ok, Err, drop, length, length-append, take, refl, sym, ap, ◌∙◌, subst, arith}
+use Rattle.std.proofs.Common.{◌≡◌, ℕ, ◌+◌, ◌<◌, ◌≤◌, ◌-◌, inl, inr, IsTrue, List, [], ◌∷◌, ◌++◌, Some, OnOk, Result, Ok, Err, drop, length, length-append, take, refl, sym, ap, ◌∙◌, subst, arith}
 use Rattle.std.proofs.KnownBytes.{Appends-trans}
 use Rattle.std.specs.Result.{IsErr, IsErrAnd}
 use Rattle.std.proofs.Math.Seq.{drop-append_seam}
@@ -8,20 +8,17 @@ use Rattle.std.specs.Io.KnownBytes.{Appends}
 use Rattle.keep_words.specs.Pieces.{pieces}
 use Rattle.keep_device.specs.Failures.{HasFailed}
 use Rattle.keep_tree.specs.Forest.{Forest}
-use Rattle.keep_core.specs.State.{State}
-use Rattle.keep_exchange.specs.Exchanges.{Behind}
 use Rattle.keep_report.specs.declared.stop.Stop.{Stop}
 use Rattle.keep_report.specs.declared.stop.Stop.TheVariants as stops
-use Rattle.keep_report.specs.Sent.{IsAll, Sends, Sent}
+use Rattle.keep_report.specs.Sent.{IsAll, Sent}
 use Rattle.keep_run.specs.LineByLine.{HaltsWithin, HearsLine, HearsUpTo, IsSent}
 use Rattle.keep_run.specs.Listening.{AreHeard, Halts, IsCutShort, IsLineHeard, IsNoEvent}
-use Rattle.keep_run.specs.Live.{Between, IsHeard, Side, side}
+use Rattle.keep_run.specs.Live.{HearsTo, IsBrokenOff, IsCutOff, Side}
 use Rattle.keep_run.specs.EventLines.{heard_in}
-use Rattle.keep_run.specs.Stops.{both}
 use Rattle.keep_run.specs.declared.event_line.Heard.{Heard}
 use Rattle.keep_run.specs.declared.event_line.TheConstants.{MOST_LINE}
 use Rattle.keep_run.proofs.Cut.{cut_back, first_piece}
-use Rattle.keep_run.proofs.OneAnswer.{between_as}
+use Rattle.keep_run.proofs.Written.{keeps_appends}
 
 -- ---- what was sent, and then more
 
@@ -37,23 +34,40 @@ joined a b = record {
 }
 
 module _ (a b : Sent) (same : a.new ≡ b.old) (failures : a.failed_after ≡ b.failed_before) where
-  appends : (t u : List ℕ) → Appends a.old a.new t → Appends b.old b.new u → Appends a.old b.new (t ++ u)
+  pub appends : (t u : List ℕ) → Appends a.old a.new t → Appends b.old b.new u → Appends a.old b.new (t ++ u)
   appends t u first second = Appends-trans a.old a.new b.new t u first (subst (λ o. Appends o b.new u) (sym same) second)
 
   pub sent_then : (t u : List ℕ) → IsSent t a → IsSent u b → IsSent (t ++ u) (joined a b)
   sent_then t u first second = ((appends t u first.0.0 second.0.0, second.0.1), second.1 ∙ sym failures ∙ first.1)
 
-  all_then : (t u : List ℕ) → IsSent t a → IsAll u b → IsAll (t ++ u) (joined a b)
+  pub all_then : (t u : List ℕ) → IsSent t a → IsAll u b → IsAll (t ++ u) (joined a b)
   all_then t u first second = (appends t u first.0.0 second.0, second.1)
+
+  cut_then :
+      (port : ℕ) (cs : List (List ℕ)) (old new : Side) (heard : Heard) (t u : List ℕ) → IsSent t a → IsCutOff port cs old heard new u b → IsCutOff port cs old heard new (t ++ u) (joined a b)
+  cut_then port cs old new heard t u first second =
+      let rest = second.told ++ take second.n second.own in
+      record {
+        told = second.told;
+        own = second.own;
+        up_to = second.up_to;
+        n = second.n;
+        front = subst (Appends a.old b.new) (sym (append_assoc t u rest)) (appends t (u ++ rest) first.0.0 second.front);
+      }
+
+  broken_then : (port : ℕ) (cs : List (List ℕ)) (old : Side) (heard : Heard) (t u : List ℕ) → IsSent t a → IsBrokenOff port cs old heard u b → IsBrokenOff port cs old heard (t ++ u) (joined a b)
+  broken_then port cs old heard t u first second = record {
+    t = second.t;
+    is = second.is;
+    told = second.told;
+    mid = second.mid;
+    so_far = second.so_far;
+    written = subst (Appends a.old b.new) (sym (append_assoc t u second.told)) (appends t (u ++ second.told) first.0.0 second.written);
+  }
 
   short_then :
       (port : ℕ) (cs : List (List ℕ)) (old new : Side) (line t u : List ℕ) → IsSent t a → IsCutShort port cs old line new u b → IsCutShort port cs old line new (t ++ u) (joined a b)
-  short_then port cs old new line t u first second = record {
-    own = second.own;
-    heard = second.heard;
-    n = second.n;
-    front = subst (Appends a.old b.new) (sym (append_assoc t u (take second.n second.own))) (appends t (u ++ take second.n second.own) first.0.0 second.front);
-  }
+  short_then port cs old new line t u first second = (second.0, (second.1.0, cut_then port cs old new second.0 t u first second.1.1))
 
   -- a stop behind a text that was sent before
   pub halts_then :
@@ -73,7 +87,17 @@ module _ (a b : Sent) (same : a.new ≡ b.old) (failures : a.failed_after ≡ b.
   halts_then port cs number old behind t u stops.Memory new P first h =
       elim h [
         | inl none ↦ inl (appends t u first.0.0 none)
-        | inr some ↦ inr (some.0, (some.1.0, (some.1.1.0, short_then port cs old new some.1.0 t u first some.1.1.1)))
+        | inr some ↦
+            inr (
+              some.0,
+              (
+                some.1.0,
+                elim some.1.1 [
+                  | inl broken ↦ inl (broken.0, (broken.1.0, broken_then port cs old broken.0 t u first broken.1.1))
+                  | inr cut ↦ inr (cut.0, short_then port cs old new some.0 t u first cut.1)
+                ],
+              ),
+            )
       ]
 
 -- ---- a stop that is handed on
@@ -104,31 +128,25 @@ halts_where port cs number old behind text stops.Memory new P Q out f h = h
 
 -- ---- one line
 
--- by the names that its code has
-pub heard_line :
-    (port : ℕ) (cs : List (List ℕ)) (o n : Option Behind) (old new : State) (line before after : List ℕ) (says : Heard) → before ≡ [] → heard_in old.forest line ≡ Some says →
-    Between o n (λ b a. (lines : List ℕ) × (IsHeard port cs (both old b) says (both new a) lines × (after ≡ before ++ lines))) → IsLineHeard port cs (side old o) line (side new n) after
-heard_line port cs o n old new line before after says empty is heard = record {
-  says = says;
-  is = is;
-  heard = between_as o n (λ b a. (lines : List ℕ) × (IsHeard port cs (both old b) says (both new a) lines × (after ≡ before ++ lines))) (λ b a. IsHeard port cs (both old b) says (both new a) after)
-      (λ b a h. subst (λ t. IsHeard port cs (both old b) says (both new a) t) (sym (h.1.1 ∙ ap (λ l. l ++ h.0) empty)) h.1.0) heard;
-}
-
--- its text is sent, or why only a front of it is
-pub line_sent :
-    (port : ℕ) (cs : List (List ℕ)) (number : ℕ) (old : Side) (line : List ℕ) (new : Side) (text : List ℕ) (result : Result (Unit {0}) Stop) (out : Sent) → IsLineHeard port cs old line new text → Sends result text out →
-    OnOk result (out.failed_after ≡ out.failed_before) → HearsLine port cs number old line result new out
-line_sent port cs number old line new text (Ok u) out one sent count = (text, (one, (sent, count)))
-line_sent port cs number old line new text (Err (stops.Inventory fault)) out one sent count = absurd sent
-line_sent port cs number old line new text (Err (stops.Moments fault)) out one sent count = absurd sent
-line_sent port cs number old line new text (Err (stops.FaultWord n)) out one sent count = absurd sent
-line_sent port cs number old line new text (Err stops.TooLong) out one sent count = absurd sent
-line_sent port cs number old line new text (Err stops.Read) out one sent count = absurd sent
-line_sent port cs number old line new text (Err stops.Write) out one sent count = λ next more. (sent.0, (line, (refl, record { own = text; heard = one; n = sent.1.0; front = sent.1.1 })))
-line_sent port cs number old line new text (Err (stops.Broker name)) out one sent count = absurd sent
-line_sent port cs number old line new text (Err (stops.Line n)) out one sent count = absurd sent
-line_sent port cs number old line new text (Err stops.Memory) out one sent count = λ next more. inr (sent.0, (line, (refl, record { own = text; heard = one; n = sent.1.0; front = sent.1.1 })))
+-- its event is heard, or stops short
+pub line_hears :
+    (port : ℕ) (cs : List (List ℕ)) (number : ℕ) (old : Side) (line : List ℕ) (says : Heard) (new : Side) (result : Result (Unit {0}) Stop) (out : Sent) → heard_in old.keeper.forest line ≡ Some says → IsTrue out.flushed_before →
+    HearsTo port cs old says result new out → OnOk result (out.failed_after ≡ out.failed_before) → HearsLine port cs number old line result new out
+line_hears port cs number old line says new (Ok u) out is flushed h count = (h.0, (record { says = says; is = is; heard = h.1.0 }, (h.1.1, count)))
+line_hears port cs number old line says new (Err stops.TooLong) out is flushed h count = λ next more.
+    (line, (refl, ((says, (is, h.0)), (keeps_appends out.old out.new h.1.0, subst IsTrue (sym h.1.2) flushed))))
+line_hears port cs number old line says new (Err stops.Write) out is flushed h count = λ next more. (h.0, (line, (refl, (says, (is, h.1)))))
+line_hears port cs number old line says new (Err stops.Memory) out is flushed h count = λ next more.
+    elim h [
+      | inl none ↦ inl none
+      | inr some ↦ inr (line, (refl, elim some [ inl broken ↦ inl (says, (is, broken)) | inr cut ↦ inr (cut.0, (says, (is, cut.1))) ]))
+    ]
+line_hears port cs number old line says new (Err (stops.Inventory fault)) out is flushed h count = absurd h
+line_hears port cs number old line says new (Err (stops.Moments fault)) out is flushed h count = absurd h
+line_hears port cs number old line says new (Err (stops.FaultWord n)) out is flushed h count = absurd h
+line_hears port cs number old line says new (Err stops.Read) out is flushed h count = absurd h
+line_hears port cs number old line says new (Err (stops.Broker name)) out is flushed h count = absurd h
+line_hears port cs number old line says new (Err (stops.Line n)) out is flushed h count = absurd h
 
 -- ---- lines
 

@@ -20,7 +20,7 @@ use Rattle.keep_report.specs.Exits.{exit_of, stop_of_inventory}
 use Rattle.keep_report.specs.FaultLine.{fault_line}
 use Rattle.keep_report.specs.Sent.{IsAll, Sent}
 use Rattle.keep_report.specs.Told.{Reports}
-use Rattle.keep_run.specs.Listening.{Fed, Halts, HaveEnded, IsCutShort, Listens, ListensTo}
+use Rattle.keep_run.specs.Listening.{Fed, Halts, HaveEnded, IsBrokenShort, IsCutShort, Listens, ListensTo}
 use Rattle.keep_run.specs.Live.{Side, side}
 use Rattle.keep_run.specs.LiveRun.{EndsEarly, HasListened, IsOpened, IsUnread, LiveRun, LivesTo}
 use Rattle.keep_run.specs.Stops.{both}
@@ -32,12 +32,38 @@ use Rattle.keep_run.proofs.Written.{appends_then}
 module _ (port : ℕ) (cs : List (List ℕ)) (read : List ℕ) (number : ℕ) (mid : Side) (behind : List (List ℕ)) (before text : List ℕ) (new : Side) (fed : Fed) (a b c : Option (List ℕ)) (n m l : ℕ) (p q r k : Bool)
     (first : Appends a b before) (kept : m ≡ n) where
   cut_short : (line : List ℕ) (old : Side) → IsCutShort port cs old line new text (sent_by b c m l q r k) → IsCutShort port cs old line new (before ++ text) (sent_by a c n l p r k)
-  cut_short line old cut = record {
-    own = cut.own;
-    heard = cut.heard;
-    n = cut.n;
-    front = subst (Appends a c) (sym (append_assoc before text (take cut.n cut.own))) (appends_then a b c before (text ++ take cut.n cut.own) first cut.front);
-  }
+  cut_short line old h =
+      let cut = h.1.1 in
+      let rest = cut.told ++ take cut.n cut.own in (
+        h.0,
+        (
+          h.1.0,
+          record {
+            told = cut.told;
+            own = cut.own;
+            up_to = cut.up_to;
+            n = cut.n;
+            front = subst (Appends a c) (sym (append_assoc before text rest)) (appends_then a b c before (text ++ rest) first cut.front);
+          },
+        ),
+      )
+
+  broken_short : (line : List ℕ) (old : Side) → IsBrokenShort port cs old line text (sent_by b c m l q r k) → IsBrokenShort port cs old line (before ++ text) (sent_by a c n l p r k)
+  broken_short line old h =
+      let broken = h.1.1 in (
+        h.0,
+        (
+          h.1.0,
+          record {
+            t = broken.t;
+            is = broken.is;
+            told = broken.told;
+            mid = broken.mid;
+            so_far = broken.so_far;
+            written = subst (Appends a c) (sym (append_assoc before text broken.told)) (appends_then a b c before (text ++ broken.told) first broken.written);
+          },
+        ),
+      )
 
   whole : IsAll text (sent_by b c m l q r k) → IsAll (before ++ text) (sent_by a c n l p r k)
   whole all = (appends_then a b c before text first all.0, all.1)
@@ -49,7 +75,8 @@ module _ (port : ℕ) (cs : List (List ℕ)) (read : List ℕ) (number : ℕ) (m
   halts old stops.TooLong HasEnded h = (h.0, (h.1.0, (h.1.1.0, whole h.1.1.1)))
   halts old stops.Write HasEnded h = (subst (λ x. HasFailed x l) kept h.0, (h.1.0, (h.1.1.0, cut_short h.1.0 old h.1.1.1)))
   halts old stops.Memory HasEnded (inl h) = inl (appends_then a b c before text first h)
-  halts old stops.Memory HasEnded (inr h) = inr (h.0, (h.1.0, (h.1.1.0, cut_short h.1.0 old h.1.1.1)))
+  halts old stops.Memory HasEnded (inr h) =
+      inr (h.0, (h.1.0, elim h.1.1 [ inl broken ↦ inl (broken_short h.0 old broken) | inr cut ↦ inr (cut.0, cut_short h.0 old cut.1) ]))
   halts old stops.Read HasEnded h = absurd h
   halts old (stops.Inventory fault) HasEnded h = absurd h
   halts old (stops.Moments fault) HasEnded h = absurd h

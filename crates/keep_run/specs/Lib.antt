@@ -13,6 +13,7 @@ pub mod Live
 pub mod Looking
 pub mod Listening
 pub mod LineByLine
+pub mod Telling
 pub mod LiveRun
 pub mod Alike
 pub mod Secrecy

@@ -4,20 +4,16 @@ use Rattle.std.specs.Prelude.{◌≡◌, ℕ, ◌+◌, ◌-◌, ◌^◌, ◌<◌
 use Rattle.std.specs.Io.KnownBytes.{Appends, Consumes, IsAtEnd}
 use Rattle.keep_words.specs.Pieces.{pieces}
 use Rattle.keep_tree.specs.Forest.{Forest}
-use Rattle.keep_core.specs.declared.event.Event.TheVariants as events
-use Rattle.keep_core.specs.declared.fault.StepFault.TheVariants as steps
-use Rattle.keep_core.specs.History.{Turn}
 use Rattle.keep_device.specs.Failures.{HasFailed, one_more}
 use Rattle.keep_device.specs.Whole.{MakesAtMost}
 use Rattle.keep_report.specs.declared.stop.Stop.{Stop}
 use Rattle.keep_report.specs.declared.stop.Stop.TheVariants as stops
 use Rattle.keep_report.specs.Sent.{IsAll, Sent}
 use Rattle.keep_run.specs.declared.event_line.Heard.{Heard}
-use Rattle.keep_run.specs.declared.event_line.Heard.TheVariants.{Need}
 use Rattle.keep_run.specs.declared.event_line.TheConstants.{MOST_LINE}
 use Rattle.keep_run.specs.declared.listening.TheConstants.{EVENT_ROOM, MOST_EVENTS, MOST_EVENT_READS}
 use Rattle.keep_run.specs.EventLines.{heard_in}
-use Rattle.keep_run.specs.Live.{Between, IsHeard, Side}
+use Rattle.keep_run.specs.Live.{Between, IsBrokenOff, IsCutOff, IsHeard, IsOverlong, Side}
 use Rattle.keep_run.specs.Stops.{both}
 
 -- ---- lines
@@ -55,19 +51,16 @@ IsNoEvent g (rest ∷ []) HasEnded = (MOST_LINE ≤ length rest) ⊎ (HasEnded �
 IsNoEvent g (line ∷ next ∷ more) HasEnded = heard_in g line ≡ None
 
 -- the line says a new need, with which the plan would be too long; nothing is changed
-pub record IsTooLong (old : Side) (line : List ℕ) (new : Side) : Type 0 where
-  pub i : ℕ
-  pub until : ℕ
-  pub is : heard_in old.keeper.forest line ≡ Some (Need i until)
-  pub turn : Turn old.keeper (events.Need i until) (Err steps.TooLong) new.keeper
-  pub same : new.behind ≡ old.behind
+abbrev pub IsTooLong : Side → List ℕ → Side → Type 0
+IsTooLong old line new = (says : Heard) × ((heard_in old.keeper.forest line ≡ Some says) × IsOverlong old says new)
 
--- the line is heard, and behind the text of those before it no more than a front of its own was written
-pub record IsCutShort (port : ℕ) (cs : List (List ℕ)) (old : Side) (line : List ℕ) (new : Side) (text : List ℕ) (out : Sent) : Type 0 where
-  pub own : List ℕ
-  pub heard : IsLineHeard port cs old line new own
-  pub n : ℕ
-  pub front : Appends out.old out.new (text ++ take n own)
+-- the line is heard up to a write that was cut short
+abbrev pub IsCutShort : ℕ → List (List ℕ) → Side → List ℕ → Side → List ℕ → Sent → Type 0
+IsCutShort port cs old line new text out = (says : Heard) × ((heard_in old.keeper.forest line ≡ Some says) × IsCutOff port cs old says new text out)
+
+-- the line is a tick that is heard up to some answer
+abbrev pub IsBrokenShort : ℕ → List (List ℕ) → Side → List ℕ → List ℕ → Sent → Type 0
+IsBrokenShort port cs old line text out = (says : Heard) × ((heard_in old.keeper.forest line ≡ Some says) × IsBrokenOff port cs old says text out)
 
 -- why a run stops behind the lines of this text, at the piece that stands first, which would be the line of that number
 abbrev pub Halts : ℕ → List (List ℕ) → ℕ → Side → List (List ℕ) → List ℕ → Stop → Side → Type 0 → Sent → Type 0
@@ -76,7 +69,8 @@ Halts port cs number old behind text stops.TooLong new HasEnded out = (line : Li
 Halts port cs number old behind text stops.Write new HasEnded out =
     HasFailed out.failed_before out.failed_after × ((line : List ℕ) × ((whole_line behind ≡ Some line) × IsCutShort port cs old line new text out))
 Halts port cs number old behind text stops.Memory new HasEnded out =
-    Appends out.old out.new text ⊎ (IsTrue out.is_in_memory × ((line : List ℕ) × ((whole_line behind ≡ Some line) × IsCutShort port cs old line new text out)))
+    Appends out.old out.new text
+    ⊎ ((line : List ℕ) × ((whole_line behind ≡ Some line) × (IsBrokenShort port cs old line text out ⊎ (IsTrue out.is_in_memory × IsCutShort port cs old line new text out))))
 Halts port cs number old behind text stop new HasEnded out = ⊥
 
 -- ---- the events

@@ -1,22 +1,25 @@
 -- Live: what an event line comes to: what the keeper puts out, whom it asks, and the lines that say so.
 -- Source: this project's own.
-use Rattle.std.specs.Prelude.{◌≡◌, ℕ, ◌<◌, ◌⊎◌, List, [], ◌∷◌, ◌++◌, Option, Some, None, Ok, Err, IfSome, codes, decimal, length}
+use Rattle.std.specs.Prelude.{◌≡◌, ℕ, ◌<◌, ◌⊎◌, IsTrue, true, List, [], ◌∷◌, ◌++◌, Option, Some, None, Result, Ok, Err, IfSome, codes, decimal, if◌then◌else◌, length, map, take}
+use Rattle.std.specs.Io.KnownBytes.{Appends}
 use Rattle.keep_core.specs.declared.event.Event.TheVariants as events
 use Rattle.keep_core.specs.declared.event.Output.{Output}
 use Rattle.keep_core.specs.declared.event.Output.TheVariants as out
 use Rattle.keep_core.specs.declared.fault.StepFault.TheVariants as steps
 use Rattle.keep_core.specs.History.{Turn}
 use Rattle.keep_core.specs.State.{State}
+use Rattle.keep_device.specs.Failures.{HasFailed}
 use Rattle.keep_exchange.specs.Exchanges.{Behind}
 use Rattle.keep_inventory.specs.Inventories.{Inventory}
 use Rattle.keep_report.specs.declared.stop.Stop.{Stop}
 use Rattle.keep_report.specs.declared.stop.Stop.TheVariants as stops
-use Rattle.keep_run.specs.Closed.{Beat, Exchanged, IsBeat, World, closing, taken}
+use Rattle.keep_report.specs.Sent.{IsAll, IsUntouched, Sent}
+use Rattle.keep_run.specs.Closed.{AreAnswered, Beat, Exchanged, IsBeat, World, asked_in, asks_some, closing, taken}
 use Rattle.keep_run.specs.declared.event_line.Heard.{Heard}
 use Rattle.keep_run.specs.declared.event_line.Heard.TheVariants.{Tick, Need, Unknown}
 use Rattle.keep_run.specs.Playing.{inventory_with}
 use Rattle.keep_run.specs.Stops.{both}
-use Rattle.keep_run.specs.Text.{beat_text, line, short_lines}
+use Rattle.keep_run.specs.Text.{answer_text, beat_text, line, short_lines}
 
 -- ---- lines
 
@@ -86,8 +89,70 @@ pub record Side : Type 0 where
 abbrev pub side : State → Option Behind → Side
 side keeper behind = record { keeper = keeper; behind = behind }
 
--- why an event line stops a run: the plan with its new need would be too long, and nothing is changed; or memory was wanting
-abbrev pub StopsHearing : Side → Heard → Stop → Side → Type 0
-StopsHearing old (Need i until) stops.TooLong new = Turn old.keeper (events.Need i until) (Err steps.TooLong) new.keeper × (new.behind ≡ old.behind)
-StopsHearing old heard stops.Memory new = Unit {0}
-StopsHearing old heard stop new = ⊥
+-- ---- an event that stops short
+
+-- a tick under way: of those whom it asks some were asked and answered, and the others were not asked
+pub record IsUnderWay (port : ℕ) (cs : List (List ℕ)) (old : World) (b : Beat) (others : List ℕ) (new : World) : Type 0 where
+  pub keeper : State
+  pub turn : Turn old.keeper (events.Tick b.at) (Ok b.output) keeper
+  pub short : b.short ≡ keeper.shortened
+  pub asked : map (λ x. x.entry) b.answers ++ others ≡ asked_in b.output
+  pub answered : AreAnswered port cs b.at (both (taken keeper) old.behind) b.answers new
+
+-- what a tick writes before its first request; one that asks nobody writes all of its lines at once
+abbrev pub opening_text : Inventory → Beat → List ℕ
+opening_text s b = if asks_some b.output then beat_text s b else tick_text s b
+
+-- the lines that a tick under way had told, and those of the write under way: the lines before the first request; those of the
+-- last answer so far; or the last line, behind the answers of all
+abbrev pub IsWriting : Inventory → Beat → List ℕ → List ℕ → List ℕ → Type 0
+IsWriting s b others told own =
+    ((b.answers ≡ []) × ((told ≡ []) × (own ≡ opening_text s b)))
+    ⊎ (((before : List Exchanged) × ((x : Exchanged) × ((b.answers ≡ before ++ x ∷ []) × ((told ≡ beat_text s (record b { answers = before })) × (own ≡ answer_text s x)))))
+    ⊎ ((asks_some b.output ≡ true) × ((others ≡ []) × ((told ≡ beat_text s b) × (own ≡ last_line b.output b.answers)))))
+
+-- a tick at t up to a write, and up to some answer, with its lines so far
+abbrev pub TicksUpTo : ℕ → List (List ℕ) → ℕ → World → World → List ℕ → List ℕ → Type 0
+TicksUpTo port cs t old new told own =
+    (b : Beat) × ((others : List ℕ) × ((b.at ≡ t) × (IsUnderWay port cs old b others new × IsWriting (inventory_with cs old.keeper.forest) b others told own)))
+
+abbrev pub TicksSoFar : ℕ → List (List ℕ) → ℕ → World → World → List ℕ → Type 0
+TicksSoFar port cs t old new told = (b : Beat) × ((others : List ℕ) × ((b.at ≡ t) × (IsUnderWay port cs old b others new × (told ≡ beat_text (inventory_with cs old.keeper.forest) b))))
+
+-- an event up to a write: what it had told, and the lines of that write, which are all but for a tick that asks somebody
+abbrev pub IsHeardUpTo : ℕ → List (List ℕ) → World → Heard → World → List ℕ → List ℕ → Type 0
+IsHeardUpTo port cs old (Tick t) new told own = ((told ≡ []) × IsLate t old new own) ⊎ TicksUpTo port cs t old new told own
+IsHeardUpTo port cs old heard new told own = (told ≡ []) × IsHeard port cs old heard new own
+
+-- an event is heard up to a write: behind this text what it had told before is written, and no more than a front of the lines of
+-- that write
+pub record IsCutOff (port : ℕ) (cs : List (List ℕ)) (old : Side) (heard : Heard) (new : Side) (text : List ℕ) (out : Sent) : Type 0 where
+  pub told : List ℕ
+  pub own : List ℕ
+  pub up_to : Between old.behind new.behind (λ b a. IsHeardUpTo port cs (both old.keeper b) heard (both new.keeper a) told own)
+  pub n : ℕ
+  pub front : Appends out.old out.new (text ++ (told ++ take n own))
+
+-- a tick is heard up to some answer: behind this text its lines so far are written
+pub record IsBrokenOff (port : ℕ) (cs : List (List ℕ)) (old : Side) (heard : Heard) (text : List ℕ) (out : Sent) : Type 0 where
+  pub t : ℕ
+  pub is : heard ≡ Tick t
+  pub told : List ℕ
+  pub mid : Side
+  pub so_far : Between old.behind mid.behind (λ b a. TicksSoFar port cs t (both old.keeper b) (both mid.keeper a) told)
+  pub written : Appends out.old out.new (text ++ told)
+
+-- the plan with a new need would be too long, and nothing is changed
+abbrev pub IsOverlong : Side → Heard → Side → Type 0
+IsOverlong old (Need i until) new = Turn old.keeper (events.Need i until) (Err steps.TooLong) new.keeper × (new.behind ≡ old.behind)
+IsOverlong old heard new = ⊥
+
+-- what hearing an event comes to: its lines were written and flushed; the plan would be too long, and nothing is written; a write
+-- failed, and nobody was asked behind it; or memory was wanting
+abbrev pub HearsTo : ℕ → List (List ℕ) → Side → Heard → Result (Unit {0}) Stop → Side → Sent → Type 0
+HearsTo port cs old heard (Ok u) new out = (text : List ℕ) × (Between old.behind new.behind (λ b a. IsHeard port cs (both old.keeper b) heard (both new.keeper a) text) × IsAll text out)
+HearsTo port cs old heard (Err stops.TooLong) new out = IsOverlong old heard new × IsUntouched out
+HearsTo port cs old heard (Err stops.Write) new out = HasFailed out.failed_before out.failed_after × IsCutOff port cs old heard new [] out
+HearsTo port cs old heard (Err stops.Memory) new out =
+    Appends out.old out.new [] ⊎ (IsBrokenOff port cs old heard [] out ⊎ (IsTrue out.is_in_memory × IsCutOff port cs old heard new [] out))
+HearsTo port cs old heard (Err stop) new out = ⊥

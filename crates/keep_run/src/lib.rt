@@ -22,6 +22,7 @@ mod refused;
 mod rehearsal;
 mod renewing;
 mod served_entry;
+mod telling;
 mod waking;
 
 pub use event_line::{Heard, MOST_LINE, heard_in};

@@ -16,7 +16,7 @@ use keep_core::Keeper;
 use keep_device::{Sink, Source, zeros};
 use keep_exchange::Exchange;
 use keep_inventory::Credentials;
-use keep_report::{Stop, Watched, send};
+use keep_report::{Stop, Watched};
 use keep_words::cut;
 use std::alloc::Global;
 
@@ -225,7 +225,5 @@ fn hear_line<E: Exchange, W: Sink>(
         return Err(Stop::Line(number));
     };
     exchange.begin_line();
-    let mut text = Vec::new(alloc);
-    hear(alloc, keeper, exchange, credentials, port, heard, &mut text)?;
-    send(out, &text)
+    hear(alloc, keeper, exchange, credentials, port, heard, out)
 }

@@ -20,7 +20,7 @@ use std::alloc::Global;
 /// Keeps the entries of an inventory alive: looks each of them up at `start`, takes event lines from `events`, and renews over
 /// the exchange. `docs/running.md` says what each line means.
 ///
-/// An event line is answered, and its lines written and flushed, before `events` is read again. The exits: `Done`, the
+/// An event line is answered, and its lines written and flushed as they come, before `events` is read again. The exits: `Done`, the
 /// events have ended; `Inventory`, the bytes are no inventory; `TooLong`, a plan would have more than 10,000,000 wake-ups;
 /// `Device`, a lookup got no answer that can be applied, a line is no event line or has no line feed, `events` failed or
 /// passed a limit, or the writer failed; `Memory`. Each but `Done` has its line on `errors`.

@@ -1,11 +1,13 @@
 //! Tests alone, of exchanges with a broker, in memory and over sockets, and of the runs of the program over whole inventories:
-//! the exit, the output and the fault line of each command, rehearsals, also cut off by their writer, live runs, secrets that
+//! the exit, the output and the fault line of each command, rehearsals and live runs, also cut off by their writer, secrets that
 //! nothing shows, and the whole way at its full size. They stand above the crates that they test, so that none of these is
 //! proved a second time with its tests.
 #![tactic(auto)]
 
 #[cfg(test)]
 mod checks;
+#[cfg(test)]
+mod cut_live_runs;
 #[cfg(test)]
 mod cut_rehearsals;
 #[cfg(test)]

@@ -17,7 +17,7 @@ const TWO_TICKS: &str = "tick 1059\ntick 1118\n";
 const TWICE_RENEWED: &str =
     "entry web 1060\nwake 1059 web\ntold web 60\nnext 1118\nwake 1118 web\ntold web 60\nnext 1177\n";
 
-const ONCE_RENEWED: &str = "entry web 1060\nwake 1059 web\ntold web 60\nnext 1118\n";
+pub(crate) const ONCE_RENEWED: &str = "entry web 1060\nwake 1059 web\ntold web 60\nnext 1118\n";
 
 // An inventory, event lines, how many reads go well, and the exit, the lines and the fault line of the run from 1000 on.
 type Heard = (
@@ -116,7 +116,7 @@ const HEARD: [Heard; 11] = [
     ),
 ];
 
-fn table_of<R: AllocGlobal + Abort>(
+pub(crate) fn table_of<R: AllocGlobal + Abort>(
     rt: &R,
     inventory: &str,
     fault: Option<Fault>,

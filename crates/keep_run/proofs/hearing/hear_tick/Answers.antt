@@ -1,61 +1,193 @@
-use Rattle.std.specs.Prelude.{◌≢◌}
-use Rattle.std.proofs.Common.{[], ◌∙◌, ap, sym, subst, refl}
+-- What a tick comes to: a line that tells it late; a round, behind the lines that say so; or lines that ask nobody.
+use Rattle.std.proofs.Common.{◌<◌, ◌≡◌, ◌++◌, ◌∙◌, Ok, Err, ap, arith, sym, subst, refl}
 use Rattle.keep_core.specs.declared.event.Output.TheVariants as out
-use Rattle.keep_core.specs.State.{State}
-use Rattle.keep_run.specs.Playing.{Waits}
-use Rattle.keep_run.proofs.LiveTicks.{only_idle, quiet_lines, round_of, round_lines, ticks_as, ticks_ready}
+use Rattle.keep_report.specs.declared.stop.Stop.TheVariants as stops
+use Rattle.keep_report.specs.Sent.{IsAll, Sends, Sent}
+use Rattle.keep_run.specs.LineByLine.{IsSent}
+use Rattle.keep_run.specs.Live.{HearsTo, next_line, side}
+use Rattle.keep_run.specs.declared.event_line.Heard.TheVariants as heards
+use Rattle.keep_run.proofs.LineByLine.{handed_on, joined}
+use Rattle.keep_run.proofs.LiveTicks.{on_ok, only_idle, round_as, ticks_as, ticks_ready}
 use Rattle.keep_run.proofs.Opens.{ticks_shaped}
-use Rattle.keep_run.proofs.Refusing.{leaves_asked, leaves_closed, leaves_sleeping, told_comes}
+use Rattle.keep_run.proofs.Refusing.{leaves_closed, leaves_sleeping}
+use Rattle.keep_run.proofs.SentTicks.{late_sent, quiet_sent, round_memory, round_sent, round_stops, stops_at_first}
 use Rattle.keep_run.proofs.hearing.hear_tick.Goals as goal
 
-pub round-requires-clause-waits : goal.round-requires-clause-waits
-round-requires-clause-waits g c =
-    let waits = (leaves_asked c.get-3.result c.in_ok-asked.field-0 c.in-Ask.asked c.tick.new.keeper c.in-Ask.is c.in_ok-asked.ensures.leaves).0 in
-    subst (λ t. Waits c.tick.new.keeper t c.list.result.now) c.get-3.ensures.value (subst (Waits c.tick.new.keeper c.get-3.result) (sym c.list.ensures) waits)
+pub returns-then-get-clause-hears : goal.returns-then-get-clause-hears
+returns-then-get-clause-hears g c =
+    let late : c.args.t < c.args.keeper.now.last =
+    (let h = c.if-get.true in let a = c.get.ensures.value in let b = c.get-2.ensures.value in let n = c.now.ensures in omega arith) in
+    late_sent c.args.port c.args.credentials.now (g.E.Exchange.behind c.args.exchange.now) c.args.t c.args.keeper.now c.send.result _ late c.send.ensures.sent c.requires.flushed
 
-pub round-requires-clause-some : goal.round-requires-clause-some
-round-requires-clause-some g c =
-    subst (λ asked. asked ≢ []) (sym c.list.ensures) (leaves_asked c.get-3.result c.in_ok-asked.field-0 c.in-Ask.asked c.tick.new.keeper c.in-Ask.is c.in_ok-asked.ensures.leaves).1
+pub returns-in_err-send-in-Ask-clause-hears : goal.returns-in_err-send-in-Ask-clause-hears
+returns-in_err-send-in-Ask-clause-hears g c =
+    let port = c.args.port in
+    let cs = c.args.credentials.now in
+    let o = g.E.Exchange.behind c.args.exchange.now in
+    let w : Sent = record {
+      old = g.W.Device.written c.args.out.now;
+      new = g.W.Device.written c.send-in-Ask.new.out;
+      failed_before = g.W.Device.failed_calls c.args.out.now;
+      failed_after = g.W.Device.failed_calls c.send-in-Ask.new.out;
+      flushed_before = g.W.Device.is_flushed c.args.out.now;
+      flushed = g.W.Device.is_flushed c.send-in-Ask.new.out;
+      is_in_memory = g.W.Device.is_in_memory;
+    } in
+    let ticks = ticks_as c.get-3.result c.args.t c.args.keeper.now c.tick.new.keeper c.in_ok-asked.field-0 (out.Ask c.in-Ask.asked) c.new-text.result.items c.tick.new.text.items c.get-3.ensures.value c.in-Ask.is
+    c.new-text.ensures.items c.in_ok-asked.ensures.ticks in
+    handed_on c.from_residual-in_err-send-in-Ask.result c.in_err-send-in-Ask.field-0.0 (λ r. HearsTo port cs (side c.args.keeper.now o) (heards.Tick c.args.t) r (side c.tick.new.keeper o) w) c.from_residual-in_err-send-in-Ask.ensures
+    (stops_at_first port cs c.args.t o c.args.keeper.now c.tick.new.keeper c.in-Ask.asked c.tick.new.text.items ticks c.in_err-send-in-Ask.field-0.0 w c.requires.flushed
+    (subst (λ l. Sends (Err c.in_err-send-in-Ask.field-0.0) l w) c.deref.ensures.value c.in_err-send-in-Ask.ensures.sent))
 
-pub round-requires-clause-count : goal.round-requires-clause-count
-round-requires-clause-count g c =
-    c.requires.ready.count ∙ sym (ticks_shaped c.get-3.result c.args.keeper.now c.tick.new.keeper c.in_ok-asked.field-0 c.args.text.now.items c.tick.new.text.items c.in_ok-asked.ensures.ticks).count
+pub tell_round-requires-clause-count : goal.tell_round-requires-clause-count
+tell_round-requires-clause-count g c =
+    c.requires.ready.count
+    ∙ sym (ticks_shaped c.get-3.result c.args.keeper.now c.tick.new.keeper c.in_ok-asked.field-0 c.new-text.result.items c.tick.new.text.items c.in_ok-asked.ensures.ticks).count
 
-pub round-requires-clause-quiet : goal.round-requires-clause-quiet
-round-requires-clause-quiet g c = ap (λ (s : State). s.shortened) c.in_ok-asked.ensures.ticks.is
+pub returns-in_err-next-in-Ask-clause-hears : goal.returns-in_err-next-in-Ask-clause-hears
+returns-in_err-next-in-Ask-clause-hears g c =
+    let port = c.args.port in
+    let cs = c.args.credentials.now in
+    let o = g.E.Exchange.behind c.args.exchange.now in
+    let n = g.E.Exchange.behind c.tell_round.new.exchange in
+    let w : Sent = record {
+      old = g.W.Device.written c.args.out.now;
+      new = g.W.Device.written c.send-in-Ask.new.out;
+      failed_before = g.W.Device.failed_calls c.args.out.now;
+      failed_after = g.W.Device.failed_calls c.send-in-Ask.new.out;
+      flushed_before = g.W.Device.is_flushed c.args.out.now;
+      flushed = g.W.Device.is_flushed c.send-in-Ask.new.out;
+      is_in_memory = g.W.Device.is_in_memory;
+    } in
+    let r : Sent = record {
+      old = g.W.Device.written c.send-in-Ask.new.out;
+      new = g.W.Device.written c.tell_round.new.out;
+      failed_before = g.W.Device.failed_calls c.send-in-Ask.new.out;
+      failed_after = g.W.Device.failed_calls c.tell_round.new.out;
+      flushed_before = g.W.Device.is_flushed c.send-in-Ask.new.out;
+      flushed = g.W.Device.is_flushed c.tell_round.new.out;
+      is_in_memory = g.W.Device.is_in_memory;
+    } in
+    let ticks = ticks_as c.get-3.result c.args.t c.args.keeper.now c.tick.new.keeper c.in_ok-asked.field-0 (out.Ask c.in-Ask.asked) c.new-text.result.items c.tick.new.text.items c.get-3.ensures.value c.in-Ask.is
+    c.new-text.ensures.items c.in_ok-asked.ensures.ticks in
+    let before : IsSent c.tick.new.text.items w = (subst (λ l. IsAll l w) c.deref.ensures.value c.in_ok-send-in-Ask.ensures.sent, c.in_ok-send-in-Ask.ensures.count) in
+    handed_on c.from_residual-in_err-next-in-Ask.result c.in_err-next-in-Ask.field-0.0 (λ q. HearsTo port cs (side c.args.keeper.now o) (heards.Tick c.args.t) q (side c.tell_round.new.keeper n) (joined w r)) c.from_residual-in_err-next-in-Ask.ensures
+    (round_stops port cs c.args.t o n c.args.keeper.now c.tick.new.keeper c.tell_round.new.keeper c.in-Ask.asked c.tick.new.text.items ticks w r refl refl before c.in_err-next-in-Ask.field-0.0
+    (round_as port cs c.args.t (side c.tick.new.keeper o) (side c.tell_round.new.keeper n) c.list-asked.result.now c.in-Ask.asked (Err c.in_err-next-in-Ask.field-0.0) r c.list-asked.ensures c.in_err-next-in-Ask.ensures.tells))
 
-pub tick-requires-clause-comes : goal.tick-requires-clause-comes
-tick-requires-clause-comes g c = told_comes c.args.t c.get.result c.get-3.result c.now.result c.get-2.result c.args.keeper.now.last c.get.ensures.value c.get-3.ensures.value c.now.ensures c.get-2.ensures.value c.get.ensures.within c.if-get.false
+pub returns-in_err-push_next-in-Ask-clause-hears : goal.returns-in_err-push_next-in-Ask-clause-hears
+returns-in_err-push_next-in-Ask-clause-hears g c =
+    let port = c.args.port in
+    let cs = c.args.credentials.now in
+    let o = g.E.Exchange.behind c.args.exchange.now in
+    let n = g.E.Exchange.behind c.tell_round.new.exchange in
+    let w : Sent = record {
+      old = g.W.Device.written c.args.out.now;
+      new = g.W.Device.written c.send-in-Ask.new.out;
+      failed_before = g.W.Device.failed_calls c.args.out.now;
+      failed_after = g.W.Device.failed_calls c.send-in-Ask.new.out;
+      flushed_before = g.W.Device.is_flushed c.args.out.now;
+      flushed = g.W.Device.is_flushed c.send-in-Ask.new.out;
+      is_in_memory = g.W.Device.is_in_memory;
+    } in
+    let r : Sent = record {
+      old = g.W.Device.written c.send-in-Ask.new.out;
+      new = g.W.Device.written c.tell_round.new.out;
+      failed_before = g.W.Device.failed_calls c.send-in-Ask.new.out;
+      failed_after = g.W.Device.failed_calls c.tell_round.new.out;
+      flushed_before = g.W.Device.is_flushed c.send-in-Ask.new.out;
+      flushed = g.W.Device.is_flushed c.tell_round.new.out;
+      is_in_memory = g.W.Device.is_in_memory;
+    } in
+    let ticks = ticks_as c.get-3.result c.args.t c.args.keeper.now c.tick.new.keeper c.in_ok-asked.field-0 (out.Ask c.in-Ask.asked) c.new-text.result.items c.tick.new.text.items c.get-3.ensures.value c.in-Ask.is
+    c.new-text.ensures.items c.in_ok-asked.ensures.ticks in
+    let before : IsSent c.tick.new.text.items w = (subst (λ l. IsAll l w) c.deref.ensures.value c.in_ok-send-in-Ask.ensures.sent, c.in_ok-send-in-Ask.ensures.count) in
+    handed_on c.from_residual-in_err-push_next-in-Ask.result stops.Memory (λ q. HearsTo port cs (side c.args.keeper.now o) (heards.Tick c.args.t) q (side c.tell_round.new.keeper n) (joined w r)) c.from_residual-in_err-push_next-in-Ask.ensures
+    (round_memory port cs c.args.t o n c.args.keeper.now c.tick.new.keeper c.tell_round.new.keeper c.in-Ask.asked c.tick.new.text.items ticks w r refl refl before c.in_ok-next-in-Ask.next
+    (round_as port cs c.args.t (side c.tick.new.keeper o) (side c.tell_round.new.keeper n) c.list-asked.result.now c.in-Ask.asked (Ok c.in_ok-next-in-Ask.next) r c.list-asked.ensures c.in_ok-next-in-Ask.ensures.tells))
 
-pub returns-in_ok-push_sleep-in-Sleep-clause-ready : goal.returns-in_ok-push_sleep-in-Sleep-clause-ready
-returns-in_ok-push_sleep-in-Sleep-clause-ready g c =
-    ticks_ready c.args.credentials.now c.get-3.result c.args.keeper.now c.tick.new.keeper c.in_ok-asked.field-0 c.args.text.now.items c.tick.new.text.items c.in_ok-asked.ensures.ticks c.requires.ready
-    (leaves_sleeping c.get-3.result c.in_ok-asked.field-0 c.in-Sleep.later c.tick.new.keeper c.in-Sleep.is c.in_ok-asked.ensures.leaves).0
+pub returns-in-Ask-clause-hears : goal.returns-in-Ask-clause-hears
+returns-in-Ask-clause-hears g c =
+    let port = c.args.port in
+    let cs = c.args.credentials.now in
+    let o = g.E.Exchange.behind c.args.exchange.now in
+    let n = g.E.Exchange.behind c.tell_round.new.exchange in
+    let w : Sent = record {
+      old = g.W.Device.written c.args.out.now;
+      new = g.W.Device.written c.send-in-Ask.new.out;
+      failed_before = g.W.Device.failed_calls c.args.out.now;
+      failed_after = g.W.Device.failed_calls c.send-in-Ask.new.out;
+      flushed_before = g.W.Device.is_flushed c.args.out.now;
+      flushed = g.W.Device.is_flushed c.send-in-Ask.new.out;
+      is_in_memory = g.W.Device.is_in_memory;
+    } in
+    let r : Sent = record {
+      old = g.W.Device.written c.send-in-Ask.new.out;
+      new = g.W.Device.written c.tell_round.new.out;
+      failed_before = g.W.Device.failed_calls c.send-in-Ask.new.out;
+      failed_after = g.W.Device.failed_calls c.tell_round.new.out;
+      flushed_before = g.W.Device.is_flushed c.send-in-Ask.new.out;
+      flushed = g.W.Device.is_flushed c.tell_round.new.out;
+      is_in_memory = g.W.Device.is_in_memory;
+    } in
+    let l : Sent = record {
+      old = g.W.Device.written c.tell_round.new.out;
+      new = g.W.Device.written c.send-in-Ask-2.new.out;
+      failed_before = g.W.Device.failed_calls c.tell_round.new.out;
+      failed_after = g.W.Device.failed_calls c.send-in-Ask-2.new.out;
+      flushed_before = g.W.Device.is_flushed c.tell_round.new.out;
+      flushed = g.W.Device.is_flushed c.send-in-Ask-2.new.out;
+      is_in_memory = g.W.Device.is_in_memory;
+    } in
+    let ticks = ticks_as c.get-3.result c.args.t c.args.keeper.now c.tick.new.keeper c.in_ok-asked.field-0 (out.Ask c.in-Ask.asked) c.new-text.result.items c.tick.new.text.items c.get-3.ensures.value c.in-Ask.is
+    c.new-text.ensures.items c.in_ok-asked.ensures.ticks in
+    let before : IsSent c.tick.new.text.items w = (subst (λ l. IsAll l w) c.deref.ensures.value c.in_ok-send-in-Ask.ensures.sent, c.in_ok-send-in-Ask.ensures.count) in
+    let last : c.push_next.new.text.items ≡ next_line c.in_ok-next-in-Ask.next = c.in_ok-push_next-in-Ask.ensures ∙ ap (λ x. x ++ next_line c.in_ok-next-in-Ask.next) c.new-last.ensures.items in
+    round_sent port cs c.args.t o n c.args.keeper.now c.tick.new.keeper c.tell_round.new.keeper c.in-Ask.asked c.tick.new.text.items ticks w r refl refl before c.in_ok-next-in-Ask.next c.push_next.new.text.items c.send-in-Ask-2.result l refl
+    refl last (round_as port cs c.args.t (side c.tick.new.keeper o) (side c.tell_round.new.keeper n) c.list-asked.result.now c.in-Ask.asked (Ok c.in_ok-next-in-Ask.next) r c.list-asked.ensures c.in_ok-next-in-Ask.ensures.tells)
+    (subst (λ x. Sends c.send-in-Ask-2.result x l) c.deref-in-Ask.ensures.value c.send-in-Ask-2.ensures.sent)
 
-pub returns-in_ok-push_next-in-Ask-clause-heard : goal.returns-in_ok-push_next-in-Ask-clause-heard
-returns-in_ok-push_next-in-Ask-clause-heard g c =
-    let ticks = ticks_as c.get-3.result c.args.t c.args.keeper.now c.tick.new.keeper c.in_ok-asked.field-0 (out.Ask c.in-Ask.asked) c.args.text.now.items c.tick.new.text.items c.get-3.ensures.value c.in-Ask.is c.in_ok-asked.ensures.ticks in
-    round_lines (g.E.Exchange.behind c.args.exchange.now) (g.E.Exchange.behind c.round.new.exchange) c.args.port c.args.credentials.now c.args.t c.args.keeper.now c.tick.new.keeper c.round.new.keeper c.in-Ask.asked c.in_ok-next-in-Ask.next
-    c.args.text.now.items c.tick.new.text.items c.round.new.text.items c.push_next.new.text.items ticks
-    (round_of (g.E.Exchange.behind c.args.exchange.now) (g.E.Exchange.behind c.round.new.exchange) c.args.port c.args.credentials.now c.args.t c.tick.new.keeper c.round.new.keeper c.list.result.now c.in-Ask.asked c.in_ok-next-in-Ask.next
-    c.tick.new.text.items c.round.new.text.items c.list.ensures c.in_ok-next-in-Ask.ensures.answers)
-    c.in_ok-push_next-in-Ask.ensures
+pub returns-in-Sleep-clause-hears : goal.returns-in-Sleep-clause-hears
+returns-in-Sleep-clause-hears g c =
+    let w : Sent = record {
+      old = g.W.Device.written c.args.out.now;
+      new = g.W.Device.written c.send-in-Sleep.new.out;
+      failed_before = g.W.Device.failed_calls c.args.out.now;
+      failed_after = g.W.Device.failed_calls c.send-in-Sleep.new.out;
+      flushed_before = g.W.Device.is_flushed c.args.out.now;
+      flushed = g.W.Device.is_flushed c.send-in-Sleep.new.out;
+      is_in_memory = g.W.Device.is_in_memory;
+    } in
+    let ticks = ticks_as c.get-3.result c.args.t c.args.keeper.now c.tick.new.keeper c.in_ok-asked.field-0 (out.Sleep c.in-Sleep.later) c.new-text.result.items c.tick.new.text.items c.get-3.ensures.value c.in-Sleep.is
+    c.new-text.ensures.items c.in_ok-asked.ensures.ticks in
+    quiet_sent c.args.port c.args.credentials.now (g.E.Exchange.behind c.args.exchange.now) c.args.t c.args.keeper.now c.tick.new.keeper (out.Sleep c.in-Sleep.later) c.tick.new.text.items c.push_sleep.new.text.items c.send-in-Sleep.result w ticks
+    refl refl c.in_ok-push_sleep-in-Sleep.ensures (subst (λ x. Sends c.send-in-Sleep.result x w) c.deref-in-Sleep.ensures.value c.send-in-Sleep.ensures.sent) c.requires.flushed
 
-pub returns-in_ok-push_sleep-in-Sleep-clause-heard : goal.returns-in_ok-push_sleep-in-Sleep-clause-heard
-returns-in_ok-push_sleep-in-Sleep-clause-heard g c =
-    let ticks = ticks_as c.get-3.result c.args.t c.args.keeper.now c.tick.new.keeper c.in_ok-asked.field-0 (out.Sleep c.in-Sleep.later) c.args.text.now.items c.tick.new.text.items c.get-3.ensures.value c.in-Sleep.is c.in_ok-asked.ensures.ticks in
-    quiet_lines (g.E.Exchange.behind c.args.exchange.now) c.args.port c.args.credentials.now c.args.t c.args.keeper.now c.tick.new.keeper (out.Sleep c.in-Sleep.later) c.args.text.now.items c.tick.new.text.items c.push_sleep.new.text.items ticks refl
-    c.in_ok-push_sleep-in-Sleep.ensures
+pub returns-in-Sleep-clause-ready : goal.returns-in-Sleep-clause-ready
+returns-in-Sleep-clause-ready g c =
+    on_ok c.send-in-Sleep.result
+    (ticks_ready c.args.credentials.now c.get-3.result c.args.keeper.now c.tick.new.keeper c.in_ok-asked.field-0 c.new-text.result.items c.tick.new.text.items c.in_ok-asked.ensures.ticks c.requires.ready
+    (leaves_sleeping c.get-3.result c.in_ok-asked.field-0 c.in-Sleep.later c.tick.new.keeper c.in-Sleep.is c.in_ok-asked.ensures.leaves).0)
 
-pub returns-in_ok-extend_from_slice-in_default : goal.returns-in_ok-extend_from_slice-in_default
-returns-in_ok-extend_from_slice-in_default g c =
+pub returns : goal.returns
+returns g c =
+    let w : Sent = record {
+      old = g.W.Device.written c.args.out.now;
+      new = g.W.Device.written c.send-in_default.new.out;
+      failed_before = g.W.Device.failed_calls c.args.out.now;
+      failed_after = g.W.Device.failed_calls c.send-in_default.new.out;
+      flushed_before = g.W.Device.is_flushed c.args.out.now;
+      flushed = g.W.Device.is_flushed c.send-in_default.new.out;
+      is_in_memory = g.W.Device.is_in_memory;
+    } in
     let first = c.in_ok-asked.ensures.ticks in
     let idle = only_idle c.get-3.result c.args.keeper.now first.keeper c.in_ok-asked.field-0 first.turn c.in_default.not-Ask c.in_default.not-Sleep in
-    let ticks = ticks_as c.get-3.result c.args.t c.args.keeper.now c.tick.new.keeper c.in_ok-asked.field-0 out.Idle c.args.text.now.items c.tick.new.text.items c.get-3.ensures.value idle first in
+    let ticks = ticks_as c.get-3.result c.args.t c.args.keeper.now c.tick.new.keeper c.in_ok-asked.field-0 out.Idle c.new-text.result.items c.tick.new.text.items c.get-3.ensures.value idle c.new-text.ensures.items first in
     record {
-      memory = tt;
-      heard = quiet_lines (g.E.Exchange.behind c.args.exchange.now) c.args.port c.args.credentials.now c.args.t c.args.keeper.now c.tick.new.keeper out.Idle c.args.text.now.items c.tick.new.text.items c.extend_from_slice-in_default.new.self.items ticks refl
-          c.in_ok-extend_from_slice-in_default.ensures.items;
-      ready = ticks_ready c.args.credentials.now c.args.t c.args.keeper.now c.tick.new.keeper out.Idle c.args.text.now.items c.tick.new.text.items ticks c.requires.ready
-          (leaves_closed c.get-3.result c.in_ok-asked.field-0 c.tick.new.keeper c.in_default.not-Ask c.in_default.not-Sleep c.in_ok-asked.ensures.leaves);
+      hears = quiet_sent c.args.port c.args.credentials.now (g.E.Exchange.behind c.args.exchange.now) c.args.t c.args.keeper.now c.tick.new.keeper out.Idle c.tick.new.text.items c.extend_from_slice.new.self.items c.send-in_default.result w ticks
+          refl refl c.in_ok-extend_from_slice-in_default.ensures.items (subst (λ x. Sends c.send-in_default.result x w) c.deref-in_default.ensures.value c.send-in_default.ensures.sent) c.requires.flushed;
+      count = c.send-in_default.ensures.count;
+      ready = on_ok c.send-in_default.result
+          (ticks_ready c.args.credentials.now c.get-3.result c.args.keeper.now c.tick.new.keeper c.in_ok-asked.field-0 c.new-text.result.items c.tick.new.text.items first c.requires.ready
+          (leaves_closed c.get-3.result c.in_ok-asked.field-0 c.tick.new.keeper c.in_default.not-Ask c.in_default.not-Sleep c.in_ok-asked.ensures.leaves));
     }

@@ -1,5 +1,5 @@
 -- Each line goes on from what was heard before it.
-use Rattle.std.proofs.Common.{ℕ, ◌+◌, ◌-◌, ◌<◌, ◌≤◌, Result, length, refl, arith}
+use Rattle.std.proofs.Common.{ℕ, ◌+◌, ◌<◌, ◌≤◌, Result, length, refl, arith}
 use Rattle.std.specs.Result.{IfErr}
 use Rattle.keep_report.specs.declared.stop.Stop.{Stop}
 use Rattle.keep_report.specs.Sent.{Sent}

@@ -1,0 +1,144 @@
+-- ToldRounds: answers behind answers, each told before the next is asked; and where that stops short.
+use Rattle.std.proofs.Common.{◌≡◌, ℕ, ◌+◌, ◌<◌, inl, inr, List, [], ◌∷◌, ◌++◌, Option, Ok, Err, drop, get_or, length, take, take-append-drop, refl, sym, ap, ◌∙◌, subst}
+use Rattle.std.proofs.KnownBytes.{Appends-kept, Appends-trans}
+use Rattle.std.proofs.lemmas.List.{append_assoc, map-append, take_more}
+use Rattle.std.specs.Io.KnownBytes.{Appends, Keeps}
+use Rattle.keep_core.specs.LawsOfSteps.{IsShaped}
+use Rattle.keep_core.specs.State.{State}
+use Rattle.keep_core.specs.declared.event.Output.{Output}
+use Rattle.keep_device.specs.Failures.{HasFailed}
+use Rattle.keep_exchange.specs.Exchanges.{Behind}
+use Rattle.keep_report.specs.declared.stop.Stop.{Stop}
+use Rattle.keep_report.specs.declared.stop.Stop.TheVariants as stops
+use Rattle.keep_report.specs.Sent.{Sent}
+use Rattle.keep_run.specs.Closed.{Exchanged, World, told_next}
+use Rattle.keep_run.specs.LineByLine.{IsSent}
+use Rattle.keep_run.specs.Live.{side}
+use Rattle.keep_run.specs.Playing.{Answers, AnswersAll, inventory_with}
+use Rattle.keep_run.specs.Stops.{both}
+use Rattle.keep_run.specs.Telling.{IsOneCut, IsRound, IsRoundBroken, IsRoundCut, IsRoundSoFar, IsRoundUpTo, TellsOne, TellsRound}
+use Rattle.keep_run.proofs.LineByLine.{joined, sent_then}
+use Rattle.keep_run.proofs.Loops.{answer_more}
+use Rattle.keep_run.proofs.OneAnswer.{between_as, between_more}
+use Rattle.keep_run.proofs.Rounds.{answers_more}
+use Rattle.keep_run.proofs.Texts.{same_answer_text}
+
+-- ---- a round so far
+
+-- these were asked, and those behind them were not
+pub so_far :
+    (port : ℕ) (cs : List (List ℕ)) (t : ℕ) (old new : World) (asked done others : List ℕ) (next : Option ℕ) (text : List ℕ) → done ++ others ≡ asked → AnswersAll port cs t old done next new [] text →
+    IsRoundSoFar port cs t old asked new text
+so_far port cs t old new asked done others next text parts a = record {
+  xs = a.xs;
+  others = others;
+  who = ap (λ is. is ++ others) a.who ∙ parts;
+  answered = a.answered;
+  told_is = a.text_is;
+}
+
+-- one more was asked
+pub up_to :
+    (port : ℕ) (cs : List (List ℕ)) (t : ℕ) (old mid new : World) (asked done : List ℕ) (i : ℕ) (others : List ℕ) (next : Option ℕ) (output : Output) (told own : List ℕ) → done ++ i ∷ others ≡ asked →
+    IsShaped old.keeper.forest mid.keeper.forest → AnswersAll port cs t old done next mid [] told → Answers port cs t mid i output new [] own → IsRoundUpTo port cs t old asked new told own
+up_to port cs t old mid new asked done i others next output told own parts like a one =
+    let more = answer_more port cs t old mid new a.xs one.x a.answered one.answered in
+    let s = inventory_with cs old.keeper.forest in
+    record {
+      before = a.xs;
+      x = one.x;
+      others = others;
+      who = ap (λ is. is ++ others)
+          (map-append (λ (x : Exchanged). x.entry) a.xs (one.x ∷ []) ∙ ap (λ is. is ++ one.x.entry ∷ []) a.who ∙ ap (λ j. done ++ j ∷ []) one.entry)
+          ∙ append_assoc done (i ∷ []) others
+          ∙ parts;
+      answered = more.0;
+      told_is = a.text_is;
+      own_is = one.text_is ∙ same_answer_text s (inventory_with cs mid.keeper.forest) like refl one.x;
+    }
+
+-- an answer behind those before, whose text is told on its own
+answers_told :
+    (port : ℕ) (cs : List (List ℕ)) (t : ℕ) (old : World) (i : ℕ) (output : Output) (new : World) (before text : List ℕ) → Answers port cs t old i output new [] text → Answers port cs t old i output new before (before ++ text)
+answers_told port cs t old i output new before text a = record {
+  x = a.x;
+  entry = a.entry;
+  output_is = a.output_is;
+  answered = a.answered;
+  text_is = ap (λ l. before ++ l) a.text_is;
+}
+
+-- ---- over an exchange
+
+-- by the names that the loop over the asked has
+module _ (port : ℕ) (cs : List (List ℕ)) (t : ℕ) (o mid : Option Behind) (start now : State) (asked : List ℕ) (k : ℕ) (next : Option ℕ) (a b : Sent) (same : a.new ≡ b.old) (failures : a.failed_after ≡ b.failed_before)
+    (more : k < length asked) (like : IsShaped start.forest now.forest) where
+  abbrev pub i : ℕ
+  i = get_or asked k 0
+
+  parts : take k asked ++ i ∷ drop (k + 1) asked ≡ asked
+  parts = sym (append_assoc (take k asked) (i ∷ []) (drop (k + 1) asked)) ∙ ap (λ l. l ++ drop (k + 1) asked) (sym (take_more asked k 0 more)) ∙ take-append-drop (k + 1) asked
+
+  abbrev pub Before : Type 0
+  Before = (text : List ℕ) × (IsRound port cs t (side start o) (take k asked) next (side now mid) text × IsSent text a)
+
+  -- the next answer is told
+  pub told_more :
+      (new : Option Behind) (after : State) (output : Output) (then' : Option ℕ) → then' ≡ told_next next output → Before → TellsOne port cs t (side now mid) i (Ok output) (side after new) b →
+      (text : List ℕ) × (IsRound port cs t (side start o) (take (k + 1) asked) then' (side after new) text × IsSent text (joined a b))
+  told_more new after output then' closes h one = (
+    h.0 ++ one.0,
+    (
+      between_more o mid new
+          (λ x m. AnswersAll port cs t (both start x) (take k asked) next (both now m) [] h.0)
+          (λ m y. Answers port cs t (both now m) i output (both after y) [] one.0)
+          (λ x y. AnswersAll port cs t (both start x) (take (k + 1) asked) then' (both after y) [] (h.0 ++ one.0))
+          (λ x m y first second.
+          subst (λ is. AnswersAll port cs t (both start x) is then' (both after y) [] (h.0 ++ one.0)) (sym (take_more asked k 0 more))
+          (subst (λ n. AnswersAll port cs t (both start x) (take k asked ++ i ∷ []) n (both after y) [] (h.0 ++ one.0)) (sym closes)
+          (answers_more port cs t (both start x) (both now m) (both after y) (take k asked) i next output [] h.0 (h.0 ++ one.0) like first
+          (answers_told port cs t (both now m) i output (both after y) h.0 one.0 second))))
+          h.1.0 one.1.0,
+      sent_then a b same failures h.0 one.0 h.1.1 one.1.1,
+    ),
+  )
+
+  -- only a front of its lines is
+  cut_on : (new : Option Behind) (after : State) → Before → IsOneCut port cs t (side now mid) i (side after new) b → IsRoundCut port cs t (side start o) asked (side after new) (joined a b)
+  cut_on new after h one = record {
+    told = h.0;
+    own = one.1.0;
+    up_to = between_more o mid new
+        (λ x m. AnswersAll port cs t (both start x) (take k asked) next (both now m) [] h.0)
+        (λ m y. Answers port cs t (both now m) i one.0 (both after y) [] one.1.0)
+        (λ x y. IsRoundUpTo port cs t (both start x) asked (both after y) h.0 one.1.0)
+        (λ x m y first second. up_to port cs t (both start x) (both now m) (both after y) asked (take k asked) i (drop (k + 1) asked) next one.0 h.0 one.1.0 parts like first second)
+        h.1.0 one.1.1.0;
+    n = one.1.1.1.0;
+    front = Appends-trans a.old a.new b.new h.0 (take one.1.1.1.0 one.1.0) h.1.1.0.0 (subst (λ (w : Option (List ℕ)). Appends w b.new (take one.1.1.1.0 one.1.0)) (sym same) one.1.1.1.1);
+  }
+
+  broken_on : Before → Keeps b.old b.new → IsRoundBroken port cs t (side start o) asked (joined a b)
+  broken_on h none = record {
+    told = h.0;
+    mid = side now mid;
+    so_far = between_as o mid
+        (λ x y. AnswersAll port cs t (both start x) (take k asked) next (both now y) [] h.0)
+        (λ x y. IsRoundSoFar port cs t (both start x) asked (both now y) h.0)
+        (λ x y first. so_far port cs t (both start x) (both now y) asked (take k asked) (drop k asked) next h.0 (take-append-drop k asked) first) h.1.0;
+    written = Appends-kept a.old a.new b.new h.0 h.1.1.0.0 (subst (λ (w : Option (List ℕ)). Keeps w b.new) (sym same) none);
+  }
+
+  -- why the round stops
+  pub stopped_on :
+      (stop : Stop) (new : Option Behind) (after : State) → Before → TellsOne port cs t (side now mid) i (Err stop) (side after new) b → TellsRound port cs t (side start o) asked (Err stop) (side after new) (joined a b)
+  stopped_on (stops.Inventory fault) new after h one = absurd one
+  stopped_on (stops.Moments fault) new after h one = absurd one
+  stopped_on (stops.FaultWord n) new after h one = absurd one
+  stopped_on stops.TooLong new after h one = absurd one
+  stopped_on stops.Read new after h one = absurd one
+  stopped_on stops.Write new after h one = (subst (λ n. HasFailed n b.failed_after) (sym failures ∙ h.1.1.1) one.0, cut_on new after h one.1)
+  stopped_on (stops.Broker name) new after h one = absurd one
+  stopped_on (stops.Line n) new after h one = absurd one
+  stopped_on stops.Memory new after h (inl none) = inl (broken_on h none)
+  stopped_on stops.Memory new after h (inr cut) = inr (cut.0, cut_on new after h cut.1)

@@ -1,0 +1,26 @@
+-- Those before the index were asked, and each of their answers is told.
+use Rattle.std.proofs.Common.{◌≡◌, List, [], ℕ, drop, length, take}
+use Rattle.keep_core.specs.LawsOfSteps.{IsShaped}
+use Rattle.keep_run.specs.LineByLine.{IsSent}
+use Rattle.keep_run.specs.Live.{side}
+use Rattle.keep_run.specs.Telling.{IsRound}
+use Rattle.keep_run.proofs.Refusing.{Stands}
+use Rattle.keep_run.proofs.telling.tell_round.Given as goal
+
+abbrev pub invariant-loop-i : goal.invariant-loop-i
+invariant-loop-i g l = record {
+  told : (text : List ℕ) × (IsRound l.port l.credentials l.t (side l.fn.keeper (g.E.Exchange.behind l.fn.exchange)) (take l.i-index l.asked) l.next (side l.keeper (g.E.Exchange.behind l.exchange)) text
+      × IsSent text (record {
+        old = g.W.Device.written l.fn.out;
+        new = g.W.Device.written l.out;
+        failed_before = g.W.Device.failed_calls l.fn.out;
+        failed_after = g.W.Device.failed_calls l.out;
+        flushed_before = g.W.Device.is_flushed l.fn.out;
+        flushed = g.W.Device.is_flushed l.out;
+        is_in_memory = g.W.Device.is_in_memory;
+      }));
+  shaped : IsShaped l.fn.keeper.forest l.keeper.forest;
+  count : length l.credentials ≡ length l.keeper.forest.entries;
+  quiet : l.keeper.shortened ≡ [];
+  stands : Stands l.t (drop l.i-index l.asked) l.next l.keeper;
+}

@@ -1,0 +1,57 @@
+//! Live runs whose writer fails: who was asked by then, the exit, the fault line, and what `out` holds.
+use crate::inventories::WEB;
+use crate::live::{ONCE_RENEWED, table_of};
+use crate::moments::moment;
+use crate::outcomes::Outcome;
+use keep_device::{MemorySink, MemorySource};
+use keep_exchange::MemoryExchange;
+use keep_report::Exit;
+use keep_run::run_live;
+use std::process::Abort;
+use std::test::Fail;
+
+// How many calls of the writer go well, until when the broker keeps the entry then, and what is written.
+const CUT_OFF: [(u64, u64, &str); 6] = [
+    (3, 1060, "entry web 1060\n"),
+    (4, 1060, "entry web 1060\nwake 1059 web\n"),
+    (5, 1119, "entry web 1060\nwake 1059 web\n"),
+    (6, 1119, "entry web 1060\nwake 1059 web\ntold web 60\n"),
+    (7, 1119, "entry web 1060\nwake 1059 web\ntold web 60\n"),
+    (8, 1119, ONCE_RENEWED),
+];
+
+fn is_cut_off<R: AllocGlobal + Abort>(
+    rt: &R,
+    calls: u64,
+    end: u64,
+    text: &str,
+) -> Result<(), Fail> {
+    let alloc = rt.alloc();
+    let mut exchange = MemoryExchange::new(alloc, table_of(rt, WEB, None)?);
+    let mut out = MemorySink::new(alloc, Some(calls));
+    let mut errors = MemorySink::new(alloc, None);
+    let line = Vec::from_slice(alloc, b"tick 1059\n")?;
+    let mut events = MemorySource::new(line, Vec::new(alloc), None);
+    let exit = run_live(
+        alloc,
+        WEB.as_bytes(),
+        moment(1000)?,
+        &mut events,
+        &mut exchange,
+        &mut out,
+        &mut errors,
+    );
+    assert!(rt; exchange.table().end_of(b"web") == Some(end), "{calls}");
+    let outcome = Outcome { exit, out, errors };
+    outcome.is(rt, Exit::Device, text, "leasekeep: write\n");
+    Ok(())
+}
+
+// A request goes out behind its flushed `wake`, and behind a write or a flush that failed none does.
+#[test]
+fn live_runs_ask_nobody_behind_a_failed_write(rt: HostRuntime) -> Result<(), Fail> {
+    for (calls, end, text) in &CUT_OFF {
+        is_cut_off(&rt, *calls, *end, text)?;
+    }
+    Ok(())
+}
