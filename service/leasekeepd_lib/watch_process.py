@@ -140,7 +140,7 @@ class Watch:
                 if wake is not None:
                     self._write_ends()
                     await self._sleep(wake)
-                while self._changes and self._wanted is self._inventory:
+                while self._changes:
                     await self._hand_in(process, self._changes.popleft())
             return None
         except _Over as over:

@@ -166,6 +166,14 @@ class Said(unittest.TestCase):
         self.assertEqual((looked, process.handed_in, process.ended, seconds),
                          (Looked(), ["clock 1005007500 5000500"], 1, 0.0))
 
+    def test_what_is_told_of_its_token_is_nothing_of_a_lease(self) -> None:
+        for told in ("never app", "refused app 403", "lost app", "entry app 1000900"):
+            with self.subTest(told=told):
+                looked, _, _ = self.look_up(DB, ALL, "look app db", "entry db 1000900", told, "clock")
+                self.assertEqual(looked, Looked())
+                looked, _, _ = self.look_up(DB, ALL, "look app db", "lost db", told, "clock")
+                self.assertEqual(looked, Looked(missing=GONE))
+
     def test_silence_and_words_that_are_none(self) -> None:
         for lines, said, took in (((), "leasekeep watch says nothing", 25.0), (("begin start",), "leasekeep watch says nothing", 25.0),
                                   (("hello",), "leasekeep watch printed a line that is none of its own", 0.0),

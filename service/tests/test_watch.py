@@ -275,6 +275,10 @@ class Known(InStage):
             await stage.serve(1002, (1000.5, lambda: self.assertEqual(len(self.lines("boot-1", TWO)), 2)))
         self.play(scene, self.LIFE, inventory=TWO)
 
+    def test_they_are_written_where_the_service_ends_in_the_middle_of_a_slice(self) -> None:
+        self.played(1001, [[(clock(1_000_000), ["look web", "entry web 1060", "end web 1060000 yes", None])]])
+        self.assertEqual(self.lines("boot-1", ONE), ["known web 1060000 yes"])
+
     def test_a_file_that_is_not_as_it_was_written_is_nothing(self) -> None:
         self.assertEqual(self.lines("boot-1", TWO), [])
         self.played(1001, self.LIFE, inventory=TWO)
@@ -298,6 +302,11 @@ class Known(InStage):
         ends = KnownEnds(self.folder / "ends", storage, "boot-1")
         for end, renewable, writes in ((5, True, 1), (5, True, 1), (6, True, 2), (6, False, 3), (6, False, 3)):
             ends.keep(WEB, end, renewable)
+            ends.write()
+            self.assertEqual(storage.writes, writes)
+        for end, writes in ((7, 4), (8, 5), (8, 5)):
+            ends.keep(WEB, end, True)
+            ends.keep(DB, 9, True)  # (That this one is as it was hides nothing that is new.)
             ends.write()
             self.assertEqual(storage.writes, writes)
 
