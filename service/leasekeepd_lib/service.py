@@ -38,6 +38,9 @@ from .widest import as_it_stands
 TOGETHER = 5.0
 """Seconds within which changes are one new process."""
 METRICS_EVERY = 15.0
+DAY = 86400.0
+LONGEST_NAP = 60.0
+"""Seconds that are slept at once towards a far moment: a sleep counts no suspension."""
 ALIVE_WITHIN = 300.0
 """Seconds without a sign of life from which on the watch counts as hung: it gives one every half a minute, and more than
 two minutes pass only where the longest time-out runs out again and again."""
@@ -182,10 +185,29 @@ class Service:
             for line in known:
                 self.standings.hear(read_watch_line(line.replace("known", "end", 1)))
 
+    async def _look_up_apart(self) -> None:
+        """Has everything looked up this agent's part of the spread before a day is over, where no entry's time has come: after
+        that day `leasekeep watch` does so by itself."""
+        asked: float | None = None
+        while True:
+            begun, left = self.standings.begun, 0.0
+            if begun is not None and begun != asked:
+                left = begun + DAY - self._around.part - self._clock.elapsed()
+                if left <= 0 and self._is_calm():
+                    self.watch.begin()
+                    asked = begun
+            await asyncio.sleep(min(max(left, 1.0), LONGEST_NAP))
+
+    def _is_calm(self) -> bool:
+        handed = self._handed()
+        return may_wait(handed, self._around.ends.known(handed), 0, self._clock.wall(), self._clock.elapsed())
+
     async def serve(self) -> None:
         """Runs until it is cancelled."""
         self._wait_at_start()
         works = [self.watch.serve(), self._again_and_again(self._report), self._again_and_again(self._secrets.serve)]
+        if self._around.part:
+            works.append(self._again_and_again(self._look_up_apart))
         if self._around.alerts is not None:
             works.append(self._again_and_again(self._around.alerts.serve))
         self._around.notifier.send("READY=1")

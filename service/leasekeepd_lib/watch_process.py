@@ -99,6 +99,12 @@ class Watch:
         """Starts the first process so much later, unless a change comes before."""
         self._held_until = self._elapsed() + 1000 * seconds
 
+    def begin(self) -> None:
+        """Has everything looked up again."""
+        if self._wanted is self._inventory:  # (Else a new process begins anyway.)
+            self._changes.append("begin")
+            self._waiter.ring()
+
     def need(self, inventory: Inventory, name: str, until: int) -> None:
         """Goes on with an inventory in which that need alone is another."""
         is_told = self._wanted is self._inventory

@@ -44,6 +44,8 @@ class Standings:
         self._is_renewal = False
         self._told_end: int | None = None
         self.beginnings = 0
+        self.begun: float | None = None
+        """When everything was last looked up, by the elapsed clock."""
         self.next_wake: int | None = None
         self.offset = 0.0
 
@@ -68,6 +70,7 @@ class Standings:
         match line.said, line.words:
             case Said.BEGIN, _:
                 self.beginnings += 1
+                self.begun = self._clock.elapsed()
             case (Said.LOOK | Said.RENEW) as said, _:
                 self._is_renewal = said is Said.RENEW
             case Said.NEXT, (moment, *names):

@@ -65,7 +65,7 @@ class Talking:
     async def write_line(self, line: str) -> None:
         word, *rest = line.split(" ")
         self.written.append(line)
-        said = {"need": ["planned", "clock"], "known": ["clock"]}.get(word) or [*self._says, f"wait {int(rest[-1]) + 10_000}"]
+        said = {"need": ["planned", "clock"], "known": ["clock"], "begin": ["clock"]}.get(word) or [*self._says, f"wait {int(rest[-1]) + 10_000}"]
         if word == "clock":
             self._says.clear()
         for one in said:
@@ -195,6 +195,36 @@ class Served(unittest.TestCase):
                 await asyncio.gather(serving, return_exceptions=True)
             self.assertEqual(room.said("start"), ["start waits for 17 s: nothing comes to its time by then"])
         self.play(scene, part=17)
+
+    def test_the_day_s_lookups_come_by_its_part_earlier_where_nothing_is_due(self) -> None:
+        async def scene(room: Room) -> None:
+            began, far = room.world.elapsed(), int((room.world.elapsed() + 200_000) * 1000)
+            child = room.launcher.children[-1]
+            child._says += ["begin start", *(f"end {name} {far} yes" for name in ("app", "web", "db"))]
+            await room.after(10)  # (Its next clock.)
+            begun = room.service.standings.begun
+            assert begun is not None and begun > began
+            await room.after(begun + 86_400 - 17 - 2 - room.world.elapsed())
+            self.assertNotIn("begin", child.written)
+            await room.after(3)
+            self.assertEqual(child.written.count("begin"), 1)
+            await room.after(100)
+            self.assertEqual(child.written.count("begin"), 1)  # (It has not begun anew yet, and is not asked twice.)
+            child._says += ["begin asked", f"end web {int((room.world.elapsed() + 86_400) * 1000)} yes"]
+            await room.after(10)
+            self.assertEqual(room.service.standings.beginnings, 2)
+            await room.after(86_400 - 12)
+            self.assertEqual(child.written.count("begin"), 1)  # An entry's time has come: so it is left to `leasekeep watch`.
+        self.play(scene, part=17)
+
+    def test_without_a_spread_the_day_s_lookups_are_left_to_the_watch(self) -> None:
+        async def scene(room: Room) -> None:
+            far = int((room.world.elapsed() + 200_000) * 1000)
+            child = room.launcher.children[-1]
+            child._says += ["begin start", *(f"end {name} {far} yes" for name in ("app", "web", "db"))]
+            await room.after(86_500)
+            self.assertNotIn("begin", child.written)
+        self.play(scene)
 
     def test_a_need_that_is_always(self) -> None:
         async def scene(room: Room) -> None:
