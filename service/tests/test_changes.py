@@ -20,7 +20,7 @@ from leasekeepd_journal.journal import Journal
 from leasekeepd_journal.storage import Storage
 from leasekeepd_lib.events import LineForm, Log
 from leasekeepd_lib.known_ends import KnownEnds
-from leasekeepd_lib.lookups import Lookups
+from leasekeepd_lib.lookups import Looked, Lookups
 from leasekeepd_lib.notify import Notifier
 from leasekeepd_lib.service import Service, Surroundings
 from leasekeepd_lib.source import Source, SourceFault
@@ -292,6 +292,14 @@ class Journals(InRoom):
             self.assertIn("fresh", meaning(read_inventory(room.file.read_bytes()).inventory or Inventory()))
             self.assertEqual((room.folder / "journal").read_bytes(), b"")
             self.assertEqual(room.file.stat().st_mode & 0o777, 0o600)
+            settled_file = room.file.read_bytes()
+            room.file.write_text("x")
+            self.assertIn("fresh", room.state())  # (By the copy.)
+            room.file.write_bytes(settled_file)
+            for mode, left in ((0o640, 0o640), (0o641, 0o640)):
+                room.file.chmod(mode)
+                await service.command(["settle"], WHO)
+                self.assertEqual(room.file.stat().st_mode & 0o777, left)
         self.in_room(work)
 
     def test_replaying_onto_a_settled_file_changes_nothing(self) -> None:
@@ -373,8 +381,25 @@ class Refused(InRoom):
                 self.assertEqual(words, f"the broker answers {status} to its lookup: web keeps the old one")
             self.assertEqual(room.state(), meaning(INVENTORY))
             room.vault.faults = [Fault(0, 2e9, Act.REFUSE)]
-            await service.command(["replace", "web", "s.later"], WHO)
+            self.assertEqual(await service.command(["replace", "web", "s.later"], WHO),
+                             ["it could not be looked up (the broker gave no answer to its lookup), and is taken"])
             self.assertEqual(room.state()["web"][1], "s.later")
+            room.vault.faults.clear()
+            self.assertEqual(await service.command(["replace", "web", "s.web"], WHO), [])
+        self.in_room(work)
+
+    def test_a_file_that_is_read_anew_while_a_secret_is_looked_up(self) -> None:
+        """The secret stands beside what the file says when it is taken."""
+        async def work(room: Room) -> None:
+            service = room.service()
+
+            async def look_up(inventory: Inventory, entry: Entry) -> Looked:
+                room.write(Inventory((INVENTORY.entries[0], token("web", BEGAN + 80_000, "s.newer")), 30))
+                service.reload()
+                return Looked()
+            setattr(service._lookups, "look_up", look_up)
+            await service.command(["replace", "web", "s.web2"], WHO)
+            self.assertEqual(room.state()["web"][1], "s.web2")
         self.in_room(work)
 
     def test_changes_that_cannot_be_made(self) -> None:
@@ -413,6 +438,9 @@ class Refused(InRoom):
             await service.command(["need", "app", "+8h"], WHO)
             await room.world.until(BEGAN + 14.9)
             self.assertEqual(len(room.launcher.children), 1)
+            await room.world.until(BEGAN + 15.1)
+            self.assertEqual(len(room.launcher.children), 2)  # (Five seconds after the first of them.)
+            self.assertEqual([event for event in room.launcher.children[0].events if "need" in event], [])
             await room.world.until(BEGAN + 100)
             self.assertEqual(len(room.launcher.children), 2)
             self.assertEqual({entry.name: entry.need for entry in room.launcher.inventories[1].entries},

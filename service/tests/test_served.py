@@ -259,6 +259,20 @@ class Served(unittest.TestCase):
             self.assertIn("app short", "\n".join(await room.service.command(["status"], WHO)))
         self.play(scene)
 
+    def test_what_is_short_goes_by_the_need_as_it_is_now(self) -> None:
+        async def scene(room: Room) -> None:
+            reach = BEGAN + 5 * 86400
+            room.launcher.says += [f"short app {reach}"]
+            await room.after(30)
+            self.assertEqual(room.said("short"), [])
+            await room.service.command(["need", "app", str(reach + 1)], WHO)
+            self.assertEqual(room.said("short"), [f"warning: short app {reach}"])
+            await room.service.command(["need", "web", "always"], WHO)
+            room.launcher.says += [f"short web {reach}"]
+            await room.after(30)
+            self.assertEqual(len(room.said("short")), 1)  # (Days before.)
+        self.play(scene)
+
     def test_settle_keeps_the_words(self) -> None:
         async def scene(room: Room) -> None:
             await room.service.command(["need", "db", "0"], WHO)
