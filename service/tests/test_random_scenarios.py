@@ -32,11 +32,11 @@ class Plot:
     inventory: Inventory
 
     def bearable(self, latency: float) -> float:
-        """The longest outage, kill or suspension that is promised to be survived, by docs/watch.md: everything is looked up
-        behind a kill, eight at a time."""
+        """The longest outage, kill or suspension that is to be survived by the formula of docs/watch.md, less a second:
+        everything is looked up behind a kill, eight at a time."""
         rounds = 2 * math.ceil(len(self.inventory.entries) / 8) * latency
         pause = max(1.0, min(30.0, rounds / 15))
-        return self.margin - (TIMEOUT + 0.14) - latency - rounds - pause - 1.0
+        return self.margin - (TIMEOUT + 0.14) - 2 * latency - rounds - pause - 1.0
 
 
 def plot(seed: int) -> Plot:

@@ -10,15 +10,15 @@ use Rattle.keep_watch.specs.declared.command.Output.{Output}
 use Rattle.keep_watch.specs.declared.event.Event.TheVariants.{Clock}
 use Rattle.keep_watch.specs.History.{Turn}
 use Rattle.keep_watch.specs.LawsOfRecovery.{is_out, is_tried}
-use Rattle.keep_watch.specs.Outage.{IsIncident, Outage, comes, is_whole, next_by, waiting}
+use Rattle.keep_watch.specs.Outage.{IsIncident, Outage, again, comes, is_whole, next_by, waiting}
 use Rattle.keep_watch.specs.Pauses.{ms}
 use Rattle.keep_watch.specs.Refusal.{is_open}
 use Rattle.keep_watch.specs.State.{State, unanswered_of}
 use Rattle.keep_watch.specs.Wanted.{is_wanted}
 use Rattle.keep_watch.proofs.Abiding.{Facts, IsGoing}
 use Rattle.keep_watch.proofs.Serving.{none_served, not_served}
-use Rattle.keep_watch.proofs.Stages.{IsEarly, IsPlanned, IsTaken, IsThrough, cut_between, free_from, last_cut, margin_holds, room_back, stands_by, take_one, turn_of, whole_before, whole_behind}
-use Rattle.keep_watch.proofs.Standing.{IsStanding, IsWhole, again}
+use Rattle.keep_watch.proofs.Stages.{IsEarly, IsPlanned, IsTaken, IsThrough, asked_of, cut_between, free_from, last_cut, margin_holds, room_back, stands_by, take_one, turn_of, whole_before, whole_behind}
+use Rattle.keep_watch.proofs.Standing.{IsStanding, IsWhole}
 use Rattle.keep_watch.proofs.Ticked.{IsTicked, clock_ticks}
 use Rattle.keep_watch.proofs.Ticking.{IsSaid}
 
@@ -28,10 +28,10 @@ unfolding is_out
 none_out s i none = ap (λ p. list_any (λ q. q.entry == i) (unanswered_of p)) none
 
 -- a slice that is whole has i, or passes over it
-pub taken_or_not : (f : Facts) (o : Outage) (b : ℕ) (s : State) → IsGoing f s → IsStanding b s f.i → is_whole o s.clocks.at ≡ true → IsTaken f o s ⊎ (is_out s f.i ≡ false)
-taken_or_not f o b s going stands whole =
+pub taken_or_not : (f : Facts) (o : Outage) (b : ℕ) (s : State) → IsGoing f s → IsStanding b s f.i → is_whole o s.clocks.at ≡ true → s.clocks.at ≤ asked_of f o → IsTaken f o s ⊎ (is_out s f.i ≡ false)
+taken_or_not f o b s going stands whole by =
     elim (cases_Bool (is_out s f.i)) as (λ _. IsTaken f o s ⊎ (is_out s f.i ≡ false)) [
-      | inl out ↦ inl (record { going = going; b = b; standing = stands; served = ap₂ (λ x y. x && y) out whole })
+      | inl out ↦ inl (record { going = going; b = b; standing = stands; by = by; served = ap₂ (λ x y. x && y) out whole })
       | inr not' ↦ inr not'
     ]
 
@@ -82,9 +82,10 @@ module _ (f : Facts) (o : Outage) (planned : IsPlanned f o) (old new : State) (r
         let count = h.count in
         let fewer = h.fewer in
         let next = h.next in
+        let order = planned.order in
         let yes' = whole_before o new.clocks.at early in
         let quick = quick_by o new.clocks.at yes' in
-        elim (taken_or_not f o (ms f.time) new t.going t.standing yes') as (λ _. IsThrough f o new (next_by o new.clocks.at (Ask requests patient) due) k_new) [
+        elim (taken_or_not f o (ms f.time) new t.going t.standing yes' (omega (arith, early, order))) as (λ _. IsThrough f o new (next_by o new.clocks.at (Ask requests patient) due) k_new) [
           | inl taken ↦ inr (inr taken)
           | inr left ↦ elim (cases_lt new.clocks.at (ms f.time)) as (λ _. IsThrough f o new (next_by o new.clocks.at (Ask requests patient) due) k_new) [
             | inl before ↦
@@ -160,10 +161,10 @@ module _ (f : Facts) (o : Outage) (planned : IsPlanned f o) (old new : State) (r
         let order = planned.order in
         let yes' = whole_behind o new.clocks.at back in
         let room = room_back f o h.r planned h.fewer (omega (arith, cut, come, next)) in
-        elim (taken_or_not f o (ms f.time) new t.going t.standing yes') as (λ _. IsThrough f o new (next_by o new.clocks.at c due) k_new) [
+        elim (taken_or_not f o (ms f.time) new t.going t.standing yes' (omega (arith, come, by, order))) as (λ _. IsThrough f o new (next_by o new.clocks.at c due) k_new) [
           | inl taken ↦ inr (inr taken)
           | inr left ↦
-              let made : (n : ℕ) → (n < ms f.end) ⊎ (ms f.time ≤ new.clocks.at) → ((n ≤ free_from f o + o.late) × (new.slice ≡ None)) ⊎ (((new.away ≡ 0) ⊎ (is_open (unanswered_of new.slice) ≡ true)) × (n + turn_of o * h.r < ms f.end + turn_of o)) → IsThrough f o new n k_new =
+              let made : (n : ℕ) → (n < ms f.end) ⊎ (ms f.time ≤ new.clocks.at) → ((n ≤ free_from f o + o.late) × (new.slice ≡ None)) ⊎ (((new.away ≡ 0) ⊎ (is_open (unanswered_of new.slice) ≡ true)) × ((n + turn_of o * h.r < ms f.end + turn_of o) × (n + turn_of o * h.r ≤ asked_of f o + turn_of o))) → IsThrough f o new n k_new =
               λ n soon' next'. inr (inl (record {
                 going = t.going;
                 standing = stands_by (ms f.time) (free_from f o) new f.i (omega arith) t.standing;
@@ -172,21 +173,24 @@ module _ (f : Facts) (o : Outage) (planned : IsPlanned f o) (old new : State) (r
                 back = back;
                 r = h.r;
                 count = omega (arith, few, count);
+                fewer = h.fewer;
                 room = room;
+                by = omega (arith, come, by, order);
                 soon = soon';
                 next = next';
               })) in
               of c said made (omega (arith, come, by, order)) room yes'
         ]
       where
-        of : (c : Command) → IsSaid f o (ms f.time) old new c → ((n : ℕ) → (n < ms f.end) ⊎ (ms f.time ≤ new.clocks.at) → ((n ≤ free_from f o + o.late) × (new.slice ≡ None)) ⊎ (((new.away ≡ 0) ⊎ (is_open (unanswered_of new.slice) ≡ true)) × (n + turn_of o * h.r < ms f.end + turn_of o)) → IsThrough f o new n k_new) →
+        of : (c : Command) → IsSaid f o (ms f.time) old new c → ((n : ℕ) → (n < ms f.end) ⊎ (ms f.time ≤ new.clocks.at) → ((n ≤ free_from f o + o.late) × (new.slice ≡ None)) ⊎ (((new.away ≡ 0) ⊎ (is_open (unanswered_of new.slice) ≡ true)) × ((n + turn_of o * h.r < ms f.end + turn_of o) × (n + turn_of o * h.r ≤ asked_of f o + turn_of o))) → IsThrough f o new n k_new) →
             new.clocks.at ≤ free_from f o + o.late → free_from f o + o.late + turn_of o * h.r < ms f.end → is_whole o new.clocks.at ≡ true → IsThrough f o new (next_by o new.clocks.at c due) k_new
         of (Wait until) said made by room yes' = (let w = said.0 in made (until + o.late) (inl (omega (arith, w, room))) (inl (omega (arith, w), said.1)))
         of (Ask requests patient) said made by room yes' =
             let quick = quick_by o new.clocks.at yes' in
+            let fewer = h.fewer in
             let all = margin_holds f o planned in
             made _ (elim (cases_lt new.clocks.at (ms f.time)) as (λ _. (new.clocks.at + (if is_whole o new.clocks.at then o.quick else o.slow) + o.late < ms f.end) ⊎ (ms f.time ≤ new.clocks.at)) [ inl before ↦ inl (omega (arith, quick, before, all)) | inr time ↦ inr time ])
-            (inr (inr said.0, omega (arith, quick, by, room)))
+            (inr (inr said.0, (omega (arith, quick, by, room), omega (arith, quick, by, fewer))))
         of Taken said made by room yes' = absurd said
 
 pub ahead_clock :

@@ -7,7 +7,7 @@ use Rattle.keep_watch.specs.declared.command.Command.TheVariants.{Ask, Wait, Tak
 use Rattle.keep_watch.specs.declared.command.Output.{Output}
 use Rattle.keep_watch.specs.declared.event.Event.TheVariants.{Clock}
 use Rattle.keep_watch.specs.History.{Turn}
-use Rattle.keep_watch.specs.Outage.{IsIncident, Outage, is_whole, next_by}
+use Rattle.keep_watch.specs.Outage.{IsIncident, Outage, again, is_whole, next_by}
 use Rattle.keep_watch.specs.Pauses.{ms}
 use Rattle.keep_watch.specs.Refusal.{is_open}
 use Rattle.keep_watch.specs.Settling.{timed}
@@ -16,8 +16,8 @@ use Rattle.keep_watch.specs.Wanted.{is_wanted}
 use Rattle.keep_watch.proofs.Abiding.{Facts}
 use Rattle.keep_watch.proofs.Ahead.{k_new, k_old, no_more, quick_by, slow_by, taken_or_not}
 use Rattle.keep_watch.proofs.Serving.{not_served}
-use Rattle.keep_watch.proofs.Stages.{IsCut, IsPlanned, IsThrough, cut_between, free_from, last_cut, margin_holds, room_back, turn_of, whole_behind}
-use Rattle.keep_watch.proofs.Standing.{IsWhole, again, again_rises}
+use Rattle.keep_watch.proofs.Stages.{IsCut, IsPlanned, IsThrough, asked_of, cut_between, free_from, last_cut, margin_holds, room_back, turn_of, whole_behind}
+use Rattle.keep_watch.proofs.Standing.{IsWhole, again_rises}
 use Rattle.keep_watch.proofs.Steady.{rises}
 use Rattle.keep_watch.proofs.Ticked.{IsTicked, clock_ticks}
 use Rattle.keep_watch.proofs.Ticking.{IsSaid}
@@ -65,10 +65,10 @@ module _ (f : Facts) (o : Outage) (planned : IsPlanned f o) (old new : State) (r
       let by = h.by in
       let yes' = whole_behind o new.clocks.at back in
       let room = room_back f o h.r planned h.fewer h.room in
-      elim (taken_or_not f o (free_from f o) new t.going t.standing yes') as (λ _. After c) [
+      elim (taken_or_not f o (free_from f o) new t.going t.standing yes' (omega (arith, come, by))) as (λ _. After c) [
         | inl taken ↦ inr (inr taken)
         | inr left ↦
-            let made : (n : ℕ) → (n < ms f.end) ⊎ (ms f.time ≤ new.clocks.at) → ((n ≤ free_from f o + o.late) × (new.slice ≡ None)) ⊎ (((new.away ≡ 0) ⊎ (is_open (unanswered_of new.slice) ≡ true)) × (n + turn_of o * h.r < ms f.end + turn_of o)) →
+            let made : (n : ℕ) → (n < ms f.end) ⊎ (ms f.time ≤ new.clocks.at) → ((n ≤ free_from f o + o.late) × (new.slice ≡ None)) ⊎ (((new.away ≡ 0) ⊎ (is_open (unanswered_of new.slice) ≡ true)) × ((n + turn_of o * h.r < ms f.end + turn_of o) × (n + turn_of o * h.r ≤ asked_of f o + turn_of o))) →
             IsThrough f o new n (k_new f o planned old new rest) = λ n soon' next'. inr (inl (record {
               going = t.going;
               standing = t.standing;
@@ -77,7 +77,9 @@ module _ (f : Facts) (o : Outage) (planned : IsPlanned f o) (old new : State) (r
               back = back;
               r = h.r;
               count = omega (arith, few, count);
+              fewer = h.fewer;
               room = room;
+              by = omega (arith, come, by);
               soon = soon';
               next = next';
             })) in
@@ -85,14 +87,15 @@ module _ (f : Facts) (o : Outage) (planned : IsPlanned f o) (old new : State) (r
       ]
     where
       of : (c : Command) → IsSaid f o (free_from f o) old new c →
-          ((n : ℕ) → (n < ms f.end) ⊎ (ms f.time ≤ new.clocks.at) → ((n ≤ free_from f o + o.late) × (new.slice ≡ None)) ⊎ (((new.away ≡ 0) ⊎ (is_open (unanswered_of new.slice) ≡ true)) × (n + turn_of o * h.r < ms f.end + turn_of o)) → IsThrough f o new n (k_new f o planned old new rest)) →
+          ((n : ℕ) → (n < ms f.end) ⊎ (ms f.time ≤ new.clocks.at) → ((n ≤ free_from f o + o.late) × (new.slice ≡ None)) ⊎ (((new.away ≡ 0) ⊎ (is_open (unanswered_of new.slice) ≡ true)) × ((n + turn_of o * h.r < ms f.end + turn_of o) × (n + turn_of o * h.r ≤ asked_of f o + turn_of o))) → IsThrough f o new n (k_new f o planned old new rest)) →
           new.clocks.at ≤ free_from f o + o.late → free_from f o + o.late + turn_of o * h.r < ms f.end → is_whole o new.clocks.at ≡ true → After c
       of (Wait until) said made by room yes' = (let w = said.0 in made (until + o.late) (inl (omega (arith, w, room))) (inl (omega (arith, w), said.1)))
       of (Ask requests patient) said made by room yes' =
           let quick = quick_by o new.clocks.at yes' in
+          let fewer = h.fewer in
           let all = margin_holds f o planned in
           made _ (elim (cases_lt new.clocks.at (ms f.time)) as (λ _. (new.clocks.at + (if is_whole o new.clocks.at then o.quick else o.slow) + o.late < ms f.end) ⊎ (ms f.time ≤ new.clocks.at)) [ inl before ↦ inl (omega (arith, quick, before, all)) | inr time ↦ inr time ])
-          (inr (inr said.0, omega (arith, quick, by, room)))
+          (inr (inr said.0, (omega (arith, quick, by, room), omega (arith, quick, by, fewer))))
       of Taken said made by room yes' = absurd said
 
 pub amid_clock :

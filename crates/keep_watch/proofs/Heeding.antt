@@ -2,15 +2,15 @@
 use Rattle.std.proofs.Common.{◌≡◌, ◌⊎◌, ◌∙◌, ℕ, ◌+◌, ◌*◌, ◌<◌, ◌≤◌, max, Bool, true, false, ◌&&◌, Option, Some, None, sym, ap, subst, arith, inl, inr}
 use Rattle.keep_watch.specs.declared.clocks.Clocks.{Clocks}
 use Rattle.keep_watch.specs.LawsOfRecovery.{is_out}
-use Rattle.keep_watch.specs.Outage.{Outage, is_whole}
+use Rattle.keep_watch.specs.Outage.{Outage, again, is_whole}
 use Rattle.keep_watch.specs.Pauses.{ms}
 use Rattle.keep_watch.specs.Refusal.{is_open}
 use Rattle.keep_watch.specs.State.{State, unanswered_of}
 use Rattle.keep_watch.proofs.Abiding.{Facts, IsGoing}
 use Rattle.keep_watch.proofs.Ahead.{k_new, k_old, no_more}
 use Rattle.keep_watch.proofs.Hearing.{IsHeard}
-use Rattle.keep_watch.proofs.Stages.{IsBack, IsCut, IsEarly, IsPlanned, IsTaken, IsThrough, free_from, turn_of, whole_before, whole_behind}
-use Rattle.keep_watch.proofs.Standing.{IsStanding, IsWhole, again}
+use Rattle.keep_watch.proofs.Stages.{IsBack, IsCut, IsEarly, IsPlanned, IsTaken, IsThrough, asked_of, free_from, turn_of, whole_before, whole_behind}
+use Rattle.keep_watch.proofs.Standing.{IsStanding, IsWhole}
 
 not_both : {b : Bool} → b ≡ true → b ≡ false → ⊥
 not_both h k = let bad : true ≡ false = sym h ∙ k in cc
@@ -53,7 +53,9 @@ fewer_through f o s due k less few (inr (inl h)) = inr (inl (record {
   back = h.back;
   r = h.r;
   count = (let c = h.count in omega (arith, c, few));
+  fewer = h.fewer;
   room = h.room;
+  by = h.by;
   soon = h.soon;
   next = h.next;
 }))
@@ -122,6 +124,7 @@ module _ (f : Facts) (o : Outage) (planned : IsPlanned f o) (old new : State) (r
       let few = no_more f o planned old new rest in
       let back = h.back in
       let count = h.count in
+      let by = h.by in
       record {
         going = x.going;
         standing = x.standing;
@@ -130,9 +133,11 @@ module _ (f : Facts) (o : Outage) (planned : IsPlanned f o) (old new : State) (r
         back = omega (arith, at, back);
         r = h.r;
         count = omega (arith, few, count);
+        fewer = h.fewer;
         room = h.room;
+        by = omega (arith, at, by);
         soon = elim h.soon as (λ _. (due < ms f.end) ⊎ (ms f.time ≤ new.clocks.at)) [ inl soon' ↦ inl soon' | inr time ↦ inr (omega (arith, time, at)) ];
-        next = elim h.next as (λ _. ((due ≤ free_from f o + o.late) × (new.slice ≡ None)) ⊎ (((new.away ≡ 0) ⊎ (is_open (unanswered_of new.slice) ≡ true)) × (due + turn_of o * h.r < ms f.end + turn_of o))) [
+        next = elim h.next as (λ _. ((due ≤ free_from f o + o.late) × (new.slice ≡ None)) ⊎ (((new.away ≡ 0) ⊎ (is_open (unanswered_of new.slice) ≡ true)) × ((due + turn_of o * h.r < ms f.end + turn_of o) × (due + turn_of o * h.r ≤ asked_of f o + turn_of o)))) [
           | inl none ↦ absurd (none_or_some x.slice.0 x.slice.1 none.1)
           | inr on ↦ inr (x.heard whole, on.1)
         ];
@@ -142,7 +147,9 @@ module _ (f : Facts) (o : Outage) (planned : IsPlanned f o) (old new : State) (r
   taken_heard h =
       let whole = served_whole (is_out old f.i) (is_whole o old.clocks.at) h.served in
       let x = hear h.b h.going h.standing (λ cut. absurd (not_both whole cut)) in
-      record { going = x.going; b = h.b; standing = x.standing; served = x.served ∙ h.served }
+      let at = ap (λ (c : Clocks). c.at) x.clocks in
+      let by = h.by in
+      record { going = x.going; b = h.b; standing = x.standing; by = omega (arith, at, by); served = x.served ∙ h.served }
     where
       served_whole : (a b : Bool) → a && b ≡ true → b ≡ true
       served_whole true b e = e

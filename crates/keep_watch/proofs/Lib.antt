@@ -66,6 +66,7 @@ pub mod Ahead
 pub mod Amid
 pub mod Beyond
 pub mod Heeding
+pub mod Needing
 pub mod Foregoing
 pub mod Outset
 pub mod Outliving

@@ -14,7 +14,7 @@ use Rattle.keep_watch.specs.LawsOfOutage.{IsBefore}
 use Rattle.keep_watch.specs.LawsOfRecovery.{is_out, is_tried}
 use Rattle.keep_watch.specs.LawsOfWaiting.{WaitsRight}
 use Rattle.keep_watch.specs.Margins.{is_in_plan, own_margin, time, time_before}
-use Rattle.keep_watch.specs.Outage.{Outage, next_by}
+use Rattle.keep_watch.specs.Outage.{Outage, again, next_by}
 use Rattle.keep_watch.specs.Pauses.{ms}
 use Rattle.keep_watch.specs.Press.{is_pressed, is_pressed_try, pressed}
 use Rattle.keep_watch.specs.Refusal.{is_open}
@@ -32,8 +32,8 @@ use Rattle.keep_watch.proofs.Recovering.{may_tried, out_is, passes}
 use Rattle.keep_watch.proofs.Sending.{may_go, picked_of}
 use Rattle.keep_watch.proofs.Serving.{not_served}
 use Rattle.keep_watch.proofs.Spaced.{turned}
-use Rattle.keep_watch.proofs.Stages.{IsPlanned, IsThrough, cut_between, free_from, last_cut, margin_holds, room_back, stands_by, turn_of, whole_before, whole_behind}
-use Rattle.keep_watch.proofs.Standing.{IsOwn, IsStanding, IsWhole, again, not_endless}
+use Rattle.keep_watch.proofs.Stages.{IsPlanned, IsThrough, asked_of, cut_between, free_from, last_cut, margin_holds, room_back, stands_by, turn_of, whole_before, whole_behind}
+use Rattle.keep_watch.proofs.Standing.{IsOwn, IsStanding, IsWhole, not_endless}
 use Rattle.keep_watch.proofs.Steady.{IsSteady, turn_steady}
 use Rattle.keep_watch.proofs.Ticked.{sends_renewals}
 use Rattle.keep_watch.proofs.Ticking.{picked_some, some_open}
@@ -149,11 +149,13 @@ module _ (f : Facts) (o : Outage) (planned : IsPlanned f o) (s : State) (k : ℕ
         back = back;
         r = o.rounds;
         count = count;
+        fewer = omega arith;
+        by = omega (arith, ahead);
         room = room_back f o o.rounds planned (omega arith) (omega (arith, order, back, ahead));
         soon = inl (omega (arith, by, all));
-        next = elim slice as (λ _. ((due ≤ free_from f o + o.late) × (s.slice ≡ None)) ⊎ (((s.away ≡ 0) ⊎ (is_open (unanswered_of s.slice) ≡ true)) × (due + turn_of o * o.rounds < ms f.end + turn_of o))) [
+        next = elim slice as (λ _. ((due ≤ free_from f o + o.late) × (s.slice ≡ None)) ⊎ (((s.away ≡ 0) ⊎ (is_open (unanswered_of s.slice) ≡ true)) × ((due + turn_of o * o.rounds < ms f.end + turn_of o) × (due + turn_of o * o.rounds ≤ asked_of f o + turn_of o)))) [
           | inl none ↦ inl none
-          | inr opened' ↦ inr (inr opened', omega (arith, by, all))
+          | inr opened' ↦ inr (inr opened', (omega (arith, by, all), omega (arith, by)))
         ];
       }))
 

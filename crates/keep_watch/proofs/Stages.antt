@@ -4,13 +4,13 @@ use Rattle.std.proofs.Common.{◌≡◌, ◌⊎◌, ◌∙◌, ℕ, zero, suc, �
 use Rattle.std.proofs.lemmas.Bool.Decides.{nat_tests}
 use Rattle.std.proofs.Math.Nat.{mul-suc, mul-zero}
 use Rattle.keep_watch.specs.declared.track.Try.{Try}
-use Rattle.keep_watch.specs.Outage.{IsShort, Outage, is_served, is_whole}
+use Rattle.keep_watch.specs.Outage.{IsShort, Outage, again, is_served, is_whole}
 use Rattle.keep_watch.specs.Pauses.{ms}
 use Rattle.keep_watch.specs.Refusal.{is_open}
 use Rattle.keep_watch.specs.Slice.{is_first}
 use Rattle.keep_watch.specs.State.{State, attempt_at, unanswered_of}
 use Rattle.keep_watch.proofs.Abiding.{Facts, IsGoing}
-use Rattle.keep_watch.proofs.Standing.{IsOwn, IsStanding, IsWhole, again}
+use Rattle.keep_watch.proofs.Standing.{IsOwn, IsStanding, IsWhole}
 
 -- how long a slice takes while the broker is there, with the clock behind it
 abbrev pub turn_of : Outage → ℕ
@@ -22,6 +22,10 @@ last_cut o = o.until + o.slow + o.late
 
 abbrev pub free_from : Facts → Outage → ℕ
 free_from f o = max (ms f.time) (again f.end (last_cut o))
+
+-- by when a slice that is whole asks it
+abbrev pub asked_of : Facts → Outage → ℕ
+asked_of f o = free_from f o + (turn_of o * o.rounds + o.late)
 
 -- what is known of the entry, and of the outage
 pub record IsPlanned (f : Facts) (o : Outage) : Type 0 where
@@ -67,15 +71,18 @@ pub record IsBack (f : Facts) (o : Outage) (s : State) (due k : ℕ) : Type 0 wh
   pub back : o.until ≤ s.clocks.at
   pub r : ℕ
   pub count : k ≤ f.width * r
+  pub fewer : turn_of o * r ≤ turn_of o * o.rounds
   pub room : free_from f o + o.late + turn_of o * r < ms f.end
+  pub by : s.clocks.at ≤ asked_of f o
   pub soon : (due < ms f.end) ⊎ (ms f.time ≤ s.clocks.at)
-  pub next : ((due ≤ free_from f o + o.late) × (s.slice ≡ None)) ⊎ (((s.away ≡ 0) ⊎ (is_open (unanswered_of s.slice) ≡ true)) × (due + turn_of o * r < ms f.end + turn_of o))
+  pub next : ((due ≤ free_from f o + o.late) × (s.slice ≡ None)) ⊎ (((s.away ≡ 0) ⊎ (is_open (unanswered_of s.slice) ≡ true)) × ((due + turn_of o * r < ms f.end + turn_of o) × (due + turn_of o * r ≤ asked_of f o + turn_of o)))
 
 -- out in a slice that is whole
 pub record IsTaken (f : Facts) (o : Outage) (s : State) : Type 0 where
   pub going : IsGoing f s
   pub b : ℕ
   pub standing : IsStanding b s f.i
+  pub by : s.clocks.at ≤ asked_of f o
   pub served : is_served o s f.i ≡ true
 
 abbrev pub IsThrough : Facts → Outage → State → ℕ → ℕ → Type 0

@@ -9,6 +9,7 @@ use Rattle.keep_watch.specs.declared.slice.Slice.{Slice}
 use Rattle.keep_watch.specs.declared.track.Try.{Try}
 use Rattle.keep_watch.specs.Beginning.{begun, rested, soon}
 use Rattle.keep_watch.specs.Clocks.{sec}
+use Rattle.keep_watch.specs.Outage.{again}
 use Rattle.keep_watch.specs.Pauses.{cap, cap_of, left_to, ms, pause}
 use Rattle.keep_watch.specs.Press.{attempt_after, dropped, is_alive, is_fresh, press}
 use Rattle.keep_watch.specs.Settling.{held, hold_after, paused, settled, timed}
@@ -20,10 +21,7 @@ use Rattle.keep_watch.proofs.Cases.{if_cases}
 use Rattle.keep_watch.proofs.Retry.{held_within}
 use Rattle.keep_watch.proofs.Tracks.{track_written}
 
--- by when whoever was lost may go out again, behind a clock at that moment
-abbrev pub again : ℕ → ℕ → ℕ
-again end at = at + max 1000 (min 30000 ((ms end - at) / 16))
-
+-- whoever was lost may go out again no sooner behind a later clock
 pub again_rises : (end a b : ℕ) → a ≤ b → again end a ≤ again end b
 again_rises end a b h = omega arith
 

@@ -12,6 +12,7 @@ use Rattle.keep_watch.specs.declared.track.Track.{Track}
 use Rattle.keep_watch.specs.declared.track.Try.{Try}
 use Rattle.keep_watch.specs.Answers.{after_answer, answered, back, closed, freed, freed_try, settled_with, silent}
 use Rattle.keep_watch.specs.Beginning.{hastened, rested}
+use Rattle.keep_watch.specs.Outage.{again}
 use Rattle.keep_watch.specs.Pauses.{ms}
 use Rattle.keep_watch.specs.Press.{attempt_after, is_alive, pressed}
 use Rattle.keep_watch.specs.Renewed.{behind_renew, renewed, try_unheard}
@@ -25,7 +26,7 @@ use Rattle.keep_watch.proofs.Cases.{if_cases}
 use Rattle.keep_watch.proofs.Clocking.{IsCounted, readied_clock, readied_counted}
 use Rattle.keep_watch.proofs.Lasting.{lost_track}
 use Rattle.keep_watch.proofs.Rounds.{clock_same}
-use Rattle.keep_watch.proofs.Standing.{IsOwn, IsStanding, IsWhole, MayRest, again, alive_before, attempt_own, not_endless, paused_own, readied_is, settled_track}
+use Rattle.keep_watch.proofs.Standing.{IsOwn, IsStanding, IsWhole, MayRest, alive_before, attempt_own, not_endless, paused_own, readied_is, settled_track}
 use Rattle.keep_watch.proofs.Steady.{IsSteady, commanded_moments, readied_last, readied_moments, rises}
 use Rattle.keep_watch.proofs.Tracks.{track_same, track_written}
 use Rattle.keep_watch.proofs.Wanting.{wanted_same}

@@ -18,7 +18,7 @@ use Rattle.keep_watch.specs.History.{Turn}
 use Rattle.keep_watch.specs.LawsOfRecovery.{is_out, is_tried}
 use Rattle.keep_watch.specs.LawsOfWaiting.{WaitsRight}
 use Rattle.keep_watch.specs.Margins.{has_come, time}
-use Rattle.keep_watch.specs.Outage.{Outage, comes, is_whole, waiting}
+use Rattle.keep_watch.specs.Outage.{Outage, again, comes, is_whole, waiting}
 use Rattle.keep_watch.specs.Pauses.{ms}
 use Rattle.keep_watch.specs.Press.{attempt_after, is_pressed_try, pressed}
 use Rattle.keep_watch.specs.Refusal.{is_open, is_same, refusal, waits_for}
@@ -38,7 +38,7 @@ use Rattle.keep_watch.proofs.Rounds.{clock_same}
 use Rattle.keep_watch.proofs.Sending.{may_go, picked_of}
 use Rattle.keep_watch.proofs.Serving.{going, some_served}
 use Rattle.keep_watch.proofs.Spaced.{turned}
-use Rattle.keep_watch.proofs.Standing.{IsOwn, IsStanding, IsWhole, again}
+use Rattle.keep_watch.proofs.Standing.{IsOwn, IsStanding, IsWhole}
 use Rattle.keep_watch.proofs.Staying.{clock_stands}
 use Rattle.keep_watch.proofs.Steady.{commanded_moments, readied_moments, rises, turn_steady}
 use Rattle.keep_watch.proofs.Ticking.{IsSaid, may_now, none_looked, picked_some, some_open, wait_by}

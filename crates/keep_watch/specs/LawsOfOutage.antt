@@ -7,7 +7,7 @@ use Rattle.keep_watch.specs.History.{IsRun, Turned}
 use Rattle.keep_watch.specs.LawsOfCalm.{ends}
 use Rattle.keep_watch.specs.LawsOfLoad.{IsClock}
 use Rattle.keep_watch.specs.Margins.{is_in_plan, time}
-use Rattle.keep_watch.specs.Outage.{AreLived, IsShort, Outage, coming, next_after, waiting}
+use Rattle.keep_watch.specs.Outage.{AreLived, IsShort, Outage, asked_by, coming, next_after, waiting}
 use Rattle.keep_watch.specs.Pauses.{ms}
 use Rattle.keep_watch.specs.State.{State, attempt_at, track_at}
 use Rattle.keep_watch.specs.Wanted.{is_wanted, second}
@@ -24,16 +24,19 @@ pub record IsBefore (o : Outage) (s : State) (i : ℕ) : Type 0 where
   pub rested : max s.free (rested (track_at s i).last) ≤ ms (time s i)
   pub there : s.clocks.at + o.quick ≤ o.from → s.away ≡ 0
 
--- the end of i is ahead behind each turn
-abbrev pub AllAhead : ℕ → List Turned → Type 0
-AllAhead i [] = Unit {0}
-AllAhead i (turn ∷ turns) = (turn.state.clocks.at < ms (ends turn.state i)) × AllAhead i turns
+-- behind each turn the end of i is ahead, and it is no later than a slice that is whole asks it
+abbrev pub IsInTime : Outage → ℕ → State → Type 0
+IsInTime o i s = (s.clocks.at < ms (ends s i)) × (s.clocks.at ≤ asked_by o (time s i) (ends s i))
+
+abbrev pub AllInTime : Outage → ℕ → List Turned → Type 0
+AllInTime o i [] = Unit {0}
+AllInTime o i (turn ∷ turns) = IsInTime o i turn.state × AllInTime o i turns
 
 -- whatever was before: from a clock on at which the time of an entry is ahead, until the entry is granted, its end is ahead, through any
--- outage that the margin outlasts
+-- outage that the margin outlasts; and it is granted by a slice that goes out soon behind the outage, or behind its time
 abbrev pub OutageLaw : Type 0
 OutageLaw =
     (o : Outage) (g : Forest) (width : ℕ) (before : List Turned) (last : Turned) (turns : List Turned) (i : ℕ) → 0 < width →
     IsRun g width (before ++ last ∷ turns) → IsClock last → IsBefore o last.state i → AreLived o i (next_after o last.result last.state 0) last.state turns →
     waiting o (length g.entries) last.state + coming o (length g.entries) last.state turns ≤ width * o.rounds → o.from ≤ o.until → IsShort o g.margin →
-    AllAhead i turns
+    AllInTime o i turns

@@ -6,7 +6,7 @@ use Rattle.keep_watch.specs.declared.command.Command.{Command}
 use Rattle.keep_watch.specs.declared.command.Command.TheVariants.{Ask, Wait, Taken}
 use Rattle.keep_watch.specs.declared.command.Output.{Output}
 use Rattle.keep_watch.specs.declared.event.Event.{Event}
-use Rattle.keep_watch.specs.declared.event.Event.TheVariants.{Clock, Looked, Renewed}
+use Rattle.keep_watch.specs.declared.event.Event.TheVariants.{Clock, Looked, Renewed, Need}
 use Rattle.keep_watch.specs.declared.event.Reply.{Reply}
 use Rattle.keep_watch.specs.declared.event.Reply.TheVariants.{Told, Refused, Busy, Lost}
 use Rattle.keep_watch.specs.declared.fault.WatchFault.{WatchFault}
@@ -49,11 +49,13 @@ IsReply o at (Refused status date) = Unit {0}
 IsReply o at Busy = ⊥
 IsReply o at Lost = is_whole o at ≡ false
 
--- what happens until i is granted: a clock in time, at which nothing begins anew; and replies, of which those to renewals of i are lost
+-- what happens until i is granted: a clock in time, at which nothing begins anew; replies, of which those to renewals of i are lost; and
+-- needs
 abbrev pub IsIncident : Outage → ℕ → ℕ → State → Event → Type 0
 IsIncident o i due s (Clock wall elapsed) = ((timed s wall elapsed).clocks.at ≤ due) × (why s wall elapsed ≡ None)
 IsIncident o i due s (Looked j reply terms) = IsReply o s.clocks.at reply
 IsIncident o i due s (Renewed j reply) = IsReply o s.clocks.at reply × (j ≡ i → reply ≡ Lost)
+IsIncident o i due s (Need j until) = Unit {0}
 IsIncident o i due s event = ⊥
 
 abbrev pub IsLived : Outage → ℕ → ℕ → State → Event → Result Output WatchFault → Type 0
@@ -93,6 +95,14 @@ sweep o = (o.quick + o.late) * o.rounds + o.late
 
 abbrev pub breath : Outage → ℕ
 breath o = max 1000 (min 30000 (sweep o / 15))
+
+-- by when whoever was lost may go out again that has that end, behind a clock at that moment
+abbrev pub again : ℕ → ℕ → ℕ
+again end at = at + max 1000 (min 30000 ((ms end - at) / 16))
+
+-- by when a slice that is whole asks an entry of that time and end
+abbrev pub asked_by : Outage → ℕ → ℕ → ℕ
+asked_by o time end = max (ms time) (again end (o.until + o.slow + o.late)) + sweep o
 
 -- an outage that a margin of so many seconds outlasts: beside it there is room for the slice that its end cuts, the slice that its
 -- beginning cuts, the one under way when the time came, all slices, and one pause
