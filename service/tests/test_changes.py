@@ -584,6 +584,11 @@ class Files(InRoom):
                     room.service()
                 self.assertIn(expected, str(caught.exception))
                 self.assertNotIn("s.app", str(caught.exception))
+            room.file.write_text(room.file.read_text() + "margins = 5\n[[lease]]\n")
+            with self.assertRaises(SourceFault) as caught:
+                room.service()
+            for expected in ("others may read or write this file", "lease 1 name: is missing"):
+                self.assertIn(expected, str(caught.exception))
         self.in_room(work)
 
 

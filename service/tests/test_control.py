@@ -152,6 +152,23 @@ class Sockets(unittest.TestCase):
         with mock.patch("os.chmod", chmod):
             self.served(work, os.getgid())
 
+    def test_its_group_is_that_of_the_socket_and_of_its_folder(self) -> None:
+        changed: list[tuple[Path, int, int]] = []
+
+        def chown(path: Path, user: int, group: int) -> None:
+            changed.append((path, user, group))
+            if path == self.path.parent:  # (It may be another's.)
+                raise PermissionError
+
+        async def work(_server: ControlServer) -> None:
+            pass
+        with mock.patch("os.chown", chown):
+            self.served(work, 4711)
+            self.assertEqual(changed, [(self.path.parent, -1, 4711), (self.path, -1, 4711)])
+            changed.clear()
+            self.served(work)
+            self.assertEqual(changed, [])
+
     def test_a_command_under_way_is_not_pushed_out(self) -> None:
         async def work(_server: ControlServer) -> None:
             waiting = []

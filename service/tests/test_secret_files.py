@@ -8,6 +8,7 @@ import os
 import shutil
 import tempfile
 import unittest
+from dataclasses import replace
 from pathlib import Path
 
 from leasekeep_inventory.dialect import SERVED
@@ -288,11 +289,11 @@ class Changes(InFolder):
         said = ["warning: secret-file app the broker answers 403 to its lookup: it keeps the old one"]
         self.assertEqual(self.stage.look(1000), said)
         self.assertEqual((self.stage.taken, self.credentials()[0]), ([], "hvs.app"))
-        for moment in range(1001, 1601):
+        for moment in range(1001, 2001):
             self.assertEqual(self.stage.look(moment), [])
-        self.assertEqual(len(self.stage.looked_up), 9)  # After 2, 4, 8 seconds and so on.
+        self.assertEqual(len(self.stage.looked_up), 10)  # After 2, 4, 8 seconds and so on, and each 300.
         self.stage.refused.clear()
-        self.stage.look(2000)
+        self.stage.look(2400)
         self.assertEqual(self.credentials()[0], "hvs.bad")
 
     def test_another_secret_behind_a_refused_one_is_taken_at_once(self) -> None:
@@ -336,6 +337,16 @@ class Changes(InFolder):
         self.write("app.token", "hvs.new")
         self.stage.look(1000)
         self.assertEqual((self.stage.taken, self.credentials()), ([], ["hvs.job"]))
+
+    def test_an_entry_that_gets_another_file_while_it_is_looked_up(self) -> None:
+        async def moved(inventory: Inventory, entry: Entry) -> Looked:
+            self.stage.inventory = self.stage.inventory.mapped(
+                lambda one: replace(one, credential_file="other.token") if one.name == "app" else one)
+            return Looked()
+        setattr(self.stage.watch, "_look_up", moved)
+        self.write("app.token", "hvs.new")
+        self.stage.look(1000)
+        self.assertEqual((self.stage.taken, self.credentials()[0]), ([], "hvs.app"))
 
     def test_no_secret_is_in_the_log(self) -> None:
         self.stage.refused["hvs.bad"] = "no"
