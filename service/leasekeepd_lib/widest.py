@@ -15,6 +15,8 @@ from leasekeep_inventory.inventory import Entry, Inventory, inventory_text
 from .child import LaunchFault, start_child
 
 _SECONDS = 20
+_PROMPT = 5.0
+"""Seconds that `status` waits for it: 4,096 entries take a tenth of one."""
 _TOLD = re.compile(r"(\d{1,4}) (\d{1,8})\n(\d{1,4}) \2\n", re.ASCII)
 """The inventory's own margin with its wake-ups, and the widest with as many."""
 _YEAR = 365 * 86400
@@ -39,7 +41,7 @@ async def widest_served(program: str, inventory: Inventory, now: int) -> int | N
         return None
     text = ""
     try:
-        async with asyncio.timeout(_SECONDS):
+        async with asyncio.timeout(_PROMPT):
             while (line := await child.read_line()) is not None:
                 text += line + "\n"
     except TimeoutError:

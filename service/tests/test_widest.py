@@ -87,7 +87,7 @@ class Told(unittest.TestCase):
             program = Path(folder) / "leasekeep"
             program.write_text("#!/bin/sh\necho 20 5\necho 37 5\nexec sleep 60\n")
             program.chmod(0o755)
-            with mock.patch("leasekeepd_lib.widest._SECONDS", 0.3):
+            with mock.patch("leasekeepd_lib.widest._PROMPT", 0.3):
                 self.assertIsNone(asyncio.run(widest_served(str(program), TWO, NOW)))
 
 
