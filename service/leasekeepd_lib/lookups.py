@@ -1,5 +1,5 @@
-"""What the broker says of a credential that is not served yet: a `leasekeep watch` of its own asks, in its first slice, and is
-then ended. The service itself speaks to no broker."""
+"""What the broker says of a credential that is not served yet: a `leasekeep watch` of its own asks, and is then
+ended. The service itself speaks to no broker."""
 
 from __future__ import annotations
 
@@ -40,14 +40,23 @@ class Lookups:
             return Looked(missing=str(fault))
         try:
             async with asyncio.timeout(longest_silence(self._launcher)):
-                await process.write_line(clock_line(self._clock))
-                return await _told(process, entry.name)
+                return await self._told(process, entry.name)
         except TimeoutError:
             return Looked(missing="leasekeep watch says nothing")
         except WatchLineFault as fault:
             return Looked(missing=str(fault))
         finally:
             await process.end()
+
+    async def _told(self, process: Child, name: str) -> Looked:
+        """What is told of the entry: in the first slice, or behind its token's where only one request goes out at once."""
+        while True:
+            await process.write_line(clock_line(self._clock))
+            looked, last = await _answer(process, name)
+            if looked is not None:
+                return looked
+            if last is not Said.CLOCK:
+                return Looked(missing="leasekeep watch ended" if last is None else "leasekeep watch asks nothing")
 
 
 def _alone(inventory: Inventory, entry: Entry, token: Entry | None) -> Inventory:
@@ -57,9 +66,9 @@ def _alone(inventory: Inventory, entry: Entry, token: Entry | None) -> Inventory
     return Inventory((*over, asked), inventory.margin, inventory.system_max)
 
 
-async def _told(process: Child, name: str) -> Looked:
-    """What the answer to the first clock tells of the entry."""
-    looked = Looked(missing="leasekeep watch ended")
+async def _answer(process: Child, name: str) -> tuple[Looked | None, Said | None]:
+    """What the answer to one clock tells of the entry, if anything, and its last word; None where the process has ended."""
+    looked: Looked | None = None
     while (text := await process.read_line()) is not None:
         line = read_watch_line(text)
         match line.said, line.words:
@@ -72,5 +81,5 @@ async def _told(process: Child, name: str) -> Looked:
             case Said.LOST, (about,) if about == name:
                 looked = Looked(missing="the broker gave no answer to its lookup")
         if line.said.ends_answer:
-            break
-    return looked
+            return looked, line.said
+    return looked, None

@@ -99,6 +99,19 @@ class Asked(unittest.TestCase):
             self.assertEqual(await room.look_up("db"), Looked(missing=GONE))
         self.play(scene)
 
+    def test_one_request_at_a_time(self) -> None:
+        """The lease is asked behind its token."""
+        async def scene(room: Room) -> None:
+            room.launcher.set_width(1)
+            self.assertEqual(await room.look_up("db"), Looked())
+            self.assertEqual(room.asked, [("lookup-self", "app"), ("lookup", "db")])
+            self.assertEqual((await room.look_up("db", credential="db/creds/2")).refused, "the broker answers 400 to its lookup")
+            room.vault.faults = [Fault(0, 2e9, Act.REFUSE)]
+            self.assertEqual(await room.look_up("db"), Looked(missing=GONE))
+            room.vault.faults = [Fault(0, 2e9, Act.STATUS, 403, on=lambda request, name: name == "app")]
+            self.assertEqual(await room.look_up("db"), Looked())
+        self.play(scene)
+
     def test_where_nobody_answers(self) -> None:
         async def scene(room: Room) -> None:
             for act, status, seconds in ((Act.REFUSE, 0, 0.0), (Act.HANG, 0, 5.0), (Act.STATUS, 500, 0.0), (Act.STATUS, 429, 0.0)):
@@ -177,7 +190,7 @@ class Said(unittest.TestCase):
     def test_silence_and_words_that_are_none(self) -> None:
         for lines, said, took in (((), "leasekeep watch says nothing", 25.0), (("begin start",), "leasekeep watch says nothing", 25.0),
                                   (("hello",), "leasekeep watch printed a line that is none of its own", 0.0),
-                                  (("wait 5",), "leasekeep watch ended", 0.0)):
+                                  (("wait 5",), "leasekeep watch asks nothing", 0.0)):
             with self.subTest(lines=lines):
                 looked, process, seconds = self.look_up(APP, ALL, *lines)
                 self.assertEqual((looked, process.ended, seconds), (Looked(missing=said), 1, took))
