@@ -129,6 +129,21 @@ class Events(unittest.TestCase):
             self.assertAlmostEqual(asyncio.get_running_loop().time(), 30.0, delta=0.1)
         simulate(go())
 
+    def test_one_that_takes_longer_is_killed(self) -> None:
+        with tempfile.TemporaryDirectory() as folder:
+            program, told = Path(folder) / "alert", Path(folder) / "pid"
+            program.write_text(f'#!/bin/sh\necho "$$" >"{told}.new"\nmv "{told}.new" "{told}"\nexec sleep 60\n')
+            program.chmod(0o755)
+
+            async def go() -> None:
+                alerts = Alerts(str(program), FixedClock())
+                alerts.hear(Level.ALERT, "gone db")
+                await alerts.run_waiting()
+            with mock.patch.object(events, "ALERT_SECONDS", 1.5):
+                asyncio.run(go())
+            with self.assertRaises(ProcessLookupError):
+                os.kill(int(told.read_text()), 0)
+
     def test_a_program_that_is_not_there(self) -> None:
         async def go() -> None:
             alerts = Alerts("/nowhere/alert", FixedClock())

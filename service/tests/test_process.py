@@ -121,6 +121,8 @@ class Process(WithBroker):
         self.assertEqual(notified.recv(1000), b"READY=1")
         self.assertIn(b"WATCHDOG=1", notified.recv(1000))
         self.assertEqual((self.folder / "run" / "control.sock").stat().st_mode & 0o777, 0o660)
+        self.assertEqual((self.folder / "state").stat().st_mode & 0o777, 0o700)
+        self.assertEqual((self.folder / "run").stat().st_mode & 0o007, 0)
         daemon.wait_for("wake")
         status = daemon.command("status")
         self.assertEqual(status.returncode, 0, status.stderr)
