@@ -14,6 +14,7 @@ pub mod CheckRun
 pub mod CheckAnswers
 pub mod From
 pub mod RehearseFrom
+pub mod LiveFrom
 pub mod Obeys
 pub mod Making
 pub mod Laws

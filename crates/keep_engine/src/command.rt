@@ -228,7 +228,7 @@ fn check_text_from<I: Inputs, W: Sink, E: Sink>(
 }
 
 /// Writes the line of a file that was not read, and gives the exit.
-fn tell_unread<E: Sink>(fault: InputFault, errors: &mut E) -> Exit
+pub(crate) fn tell_unread<E: Sink>(fault: InputFault, errors: &mut E) -> Exit
     ensures exit { result ≡ exit_of (stop_of_input fault) }
     ensures told { Reports (line_of (stop_of_input fault)) (⟦<E as Watched>⟧.sent errors.old errors.new) }
 {

@@ -16,6 +16,7 @@ mod ends;
 mod ends_text;
 mod inputs;
 mod laws;
+mod live;
 mod margin;
 mod margin_text;
 mod no_margin;
@@ -41,6 +42,7 @@ pub use keep_run::{MOST_WAKES, run_live, run_rehearse};
 pub use laws::{
     bound_law, no_secret_shows, own_certificates_are_accepted, secrets_change_no_run, until_law,
 };
+pub use live::keep_alive;
 pub use margin::{MarginQuery, run_margin};
 pub use plan::run_plan;
 pub use reach::run_reach;

@@ -1,9 +1,7 @@
-use keep_device::{Counted, Sink, read_file};
-use keep_engine::{Exit, PROGRAM, Stop};
-use keep_exchange::{TcpExchange, UnixExchange};
-use keep_inventory::MOST_INVENTORY;
+use crate::files::Disk;
+use keep_device::{Counted, Sink};
+use keep_engine::{Exchange, Exit, TcpExchange, UnixExchange, keep_alive};
 use keep_moment::Moment;
-use keep_run::run_live;
 use std::io;
 use std::io::Read;
 use std::net::Net;
@@ -39,40 +37,34 @@ pub fn keep<R: Files + AllocGlobal + Print + Net, I: Read + Drop, E: Sink>(
     input: I,
     errors: &mut E,
 ) -> Exit {
-    let alloc = rt.alloc();
-    let text = match read_file(rt, &live.file, MOST_INVENTORY) {
-        Ok(text) => text,
-        Err(fault) => return Stop::from(fault).report(PROGRAM, errors),
-    };
-    let mut events = Counted::new(input);
-    let mut out = Counted::new(io::writer(rt));
     let longest = Duration::from_secs(live.patience);
     match &live.place {
         Place::Port(port) => {
             let mut exchange = TcpExchange::patient(rt, *port, longest);
-            let (start, list) = (live.start, text.list());
-            run_live(
-                alloc,
-                list,
-                start,
-                &mut events,
-                &mut exchange,
-                &mut out,
-                errors,
-            )
+            keep_over(rt, live, input, &mut exchange, errors)
         }
         Place::Path(path) => {
             let mut exchange = UnixExchange::patient(rt, path, longest);
-            let (start, list) = (live.start, text.list());
-            run_live(
-                alloc,
-                list,
-                start,
-                &mut events,
-                &mut exchange,
-                &mut out,
-                errors,
-            )
+            keep_over(rt, live, input, &mut exchange, errors)
         }
     }
+}
+
+fn keep_over<R: Files + AllocGlobal + Print + Net, I: Read + Drop, X: Exchange, E: Sink>(
+    rt: &R,
+    live: &Live,
+    input: I,
+    exchange: &mut X,
+    errors: &mut E,
+) -> Exit {
+    keep_alive(
+        rt.alloc(),
+        &live.file,
+        live.start,
+        &mut Disk { rt },
+        &mut Counted::new(input),
+        exchange,
+        &mut Counted::new(io::writer(rt)),
+        errors,
+    )
 }
