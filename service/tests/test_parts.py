@@ -289,6 +289,15 @@ class Starts(unittest.TestCase):
         self.assertEqual(asyncio.run(go()), ["one", "two", None])
 
 
+    def test_what_it_says_at_its_end(self) -> None:
+        """Its first line alone, of which each byte that cannot be printed is a question mark."""
+        async def go(script: str) -> ChildExit:
+            return await (await start_child("sh", "--", script)).end()
+        self.assertEqual(asyncio.run(go(r'printf "ab\303\274\033c\nmore\n" >&2; exit 3')), ChildExit(3, "ab???c"))
+        self.assertEqual(asyncio.run(go('printf "%0900d" 5 >&2; exit 6')), ChildExit(6, "0" * 200))
+        self.assertEqual(asyncio.run(go("exit 0")), ChildExit(0, ""))
+
+
 class Texts(unittest.TestCase):
     def test_dates(self) -> None:
         for text, moment in (
