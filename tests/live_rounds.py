@@ -120,7 +120,8 @@ def drive(program: Path, room: Path, clock: Clock, place: str) -> list[list[str]
 
 
 def late(program: Path) -> None:
-    """Prints the answers of each round, and whether a token ended."""
+    """Prints the first answer, those of the later rounds, and whether a token ended. (What the others of the first round get is
+    a matter of some hundredths of a second.)"""
     with tempfile.TemporaryDirectory() as folder:
         room = Path(folder)
         (room / "tokens.toml").write_text(inventory(MARGIN, TOLD))
@@ -132,8 +133,9 @@ def late(program: Path) -> None:
             server, place = listen(broker, path)
             rounds = drive(program, room, clock, place)
             server.shutdown()
-            words = "; ".join(" ".join(answers) for answers in rounds)
-            said[name] = f"{name}: {words}{'; a token has ended' if broker.has_lost else ''}"
+            first, later = rounds[0][0], rounds[1:]
+            words = " ".join(sorted({answer for answers in later for answer in answers}))
+            said[name] = f"{name}: first {first}, in {len(later)} later rounds {words}; a token has ended: {broker.has_lost}"
 
         trials = [threading.Thread(target=one, args=pair) for pair in (("port", None), ("socket", room / "socket"))]
         for trial in trials:
@@ -164,7 +166,7 @@ def hanging(program: Path) -> None:
     """Prints the first line of the round, whether it was written before the first reply, and the other lines."""
     for name in ("port", "socket"):
         is_read = threading.Event()
-        came_first = []
+        came_first: list[bool] = []
 
         def behave(number: int, stream: socket.socket, request: bytes) -> None:
             if number == len(NAMES) + 1:
@@ -183,7 +185,7 @@ def killed(program: Path) -> None:
     """Prints what stood on the pipe of a program that was killed as a renewal came to the broker, by the number of that one."""
     for name in ("port", "socket"):
         for last in range(1, len(NAMES) + 1):
-            agents = []
+            agents: list[Agent] = []
             is_begun = threading.Event()
 
             def behave(number: int, stream: socket.socket, request: bytes) -> None:
