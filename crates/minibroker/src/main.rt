@@ -6,6 +6,7 @@ use std::process::ExitCode;
 
 mod parser;
 mod run;
+mod serving;
 mod sockets;
 mod words;
 

@@ -1,8 +1,8 @@
+use crate::serving::serve_one;
 use crate::words::Command;
 use keep_device::{Counted, Sink, Source};
 use keep_report::{Stop, tell};
-use mini_broker::{LineFault, StreamFault, Table, next_moment};
-use std::io::{Read, Write};
+use mini_broker::Table;
 use std::net::{IpAddr, Ipv4Addr, Net, OpenListener, OpenStream, SocketAddr, TcpListener};
 use std::os::unix::net::UnixListener;
 use std::rt::Files;
@@ -33,7 +33,14 @@ pub fn serve_port<R: AllocGlobal + Net, S: Source, E: Sink>(
         let (stream, _) = listener.accept().map_err(|error| stop_of(&error))?;
         let bounded = stream.set_read_timeout(patience).is_ok()
             && stream.set_write_timeout(patience).is_ok();
-        serve(rt, command, table, lines, stream, bounded)?;
+        serve_one(
+            rt.alloc(),
+            table,
+            command.moments,
+            lines,
+            &mut Counted::new(stream),
+            bounded,
+        )?;
     }
     Ok(())
 }
@@ -64,29 +71,16 @@ fn serve_all<R: AllocGlobal, S: Source>(
         let (stream, _) = listener.accept().map_err(|error| stop_of(&error))?;
         let bounded = stream.set_read_timeout(patience).is_ok()
             && stream.set_write_timeout(patience).is_ok();
-        serve(rt, command, table, lines, stream, bounded)?;
+        serve_one(
+            rt.alloc(),
+            table,
+            command.moments,
+            lines,
+            &mut Counted::new(stream),
+            bounded,
+        )?;
     }
     Ok(())
-}
-
-/// Serves one connection at its moment. One that could not be given its time-outs is closed, and counts as served.
-fn serve<R: AllocGlobal, S: Source, C: Read + Write + Drop>(
-    rt: &R,
-    command: &Command,
-    table: &mut Table,
-    lines: &mut S,
-    stream: C,
-    bounded: bool,
-) -> Result<(), Stop> {
-    let mut stream = Counted::new(stream);
-    let moment = next_moment(rt.alloc(), command.moments, lines).map_err(|fault| line_stop(fault))?;
-    if !bounded {
-        return Ok(());
-    }
-    match table.serve_stream(moment, &mut stream) {
-        Ok(()) | Err(StreamFault::ReadFailed | StreamFault::WriteFailed) => Ok(()),
-        Err(StreamFault::OutOfMemory) => Err(Stop::Memory),
-    }
 }
 
 fn stop_of(error: &io::Error) -> Stop {
@@ -94,12 +88,5 @@ fn stop_of(error: &io::Error) -> Stop {
         Stop::Memory
     } else {
         Stop::Read
-    }
-}
-
-fn line_stop(fault: LineFault) -> Stop {
-    match fault {
-        LineFault::ReadFailed | LineFault::NoMoment => Stop::Read,
-        LineFault::OutOfMemory => Stop::Memory,
     }
 }
