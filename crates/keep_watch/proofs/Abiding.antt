@@ -115,13 +115,9 @@ or_true true = refl
 or_true false = refl
 
 -- behind it the broker is there, or there are answers to come
-heard_closed : (s : State) (slice : Slice) (rest : List Request) → slice.heard ≡ true → ((closed s slice rest).away ≡ 0) ⊎ (is_open rest ≡ true)
+pub heard_closed : (s : State) (slice : Slice) (rest : List Request) → slice.heard ≡ true → ((closed s slice rest).away ≡ 0) ⊎ (is_open rest ≡ true)
 heard_closed s slice [] heard = inl (ap (λ (x : State). x.away) (cond-true slice.heard (back s) (silent s) heard) ∙ back_there s)
 heard_closed s slice (q ∷ rest) heard = inr refl
-
-there_closed : (s : State) (slice : Slice) (rest : List Request) → slice.heard ≡ true → s.away ≡ 0 → (closed s slice rest).away ≡ 0
-there_closed s slice [] heard there = ap (λ (x : State). x.away) (cond-true slice.heard (back s) (silent s) heard) ∙ back_there s
-there_closed s slice (q ∷ rest) heard there = there
 
 module _ (f : Facts) (o : Outage) (old mid : State) (slice : Slice) (j : ℕ) (reply : Reply) (near : IsNear f old mid) (is : old.slice ≡ Some slice) (lived : IsReply o old.clocks.at reply) where
   abbrev behind : State
@@ -165,10 +161,6 @@ module _ (f : Facts) (o : Outage) (old mid : State) (slice : Slice) (j : ℕ) (r
         | inl yes' ↦ absurd (let k = implies yes' in cc)
         | inr no' ↦ no'
       ]
-
-  pub behind_there : is_whole o old.clocks.at ≡ true → old.away ≡ 0 → behind.away ≡ 0
-  unfolding answered
-  behind_there whole there = there_closed mid now now.unanswered (ap (λ b. slice.heard || b) (whole_heard o old.clocks.at reply lived whole) ∙ or_true slice.heard) (near.away ∙ there)
 
   pub behind_heard : is_whole o old.clocks.at ≡ true → (behind.away ≡ 0) ⊎ (is_open (unanswered_of behind.slice) ≡ true)
   unfolding answered

@@ -16,11 +16,13 @@ use Rattle.keep_watch.specs.Refusal.{is_open}
 use Rattle.keep_watch.specs.State.{State, unanswered_of}
 use Rattle.keep_watch.specs.Wanted.{is_wanted}
 use Rattle.keep_watch.proofs.Abiding.{Facts, IsGoing}
+use Rattle.keep_watch.proofs.Cases.{not_both}
 use Rattle.keep_watch.proofs.Serving.{none_served, not_served}
 use Rattle.keep_watch.proofs.Stages.{IsEarly, IsPlanned, IsTaken, IsThrough, asked_of, cut_between, free_from, last_cut, margin_holds, room_back, stands_by, take_one, turn_of, whole_before, whole_behind}
 use Rattle.keep_watch.proofs.Standing.{IsStanding, IsWhole}
 use Rattle.keep_watch.proofs.Ticked.{IsTicked, clock_ticks}
 use Rattle.keep_watch.proofs.Ticking.{IsSaid}
+use Rattle.keep_watch.proofs.Turning.{all_answered}
 
 -- no slice has i where there is none
 pub none_out : (s : State) (i : ℕ) → s.slice ≡ None → is_out s i ≡ false
@@ -56,7 +58,7 @@ module _ (f : Facts) (o : Outage) (planned : IsPlanned f o) (old new : State) (r
   pub no_more : k_new ≤ k_old
   no_more = let h = none_served o f.n old new in omega (arith, h)
 
-  module _ (due : ℕ) (h : IsEarly f o old due k_old) (command : Command) (t : IsTicked f o (ms f.time) old new command) (come : new.clocks.at ≤ due) where
+  module _ (due : ℕ) (h : IsEarly f o old due k_old) (here : old.away ≡ 0) (command : Command) (t : IsTicked f o (ms f.time) old new command) (come : new.clocks.at ≤ due) where
     -- still ahead
     ahead_still : new.clocks.at + o.quick ≤ o.from → (c : Command) → IsSaid f o (ms f.time) old new c → IsThrough f o new (next_by o new.clocks.at c due) k_new
     ahead_still early (Wait until) said =
@@ -68,7 +70,7 @@ module _ (f : Facts) (o : Outage) (planned : IsPlanned f o) (old new : State) (r
           going = t.going;
           standing = t.standing;
           whole = t.whole;
-          there = t.away ∙ h.there;
+          there = inl (t.away ∙ here);
           unserved = not_served o new f.i (none_out new f.i said.1);
           early = early;
           r = h.r;
@@ -93,7 +95,7 @@ module _ (f : Facts) (o : Outage) (planned : IsPlanned f o) (old new : State) (r
                   going = t.going;
                   standing = t.standing;
                   whole = t.whole;
-                  there = t.away ∙ h.there;
+                  there = inl (t.away ∙ here);
                   unserved = not_served o new f.i left;
                   early = early;
                   r = h.r;
@@ -103,7 +105,7 @@ module _ (f : Facts) (o : Outage) (planned : IsPlanned f o) (old new : State) (r
                   next = omega (arith, quick, fewer, before);
                 }))
             | inr time ↦
-                let full = said.1 yes' (t.away ∙ h.there) time (tried_by f new t.going time) left in
+                let full = said.1 yes' (t.away ∙ here) time (tried_by f new t.going time) left in
                 let one = take_one f.width h.r k_old k_new planned.wide (omega (arith, full)) h.count in
                 let less = mul-suc (turn_of o) one.0 in
                 let is : turn_of o * h.r ≡ turn_of o * suc one.0 = ap (λ n. turn_of o * n) one.1.0 in
@@ -111,7 +113,7 @@ module _ (f : Facts) (o : Outage) (planned : IsPlanned f o) (old new : State) (r
                   going = t.going;
                   standing = t.standing;
                   whole = t.whole;
-                  there = t.away ∙ h.there;
+                  there = inl (t.away ∙ here);
                   unserved = not_served o new f.i left;
                   early = early;
                   r = one.0;
@@ -201,15 +203,16 @@ ahead_clock f o planned old new wall elapsed output due rest h turn lived wanted
     let all = margin_holds f o planned in
     let next = h.next in
     let come = lived.0 in
+    let here : old.away ≡ 0 = elim h.there as (λ _. old.away ≡ 0) [ inl there ↦ there | inr out ↦ absurd (not_both out (all_answered old wall elapsed turn.0)) ] in
     let ticked = clock_ticks f o old new wall elapsed output (ms f.time) (ms f.time) planned.within (omega (arith, end)) planned.wide h.going h.standing turn lived.1 (omega (arith, come, next, all)) wanted (omega arith) (omega arith)
-    (inl (h.whole, inr h.there)) in
+    (inl (h.whole, inr here)) in
     let t = ticked.0 in
     let at = ticked.1 in
     let by : new.clocks.at ≤ due = omega (arith, at, come) in
     elim (cases_lt o.from (new.clocks.at + o.quick)) as (λ _. IsThrough f o new (next_by o new.clocks.at output.command due) (k_new f o planned old new rest)) [
-      | inr early ↦ ahead_still f o planned old new rest due h output.command t by early output.command t.said
+      | inr early ↦ ahead_still f o planned old new rest due h here output.command t by early output.command t.said
       | inl cut ↦ elim (cases_lt new.clocks.at o.until) as (λ _. IsThrough f o new (next_by o new.clocks.at output.command due) (k_new f o planned old new rest)) [
-        | inl gone ↦ ahead_cut f o planned old new rest due h output.command t by cut gone output.command t.said
-        | inr back ↦ ahead_back f o planned old new rest due h output.command t by cut back output.command t.said
+        | inl gone ↦ ahead_cut f o planned old new rest due h here output.command t by cut gone output.command t.said
+        | inr back ↦ ahead_back f o planned old new rest due h here output.command t by cut back output.command t.said
       ]
     ]

@@ -21,13 +21,14 @@ use Rattle.keep_watch.specs.Answers.{after_answer, answered, back, closed, freed
 use Rattle.keep_watch.specs.LawsOfCalm.{ends, terms}
 use Rattle.keep_watch.specs.Margins.{is_in_plan, lead, lesser}
 use Rattle.keep_watch.specs.Refusal.{is_same, waits_for}
-use Rattle.keep_watch.specs.Renewed.{from_try, granted, granted_end, is_no_further, is_topped, renewed, try_granted}
+use Rattle.keep_watch.specs.Renewed.{from_try, granted, granted_end, is_no_further, is_topped, renewed, time_from}
 use Rattle.keep_watch.specs.Slice.{is_away, is_first}
 use Rattle.keep_watch.specs.State.{State, attempt_at, entry_of, track_at, unanswered_of, with_tracks}
 use Rattle.keep_watch.specs.Wanted.{believed, is_fixed, is_wanted, second, seen}
 use Rattle.keep_watch.proofs.Calming.{AreAlike, IsIdle, entry_step, forest_alike, idle_on, plan_alike}
-use Rattle.keep_watch.proofs.Cases.{if_cases}
+use Rattle.keep_watch.proofs.Cases.{if_both}
 use Rattle.keep_watch.proofs.Foreseen.{wanted_short}
+use Rattle.keep_watch.proofs.Granting.{no_try}
 use Rattle.keep_watch.proofs.Going.{Goes, IsTried, need_alike, tried_on}
 use Rattle.keep_watch.proofs.CalmClock.{keepable_of}
 use Rattle.keep_watch.proofs.Tracks.{track_other, track_set}
@@ -35,12 +36,13 @@ use Rattle.keep_watch.proofs.Tracks.{track_other, track_set}
 -- ---- what a grant comes to
 
 -- the second from which a grant counts
-from_now : (s : State) (o : Option Try) (t : Try) → o ≡ Some t → t.base ≡ second s → from_try s o ≡ second s
-from_now s o t is base = ap (from_try s) is ∙ if_cases (λ n. n ≡ second s) (is_first t) t.base (second s) (λ e. base) (λ e. refl)
+from_now : (margin step seconds now : ℕ) (o : Option Try) (t : Try) → o ≡ Some t → t.base ≡ now → from_try margin step seconds now o ≡ now
+from_now margin step seconds now o t is base =
+    ap (from_try margin step seconds now) is ∙ if_both (λ n. n ≡ now) (is_first t && nat_lt (now + 1) (time_from margin step seconds t.base)) t.base now base refl
 
 granted_from : (s : State) (i seconds : ℕ) (t : Try) → attempt_at s i ≡ Some t → t.base ≡ second s → granted_end s i seconds ≡ second s + seconds
 unfolding granted_end
-granted_from s i seconds t is base = ap (λ n. n + seconds) (from_now s (attempt_at s i) t is base)
+granted_from s i seconds t is base = ap (λ n. n + seconds) (from_now s.forest.margin (entry_of s i).step seconds (second s) (attempt_at s i) t is base)
 
 -- a grant by the rule is of a whole step, or up to the ceiling
 by_rule : (ceiling : Option ℕ) (now step seconds : ℕ) → now + seconds ≡ capped ceiling (now + step) → (seconds ≡ step) ⊎ ((seconds < step) × (ceiling ≡ Some (now + seconds)))
@@ -68,11 +70,6 @@ topped_not : (s : State) (i seconds : ℕ) → lead s i ≡ (entry_of s i).step 
 unfolding is_topped lead
 topped_not s i seconds led = not_topped s (entry_of s i).step seconds (track_at s i).grant (track_at s i).end (granted_end s i seconds) led
 
-no_try : (s : State) (x : Track) (end : ℕ) (o : Option Try) (t : Try) → o ≡ Some t → second s < end → x.owes ≡ false → try_granted s x end o ≡ None
-no_try s x end o t is ahead owes =
-    let now : nat_lt (second s) end ≡ true = grind (arith, nat_tests) in
-    ap (try_granted s x end) is ∙ cond-true (nat_lt (second s) end) _ _ now ∙ cond-false x.owes _ None owes
-
 -- the track of an entry that was granted a renewal
 record IsGranted (s : State) (x : Track) (i end seconds : ℕ) : Type 0 where
   pub end' : x.end ≡ Some end
@@ -94,7 +91,7 @@ is_granted s e last ts i seconds tried is =
       endless = refl;
       seconds' = refl;
       owes = tried.owes;
-      attempt = no_try s (track_at s i) (granted_end s i seconds) (attempt_at s i) tried.try tried.is (omega arith) tried.owes;
+      attempt = no_try s (track_at s i) (granted_end s i seconds) (attempt_at s i) (omega arith) tried.owes;
     }
 
 not_fixed : (x : Track) → x.renewable ≡ true → x.top ≡ false → is_fixed x ≡ false

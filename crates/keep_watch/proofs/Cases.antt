@@ -1,5 +1,5 @@
 -- Cases: what holds of both branches holds of the whole, and what an option holds. For every proof about a step.
-use Rattle.std.proofs.Common.{◌≡◌, Bool, true, false, if◌then◌else◌, Option, Some, None, IfSome, Result, Ok, Err, IfOk, refl, ap, subst}
+use Rattle.std.proofs.Common.{◌≡◌, ◌∙◌, Bool, true, false, if◌then◌else◌, Option, Some, None, IfSome, Result, Ok, Err, IfOk, refl, sym, ap, subst}
 
 -- what holds of each branch, where it is taken, holds of the whole
 pub if_cases : {X : Type 0} (P : X → Type 0) (b : Bool) (x y : X) → (b ≡ true → P x) → (b ≡ false → P y) → P (if b then x else y)
@@ -23,3 +23,7 @@ of_value P (Some y) x h same = subst P (value_is y x same) h
 pub ok_map : {X E : Type 0} (P Q : X → Type 0) → ((x : X) → P x → Q x) → (r : Result X E) → IfOk r P → IfOk r Q
 ok_map P Q h (Ok x) p = h x p
 ok_map P Q h (Err e) p = tt
+
+-- a test does not say both
+pub not_both : {b : Bool} → b ≡ true → b ≡ false → ⊥
+not_both h e = let bad : true ≡ false = sym h ∙ e in cc

@@ -1,4 +1,4 @@
--- What holds of each track holds after a change of one or of all: for laws that speak of each entry alone.
+-- Each: what holds of each track holds after a change of one or of all. For laws that speak of each entry alone.
 use Rattle.std.proofs.Common.{ℕ, zero, suc, ◌≤◌, List, [], ◌∷◌, length, map, sym, subst, arith, inl, inr}
 use Rattle.std.proofs.lemmas.Bool.{cases_lt}
 use Rattle.std.proofs.lemmas.List.{get_or_past}

@@ -21,7 +21,7 @@ use Rattle.keep_watch.specs.Outage.{IsIncident, IsReply, Outage, is_served, is_w
 use Rattle.keep_watch.specs.Refusal.{is_open, is_same, waits_for}
 use Rattle.keep_watch.specs.Renewed.{renewed, try_unheard}
 use Rattle.keep_watch.specs.State.{State, attempt_at, track_at, unanswered_of}
-use Rattle.keep_watch.proofs.Abiding.{Facts, IsGoing, IsNear, behind_clocks, behind_going, behind_heard, behind_there}
+use Rattle.keep_watch.proofs.Abiding.{Facts, IsGoing, IsNear, behind_clocks, behind_going, behind_heard}
 use Rattle.keep_watch.proofs.Answering.{looked_other, renewed_other}
 use Rattle.keep_watch.proofs.Clocking.{IsCounted}
 use Rattle.keep_watch.proofs.Lasting.{looked_lasts, lost_lasts, lost_track, renewed_lasts}
@@ -40,13 +40,12 @@ pub record IsHeard (f : Facts) (o : Outage) (b : ℕ) (old new : State) : Type 0
   pub standing : IsStanding b new f.i
   pub clocks : new.clocks ≡ old.clocks
   pub whole : is_whole o old.clocks.at ≡ true → IsWhole old f.i → IsWhole new f.i
-  pub there : is_whole o old.clocks.at ≡ true → old.away ≡ 0 → new.away ≡ 0
   pub heard : is_whole o old.clocks.at ≡ true → (new.away ≡ 0) ⊎ (is_open (unanswered_of new.slice) ≡ true)
   pub served : is_served o new f.i ≡ is_served o old f.i
   pub slice : (slice : Slice) × (old.slice ≡ Some slice)
 
 -- an answer is to a slice
-slice_of : (s : State) (j : ℕ) (operation : Operation) → waits_for s j operation ≡ true → (slice : Slice) × (s.slice ≡ Some slice)
+pub slice_of : (s : State) (j : ℕ) (operation : Operation) → waits_for s j operation ≡ true → (slice : Slice) × (s.slice ≡ Some slice)
 unfolding waits_for
 slice_of s j operation waits = of s.slice refl where
   of : (p : Option Slice) → s.slice ≡ p → (slice : Slice) × (s.slice ≡ Some slice)
@@ -75,7 +74,6 @@ module _ (f : Facts) (o : Outage) (b : ℕ) (old : State) (within : f.i < f.n) (
         standing = other_stands b old mid slice j f.i reply near.clocks near.hold same inside stands;
         clocks = clocks;
         whole = λ yes' w. after_whole mid slice j f.i reply inside (subst (λ (x : Track). IfSome x.attempt (λ u. u.failed ≡ false)) (sym same) w);
-        there = behind_there f o old mid slice j reply near is lived;
         heard = behind_heard f o old mid slice j reply near is lived;
         served = ap₂ (λ a k. a && is_whole o k) (other_out old mid slice j f.i reply is other) (ap (λ (c : Clocks). c.at) clocks);
         slice = (slice, is);
@@ -109,7 +107,6 @@ module _ (f : Facts) (o : Outage) (b : ℕ) (old : State) (within : f.i < f.n) (
         standing = lost_stands b old slice f.i inside' inside h.owes alive (soon' cut) stands;
         clocks = clocks;
         whole = λ yes' w. absurd (not_both (sym yes' ∙ cut));
-        there = λ yes' w. absurd (not_both (sym yes' ∙ cut));
         heard = λ yes'. absurd (not_both (sym yes' ∙ cut));
         served = none (after_answer mid (Some slice) f.i Lost) clocks ∙ sym (none old refl);
         slice = (slice, is);

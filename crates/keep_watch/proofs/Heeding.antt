@@ -8,12 +8,10 @@ use Rattle.keep_watch.specs.Refusal.{is_open}
 use Rattle.keep_watch.specs.State.{State, unanswered_of}
 use Rattle.keep_watch.proofs.Abiding.{Facts, IsGoing}
 use Rattle.keep_watch.proofs.Ahead.{k_new, k_old, no_more}
+use Rattle.keep_watch.proofs.Cases.{not_both}
 use Rattle.keep_watch.proofs.Hearing.{IsHeard}
 use Rattle.keep_watch.proofs.Stages.{IsBack, IsCut, IsEarly, IsPlanned, IsTaken, IsThrough, asked_of, free_from, turn_of, whole_before, whole_behind}
 use Rattle.keep_watch.proofs.Standing.{IsStanding, IsWhole}
-
-not_both : {b : Bool} → b ≡ true → b ≡ false → ⊥
-not_both h k = let bad : true ≡ false = sym h ∙ k in cc
 
 none_or_some : {X : Type 0} {o : Option X} (x : X) → o ≡ Some x → o ≡ None → ⊥
 none_or_some x h k = let bad : Some x ≡ None = sym h ∙ k in cc
@@ -81,7 +79,7 @@ module _ (f : Facts) (o : Outage) (planned : IsPlanned f o) (old new : State) (r
         going = x.going;
         standing = x.standing;
         whole = x.whole whole h.whole;
-        there = x.there whole h.there;
+        there = x.heard whole;
         unserved = x.served ∙ h.unserved;
         early = omega (arith, at, early);
         r = h.r;

@@ -1,5 +1,5 @@
 -- Lasting: the end of an entry and its time stay through every turn at which it is not told. For the law of outages.
-use Rattle.std.proofs.Common.{◌≡◌, ◌≢◌, ◌∙◌, ℕ, ◌*◌, ◌/◌, ◌<◌, List, [], ◌∷◌, Option, Some, None, length, min, refl, sym, ap, ap₂, subst, arith}
+use Rattle.std.proofs.Common.{◌≡◌, ◌≢◌, ◌∙◌, ℕ, ◌<◌, List, [], ◌∷◌, Option, Some, None, length, refl, sym, ap, ap₂, subst, arith}
 use Rattle.keep_tree.specs.declared.entry.Entry.{Entry}
 use Rattle.keep_tree.specs.Forest.{Forest, entry_at}
 use Rattle.keep_tree.proofs.Entries.{entry_at_set_other}
@@ -9,11 +9,10 @@ use Rattle.keep_watch.specs.declared.event.Reply.TheVariants.{Told, Refused, Bus
 use Rattle.keep_watch.specs.declared.event.Request.{Request}
 use Rattle.keep_watch.specs.declared.event.Terms.{Terms}
 use Rattle.keep_watch.specs.declared.slice.Slice.{Slice}
-use Rattle.keep_watch.specs.declared.track.Grant.{Grant}
 use Rattle.keep_watch.specs.declared.track.Track.{Track}
 use Rattle.keep_watch.specs.Answers.{after_answer, answered, back, closed, freed, settled_with, silent}
 use Rattle.keep_watch.specs.Looked.{looked}
-use Rattle.keep_watch.specs.Margins.{lead, lesser, own_margin, time, time_before}
+use Rattle.keep_watch.specs.Margins.{lead, lesser, own_by, own_margin, time, time_before}
 use Rattle.keep_watch.specs.Renewed.{renewed, try_unheard}
 use Rattle.keep_watch.specs.Round.{asked_by}
 use Rattle.keep_watch.specs.Settling.{settled, timed}
@@ -37,11 +36,13 @@ pub record IsLasting (new old : State) (i : ℕ) : Type 0 where
   pub step : (entry_of new i).step ≡ (entry_of old i).step
   pub margin : new.forest.margin ≡ old.forest.margin
 
+pub own_lasts : (new old : State) (i : ℕ) → IsLasting new old i → own_margin new i ≡ own_margin old i
+unfolding own_margin lead
+own_lasts new old i h = ap₂ own_by h.margin (ap₂ lesser h.step h.grant)
+
 pub time_lasts : (new old : State) (i : ℕ) → IsLasting new old i → time new i ≡ time old i
-unfolding time own_margin lead
-time_lasts new old i h =
-    let l : lead new i ≡ lead old i = ap₂ (λ (n : ℕ) (g : Option Grant). lesser n g) h.step h.grant in
-    ap₂ time_before h.end (ap₂ (λ (m k : ℕ). min m (3 * k / 4)) h.margin l)
+unfolding time
+time_lasts new old i h = ap₂ time_before h.end (own_lasts new old i h)
 
 pub lasts_on : (a b c : State) (i : ℕ) → IsLasting a b i → IsLasting b c i → IsLasting a c i
 lasts_on a b c i h k = record {

@@ -12,6 +12,10 @@ pub mod Load
 pub mod Width
 pub mod Holding
 pub mod Each
+pub mod Eased
+pub mod Sound
+pub mod SoundClock
+pub mod SoundAnswer
 pub mod Ends
 pub mod Reasons
 pub mod Early
@@ -32,6 +36,7 @@ pub mod Settled
 pub mod Begun
 pub mod Pressed
 pub mod Waited
+pub mod Seeing
 pub mod Viewing
 pub mod Taking
 pub mod Picked
@@ -39,7 +44,11 @@ pub mod View
 pub mod Asked
 pub mod Opening
 pub mod Shorting
+pub mod LookedOnce
 pub mod Looking
+pub mod LookupRun
+pub mod LookupStart
+pub mod Lookups
 pub mod Believed
 pub mod Forested
 pub mod FirstTime
@@ -70,3 +79,4 @@ pub mod Needing
 pub mod Foregoing
 pub mod Outset
 pub mod Outliving
+pub mod Anew

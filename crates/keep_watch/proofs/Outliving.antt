@@ -81,7 +81,7 @@ module _ (f : Facts) (o : Outage) (planned : IsPlanned f o) where
   turn_through old new Begin (Ok output) due rest h turn lived wanted = absurd lived
   turn_through old new (Known j end renewable) (Ok output) due rest h turn lived wanted = absurd lived
 
-  through : (turns : List Turned) (s : State) (due : ℕ) → IsThrough f o s due (waiting o f.n s + coming o f.n s turns) → History s turns → AreLived o f.i due s turns → AllInTime o f.i turns
+  pub through : (turns : List Turned) (s : State) (due : ℕ) → IsThrough f o s due (waiting o f.n s + coming o f.n s turns) → History s turns → AreLived o f.i due s turns → AllInTime o f.i turns
   through [] s due h history lived = tt
   through (turn ∷ turns) s due h history lived =
       let next = turn_through s turn.state turn.event turn.result due (coming o f.n turn.state turns) h history.0 lived.0 lived.1.0 in
@@ -99,7 +99,7 @@ outlives o g width before last turns i wide run clock h lived fits order short =
     let turn = subst (λ r. Turn past.old (Clock clock.0 clock.1.0) r s) clock.1.1.1.1 first in
     let count = (turned past.old s last.event last.result 0 n None past.turn past.count tt).0.entries in
     let margin : s.forest.margin ≡ g.margin = turn_margin past.old s last.event last.result past.turn ∙ past.margin_is in
-    let end = has_end o s i h in
+    let end = has_end s i h.in_plan h.ahead in
     let after = end.after in
     let within = h.within in
     let f : Facts = record { n = n; i = i; end = end.end; time = time s i; width = width; margin = g.margin } in

@@ -14,7 +14,7 @@ use Rattle.keep_watch.specs.LawsOfOutage.{IsBefore}
 use Rattle.keep_watch.specs.LawsOfRecovery.{is_out, is_tried}
 use Rattle.keep_watch.specs.LawsOfWaiting.{WaitsRight}
 use Rattle.keep_watch.specs.Margins.{is_in_plan, own_margin, time, time_before}
-use Rattle.keep_watch.specs.Outage.{Outage, again, next_by}
+use Rattle.keep_watch.specs.Outage.{Outage, again, next_by, slice_by}
 use Rattle.keep_watch.specs.Pauses.{ms}
 use Rattle.keep_watch.specs.Press.{is_pressed, is_pressed_try, pressed}
 use Rattle.keep_watch.specs.Refusal.{is_open}
@@ -48,16 +48,16 @@ pub record HasEnd (s : State) (i : ℕ) : Type 0 where
   pub is : (track_at s i).end ≡ Some end
   pub after : end ≡ time s i + s.forest.margin
 
-pub has_end : (o : Outage) (s : State) (i : ℕ) → IsBefore o s i → HasEnd s i
+pub has_end : (s : State) (i : ℕ) → is_in_plan s i ≡ true → second s < time s i → HasEnd s i
 unfolding time is_in_plan
-has_end o s i h = of (track_at s i).end refl where
+has_end s i in_plan ahead = of (track_at s i).end refl where
   own : own_margin s i ≡ s.forest.margin
-  own = let p : (own_margin s i == s.forest.margin) ≡ true = h.in_plan in grind (arith, nat_tests)
+  own = let p : (own_margin s i == s.forest.margin) ≡ true = in_plan in grind (arith, nat_tests)
 
   of : (p : Option ℕ) → (track_at s i).end ≡ p → HasEnd s i
-  of None is = absurd (let a : second s < time_before (track_at s i).end (own_margin s i) = h.ahead in let e = ap (λ q. time_before q (own_margin s i)) is in omega (arith, a, e))
+  of None is = absurd (let a : second s < time_before (track_at s i).end (own_margin s i) = ahead in let e = ap (λ q. time_before q (own_margin s i)) is in omega (arith, a, e))
   of (Some end) is =
-      let a : second s < time_before (track_at s i).end (own_margin s i) = h.ahead in
+      let a : second s < time_before (track_at s i).end (own_margin s i) = ahead in
       let e : time_before (track_at s i).end (own_margin s i) ≡ end - own_margin s i = ap (λ q. time_before q (own_margin s i)) is in
       record { end = end; is = is; after = omega (arith, a, e, own) }
 
@@ -107,7 +107,7 @@ said_first mid s Taken i h none wide within wanted idle right = absurd h
 
 -- ---- where it stands
 module _ (f : Facts) (o : Outage) (planned : IsPlanned f o) (s : State) (k : ℕ) (known : IsGoing f s) (stands : IsStanding (ms f.time) s f.i) (whole : IsWhole s f.i) (unserved : is_out s f.i ≡ false) (ahead : s.clocks.at < ms f.time)
-    (there : s.clocks.at + o.quick ≤ o.from → s.away ≡ 0) (count : k ≤ f.width * o.rounds) where
+    (there : s.clocks.at + o.quick ≤ o.from → (s.away ≡ 0) ⊎ (is_open (unanswered_of s.slice) ≡ true)) (count : k ≤ f.width * o.rounds) where
   early_by : (due : ℕ) → s.clocks.at + o.quick ≤ o.from → due ≤ max o.from (ms f.time) + o.late → due ≤ ms f.time + turn_of o → IsThrough f o s due k
   early_by due early by next = inl (inl (record {
     going = known;
@@ -137,7 +137,7 @@ module _ (f : Facts) (o : Outage) (planned : IsPlanned f o) (s : State) (k : ℕ
     slice = slice;
   }))
 
-  back_by : (due : ℕ) → o.until ≤ s.clocks.at → due ≤ ms f.time + turn_of o → ((due ≤ free_from f o + o.late) × (s.slice ≡ None)) ⊎ (is_open (unanswered_of s.slice) ≡ true) → IsThrough f o s due k
+  back_by : (due : ℕ) → o.until ≤ s.clocks.at → due ≤ ms f.time + turn_of o → ((due ≤ free_from f o + o.late) × (s.slice ≡ None)) ⊎ ((s.away ≡ 0) ⊎ (is_open (unanswered_of s.slice) ≡ true)) → IsThrough f o s due k
   back_by due back by slice =
       let order = planned.order in
       let all = margin_holds f o planned in
@@ -155,9 +155,21 @@ module _ (f : Facts) (o : Outage) (planned : IsPlanned f o) (s : State) (k : ℕ
         soon = inl (omega (arith, by, all));
         next = elim slice as (λ _. ((due ≤ free_from f o + o.late) × (s.slice ≡ None)) ⊎ (((s.away ≡ 0) ⊎ (is_open (unanswered_of s.slice) ≡ true)) × ((due + turn_of o * o.rounds < ms f.end + turn_of o) × (due + turn_of o * o.rounds ≤ asked_of f o + turn_of o)))) [
           | inl none ↦ inl none
-          | inr opened' ↦ inr (inr opened', (omega (arith, by, all), omega (arith, by)))
+          | inr heard ↦ inr (heard, (omega (arith, by, all), omega (arith, by)))
         ];
       }))
+
+  -- behind the clock at which a slice went out
+  pub sent_by : (s.away ≡ 0) ⊎ (is_open (unanswered_of s.slice) ≡ true) → IsThrough f o s (slice_by o s.clocks.at) k
+  sent_by heard =
+      let n = slice_by o s.clocks.at in
+      elim (cases_lt o.from (s.clocks.at + o.quick)) as (λ _. IsThrough f o s n k) [
+        | inr early ↦ (let quick = quick_by o s.clocks.at (whole_before o s.clocks.at early) in early_by n early (omega (arith, quick, early)) (omega (arith, quick, ahead)))
+        | inl cut ↦ elim (cases_lt s.clocks.at o.until) as (λ _. IsThrough f o s n k) [
+          | inl gone ↦ (let slow = slow_by o s.clocks.at (cut_between o s.clocks.at cut gone) in cut_by n cut gone (omega (arith, slow, gone)) (inl (omega (arith, slow, gone))))
+          | inr back ↦ (let quick = quick_by o s.clocks.at (whole_behind o s.clocks.at back) in back_by n back (omega (arith, quick, ahead)) (inr heard))
+        ]
+      ]
 
   -- by what the clock said
   begins_by : (time s f.i ≡ f.time) → (command : Command) → IsOutset s f.i command → IsThrough f o s (next_by o s.clocks.at command 0) k
@@ -171,15 +183,7 @@ module _ (f : Facts) (o : Outage) (planned : IsPlanned f o) (s : State) (k : ℕ
           | inr back ↦ back_by (until + o.late) back (omega (arith, by, t)) (inl (omega (arith, by, t), said.1))
         ]
       ]
-  begins_by time_is (Ask requests patient) said =
-      let n = next_by o s.clocks.at (Ask requests patient) 0 in
-      elim (cases_lt o.from (s.clocks.at + o.quick)) as (λ _. IsThrough f o s n k) [
-        | inr early ↦ (let quick = quick_by o s.clocks.at (whole_before o s.clocks.at early) in early_by n early (omega (arith, quick, early)) (omega (arith, quick, ahead)))
-        | inl cut ↦ elim (cases_lt s.clocks.at o.until) as (λ _. IsThrough f o s n k) [
-          | inl gone ↦ (let slow = slow_by o s.clocks.at (cut_between o s.clocks.at cut gone) in cut_by n cut gone (omega (arith, slow, gone)) (inl (omega (arith, slow, gone))))
-          | inr back ↦ (let quick = quick_by o s.clocks.at (whole_behind o s.clocks.at back) in back_by n back (omega (arith, quick, ahead)) (inr said))
-        ]
-      ]
+  begins_by time_is (Ask requests patient) said = sent_by (inr said)
   begins_by time_is Taken said = absurd said
 
 -- a clock at which its time is ahead
@@ -216,7 +220,7 @@ begins f o planned old s wall elapsed output k count steady turn width margin h 
       before = omega (arith, ahead, after);
       tried = inl ahead;
     } in
-    begins_by f o planned s k known stands whole (not_out mid s output.command f.i step.command none h.idle) ahead h.there fits time_is output.command
+    begins_by f o planned s k known stands whole (not_out mid s output.command f.i step.command none h.idle) ahead (λ early. inl (h.there early)) fits time_is output.command
     (said_first mid s output.command f.i step.command none (omega (arith, wide, mid_width)) h.within h.wanted h.idle (turn_minded old s (Clock wall elapsed) (Ok output) f.n count turn))
   where
     same_width : (mid s : State) (command : Command) → StepCommand mid command s → s.width ≡ mid.width

@@ -40,7 +40,7 @@ pub record IsEarly (f : Facts) (o : Outage) (s : State) (due k : ℕ) : Type 0 w
   pub going : IsGoing f s
   pub standing : IsStanding (ms f.time) s f.i
   pub whole : IsWhole s f.i
-  pub there : s.away ≡ 0
+  pub there : (s.away ≡ 0) ⊎ (is_open (unanswered_of s.slice) ≡ true)
   pub unserved : is_served o s f.i ≡ false
   pub early : s.clocks.at + o.quick ≤ o.from
   pub r : ℕ

@@ -154,9 +154,12 @@ known_within s j end renewable h =
     grind (arith, nat_tests)
 
 -- no clock is taken while somebody is out
-pub closed_out : (s : State) (wall elapsed i : ℕ) → refusal s (Clock wall elapsed) ≡ None → is_out s.slice i ≡ false
+pub all_answered : (s : State) (wall elapsed : ℕ) → refusal s (Clock wall elapsed) ≡ None → is_open (unanswered_of s.slice) ≡ false
 unfolding refusal
-closed_out s wall elapsed i h = nobody (unanswered_of s.slice) i (none_if (is_open (unanswered_of s.slice)) SliceOpen None h).0 where
+all_answered s wall elapsed h = (none_if (is_open (unanswered_of s.slice)) SliceOpen None h).0
+
+pub closed_out : (s : State) (wall elapsed i : ℕ) → refusal s (Clock wall elapsed) ≡ None → is_out s.slice i ≡ false
+closed_out s wall elapsed i h = nobody (unanswered_of s.slice) i (all_answered s wall elapsed h) where
   nobody : (rest : List Request) (k : ℕ) → is_open rest ≡ false → list_any (λ q. q.entry == k) rest ≡ false
   nobody [] k h = refl
   nobody (q ∷ rest) k h = absurd cc

@@ -1,72 +1,24 @@
--- Viewing: what is seen of entries does not depend on tries, nor on what they owe. For the clock.
-use Rattle.std.proofs.Common.{◌≡◌, ◌∙◌, ℕ, ◌<◌, true, false, ◌&&◌, List, Some, None, filter, length, map, refl, sym, ap, subst, arith, inl, inr}
+-- Viewing: a clock that begins anew or presses entries changes nothing of what is seen of them, and what they carry stays. For the clock.
+use Rattle.std.proofs.Common.{◌≡◌, ◌∙◌, ℕ, ◌<◌, true, ◌&&◌, List, Some, length, map, refl, sym, ap, subst, arith, inl, inr}
 use Rattle.std.proofs.lemmas.Bool.{cases_lt}
 use Rattle.std.proofs.lemmas.List.FromFn.{length-map-range_with_len}
-use Rattle.std.proofs.Math.Path.{fun_ext}
 use Rattle.std.specs.List.{range_with_len}
 use Rattle.keep_needs.specs.Carried.{CarriedNeed, IsCarried}
-use Rattle.keep_tree.specs.declared.entry.Entry.{Entry}
-use Rattle.keep_tree.specs.declared.forest.TheConstants.{END_MAX}
 use Rattle.keep_tree.specs.Carried.{carried}
-use Rattle.keep_tree.specs.Forest.{Forest, entry_at}
-use Rattle.keep_tree.specs.Over.{chain}
+use Rattle.keep_tree.specs.Forest.{Forest}
 use Rattle.keep_watch.specs.declared.track.Track.{Track}
 use Rattle.keep_watch.specs.Beginning.{begun_anew, is_called, is_open_ended, owing, soon, sooner}
-use Rattle.keep_watch.specs.Clocks.{sec}
 use Rattle.keep_watch.specs.Press.{attempt_after, pressed}
-use Rattle.keep_watch.specs.State.{State, attempt_at, entry_of, indices, track_at}
-use Rattle.keep_watch.specs.Wanted.{believed, is_fixed, least, limit, second, seen, view, wanted_need}
+use Rattle.keep_watch.specs.State.{State, attempt_at, track_at}
+use Rattle.keep_watch.specs.Wanted.{second, seen, view, wanted_need}
 use Rattle.keep_watch.specs.code.Watching.{HasNeeds}
 use Rattle.keep_watch.proofs.Cases.{if_cases}
+use Rattle.keep_watch.proofs.Seeing.{SameSeen, blank, need_seen}
 use Rattle.keep_watch.proofs.Tracks.{count_written, track_past, track_written}
 
--- a track without what it owes and is to be asked
-abbrev pub blank : Track → Track
-blank x = record x { owes = false; attempt = None }
-
--- two states that differ in that, and in what no entry is seen by
-pub record SameSeen (new old : State) : Type 0 where
-  pub forest : new.forest ≡ old.forest
-  pub clocks : new.clocks ≡ old.clocks
-  pub tracks : (i : ℕ) → blank (track_at new i) ≡ blank (track_at old i)
-
-module _ (new old : State) (h : SameSeen new old) where
-  believed_seen : (i : ℕ) → believed (track_at new i) ≡ believed (track_at old i)
-  believed_seen i = ap believed (h.tracks i)
-
-  fixed_seen : (i : ℕ) → is_fixed (track_at new i) ≡ is_fixed (track_at old i)
-  fixed_seen i = ap is_fixed (h.tracks i)
-
-  limit_seen : (i : ℕ) → limit new i ≡ limit old i
-  unfolding limit
-  limit_seen i =
-      ap (λ (f : ℕ → ℕ). least END_MAX (map f (filter (λ a. is_fixed (track_at new a)) (chain new.forest.entries i)))) (fun_ext believed_seen)
-      ∙ ap (λ p. least END_MAX (map (λ a. believed (track_at old a)) (filter p (chain new.forest.entries i)))) (fun_ext fixed_seen)
-      ∙ ap (λ (g : Forest). least END_MAX (map (λ a. believed (track_at old a)) (filter (λ a. is_fixed (track_at old a)) (chain g.entries i)))) h.forest
-
-  entry_seen : (i : ℕ) → entry_of new i ≡ entry_of old i
-  unfolding entry_of
-  entry_seen i = ap (λ (g : Forest). entry_at g.entries i) h.forest
-
-  seen_seen : (i : ℕ) → seen new i ≡ seen old i
-  unfolding seen
-  seen_seen i =
-      let e = entry_seen i in
-      let b = believed_seen i in
-      let r = ap (λ (x : Track). x.renewable) (h.tracks i) in
-      let l = limit_seen i in
-      let c = h.clocks in
-      cc
-
-  pub view_seen : view new ≡ view old
-  view_seen = ap (λ (f : ℕ → Entry). map f (indices new)) (fun_ext seen_seen) ∙ ap (λ (g : Forest). map (seen old) (range_with_len 0 (length g.entries))) h.forest
-
-  need_seen : (i : ℕ) → wanted_need new i ≡ wanted_need old i
-  unfolding wanted_need
-  need_seen i = ap (λ es. carried es (second new) i) view_seen ∙ ap (λ c. carried (view old) (sec c.at) i) h.clocks
-
-  pub needs_seen : (needs : List CarriedNeed) → HasNeeds old needs → HasNeeds new needs
-  needs_seen needs has i below = has i (subst (λ (g : Forest). i < length g.entries) h.forest below) ∙ sym (need_seen i)
+-- what is carried is carried as well where the same is seen
+pub needs_seen : (new old : State) (h : SameSeen new old) (needs : List CarriedNeed) → HasNeeds old needs → HasNeeds new needs
+needs_seen new old h needs has i below = has i (subst (λ (g : Forest). i < length g.entries) h.forest below) ∙ sym (need_seen new old h i)
 
 -- tracks that are made anew, but for what is owed and asked
 pub made_seen :

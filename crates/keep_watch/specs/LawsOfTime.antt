@@ -1,5 +1,5 @@
 -- Laws of time: nobody is renewed too early. Each is the contract of a public function without a body.
-use Rattle.std.specs.Prelude.{◌≡◌, ◌==◌, ℕ, ◌<◌, Bool, true, false, ◌&&◌, ◌||◌, if◌then◌else◌, List, [], ◌∷◌, Option, Some, None, Result, Ok, Err, length}
+use Rattle.std.specs.Prelude.{◌≡◌, ◌==◌, ℕ, ◌+◌, ◌<◌, ◌≤◌, Bool, true, false, ◌&&◌, ◌||◌, if◌then◌else◌, List, [], ◌∷◌, Option, Some, None, Result, Ok, Err, length}
 use Rattle.std.specs.List.{list_any}
 use Rattle.keep_tree.specs.Forest.{Forest}
 use Rattle.keep_watch.specs.declared.command.Output.{Output}
@@ -12,11 +12,11 @@ use Rattle.keep_watch.specs.declared.event.Request.{Request}
 use Rattle.keep_watch.specs.declared.fault.WatchFault.{WatchFault}
 use Rattle.keep_watch.specs.History.{IsRun, Turned}
 use Rattle.keep_watch.specs.LawsOfLoad.{requests_of}
-use Rattle.keep_watch.specs.Margins.{has_come, is_in_plan}
+use Rattle.keep_watch.specs.Margins.{has_come, is_in_plan, own_margin, time}
 use Rattle.keep_watch.specs.Press.{is_alive}
 use Rattle.keep_watch.specs.Refusal.{is_same}
 use Rattle.keep_watch.specs.State.{State}
-use Rattle.keep_watch.specs.Wanted.{is_wanted}
+use Rattle.keep_watch.specs.Wanted.{is_wanted, second}
 
 -- a round that opened names i
 abbrev pub is_named : Option (List ℕ) → ℕ → Bool
@@ -71,3 +71,17 @@ RoundsOpened (turn ∷ turns) = ((asked : List ℕ) → round_of turn.result ≡
 -- no round opens before the least time of an entry that is wanted and in the plan
 abbrev pub RoundLaw : Type 0
 RoundLaw = (g : Forest) (width : ℕ) (turns : List Turned) → IsRun g width turns → RoundsOpened turns
+
+-- a renewal is granted, by the own margin and two seconds or more: it leaves a time that is more than a second ahead
+abbrev pub LeavesAhead : Turned → Type 0
+LeavesAhead turn =
+    (i seconds : ℕ) (renewable : Bool) (date : Option ℕ) (output : Output) → turn.event ≡ Renewed i (Told seconds renewable date) → turn.result ≡ Ok output →
+    own_margin turn.state i + 2 ≤ seconds → second turn.state + 1 < time turn.state i
+
+abbrev pub AllLeaveAhead : List Turned → Type 0
+AllLeaveAhead [] = Unit {0}
+AllLeaveAhead (turn ∷ turns) = LeavesAhead turn × AllLeaveAhead turns
+
+-- however long a renewal waited for its turn, behind its grant the time of its entry is ahead
+abbrev pub AheadLaw : Type 0
+AheadLaw = (g : Forest) (width : ℕ) (turns : List Turned) → IsRun g width turns → AllLeaveAhead turns

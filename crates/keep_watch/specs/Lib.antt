@@ -25,4 +25,5 @@ pub mod LawsOfCalm
 pub mod LawsOfRecovery
 pub mod Outage
 pub mod LawsOfOutage
+pub mod LawsOfBeginning
 pub mod code

@@ -14,8 +14,11 @@ unfoldable pub lead : State → ℕ → ℕ
 lead s i = lesser (entry_of s i).step (track_at s i).grant
 
 -- the lesser of the margin and three quarters of that
+abbrev pub own_by : ℕ → ℕ → ℕ
+own_by margin lead = min margin (3 * lead / 4)
+
 unfoldable pub own_margin : State → ℕ → ℕ
-own_margin s i = min s.forest.margin (3 * lead s i / 4)
+own_margin s i = own_by s.forest.margin (lead s i)
 
 unfoldable pub is_in_plan : State → ℕ → Bool
 is_in_plan s i = own_margin s i == s.forest.margin

@@ -32,9 +32,12 @@ pub record Outage : Type 0 where
 unfoldable pub is_whole : Outage → ℕ → Bool
 is_whole o at = nat_le (at + o.quick) o.from || nat_le o.until at
 
--- the shell: by when the next clock is handed in, behind a clock that was answered so
+-- the shell: by when the next clock is handed in, behind a slice that goes out at a moment, and behind a clock that was answered so
+abbrev pub slice_by : Outage → ℕ → ℕ
+slice_by o at = at + (if is_whole o at then o.quick else o.slow) + o.late
+
 abbrev pub next_by : Outage → ℕ → Command → ℕ → ℕ
-next_by o at (Ask requests patience) due = at + (if is_whole o at then o.quick else o.slow) + o.late
+next_by o at (Ask requests patience) due = slice_by o at
 next_by o at (Wait until) due = until + o.late
 next_by o at Taken due = due
 

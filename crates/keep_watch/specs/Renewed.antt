@@ -1,7 +1,7 @@
 -- Renewed: what the answer to a renewal makes of its entry.
 -- Source: Vault, HTTP API: `auth/token`, "Renew a token (self)"; `sys/leases`, "Renew lease". Vault, "Lease, renew, and revoke" (the
 -- TTL counts from the renewal; maximum TTL).
-use Rattle.std.specs.Prelude.{ℕ, ◌+◌, Bool, true, false, not, ◌&&◌, ◌||◌, if◌then◌else◌, Option, Some, None, nat_le, nat_lt}
+use Rattle.std.specs.Prelude.{ℕ, ◌+◌, Bool, true, false, not, ◌&&◌, ◌||◌, if◌then◌else◌, Option, Some, None, min, nat_le, nat_lt}
 use Rattle.keep_watch.specs.declared.event.Operation.{Operation}
 use Rattle.keep_watch.specs.declared.event.Operation.TheVariants.{Look, Renew}
 use Rattle.keep_watch.specs.declared.event.Reply.{Reply}
@@ -11,17 +11,23 @@ use Rattle.keep_watch.specs.declared.track.Track.{Track}
 use Rattle.keep_watch.specs.declared.track.Try.{Try}
 use Rattle.keep_watch.specs.Answers.{busied, failing, with_track}
 use Rattle.keep_watch.specs.Beginning.{owed}
+use Rattle.keep_watch.specs.Margins.{own_by, time_before}
 use Rattle.keep_watch.specs.Slice.{is_first}
 use Rattle.keep_watch.specs.State.{State, attempt_at, entry_of, track_at}
 use Rattle.keep_watch.specs.Wanted.{believed, second}
 
--- the second from which a grant counts: that in which a first try began, else that of the slice
-abbrev pub from_try : State → Option Try → ℕ
-from_try s None = second s
-from_try s (Some t) = if is_first t then t.base else second s
+-- the time of an entry with that step, behind a grant of so many seconds that counts from a second
+abbrev pub time_from : ℕ → ℕ → ℕ → ℕ → ℕ
+time_from margin step seconds from = time_before (Some (from + seconds)) (own_by margin (min step seconds))
+
+-- the second from which a grant counts: that in which a first try began, where that leaves a time that is more than a second ahead; else
+-- that of the slice
+abbrev pub from_try : ℕ → ℕ → ℕ → ℕ → Option Try → ℕ
+from_try margin step seconds now None = now
+from_try margin step seconds now (Some t) = if is_first t && nat_lt (now + 1) (time_from margin step seconds t.base) then t.base else now
 
 unfoldable pub granted_end : State → ℕ → ℕ → ℕ
-granted_end s i seconds = from_try s (attempt_at s i) + seconds
+granted_end s i seconds = from_try s.forest.margin (entry_of s i).step seconds (second s) (attempt_at s i) + seconds
 
 -- this grant and the one before it, two seconds apart or more, are both less than the step, and it leads no further than the one
 -- before by more than a second

@@ -1,4 +1,4 @@
-ghost use Rattle.keep_watch.specs.LawsOfTime.{EarlyLaw, RoundLaw};
+ghost use Rattle.keep_watch.specs.LawsOfTime.{AheadLaw, EarlyLaw, RoundLaw};
 
 /// The law of never too early: whatever events come, a renewal of an entry goes out only where a clock found that its time had
 /// come, where a round named it, or behind a failure, each of them since the answer that told it last.
@@ -9,4 +9,10 @@ pub fn early_law()
 /// The law of rounds: a round opens only where an entry that is wanted, in the plan and not at its end has come to its time.
 pub fn round_law()
     ensures { RoundLaw }
+{}
+
+/// The law of grants that are late: however long a renewal waited for its turn, a grant of its entry's own margin and two seconds or
+/// more leaves the entry's time more than a second ahead.
+pub fn ahead_law()
+    ensures { AheadLaw }
 {}

@@ -4,9 +4,10 @@
 //! What a step does is defined in `specs/`, and the laws speak of every list of events by these definitions: `laws_of_load` says
 //! how often an entry is asked at most, and how many at once; `laws_of_time` that none is renewed too early; `laws_of_waiting`
 //! that none is forgotten; `laws_of_recovery` how many slices an entry waits for once the broker is there; `laws_of_outage` that
-//! none ends in an outage that the margin outlasts; `laws_of_ends` that no end that is believed in comes after the real one;
-//! `laws_of_calm` that while all goes well the rounds are the wake-ups of the least and latest plan. They hold of the machine, since each step of it is the turn
-//! of the definitions (`History.Turn`).
+//! none ends in an outage that the margin outlasts; `laws_of_beginning` how often each is looked up behind a beginning;
+//! `laws_of_ends` that no end that is believed in comes after the real one; `laws_of_calm` that while all goes well the rounds are
+//! the wake-ups of the least and latest plan. They hold of the machine, since each step of it is the turn of the definitions
+//! (`History.Turn`).
 //!
 //! Begin with `event` and `command`, then `track`.
 #![tactic(auto)]
@@ -19,6 +20,7 @@ mod clocks;
 mod command;
 mod event;
 mod fault;
+mod laws_of_beginning;
 mod laws_of_calm;
 mod laws_of_ends;
 mod laws_of_load;
@@ -50,12 +52,13 @@ pub use clocks::{Clocks, Offset, READING_MAX};
 pub use command::{Command, Output, Patience};
 pub use event::{Event, Operation, Reply, Request, Terms};
 pub use fault::WatchFault;
+pub use laws_of_beginning::lookup_law;
 pub use laws_of_calm::{calm_law, next_moment_law, round_of_plan_law};
 pub use laws_of_ends::never_past_law;
 pub use laws_of_load::{held_law, load_law, spaced_law, width_law};
-pub use laws_of_outage::outage_law;
+pub use laws_of_outage::{grant_law, outage_law};
 pub use laws_of_recovery::recovery_law;
-pub use laws_of_time::{early_law, round_law};
+pub use laws_of_time::{ahead_law, early_law, round_law};
 pub use laws_of_waiting::{minded_law, retry_law};
 pub use notes::{Link, Notes, Why};
 pub use readings::Next;

@@ -4,9 +4,10 @@ ghost use Rattle.keep_tree.specs.declared.forest.TheConstants.{END_MAX};
 ghost use Rattle.keep_watch.specs.code.Bounds.{IsTrack, IsTry};
 ghost use Rattle.keep_watch.specs.declared.clocks.TheConstants.{READING_MAX};
 ghost use Rattle.keep_watch.specs.declared.fault.WatchFault.TheVariants.{OutOfMemory};
-ghost use Rattle.keep_watch.specs.code.Tracks.{behind_renew_for, from_try_for, granted_track, is_no_further_for, not_granted_track, renewed_track, top_by, try_granted_for};
+ghost use Rattle.keep_watch.specs.code.Tracks.{behind_renew_for, granted_track, is_no_further_for, not_granted_track, renewed_track, top_by, try_granted_for};
 ghost use Rattle.keep_watch.specs.code.Watching.{IsRenewed};
 ghost use Rattle.keep_watch.specs.Answers.{with_track};
+ghost use Rattle.keep_watch.specs.Renewed as Renewed;
 ghost use Rattle.keep_watch.specs.State.{entry_of, track_at};
 ghost use Rattle.keep_watch.specs.Step.{IsDated};
 
@@ -15,6 +16,7 @@ use crate::beginning::owed;
 use crate::clocks::second;
 use crate::event::{Operation, Reply};
 use crate::fault::WatchFault;
+use crate::margins::own_margin;
 use crate::notes::Notes;
 use crate::picking::is_first;
 use crate::press::is_alive;
@@ -22,16 +24,31 @@ use crate::track::{Grant, Track, Try};
 use crate::watch::Watch;
 use keep_moment::Span;
 
-/// The second from which a grant counts: that in which a first try began, else that of the slice.
-fn from_try(attempt: Option<Try>, now: u64) -> u64
+/// The time of an entry with that step, behind a grant that counts from a second.
+fn time_from(margin: u32, step: u32, seconds: Span, from: u64) -> u64
+    requires { from ≤ LAST }
+    ensures { result ≡ Renewed.time_from margin step seconds from }
+{
+    (from + seconds as u64).saturating_sub(own_margin(margin, step.min(seconds)))
+}
+
+/// The second from which a grant counts: that in which a first try began, where that leaves a time that is more than a second
+/// ahead; else that of the slice.
+fn from_try(margin: u32, step: u32, attempt: Option<Try>, seconds: Span, now: u64) -> u64
     requires now { now ≤ LAST }
     requires attempt { IfSome attempt IsTry }
-    ensures value { result ≡ from_try_for now attempt }
+    ensures value { result ≡ Renewed.from_try margin step seconds now attempt }
     ensures within { result ≤ LAST }
 {
     match attempt {
         None => now,
-        Some(attempt) => { if is_first(attempt) { attempt.base } else { now } }
+        Some(attempt) => {
+            if is_first(attempt) && now + 1 < time_from(margin, step, seconds, attempt.base) {
+                attempt.base
+            } else {
+                now
+            }
+        }
     }
 }
 
@@ -71,15 +88,15 @@ fn try_granted(track: Track, at: u64, end: u64) -> Option<Try>
     }
 }
 
-/// A track after a grant, with that step.
+/// A track after a grant, with that margin and step.
 #[tactic(auto, unfolding(crate::specs::code::Tracks::granted_track))]
-fn granted(step: u32, track: Track, at: u64, seconds: Span, renewable: bool) -> Track
+fn granted(margin: u32, step: u32, track: Track, at: u64, seconds: Span, renewable: bool) -> Track
     requires track { IsTrack track }
     requires at { at ≤ READING_MAX }
-    ensures value { result ≡ granted_track step at seconds renewable track }
+    ensures value { result ≡ granted_track margin step at seconds renewable track }
     ensures bounds { IsTrack result }
 {
-    let end = from_try(track.attempt, second(at)) + seconds as u64;
+    let end = from_try(margin, step, track.attempt, seconds, second(at)) + seconds as u64;
     Track {
         end: Some(end),
         renewable,
@@ -127,12 +144,12 @@ fn not_granted(track: Track, reply: Reply, at: u64) -> Track
     }
 }
 
-/// A track after the answer to a renewal, with that step.
+/// A track after the answer to a renewal, with that margin and step.
 #[tactic(auto, unfolding(crate::specs::code::Tracks::renewed_track))]
-fn renewed_track(step: u32, track: Track, reply: Reply, at: u64) -> Track
+fn renewed_track(margin: u32, step: u32, track: Track, reply: Reply, at: u64) -> Track
     requires track { IsTrack track }
     requires at { at ≤ READING_MAX }
-    ensures value { result ≡ renewed_track step at reply track }
+    ensures value { result ≡ renewed_track margin step at reply track }
     ensures bounds { IsTrack result }
 {
     match reply {
@@ -140,7 +157,7 @@ fn renewed_track(step: u32, track: Track, reply: Reply, at: u64) -> Track
             seconds,
             renewable,
             ..
-        } => granted(step, track, at, seconds, renewable),
+        } => granted(margin, step, track, at, seconds, renewable),
         Reply::Refused { .. } | Reply::Busy | Reply::Lost => not_granted(track, reply, at),
     }
 }
@@ -179,12 +196,18 @@ impl Watch {
     #[tactic(auto, unfolding(crate::specs::State::track_at, crate::specs::State::entry_of))]
     fn take_renewal(&mut self, entry: u32, reply: Reply) -> Option<u64>
         requires { entry < length self.old.forest.entries }
-        ensures state { self.new ≡ with_track self.old entry (renewed_track (entry_of self.old entry).step self.old.clocks.at reply (track_at self.old entry)) }
-        ensures top { result ≡ top_by reply (renewed_track (entry_of self.old entry).step self.old.clocks.at reply (track_at self.old entry)) }
+        ensures state { self.new ≡ with_track self.old entry (renewed_track self.old.forest.margin (entry_of self.old entry).step self.old.clocks.at reply (track_at self.old entry)) }
+        ensures top { result ≡ top_by reply (renewed_track self.old.forest.margin (entry_of self.old entry).step self.old.clocks.at reply (track_at self.old entry)) }
     {
         let step = self.forest.get(entry).step;
         let at = self.book.clocks.at;
-        let track = renewed_track(step, self.book.track(entry), reply, at);
+        let track = renewed_track(
+            self.forest.margin(),
+            step,
+            self.book.track(entry),
+            reply,
+            at,
+        );
         self.book.set_track(entry, track);
         top_by(reply, track)
     }

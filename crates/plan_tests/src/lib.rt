@@ -24,8 +24,4 @@ mod rows;
 #[cfg(test)]
 mod schedules;
 #[cfg(test)]
-mod slices;
-#[cfg(test)]
-mod watches;
-#[cfg(test)]
 mod words;

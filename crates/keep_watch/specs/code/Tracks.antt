@@ -10,7 +10,7 @@ use Rattle.keep_watch.specs.declared.event.Reply.{Reply}
 use Rattle.keep_watch.specs.declared.event.Reply.TheVariants.{Told, Refused, Busy, Lost}
 use Rattle.keep_watch.specs.Answers.{busied, failing, freed_try}
 use Rattle.keep_watch.specs.Beginning.{hastened, rested}
-use Rattle.keep_watch.specs.Slice.{is_first}
+use Rattle.keep_watch.specs.Renewed.{from_try}
 use Rattle.keep_watch.specs.declared.track.Grant.{Grant}
 use Rattle.keep_watch.specs.declared.track.Track.{Track}
 use Rattle.keep_watch.specs.declared.track.Try.{Try}
@@ -91,11 +91,6 @@ not_told_attempt at reply x (Some t) = Some (not_told_try at reply x t)
 
 unfoldable pub not_told_track : ℕ → Reply → Track → Track
 not_told_track at reply x = record x { owes = x.owes && is_none (status_of reply); last = Some at; attempt = not_told_attempt at reply x x.attempt }
-
--- the second from which a grant counts, and the end that it leads to
-abbrev pub from_try_for : ℕ → Option Try → ℕ
-from_try_for now None = now
-from_try_for now (Some t) = if is_first t then t.base else now
 
 abbrev pub behind_renew_for : ℕ → Track → Operation
 behind_renew_for now x = if x.owes || not (nat_lt now (believed x)) then Look else Renew
@@ -195,23 +190,23 @@ try_granted_for at owes end None = None
 try_granted_for at owes end (Some t) = if nat_lt (sec at) end then (if owes then Some (owed_for (sec at) (at + 30000)) else None) else Some (failing t Look false)
 
 -- an entry after a grant
-unfoldable pub granted_track : ℕ → ℕ → ℕ → Bool → Track → Track
-granted_track step at seconds renewable x = record x {
-  end = Some (from_try_for (sec at) x.attempt + seconds);
+unfoldable pub granted_track : ℕ → ℕ → ℕ → ℕ → Bool → Track → Track
+granted_track margin step at seconds renewable x = record x {
+  end = Some (from_try margin step seconds (sec at) x.attempt + seconds);
   renewable = renewable;
-  top = is_no_further_for at step seconds x.grant x.end (from_try_for (sec at) x.attempt + seconds);
+  top = is_no_further_for at step seconds x.grant x.end (from_try margin step seconds (sec at) x.attempt + seconds);
   endless = false;
   grant = Some (record { seconds = seconds; at = at });
-  attempt = try_granted_for at x.owes (from_try_for (sec at) x.attempt + seconds) x.attempt;
+  attempt = try_granted_for at x.owes (from_try margin step seconds (sec at) x.attempt + seconds) x.attempt;
   last = Some at;
 }
 
 -- an entry after the answer to a renewal, and its end where it is led no further
-unfoldable pub renewed_track : ℕ → ℕ → Reply → Track → Track
-renewed_track step at (Told seconds renewable date) x = granted_track step at seconds renewable x
-renewed_track step at (Refused status date) x = not_granted_track at (Refused status date) x
-renewed_track step at Busy x = not_granted_track at Busy x
-renewed_track step at Lost x = not_granted_track at Lost x
+unfoldable pub renewed_track : ℕ → ℕ → ℕ → Reply → Track → Track
+renewed_track margin step at (Told seconds renewable date) x = granted_track margin step at seconds renewable x
+renewed_track margin step at (Refused status date) x = not_granted_track at (Refused status date) x
+renewed_track margin step at Busy x = not_granted_track at Busy x
+renewed_track margin step at Lost x = not_granted_track at Lost x
 
 abbrev pub top_by : Reply → Track → Option ℕ
 top_by (Told seconds renewable date) x = if x.top then x.end else None

@@ -1,3 +1,4 @@
+-- The tracks before the index are freed.
 use Rattle.std.proofs.Common.{slice_index_or}
 use Rattle.std.specs.List.{All}
 use Rattle.keep_watch.specs.State.{no_track}

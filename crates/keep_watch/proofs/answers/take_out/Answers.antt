@@ -1,3 +1,4 @@
+-- What is kept are the requests of others.
 use Rattle.std.proofs.Common.{rules}
 use Rattle.std.proofs.lemmas.Fn.{filter_same}
 use Rattle.keep_watch.specs.Answers.{without}

@@ -1,3 +1,4 @@
+-- Each track is taken from its top behind those before it, and in the end all are.
 use Rattle.std.proofs.Common.{◌∙◌, ◌<◌, ap, arith, length, refl, slice_index_or}
 use Rattle.std.proofs.lemmas.List.Elements.{All-set}
 use Rattle.keep_watch.specs.State.{no_track}

@@ -1,3 +1,4 @@
+-- A clock at which everything begins anew leaves the state of step 3, and any other leaves the state as it was.
 use Rattle.std.proofs.Common.{◌∙◌, ap, sym}
 use Rattle.keep_needs.specs.Carried.{IsCarried}
 use Rattle.keep_watch.specs.Beginning.{begun}

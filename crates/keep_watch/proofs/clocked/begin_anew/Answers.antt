@@ -1,3 +1,4 @@
+-- By the needs that the view carries, the book begins anew as the definition says.
 use Rattle.std.proofs.Common.{◌≡◌, ◌∙◌, ap, subst, sym}
 use Rattle.keep_needs.specs.Carried.{IsCarried}
 use Rattle.keep_watch.specs.declared.clocks.Clocks.{Clocks}
@@ -7,7 +8,8 @@ use Rattle.keep_watch.specs.State.{State}
 use Rattle.keep_watch.specs.Wanted as wanted
 use Rattle.keep_watch.specs.code.Watching.{HasNeeds, IsBeside, state_of}
 use Rattle.keep_watch.proofs.Asked.{view_by}
-use Rattle.keep_watch.proofs.Viewing.{begun_seen, needs_from, view_seen}
+use Rattle.keep_watch.proofs.Seeing.{view_seen}
+use Rattle.keep_watch.proofs.Viewing.{begun_seen, needs_from}
 use Rattle.keep_watch.proofs.clocked.begin_anew.Goals as goal
 
 pub returns-clause-state : goal.returns-clause-state

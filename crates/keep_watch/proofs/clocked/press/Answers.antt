@@ -1,3 +1,4 @@
+-- By the needs that the view carries, those are pressed whom the definition presses.
 use Rattle.std.proofs.Common.{◌≡◌, ◌∙◌, List, [], ap, length, map}
 use Rattle.std.specs.List.{range_with_len}
 use Rattle.keep_watch.specs.declared.track.Track.{Track}

@@ -1,3 +1,4 @@
+-- The second of a moment is a moment.
 use Rattle.std.proofs.Common.{◌≡◌, ℕ, IfSome, Option, subst}
 use Rattle.keep_watch.proofs.clocks.moment_at.Goals as goal
 

@@ -1,3 +1,4 @@
+-- Where no token is told to be an orphan, the forest stays.
 use Rattle.std.proofs.Common.{◌≡◌, ◌∙◌, ◌&&◌, true, false, not, ap, set, sym}
 use Rattle.keep_tree.specs.Forest.{entry_at}
 use Rattle.keep_tree.specs.Push.{is_lease}

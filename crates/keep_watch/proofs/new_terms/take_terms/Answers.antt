@@ -1,3 +1,4 @@
+-- The terms that are told may be set, and the forest with them is that of the definitions.
 use Rattle.std.proofs.Common.{◌≡◌, ap, arith, set, ◌∙◌}
 use Rattle.keep_tree.specs.declared.entry.Entry.{Entry}
 use Rattle.keep_tree.specs.Forest.{entry_at}

@@ -1,3 +1,4 @@
+-- What is sorted is in order by rank and index.
 use Rattle.std.proofs.Common.{◌+◌, ◌∙◌, get_or, sym}
 use Rattle.keep_watch.proofs.Picked.{before_is}
 use Rattle.keep_watch.proofs.picking.in_order.Goals as goal

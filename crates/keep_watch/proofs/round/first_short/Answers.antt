@@ -1,3 +1,4 @@
+-- Each bound that falls short is compared with the first one before it; in the end that is the second moment.
 use Rattle.std.proofs.Common.{◌≡◌, ◌∙◌, ◌+◌, Some, length, subst, sym, ap, arith}
 use Rattle.keep_rule.specs.Forced.{latest_end}
 use Rattle.keep_tree.specs.declared.entry.Entry.{Entry}

@@ -1,3 +1,4 @@
+-- The first bound that falls short of the entries before the index is found.
 use Rattle.keep_watch.specs.code.Rounds.{IsFirstShort}
 use Rattle.keep_watch.proofs.Shorting.{bounds, loads_of}
 use Rattle.keep_watch.proofs.round.first_short.Given as goal

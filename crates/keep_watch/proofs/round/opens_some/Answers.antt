@@ -1,3 +1,4 @@
+-- Whether an entry opens a round is told of each behind those before it.
 use Rattle.std.proofs.Common.{◌≡◌, ℕ, Bool, true, false, below_more, get_or, length, sym, arith}
 use Rattle.std.proofs.lemmas.List.{get_or_default}
 use Rattle.keep_needs.specs.Carried.{load_at}

@@ -1,3 +1,4 @@
+-- Whether an entry before the index opens a round is known.
 use Rattle.std.proofs.Common.{◌≡◌, ◌<◌, ℕ, false, get_or}
 use Rattle.keep_needs.specs.Carried.{load_at}
 use Rattle.keep_tree.specs.Forest.{entry_at}

@@ -1,3 +1,4 @@
+-- The moment of the next round is that of the first bound that falls short.
 use Rattle.std.proofs.Common.{◌∙◌, ◌-◌, min, ap}
 use Rattle.keep_moment.specs.declared.moment.TheConstants.{LAST}
 use Rattle.keep_watch.proofs.Shorting.{is_second, no_second}

@@ -1,3 +1,4 @@
+-- A renewal leads further than the margin in the plan.
 use Rattle.std.proofs.Common.{◌∙◌, ◌<◌, refl, subst, sym}
 use Rattle.keep_watch.proofs.Opening.{plan_past}
 use Rattle.keep_watch.proofs.round.step_in_plan.Goals as goal

@@ -1,3 +1,4 @@
+-- Each entry is written as it is planned, behind those before it.
 use Rattle.std.proofs.Common.{◌≡◌, ◌∙◌, ◌<◌, ℕ, length, ap, arith}
 use Rattle.std.proofs.lemmas.List.{get_or_default}
 use Rattle.keep_tree.specs.declared.entry.Entry.{Entry}

@@ -1,3 +1,4 @@
+-- The entries before the index are written as they are planned.
 use Rattle.std.proofs.Common.{◌≡◌, ◌<◌, ℕ, length}
 use Rattle.keep_needs.specs.Carried.{IsCarried}
 use Rattle.keep_tree.specs.Forest.{entry_at}

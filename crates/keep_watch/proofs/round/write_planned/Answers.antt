@@ -1,3 +1,4 @@
+-- An entry is written as it is planned, within its bounds.
 use Rattle.std.proofs.Common.{◌≡◌, ◌∙◌, ◌+◌, false, true, set, sym, ap, arith}
 use Rattle.keep_tree.specs.declared.entry.Entry.{Entry}
 use Rattle.keep_tree.specs.Forest.{entry_at}

@@ -1,3 +1,4 @@
+-- The clocks are dated by the dates before the index.
 use Rattle.std.proofs.Common.{◌≡◌, ◌||◌, drop}
 use Rattle.keep_watch.specs.Clocks.{dated_by_all, jumps}
 use Rattle.keep_watch.specs.code.Bounds.{IsClocks}

@@ -1,3 +1,4 @@
+-- The least time of the tracks before the index is found.
 use Rattle.std.proofs.Common.{◌≡◌, ◌≤◌, map, take}
 use Rattle.keep_watch.specs.Wanted.{least}
 use Rattle.keep_watch.specs.code.Tracks.{held_by}

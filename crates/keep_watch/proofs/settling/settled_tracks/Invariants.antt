@@ -1,3 +1,4 @@
+-- The tracks before the index are settled.
 use Rattle.std.proofs.Common.{◌≡◌, map, slice_index_or}
 use Rattle.std.specs.List.{All, range_with_len}
 use Rattle.keep_watch.specs.State.{no_track}

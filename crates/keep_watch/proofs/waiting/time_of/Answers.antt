@@ -1,3 +1,4 @@
+-- The time of an entry in milliseconds is no number too great.
 use Rattle.std.proofs.Common.{arith}
 use Rattle.keep_watch.proofs.Waited.{time_within}
 use Rattle.keep_watch.proofs.waiting.time_of.Goals as goal

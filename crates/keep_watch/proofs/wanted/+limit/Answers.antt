@@ -1,3 +1,4 @@
+-- The limit of an entry is the least of its own and of those over it.
 use Rattle.std.proofs.Common.{◌≡◌, ◌∙◌, arith, None, Some, if◌then◌else◌, min, sym, ap}
 use Rattle.std.proofs.lemmas.List.{get_or_default}
 use Rattle.keep_tree.specs.Forest.{entry_at}

@@ -1,3 +1,4 @@
+-- Each need is compared with the greatest one before it.
 use Rattle.std.proofs.Common.{◌∙◌, ap, refl}
 use Rattle.keep_tree.specs.Carried.{carried_of}
 use Rattle.keep_watch.proofs.View.{carried_more}

@@ -1,3 +1,4 @@
+-- The greatest need of the entries before the index is found.
 use Rattle.std.proofs.Common.{◌≡◌}
 use Rattle.keep_tree.specs.Carried.{carried_of}
 use Rattle.keep_watch.proofs.wanted.carried_need.Given as goal

@@ -1,3 +1,4 @@
+-- An entry is written as it is seen, within its bounds.
 use Rattle.std.proofs.Common.{false, ◌≡◌, ◌∙◌, ◌<◌, get_or, length, min, set, refl, ap, arith}
 use Rattle.std.proofs.lemmas.List.{get_or_default}
 use Rattle.keep_tree.specs.declared.entry.Entry.{Entry}

@@ -1,3 +1,4 @@
+-- Each entry is written as it is seen, behind those before it; in the end that is the view.
 use Rattle.std.proofs.Common.{◌<◌, length, arith}
 use Rattle.keep_watch.specs.code.View.{seen_by}
 use Rattle.keep_watch.proofs.View.{view_written, written_more}

@@ -1,3 +1,4 @@
+-- The entries before the index are written as they are seen.
 use Rattle.std.proofs.Common.{◌≡◌, ◌<◌, ℕ}
 use Rattle.keep_tree.specs.Forest.{entry_at}
 use Rattle.keep_watch.specs.Wanted.{seen}

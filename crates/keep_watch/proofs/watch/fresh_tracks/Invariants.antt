@@ -1,3 +1,4 @@
+-- The tracks of the entries before the index are made.
 use Rattle.std.proofs.Common.{◌≡◌, map, take}
 use Rattle.std.specs.List.{All}
 use Rattle.keep_watch.specs.State.{fresh_track}

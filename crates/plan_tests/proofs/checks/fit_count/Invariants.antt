@@ -1,3 +1,4 @@
+-- The wake-ups so far are within the limit, and what holds of the runs that are left holds of all.
 use Rattle.std.proofs.Common.{◌+◌, ◌≤◌, drop}
 use Rattle.keep_rule.specs.declared.limit.TheConstants.{LIMIT}
 use Rattle.keep_rule.specs.Runs.{counted}

@@ -1,3 +1,4 @@
+-- Where each entry can be led to the need that it carries, no pair is unkeepable.
 use Rattle.std.proofs.Common.{arith}
 use Rattle.keep_schedule.proofs.Keepable.{all_keepable}
 use Rattle.plan_tests.proofs.schedules.is_keepable.Goals as goal

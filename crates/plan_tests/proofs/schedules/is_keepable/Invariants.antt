@@ -1,3 +1,4 @@
+-- Each entry before the index can be led to the need that it carries.
 use Rattle.std.proofs.Common.{◌≡◌, ℕ, ◌<◌, ◌≤◌, Some}
 use Rattle.keep_tree.specs.Forest.{end_of}
 use Rattle.keep_rule.specs.Reach.{reach}

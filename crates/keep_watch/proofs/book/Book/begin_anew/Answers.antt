@@ -1,3 +1,4 @@
+-- Each entry owes a lookup where it has to, behind those before it; in the end that is the state of a beginning.
 use Rattle.std.proofs.Common.{◌≡◌, ◌∙◌, ℕ, ◌<◌, Some, ap, arith, false, length, slice_index_or}
 use Rattle.keep_needs.specs.Carried.{load_at}
 use Rattle.keep_watch.specs.declared.track.Track.{Track}

@@ -1,3 +1,4 @@
+-- The entries before the index owe a lookup where they have to.
 use Rattle.std.proofs.Common.{slice_index_or}
 use Rattle.keep_needs.specs.Carried.{load_at}
 use Rattle.keep_watch.specs.State.{no_track}

@@ -1,3 +1,4 @@
+-- With all tracks freed, the state is the one in which the broker is back.
 use Rattle.std.proofs.Common.{◌≡◌, ◌∙◌, List, ap, arith, length, sym}
 use Rattle.std.proofs.lemmas.List.{with_items_is}
 use Rattle.keep_watch.specs.declared.track.Track.{Track}

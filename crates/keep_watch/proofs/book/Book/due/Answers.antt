@@ -1,3 +1,4 @@
+-- Each entry that is due is gathered behind those before it.
 use Rattle.std.proofs.Common.{◌∙◌, ◌++◌, ◌∷◌, [], ap, sym}
 use Rattle.keep_watch.specs.code.Picking.{bare}
 use Rattle.keep_watch.proofs.Picked.{due_left, due_taken}

@@ -1,3 +1,4 @@
+-- Those before the index that are due are gathered.
 use Rattle.std.proofs.Common.{◌≡◌}
 use Rattle.keep_watch.specs.code.Picking.{bare, due_below}
 use Rattle.keep_watch.proofs.book.Book.due.Given as goal

@@ -1,3 +1,4 @@
+-- Later tries are held back for the time that the definition says.
 use Rattle.std.proofs.Common.{◌≡◌, ◌∙◌, List, ap, arith, is_some, map, min, rules, sym, true}
 use Rattle.keep_watch.specs.declared.pauses.TheConstants.{LONGEST}
 use Rattle.keep_watch.specs.declared.track.Track.{Track}

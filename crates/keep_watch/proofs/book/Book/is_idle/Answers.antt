@@ -1,3 +1,4 @@
+-- No track has a try just where no entry has one.
 use Rattle.std.proofs.Common.{◌∙◌, List, ap, is_none}
 use Rattle.std.specs.List.{list_all}
 use Rattle.keep_watch.specs.declared.track.Track.{Track}

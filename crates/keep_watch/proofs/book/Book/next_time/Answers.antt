@@ -1,3 +1,4 @@
+-- Each time is compared with the first one before it; in the end that is the next time.
 use Rattle.std.proofs.Common.{◌≡◌, ◌∙◌, ◌+◌, length, sym, ap, subst, arith}
 use Rattle.keep_tree.specs.declared.entry.Entry.{Entry}
 use Rattle.keep_watch.specs.declared.track.Track.{Track}

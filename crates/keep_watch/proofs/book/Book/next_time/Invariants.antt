@@ -1,3 +1,4 @@
+-- The first time of the entries before the index is found.
 use Rattle.std.proofs.Common.{ℕ}
 use Rattle.keep_watch.specs.code.Watching.{HasNeeds, state_of}
 use Rattle.keep_watch.proofs.FirstTime.{IsSoFar}

@@ -1,3 +1,4 @@
+-- Each entry is pressed or let go behind those before it; in the end that is the state of step 4.
 use Rattle.std.proofs.Common.{◌≡◌, ◌∙◌, ℕ, ◌<◌, ap, arith, length, slice_index_or}
 use Rattle.keep_needs.specs.Carried.{load_at}
 use Rattle.keep_tree.specs.declared.entry.Entry.{Entry}

@@ -1,3 +1,4 @@
+-- The entries before the index are pressed or let go.
 use Rattle.std.proofs.Common.{slice_index_or}
 use Rattle.keep_needs.specs.Carried.{load_at}
 use Rattle.keep_tree.specs.Forest.{entry_at}

@@ -1,3 +1,4 @@
+-- Each entry that the round asks is pressed behind those before it.
 use Rattle.std.proofs.Common.{◌∙◌, ℕ, ◌<◌, ◌≤◌, ap, arith, get_or, length, sym}
 use Rattle.std.proofs.lemmas.List.{ext_get_or, get_or_default, length-set, take_all}
 use Rattle.std.proofs.lemmas.List.FromFn.{get_or-map-range_with_len, length-map-range_with_len}

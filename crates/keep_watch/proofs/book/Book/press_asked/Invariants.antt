@@ -1,3 +1,4 @@
+-- Those whom the round asks before the index are pressed.
 use Rattle.std.proofs.Common.{◌≡◌, ℕ, ◌<◌, get_or, length, take}
 use Rattle.keep_watch.specs.State.{no_track}
 use Rattle.keep_watch.specs.code.Bounds.{IsBook}

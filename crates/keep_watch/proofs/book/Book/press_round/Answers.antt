@@ -1,3 +1,4 @@
+-- Where no round opens, all tracks stay.
 use Rattle.std.proofs.Common.{◌≡◌, ◌∙◌, ℕ, List, None, Option, ap, map, sym}
 use Rattle.std.proofs.lemmas.List.{map-id}
 use Rattle.std.specs.List.{range_with_len}

@@ -1,3 +1,4 @@
+-- A round opens where the definition says, and asks whom it says.
 use Rattle.std.proofs.Common.{◌≡◌, ◌∙◌, true, subst, sym, ap}
 use Rattle.std.specs.List.{list_any}
 use Rattle.keep_needs.specs.Carried.{IsCarried}

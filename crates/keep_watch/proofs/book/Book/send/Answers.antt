@@ -1,3 +1,4 @@
+-- Where nobody is due nothing goes out; else what goes out is picked as the definition says.
 use Rattle.std.proofs.Common.{◌≡◌, ◌∙◌, ◌==◌, ◌&&◌, Some, if◌then◌else◌, true, false, map, take, length, vec_len, refl, ap, sym}
 use Rattle.keep_watch.specs.declared.command.Patience.TheVariants.{Full, Short}
 use Rattle.keep_watch.specs.declared.picking.Due.{Due}

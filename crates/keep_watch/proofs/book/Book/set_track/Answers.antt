@@ -1,3 +1,4 @@
+-- A track within bounds leaves the book within them.
 use Rattle.std.proofs.lemmas.List.Elements.{All-set}
 use Rattle.keep_watch.specs.code.Bounds.{IsTrack}
 use Rattle.keep_watch.proofs.book.Book.set_track.Goals as goal

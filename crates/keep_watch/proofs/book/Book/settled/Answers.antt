@@ -1,3 +1,4 @@
+-- The book with its failures settled has the state of step 2.
 use Rattle.std.proofs.Common.{◌≡◌, ◌∙◌, ℕ, List, None, ap, map, sym}
 use Rattle.keep_watch.specs.declared.track.Track.{Track}
 use Rattle.keep_watch.specs.Settling.{hold_after, paused}

@@ -1,3 +1,4 @@
+-- What an answer makes of the slice, and the last one of the broker, is what the definition says.
 use Rattle.std.proofs.Common.{◌≡◌, ◌∙◌, false, rules, sym, true}
 use Rattle.keep_watch.specs.Refusal.{is_open}
 use Rattle.keep_watch.specs.code.Bounds.{IsSlice}

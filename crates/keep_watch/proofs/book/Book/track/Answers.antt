@@ -1,3 +1,4 @@
+-- What is read at an index is the track of that entry.
 use Rattle.std.proofs.lemmas.List.{get_or_read}
 use Rattle.keep_watch.specs.State.{no_track}
 use Rattle.keep_watch.proofs.book.Book.track.Goals as goal

@@ -1,3 +1,4 @@
+-- With no track at its top, the state is the one in which nobody is.
 use Rattle.std.proofs.Common.{◌≡◌, ◌∙◌, List, ap, length, map, slice_index_or, sym}
 use Rattle.std.proofs.lemmas.List.{with_items_is}
 use Rattle.std.specs.List.{range_with_len}

@@ -1,3 +1,4 @@
+-- The wait is the least of the moments of the entries before the index.
 use Rattle.std.proofs.Common.{◌≡◌, map, min}
 use Rattle.std.specs.List.{range_with_len}
 use Rattle.keep_needs.specs.Carried.{load_at}

@@ -1,3 +1,4 @@
+-- A lookup is owed of an entry itself, or of one over its parent.
 use Rattle.std.proofs.Common.{◌≡◌, ◌∙◌, Some, sym, ap, subst}
 use Rattle.keep_tree.specs.declared.entry.Entry.{Entry}
 use Rattle.keep_tree.specs.Forest.{entry_at}

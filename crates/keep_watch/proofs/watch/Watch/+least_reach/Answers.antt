@@ -1,3 +1,4 @@
+-- The least reach over an entry is the least of its own and of that over its parent.
 use Rattle.std.proofs.Common.{◌≡◌, ◌∙◌, None, Some, map, sym, ap, subst}
 use Rattle.keep_tree.specs.declared.entry.Entry.{Entry}
 use Rattle.keep_tree.specs.Forest.{entry_at}

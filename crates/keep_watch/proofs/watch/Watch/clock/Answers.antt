@@ -1,3 +1,4 @@
+-- The parts of a clock are together the step of the definitions.
 use Rattle.std.proofs.Common.{◌≡◌, ◌∙◌, ap, false, is_none, subst, sym}
 use Rattle.keep_watch.specs.declared.notes.Notes.{Notes}
 use Rattle.keep_watch.specs.Beginning.{beginning, begun}

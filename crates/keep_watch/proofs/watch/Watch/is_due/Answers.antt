@@ -1,3 +1,4 @@
+-- An entry is due where it is wanted and its time has come.
 use Rattle.std.proofs.Common.{◌≡◌, ◌∙◌, ℕ, ◌&&◌, Bool, false, nat_le, subst, sym, ap}
 use Rattle.keep_tree.specs.declared.entry.Entry.{Entry}
 use Rattle.keep_tree.specs.Carried.{carried}

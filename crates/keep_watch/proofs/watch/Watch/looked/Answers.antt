@@ -1,3 +1,4 @@
+-- The parts of an answer to a lookup are together that of the definitions.
 use Rattle.std.proofs.Common.{◌≡◌, ◌∙◌, Option, ap}
 use Rattle.keep_watch.specs.declared.notes.Link.{Link}
 use Rattle.keep_watch.specs.declared.notes.Notes.{Notes}

@@ -1,3 +1,4 @@
+-- A new need leaves the forest and its view as they have to be.
 use Rattle.std.proofs.Common.{◌∙◌, ap, length, refl, sym}
 use Rattle.std.proofs.lemmas.List.{length-set}
 use Rattle.keep_tree.specs.Forest.{Forest}

@@ -1,3 +1,4 @@
+-- By the needs that the view carries, the next time is that of the definitions.
 use Rattle.std.proofs.Common.{◌∙◌, subst}
 use Rattle.keep_watch.specs.Readings.{IsNext}
 use Rattle.keep_watch.specs.State.{State}

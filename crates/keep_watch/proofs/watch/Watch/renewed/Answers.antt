@@ -1,3 +1,4 @@
+-- The parts of an answer to a renewal are together that of the definitions.
 use Rattle.std.proofs.Common.{◌≡◌, ◌∙◌, Option, ap, sym}
 use Rattle.keep_watch.specs.declared.notes.Link.{Link}
 use Rattle.keep_watch.specs.declared.notes.Notes.{Notes}
@@ -25,10 +26,10 @@ returns-clause-step c =
     ap (state_of c.self.inside.forest c.self.inside.width) c.in_ok-note_date.ensures.value ∙ ap (λ (s : State). record s { slice = noted_in s.slice reply }) c.self.view_is in
     let taken : state_of last.forest last.width last.book ≡ record (renewed old i reply) { slice = noted_in old.slice reply } =
     c.self-2.view_is ∙ c.take_renewal-top.ensures.state
-    ∙ ap (λ (s : State). with_track s i (renewed_track (entry_of s i).step s.clocks.at reply (track_at s i))) noted
+    ∙ ap (λ (s : State). with_track s i (renewed_track s.forest.margin (entry_of s i).step s.clocks.at reply (track_at s i))) noted
     ∙ ap (λ (s : State). record s { slice = noted_in old.slice reply }) (sym (renewed_is old i reply)) in
-    let top : c.take_renewal-top.result ≡ top_by reply (renewed_track (entry_of old i).step old.clocks.at reply (track_at old i)) =
-    c.take_renewal-top.ensures.top ∙ ap (λ (s : State). top_by reply (renewed_track (entry_of s i).step s.clocks.at reply (track_at s i))) noted in
+    let top : c.take_renewal-top.result ≡ top_by reply (renewed_track old.forest.margin (entry_of old i).step old.clocks.at reply (track_at old i)) =
+    c.take_renewal-top.ensures.top ∙ ap (λ (s : State). top_by reply (renewed_track s.forest.margin (entry_of s i).step s.clocks.at reply (track_at s i))) noted in
     let linked : c.take_reply-link.result ≡ link old old.slice i reply =
     c.take_reply-link.ensures.link last.forest last.width ∙ ap (λ (s : State). link_after s s.slice i reply) taken
     ∙ link_is (record (renewed old i reply) { slice = noted_in old.slice reply }) old old.slice i reply (renewed_away old i reply) in (

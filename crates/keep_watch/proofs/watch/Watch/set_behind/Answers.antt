@@ -1,3 +1,4 @@
+-- The try behind a lookup that was told is that of the definitions.
 use Rattle.std.proofs.Common.{◌≡◌, ◌∙◌, ◌&&◌, get_or, set, sym, ap}
 use Rattle.keep_watch.specs.declared.track.Track.{Track}
 use Rattle.keep_watch.specs.Looked.{told_by, try_behind}

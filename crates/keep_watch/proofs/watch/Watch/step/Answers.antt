@@ -1,3 +1,4 @@
+-- A step that is not refused is that of the definitions, by each kind of event.
 use Rattle.std.proofs.Common.{◌≡◌, ◌∙◌, None, ap, subst, sym}
 use Rattle.keep_watch.specs.declared.event.Event.TheVariants.{Looked, Renewed, Need, Known}
 use Rattle.keep_watch.specs.declared.event.Operation.TheVariants.{Look, Renew}

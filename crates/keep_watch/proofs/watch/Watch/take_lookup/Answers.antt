@@ -1,3 +1,4 @@
+-- What a lookup told or did not tell makes of its entry is what the definitions say.
 use Rattle.std.proofs.Common.{◌≡◌, ◌∙◌, false, ap, inl, inr}
 use Rattle.keep_watch.proofs.Looking.{is_told, nothing_looked, nothing_noted}
 use Rattle.keep_watch.proofs.watch.Watch.take_lookup.Goals as goal

@@ -1,3 +1,4 @@
+-- What a lookup told makes of its entry, and of the forest, is what the definitions say.
 use Rattle.std.proofs.Common.{◌≡◌, ◌∙◌, ◌<◌, get_or, length, set, subst, sym, ap}
 use Rattle.std.proofs.lemmas.List.{length-set}
 use Rattle.keep_tree.specs.Forest.{Forest, entry_at}

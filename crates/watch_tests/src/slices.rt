@@ -1,21 +1,13 @@
 // The watch's slices: who goes out, in which order and with how much patience, and whom a round asks along.
 
-use crate::rows::{Row, forest_of};
-use crate::watches::{clock, looked, told};
-use keep_watch::{Command, Event, Operation, Output, Patience, Reply, Watch};
+use crate::tokens::{Token, clock, forest_of, looked, renewed, told, waits};
+use keep_watch::{Command, Operation, Output, Patience, Reply, Watch};
 use std::alloc::Global;
 use std::process::Abort;
 use std::test::Fail;
 
-// A token with that step, which is needed until then.
-const fn token(step: u32, need: u64) -> Row {
-    Row {
-        parent: None,
-        end: 0,
-        step,
-        ceiling: None,
-        need,
-    }
+const fn token(step: u32, need: u64) -> Token {
+    Token { step, need }
 }
 
 // These requests go out, in this order.
@@ -67,23 +59,7 @@ fn renews<R: Abort>(
 }
 
 fn answers(alloc: Global, watch: &mut Watch, entry: u32, reply: Reply) -> Result<(), Fail> {
-    watch.step(alloc, Event::Renewed { entry, reply })?;
-    Ok(())
-}
-
-fn waits<R: Abort>(
-    rt: &R,
-    alloc: Global,
-    watch: &mut Watch,
-    at: u64,
-    until: u64,
-) -> Result<(), Fail> {
-    let output = watch.step(alloc, clock(at))?;
-    let waits = match output.command {
-        Command::Wait(to) => to == until,
-        _ => false,
-    };
-    assert!(rt; waits, "at {at}");
+    watch.step(alloc, renewed(entry, reply))?;
     Ok(())
 }
 

@@ -1,73 +1,16 @@
 // The watch: the example of its page, refusals, and as many entries as there may be.
 
-use keep_moment::Name;
-use keep_tree::{Entry, Forest, Kind};
-use keep_watch::{
-    Command, Event, Operation, Output, Patience, Reply, Terms, WIDTH_MAX, Watch, WatchFault, Why,
-};
+use crate::tokens::{Token, clock, looked, renewed, told, waits, watch_of};
+use keep_watch::{Command, Event, Operation, Patience, Reply, WIDTH_MAX, Watch, WatchFault, Why};
 use std::alloc::Global;
 use std::process::Abort;
 use std::test::Fail;
 
-// A token that is needed until then, with a step of 60 seconds.
-fn token(alloc: Global, number: u32, need: u64) -> Result<Entry, Fail> {
-    let name = format!(in alloc; "e{number}")?;
-    Ok(Entry {
-        name: Name::of(alloc, name.as_bytes())?,
-        kind: Kind::Token,
-        parent: None,
-        end: 0,
-        renewable: true,
-        step: 60,
-        ceiling: None,
-        need,
-    })
-}
-
-// A watch over so many of them, which sends at most `width` requests in a slice.
-fn watch_of(alloc: Global, count: u32, need: u64, width: u32) -> Result<Watch, Fail> {
-    let mut forest = Forest::new(alloc);
-    for number in 0..count {
-        forest.push(token(alloc, number, need)?)?;
-    }
-    Ok(Watch::new(alloc, forest, width)?)
-}
-
-// Both clocks show this.
-pub(crate) fn clock(ms: u64) -> Event {
-    Event::Clock {
-        wall: ms,
-        elapsed: ms,
-    }
-}
-
-pub(crate) fn told(seconds: u32) -> Reply {
-    Reply::Told {
-        seconds,
-        renewable: true,
-        date: None,
-    }
-}
-
-pub(crate) fn looked(entry: u32, reply: Reply) -> Event {
-    Event::Looked {
-        entry,
-        reply,
-        terms: Terms {
-            step: None,
-            ceiling: None,
-            orphan: false,
-            endless: false,
-        },
-    }
-}
-
-fn renewed(entry: u32, seconds: u32) -> Event {
-    Event::Renewed {
-        entry,
-        reply: told(seconds),
-    }
-}
+// It is needed until 1200, with a step of 60 seconds.
+const WEB: Token = Token {
+    step: 60,
+    need: 1200,
+};
 
 // The only request is this one, with full patience.
 fn asks(command: &Command, entry: u32, operation: Operation) -> bool {
@@ -82,25 +25,6 @@ fn asks(command: &Command, entry: u32, operation: Operation) -> bool {
         },
         _ => false,
     }
-}
-
-fn wait_of(output: &Output) -> Option<u64> {
-    match &output.command {
-        Command::Wait(until) => Some(*until),
-        _ => None,
-    }
-}
-
-fn waits<R: Abort>(
-    rt: &R,
-    alloc: Global,
-    watch: &mut Watch,
-    at: u64,
-    until: u64,
-) -> Result<(), Fail> {
-    let output = watch.step(alloc, clock(at))?;
-    assert!(rt; wait_of(&output) == Some(until), "at {at}");
-    Ok(())
 }
 
 // In each of these seconds it waits for the next.
@@ -126,7 +50,7 @@ fn opens<R: Abort>(rt: &R, alloc: Global, watch: &mut Watch, second: u32) -> Res
         asks(&wake.command, 0, Operation::Renew),
         "a renewal at {second}"
     );
-    watch.step(alloc, renewed(0, 60))?;
+    watch.step(alloc, renewed(0, told(60)))?;
     Ok(())
 }
 
@@ -136,7 +60,7 @@ const ROUNDS: [(u32, u32); 3] = [(1000, 1059), (1059, 1118), (1118, 1177)];
 #[test]
 fn the_example_of_its_page(rt: HostRuntime) -> Result<(), Fail> {
     let alloc = rt.alloc();
-    let mut watch = watch_of(alloc, 1, 1200, 8)?;
+    let mut watch = watch_of(alloc, 1, WEB, 1, 8)?;
     let first = watch.step(alloc, clock(1_000_000))?;
     assert_eq!(rt; first.notes.began, Some(Why::Start));
     assert!(rt; asks(&first.command, 0, Operation::Look));
@@ -153,14 +77,14 @@ fn the_example_of_its_page(rt: HostRuntime) -> Result<(), Fail> {
 #[test]
 fn refusals_leave_it_as_it_was(rt: HostRuntime) -> Result<(), Fail> {
     let alloc = rt.alloc();
-    let mut watch = watch_of(alloc, 1, 1200, 8)?;
+    let mut watch = watch_of(alloc, 1, WEB, 1, 8)?;
     let need = Event::Need { entry: 1, until: 0 };
     assert!(rt; watch.step(alloc, need).err() == Some(WatchFault::BadIndex));
     assert!(rt; watch.step(alloc, looked(0, told(60))).err() == Some(WatchFault::NotAsked));
     watch.step(alloc, clock(1_000_000))?;
     assert!(rt; watch.step(alloc, clock(1_000_000)).err() == Some(WatchFault::SliceOpen));
     assert!(rt; watch.step(alloc, Event::Begin).err() == Some(WatchFault::SliceOpen));
-    assert!(rt; watch.step(alloc, renewed(0, 60)).err() == Some(WatchFault::NotAsked));
+    assert!(rt; watch.step(alloc, renewed(0, told(60))).err() == Some(WatchFault::NotAsked));
     assert!(rt; watch.step(alloc, looked(1, told(60))).err() == Some(WatchFault::BadIndex));
     watch.step(alloc, looked(0, told(60)))?;
     waits(&rt, alloc, &mut watch, 1_000_000, 1_001_000)
@@ -192,7 +116,7 @@ fn short_of(watch: &Watch, entry: u32) -> Option<u64> {
 #[test]
 fn an_entry_that_owes_a_lookup_hides_no_other_that_is_short(rt: HostRuntime) -> Result<(), Fail> {
     let alloc = rt.alloc();
-    let mut watch = watch_of(alloc, 2, 1200, 8)?;
+    let mut watch = watch_of(alloc, 1, WEB, 2, 8)?;
     watch.step(alloc, known(0))?;
     watch.step(alloc, known(1))?;
     watch.step(alloc, clock(1_000_000))?;
@@ -221,7 +145,7 @@ fn looks_up(alloc: Global, watch: &mut Watch) -> Result<bool, Fail> {
 #[test]
 fn as_many_entries_as_there_may_be(rt: HostRuntime) -> Result<(), Fail> {
     let alloc = rt.alloc();
-    let mut watch = watch_of(alloc, 4096, 1200, WIDTH_MAX)?;
+    let mut watch = watch_of(alloc, 1, WEB, 4096, WIDTH_MAX)?;
     for _ in 0..128u32 {
         assert!(rt; looks_up(alloc, &mut watch)?);
     }
