@@ -9,7 +9,7 @@ use Rattle.mini_broker.specs.Request.{status_of, text_of}
 use Rattle.vault_http.specs.declared.reply.Reply.{Reply}
 use Rattle.vault_http.specs.declared.request.Request.{Request}
 use Rattle.vault_http.specs.Written.{body_lines, host_lines, is_get, last_lines, length_lines, phrase, reply_text, request_text, status_line, token_line}
-use Rattle.vault_json.specs.Written.{errors_text, flag_text, lease_text, lookup_text, renew_text, renewed_lease_text, renewed_self_text}
+use Rattle.vault_json.specs.Written.{errors_text, flag_text, lease_text, looked_lease_text, lookup_text, renew_text, renewed_lease_text, renewed_self_text}
 
 -- ---- parts
 
@@ -27,6 +27,9 @@ sum7 a b c d e f g = let s2 = length-append a b in let s3 = length-append (a ++ 
 
 sum8 : (a b c d e f g h : List ℕ) → length (a ++ b ++ c ++ d ++ e ++ f ++ g ++ h) ≡ length a + length b + length c + length d + length e + length f + length g + length h
 sum8 a b c d e f g h = let s2 = length-append a b in let s3 = length-append (a ++ b) c in let s4 = length-append (a ++ b ++ c) d in let s5 = length-append (a ++ b ++ c ++ d) e in let s6 = length-append (a ++ b ++ c ++ d ++ e) f in let s7 = length-append (a ++ b ++ c ++ d ++ e ++ f) g in let s8 = length-append (a ++ b ++ c ++ d ++ e ++ f ++ g) h in omega (arith, s2, s3, s4, s5, s6, s7, s8)
+
+sum9 : (a b c d e f g h i : List ℕ) → length (a ++ b ++ c ++ d ++ e ++ f ++ g ++ h ++ i) ≡ length a + length b + length c + length d + length e + length f + length g + length h + length i
+sum9 a b c d e f g h i = let s8 = sum8 a b c d e f g h in let s9 = length-append (a ++ b ++ c ++ d ++ e ++ f ++ g ++ h) i in omega (arith, s8, s9)
 
 digits : (n : ℕ) → n < 2 ^ 32 → length (decimal n) ≤ 10
 digits n small = length-decimal-le 10 n (omega arith) (omega arith) (omega arith)
@@ -106,6 +109,23 @@ renewed_lease_short id seconds flag fits small =
     let h1 = quoted_short id fits in
     let h2 = flag_short flag in
     omega (arith, l0, l2, l4, l6, long, h0, h1, h2)
+
+pub looked_lease_short : (id date : List ℕ) (flag : Bool) (seconds : ℕ) → length id ≤ 256 → length date ≤ 20 → seconds < 2 ^ 32 → length (looked_lease_text id date flag seconds) ≤ 2000
+unfolding looked_lease_text
+looked_lease_short id date flag seconds fits brief small =
+    let l0 : length (codes "{\"data\":{\"id\":") ≡ 14 = refl in
+    let l2 : length (codes ",\"issue_time\":") ≡ 14 = refl in
+    let l4 : length (codes ",\"renewable\":") ≡ 13 = refl in
+    let l6 : length (codes ",\"ttl\":") ≡ 7 = refl in
+    let l8 : length (codes "}}") ≡ 2 = refl in
+    let long : length (looked_lease_text id date flag seconds) ≡ length (codes "{\"data\":{\"id\":") + length (quoted id) + length (codes ",\"issue_time\":") + length (quoted date) + length (codes ",\"renewable\":") + length (flag_text flag) + length (codes ",\"ttl\":") + length (decimal seconds) + length (codes "}}") =
+    sum9 (codes "{\"data\":{\"id\":") (quoted id) (codes ",\"issue_time\":") (quoted date) (codes ",\"renewable\":") (flag_text flag) (codes ",\"ttl\":") (decimal seconds) (codes "}}") in
+    let h0 = quoted_short id fits in
+    let h1 = length-append (escape date) (34 ∷ []) in
+    let h2 = escape_short date in
+    let h3 = flag_short flag in
+    let h4 = digits seconds small in
+    omega (arith, l0, l2, l4, l6, l8, long, h0, h1, h2, h3, h4, brief)
 
 pub errors_short : (text : List ℕ) → length text ≤ 256 → length (errors_text text) ≤ 2000
 unfolding errors_text

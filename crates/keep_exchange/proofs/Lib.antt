@@ -5,3 +5,5 @@ pub mod Answered
 pub mod Sendable
 pub mod Looked
 pub mod Slices
+pub mod Counted
+pub mod ReadBehind

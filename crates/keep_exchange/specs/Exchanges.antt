@@ -48,8 +48,8 @@ Exchanges old t r (Err OutOfMemory) new = IsGivenUp old t r new
 Exchanges old t r result new = IsExchanged old t r result new
 
 -- one failure more where a connect, an accept, a write or a read failed, and else none
-abbrev pub CountsExchange : Result Reply ExchangeFault → ℕ → ℕ → Type 0
-CountsExchange (Ok reply) before now = now ≡ before
+abbrev pub CountsExchange : {X : Type 0} → Result X ExchangeFault → ℕ → ℕ → Type 0
+CountsExchange (Ok x) before now = now ≡ before
 CountsExchange (Err ConnectFailed) before now = now ≡ one_more before
 CountsExchange (Err WriteFailed) before now = now ≡ one_more before
 CountsExchange (Err (Http https.ReadFailed)) before now = now ≡ one_more before

@@ -4,4 +4,5 @@ pub mod Lookups
 pub mod Abreast
 pub mod Waits
 pub mod Lines
+pub mod Sockets
 pub mod Heard

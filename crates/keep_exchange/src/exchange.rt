@@ -3,6 +3,7 @@ ghost use Rattle.vault_http.specs.declared.known.TheConstants.{MOST_MESSAGE};
 ghost use Rattle.vault_http.specs.RoundTripRequest.{IsWritable};
 ghost use Rattle.vault_http.specs.Written.{request_text};
 ghost use Rattle.keep_exchange.specs.Exchanges.{Behind, Exchanges, CountsExchange};
+ghost use Rattle.keep_exchange.specs.Sockets.{Paces};
 
 use crate::ExchangeFault;
 use crate::texts::is_port;
@@ -21,6 +22,12 @@ pub trait Exchange: Device {
     /// The port that its requests name.
     ghost host_port: { Self → ℕ } = { λ _. 8200 };
 
+    /// How long each connect, read or write may take at first, in nanoseconds; 0 where nothing is waited for.
+    ghost longest: { Self → ℕ } = { λ _. 0 };
+
+    /// How long the next one may take: as long as at first, or a quarter of a second behind one that took longer.
+    ghost limit: { Self → ℕ } = { λ _. 0 };
+
     /// The port that requests to its broker name in `Host`: the broker's own, and 8200 where it has none.
     fn port(&self) -> u16
         ensures { result ≡ host_port self.now };
@@ -29,6 +36,8 @@ pub trait Exchange: Device {
     fn begin_line(&mut self)
         ensures behind { Self.behind self.new ≡ Self.behind self.old }
         ensures count { Self.failed_calls self.new ≡ Self.failed_calls self.old }
+        ensures longest { Self.longest self.new ≡ Self.longest self.old }
+        ensures limit { Self.limit self.new ≡ Self.longest self.old }
         ensures port { Self.host_port self.new ≡ Self.host_port self.old };
 
     /// Sends a request of at most 1 MiB, which is served at `t`, and reads the reply.
@@ -49,7 +58,10 @@ pub trait Exchange: Device {
         requires writable { IsWritable request.now }
         requires short { length (request_text request.now) ≤ MOST_MESSAGE }
         ensures exchanged { IfSome (Self.behind self.old) (λ old. Exchanges old.table t request.now result (Self.behind self.new)) }
-        ensures count { CountsExchange result (Self.failed_calls self.old) (Self.failed_calls self.new) };
+        ensures count { CountsExchange result (Self.failed_calls self.old) (Self.failed_calls self.new) }
+        ensures longest { Self.longest self.new ≡ Self.longest self.old }
+        ensures limit { Paces result (Self.longest self.old) (Self.limit self.old) (Self.limit self.new) }
+        ensures port { Self.host_port self.new ≡ Self.host_port self.old };
 }
 
 /// Whether [`Exchange::exchange`] may be asked to carry the request. It is so of every request with a body of at most 2,000

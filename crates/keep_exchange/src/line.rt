@@ -1,12 +1,11 @@
 //! One request and its reply over one line, whatever the line is.
-ghost use Rattle.std.specs.Prelude.{◌≡◌, IfOk, IfSome, Ok, OnErr, OnOk};
+ghost use Rattle.std.specs.Prelude.{◌≡◌, IfOk, IfSome, IsTrue, OnErr, OnOk};
 ghost use Rattle.std.specs.Result.{IfErr};
 ghost use Rattle.std.specs.Io.KnownBytes.{Appends, Keeps};
 ghost use Rattle.keep_device.specs.Front.{AppendsFront};
 ghost use Rattle.keep_exchange.specs.declared.fault.ExchangeFault.TheVariants.{WriteFailed};
-ghost use Rattle.keep_exchange.specs.Lines.{Hears};
-ghost use Rattle.vault_http.specs.declared.known.TheConstants.{MOST_MESSAGE};
-ghost use Rattle.vault_http.specs.Reading.{SettlesReply};
+ghost use Rattle.keep_exchange.specs.Exchanges.{CountsExchange};
+ghost use Rattle.keep_exchange.specs.Lines.{Carries, Hears};
 ghost use Rattle.vault_http.specs.RoundTripRequest.{IsWritable};
 ghost use Rattle.vault_http.specs.Written.{request_text};
 
@@ -25,11 +24,15 @@ pub(crate) fn carry<S: Source + Sink>(
     request: &Request,
 ) -> Result<Reply, ExchangeFault>
     requires { IsWritable request.now }
-    ensures sent { IfOk result (λ _. Appends (S.written line.old) (S.written line.new) (request_text request.now)) }
-    ensures heard { IfOk result (λ reply. IfSome (S.remaining line.old) (λ bytes. SettlesReply MOST_MESSAGE bytes (S.remaining line.new) (S.reads_left line.old) (S.reads_left line.new) (Ok reply))) }
+    ensures carried { Carries request.now (record { remaining = S.remaining line.old; rest = S.remaining line.new; reads_left = S.reads_left line.old; old = S.written line.old; new = S.written line.new; flushed = S.is_flushed line.new }) result }
+    ensures count { CountsExchange result (S.failed_calls line.old) (S.failed_calls line.new) }
 {
     write_request(alloc, line, request)?;
-    Ok(room.read_reply(alloc, line, MOST_MESSAGE)?)
+    match room.read_reply(alloc, line, MOST_MESSAGE) {
+        Ok(reply) => Ok(reply),
+        Err(HttpFault::OutOfMemory) => Err(ExchangeFault::OutOfMemory),
+        Err(fault) => Err(ExchangeFault::Http(fault)),
+    }
 }
 
 /// Writes the request, once. `WriteFailed`: no more than a front of its text went out. The only error of its own is out of
@@ -42,7 +45,9 @@ pub(crate) fn send<S: Sink>(
     requires { IsWritable request.now }
     ensures written { IfOk result (λ sent. OnOk sent (Appends (S.written line.old) (S.written line.new) (request_text request.now))) }
     ensures front { IfOk result (λ sent. OnErr sent (AppendsFront (S.written line.old) (S.written line.new) (request_text request.now))) }
+    ensures flushed { IfOk result (λ sent. OnOk sent (IsTrue (S.is_flushed line.new))) }
     ensures fault { IfOk result (λ sent. IfErr sent (λ fault. fault ≡ WriteFailed)) }
+    ensures count { IfOk result (λ sent. CountsExchange sent (S.failed_calls line.old) (S.failed_calls line.new)) }
     ensures remaining { Keeps (S.remaining line.old) (S.remaining line.new) }
 {
     match write_request(alloc, line, request) {
@@ -60,6 +65,7 @@ pub(crate) fn hear<S: Source>(
 ) -> Result<Result<DatedReply, ExchangeFault>, AllocError>
     ensures heard { IfOk result (λ answer. IfSome (S.remaining line.old) (λ bytes. Hears bytes (S.remaining line.new) (S.reads_left line.old) (S.reads_left line.new) answer)) }
     ensures written { Keeps (S.written line.old) (S.written line.new) }
+    ensures count { IfOk result (λ answer. CountsExchange answer (S.failed_calls line.old) (S.failed_calls line.new)) }
 {
     match room.read_dated_reply(alloc, line, MOST_MESSAGE) {
         Ok(dated) => Ok(Ok(dated)),

@@ -1,4 +1,5 @@
 //! One connection of a slice, and how it waits.
+use crate::over::here;
 use crate::waits::{LONGEST_STEP, QUARTER, Stage, Waits, next_step};
 use mio::event::Source;
 use mio::net::{TcpStream, UnixStream};
@@ -6,7 +7,7 @@ use mio::{Events, Interest, Poll, Token};
 use std::alloc::{AllocError, Global};
 use std::io;
 use std::io::{Error, ErrorKind, Read, Write};
-use std::net::{IpAddr, Ipv4Addr, Net, SocketAddr};
+use std::net::Net;
 use std::time::Duration;
 
 /// Where a broker listens.
@@ -83,8 +84,7 @@ impl Link {
         let mut spare = LONGEST_STEP;
         let stream = match place {
             Place::Port(port) => {
-                let address = SocketAddr::new(IpAddr::V4(Ipv4Addr::LOCALHOST), port);
-                match TcpStream::connect(rt, address) {
+                match TcpStream::connect(rt, here(port)) {
                     Ok(stream) => Stream::Tcp(stream),
                     Err(_) => Stream::Absent,
                 }

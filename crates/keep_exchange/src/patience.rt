@@ -1,5 +1,7 @@
-ghost use Rattle.std.specs.Prelude.{◌≡◌, true, false, if◌then◌else◌, min};
+ghost use Rattle.std.specs.Prelude.{◌≡◌, ◌⊎◌, ◌↔◌, IsTrue, MatchResult, true, false, if◌then◌else◌};
 ghost use Rattle.std.specs.Duration.{as_nanos};
+ghost use Rattle.std.specs.IoError.{error_kind};
+ghost use Rattle.keep_exchange.specs.Sockets.{limit_of};
 
 use std::io;
 use std::io::{ErrorKind, Read, Write};
@@ -29,7 +31,7 @@ impl Patience {
 
     /// How long the next connect, read or write may take.
     pub(crate) fn limit(&self) -> Duration
-        ensures { as_nanos result ≡ (if self.now.is_short then min (as_nanos self.now.longest) 250_000_000 else as_nanos self.now.longest) }
+        ensures { as_nanos result ≡ limit_of (as_nanos self.now.longest) self.now.is_short }
     {
         if self.is_short {
             self.longest.min(Duration::from_millis(250))
@@ -52,20 +54,22 @@ impl Patience {
         self.is_short = false;
     }
 
-    /// What an exchange says of those to come: it took too long, or has its reply, or neither.
+    /// What an exchange says of those to come: it has its reply, or took too long, or neither.
     pub(crate) fn learn(&mut self, is_late: bool, has_reply: bool)
-        ensures { self.new ≡ record self.old { is_short = if is_late then true else (if has_reply then false else self.old.is_short) } }
+        ensures { self.new ≡ record self.old { is_short = if has_reply then false else (if is_late then true else self.old.is_short) } }
     {
-        if is_late {
-            self.shorten();
-        } else if has_reply {
+        if has_reply {
             self.restore();
+        } else if is_late {
+            self.shorten();
         }
     }
 }
 
 /// Whether a call failed because it took too long.
-pub(crate) fn is_late(error: &io::Error) -> bool {
+pub(crate) fn is_late(error: &io::Error) -> bool
+    ensures { IsTrue result ↔ ((error_kind error.now ≡ ErrorKind.TimedOut) ⊎ (error_kind error.now ≡ ErrorKind.WouldBlock)) }
+{
     matches!(error.kind(), ErrorKind::TimedOut | ErrorKind::WouldBlock)
 }
 
@@ -77,14 +81,18 @@ pub(crate) struct Watched<S> {
 }
 
 impl<S> Watched<S> {
-    pub(crate) fn new(stream: S) -> Watched<S> {
+    pub(crate) fn new(stream: S) -> Watched<S>
+        ensures { result ≡ record { stream = stream; is_late = false } }
+    {
         Watched {
             stream,
             is_late: false,
         }
     }
 
-    pub(crate) fn is_late(&self) -> bool {
+    pub(crate) fn is_late(&self) -> bool
+        ensures { result ≡ self.now.is_late }
+    {
         self.is_late
     }
 }

@@ -1,13 +1,15 @@
-ghost use Rattle.std.specs.Prelude.{None};
+ghost use Rattle.std.specs.Prelude.{◌≡◌, ◌⊎◌, None, IfOk, OnOk};
+ghost use Rattle.keep_exchange.specs.Sockets.{IsServedOnce};
 ghost use Rattle.vault_http.specs.RoundTripRequest.{IsWritable};
 
 use crate::exchange::Exchange;
 use crate::fault::ExchangeFault;
-use crate::over::count_after;
+use crate::over::{count_after, here};
 use keep_moment::Moment;
 use mini_broker::{StreamFault, Table};
 use std::alloc::Global;
-use std::net::{IpAddr, Ipv4Addr, Net, OpenListener, SocketAddr, TcpListener, TcpStream};
+use std::marker::Model;
+use std::net::{Net, OpenListener, TcpListener, TcpStream};
 use vault_http::{Counted, Device, HttpFault, MOST_MESSAGE, Reply, Request, Room, write_request};
 
 /// An exchange over 127.0.0.1 with a broker's table that is served in the same thread: it connects, writes the request,
@@ -22,17 +24,23 @@ pub struct SelfServed<'a, R: Net> {
     failures: u64,
 }
 
+impl<'a, R: Net> Model for SelfServed<'a, R> {
+    ghost use Rattle.keep_exchange.specs.Sockets.{Served};
+
+    ghost Value = { Served };
+
+    ghost view = { λ e. record { port = e.port; table = e.table; failures = e.failures } };
+}
+
 impl<'a, R: Net> SelfServed<'a, R> {
     /// Listens on 127.0.0.1 at a port that the system chooses.
     ///
     /// `ConnectFailed`: it could not listen, and the table is dropped.
-    pub fn bind(
-        rt: &'a R,
-        _alloc: Global,
-        table: Table,
-    ) -> Result<SelfServed<'a, R>, ExchangeFault> {
-        let any = SocketAddr::new(IpAddr::V4(Ipv4Addr::LOCALHOST), 0);
-        let Ok(listener) = TcpListener::bind(rt, any) else {
+    pub fn bind(rt: &'a R, _alloc: Global, table: Table) -> Result<SelfServed<'a, R>, ExchangeFault>
+        ensures table { IfOk result (λ e. e.table ≡ table) }
+        ensures failures { IfOk result (λ e. e.failures ≡ 0) }
+    {
+        let Ok(listener) = TcpListener::bind(rt, here(0)) else {
             return Err(ExchangeFault::ConnectFailed);
         };
         let Ok(address) = listener.local_addr() else {
@@ -49,15 +57,18 @@ impl<'a, R: Net> SelfServed<'a, R> {
     }
 
     /// The broker's table.
-    pub fn table(&self) -> &Table {
+    pub fn table(&self) -> &Table
+        ensures { result.now ≡ self.now.table }
+    {
         &self.table
     }
 
     fn carry(&mut self, alloc: Global, t: Moment, request: &Request) -> Result<Reply, ExchangeFault>
         requires { IsWritable request.now }
+        ensures served { OnOk result (IsServedOnce self.old.table t self.new.table) }
+        ensures same { self.new ≡ record self.old { table = self.new.table } }
     {
-        let address = SocketAddr::new(IpAddr::V4(Ipv4Addr::LOCALHOST), self.port);
-        let Ok(client) = TcpStream::connect(self.rt, address) else {
+        let Ok(client) = TcpStream::connect(self.rt, here(self.port)) else {
             return Err(ExchangeFault::ConnectFailed);
         };
         let mut client = Counted::new(client);
@@ -67,7 +78,10 @@ impl<'a, R: Net> SelfServed<'a, R> {
     }
 
     /// Accepts one connection and serves its request; the connection is closed behind it.
-    fn serve(&mut self, t: Moment) -> Result<(), ExchangeFault> {
+    fn serve(&mut self, t: Moment) -> Result<(), ExchangeFault>
+        ensures served { OnOk result (IsServedOnce self.old.table t self.new.table) }
+        ensures same { self.new ≡ record self.old { table = self.new.table } }
+    {
         let Ok((stream, _)) = self.listener.accept() else {
             return Err(ExchangeFault::ConnectFailed);
         };

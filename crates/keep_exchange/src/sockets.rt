@@ -1,6 +1,8 @@
 //! Exchanges abreast over sockets: all lines are opened, all requests written, all replies read in turn.
-ghost use Rattle.std.specs.Prelude.{◌≡◌, All, IfOk, None, length, vec_len};
+ghost use Rattle.std.specs.Prelude.{◌≡◌, ◌+◌, ◌-◌, ◌*◌, All, IfOk, None, length, vec_len};
 ghost use Rattle.keep_exchange.specs.Abreast.{after_answers, port_of};
+ghost use Rattle.keep_exchange.specs.Waits.{longest_first};
+ghost use Rattle.keep_exchange.specs.declared.link.Place.TheVariants as places;
 ghost use Rattle.vault_http.specs.RoundTripRequest.{IsWritable};
 
 use crate::abreast::{Abreast, Waiting, count_answer};
@@ -10,6 +12,7 @@ use crate::link::{Bell, Link, Place, Shared, Waiter};
 use crate::waits::Waits;
 use keep_moment::Moment;
 use std::alloc::{AllocError, Global};
+use std::marker::Model;
 use std::net::Net;
 use vault_http::{Counted, DatedReply, Device, Request, Room};
 
@@ -29,10 +32,20 @@ pub struct SocketSlices<'a, R: Net> {
     failures: u64,
 }
 
+impl<'a, R: Net> Model for SocketSlices<'a, R> {
+    ghost use Rattle.keep_exchange.specs.Sockets.{Slices};
+
+    ghost Value = { Slices };
+
+    ghost view = { λ e. record { place = e.place; seconds = e.seconds; failures = e.failures } };
+}
+
 impl<'a, R: Net> SocketSlices<'a, R> {
     /// With the broker that listens on 127.0.0.1 at that port, with time-outs of so many seconds. It takes no memory, and
     /// connects to nothing yet.
-    pub fn at_port(rt: &'a R, port: u16, seconds: u32) -> SocketSlices<'a, R> {
+    pub fn at_port(rt: &'a R, port: u16, seconds: u32) -> SocketSlices<'a, R>
+        ensures { result ≡ record { place = places.Port port; seconds = seconds; failures = 0 } }
+    {
         SocketSlices {
             rt,
             place: Place::Port(port),
@@ -43,7 +56,9 @@ impl<'a, R: Net> SocketSlices<'a, R> {
     }
 
     /// With the broker that listens on the UNIX socket with that path, likewise.
-    pub fn at_path(rt: &'a R, path: &'a str, seconds: u32) -> SocketSlices<'a, R> {
+    pub fn at_path(rt: &'a R, path: &'a str, seconds: u32) -> SocketSlices<'a, R>
+        ensures { result ≡ record { place = places.Path path.entry; seconds = seconds; failures = 0 } }
+    {
         SocketSlices {
             rt,
             place: Place::Path(path),
@@ -54,7 +69,10 @@ impl<'a, R: Net> SocketSlices<'a, R> {
     }
 
     /// What the lines of a slice share.
-    fn shared(&self, alloc: Global, waiting: Waiting) -> Result<Shared, AllocError> {
+    fn shared(&self, alloc: Global, waiting: Waiting) -> Result<Shared, AllocError>
+        ensures first { IfOk result (λ shared. shared.waits.first ≡ longest_first (self.now.seconds * 1000) waiting - 20) }
+        ensures later { IfOk result (λ shared. shared.waits.later ≡ self.now.seconds * 1000 + 2000) }
+    {
         Ok(Shared {
             bell: Bell::new(self.rt, alloc)?,
             waits: Waits::new(self.seconds, waiting),

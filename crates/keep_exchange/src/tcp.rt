@@ -1,12 +1,19 @@
-ghost use Rattle.std.specs.Prelude.{None};
+ghost use Rattle.std.specs.Prelude.{◌≡◌, ◌*◌, ◌⊎◌, None, OnOk, false, true};
+ghost use Rattle.std.specs.Result.{IfErr};
+ghost use Rattle.std.specs.Duration.{as_nanos};
+ghost use Rattle.keep_exchange.specs.Abreast.{port_of};
+ghost use Rattle.keep_exchange.specs.Sockets.{limit_of};
+ghost use Rattle.keep_exchange.specs.declared.fault.ExchangeFault.TheVariants as faults;
+ghost use Rattle.keep_exchange.specs.declared.link.Place.TheVariants as places;
 
 use crate::exchange::Exchange;
 use crate::fault::ExchangeFault;
-use crate::over::{count_after, exchange_over};
+use crate::over::{count_after, exchange_over, here};
 use crate::patience::{PATIENCE, Patience, is_late};
 use keep_moment::Moment;
 use std::alloc::Global;
-use std::net::{IpAddr, Ipv4Addr, Net, OpenStream, SocketAddr, TcpStream};
+use std::marker::Model;
+use std::net::{Net, OpenStream, TcpStream};
 use std::time::Duration;
 use vault_http::{Device, Reply, Request, Room};
 
@@ -20,16 +27,30 @@ pub struct TcpExchange<'a, R: Net> {
     failures: u64,
 }
 
+impl<'a, R: Net> Model for TcpExchange<'a, R> {
+    ghost use Rattle.std.specs.Duration.{as_nanos};
+    ghost use Rattle.keep_exchange.specs.declared.link.Place.TheVariants as places;
+    ghost use Rattle.keep_exchange.specs.Sockets.{Socket};
+
+    ghost Value = { Socket };
+
+    ghost view = { λ e. record { place = places.Port e.port; longest = as_nanos e.patience.longest; is_short = e.patience.is_short; failures = e.failures } };
+}
+
 impl<'a, R: Net> TcpExchange<'a, R> {
     /// The exchange with the broker at that port. Each connect, read and write may take five seconds. It takes no memory, and
     /// connects to nothing yet.
-    pub fn new(rt: &'a R, port: u16) -> TcpExchange<'a, R> {
+    pub fn new(rt: &'a R, port: u16) -> TcpExchange<'a, R>
+        ensures { result ≡ record { place = places.Port port; longest = 5 * 1_000_000_000; is_short = false; failures = 0 } }
+    {
         TcpExchange::patient(rt, port, Duration::from_secs(PATIENCE))
     }
 
     /// The same where each connect, read and write may take so long. One that takes longer has failed; those that follow may
     /// take a quarter of a second, until an exchange has its reply, or the next event line begins.
-    pub fn patient(rt: &'a R, port: u16, longest: Duration) -> TcpExchange<'a, R> {
+    pub fn patient(rt: &'a R, port: u16, longest: Duration) -> TcpExchange<'a, R>
+        ensures { result ≡ record { place = places.Port port; longest = as_nanos longest; is_short = false; failures = 0 } }
+    {
         TcpExchange {
             rt,
             port,
@@ -40,10 +61,13 @@ impl<'a, R: Net> TcpExchange<'a, R> {
     }
 
     /// A connection whose reads and writes have a limit.
-    fn connect(&mut self) -> Result<R::Stream, ExchangeFault> {
+    fn connect(&mut self) -> Result<R::Stream, ExchangeFault>
+        ensures connected { OnOk result (self.new ≡ self.old) }
+        ensures fault { IfErr result (λ fault. fault ≡ faults.ConnectFailed) }
+        ensures short { (self.new ≡ self.old) ⊎ (self.new ≡ record self.old { is_short = true }) }
+    {
         let limit = self.patience.limit();
-        let address = SocketAddr::new(IpAddr::V4(Ipv4Addr::LOCALHOST), self.port);
-        let stream = match TcpStream::connect_timeout(self.rt, &address, limit) {
+        let stream = match TcpStream::connect_timeout(self.rt, &here(self.port), limit) {
             Ok(stream) => stream,
             Err(error) => {
                 if is_late(&error) {
@@ -72,7 +96,11 @@ impl<'a, R: Net> Device for TcpExchange<'a, R> {
 impl<'a, R: Net> Exchange for TcpExchange<'a, R> {
     ghost behind = { λ _. None };
 
-    ghost host_port = { λ e. e.port };
+    ghost host_port = { λ e. port_of e.place };
+
+    ghost longest = { λ e. e.longest };
+
+    ghost limit = { λ e. limit_of e.longest e.is_short };
 
     fn port(&self) -> u16 {
         self.port

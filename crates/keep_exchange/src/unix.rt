@@ -1,4 +1,9 @@
-ghost use Rattle.std.specs.Prelude.{None};
+ghost use Rattle.std.specs.Prelude.{◌≡◌, ◌⊎◌, None, OnOk, IsOkUnless, false, true};
+ghost use Rattle.std.specs.Result.{IfErr};
+ghost use Rattle.std.specs.Duration.{as_nanos};
+ghost use Rattle.keep_exchange.specs.Sockets.{limit_of};
+ghost use Rattle.keep_exchange.specs.declared.fault.ExchangeFault.TheVariants as faults;
+ghost use Rattle.keep_exchange.specs.declared.link.Place.TheVariants as places;
 
 use crate::exchange::Exchange;
 use crate::fault::ExchangeFault;
@@ -8,6 +13,7 @@ use crate::patience::{Patience, is_late};
 use crate::waits::Waits;
 use keep_moment::Moment;
 use std::alloc::Global;
+use std::marker::Model;
 use std::net::Net;
 use std::os::unix::net::UnixStream;
 use std::time::Duration;
@@ -24,11 +30,23 @@ pub struct UnixExchange<'a, R: Net> {
     failures: u64,
 }
 
+impl<'a, R: Net> Model for UnixExchange<'a, R> {
+    ghost use Rattle.std.specs.Duration.{as_nanos};
+    ghost use Rattle.keep_exchange.specs.declared.link.Place.TheVariants as places;
+    ghost use Rattle.keep_exchange.specs.Sockets.{Socket};
+
+    ghost Value = { Socket };
+
+    ghost view = { λ e. record { place = places.Path e.path; longest = as_nanos e.patience.longest; is_short = e.patience.is_short; failures = e.failures } };
+}
+
 impl<'a, R: Net> UnixExchange<'a, R> {
     /// The exchange with the broker at that path, where each connect, read and write may take so long. One that takes longer
     /// has failed; those that follow may take a quarter of a second, until an exchange has its reply, or the next event line
     /// begins. It takes no memory, and connects to nothing yet.
-    pub fn patient(rt: &'a R, path: &'a str, longest: Duration) -> UnixExchange<'a, R> {
+    pub fn patient(rt: &'a R, path: &'a str, longest: Duration) -> UnixExchange<'a, R>
+        ensures { result ≡ record { place = places.Path path.entry; longest = as_nanos longest; is_short = false; failures = 0 } }
+    {
         UnixExchange {
             rt,
             path,
@@ -40,7 +58,11 @@ impl<'a, R: Net> UnixExchange<'a, R> {
 
     /// A connection whose reads and writes have a limit. A socket whose queue stays full is given up like one that does not
     /// answer.
-    fn connect(&mut self, alloc: Global) -> Result<UnixStream, ExchangeFault> {
+    fn connect(&mut self, alloc: Global) -> Result<UnixStream, ExchangeFault>
+        ensures connected { OnOk result (self.new ≡ self.old) }
+        ensures fault { IfErr result (λ fault. (fault ≡ faults.ConnectFailed) ⊎ (fault ≡ faults.OutOfMemory)) }
+        ensures short { (self.new ≡ self.old) ⊎ (self.new ≡ record self.old { is_short = true }) }
+    {
         let limit = self.patience.limit();
         let mut shared = Shared {
             bell: Bell::new(self.rt, alloc)?,
@@ -75,6 +97,10 @@ impl<'a, R: Net> Device for UnixExchange<'a, R> {
 
 impl<'a, R: Net> Exchange for UnixExchange<'a, R> {
     ghost behind = { λ _. None };
+
+    ghost longest = { λ e. e.longest };
+
+    ghost limit = { λ e. limit_of e.longest e.is_short };
 
     fn port(&self) -> u16 {
         8200

@@ -1,5 +1,6 @@
 //! How long the waits of one slice may take, told off step by step, since no clock is read.
-ghost use Rattle.std.specs.Prelude.{◌≡◌, ◌+◌, ◌-◌, ◌*◌, ◌≤◌, ◌⊎◌};
+ghost use Rattle.std.specs.Prelude.{◌≡◌, ◌+◌, ◌-◌, ◌*◌, ◌/◌, ◌^◌, ◌≤◌, ◌⊎◌, min};
+ghost use Rattle.std.specs.Duration.{as_nanos};
 ghost use Rattle.keep_exchange.specs.Waits.{longest_first, next_step};
 
 use crate::abreast::Waiting;
@@ -44,7 +45,10 @@ impl Waits {
     }
 
     /// Those of one connect that may take so long.
-    pub(crate) fn of(longest: Duration) -> Waits {
+    pub(crate) fn of(longest: Duration) -> Waits
+        ensures first { result.first ≡ min (as_nanos longest / 1_000_000) (2 ^ 64 - 1) }
+        ensures later { result.later ≡ 0 }
+    {
         Waits {
             first: u64::try_from(longest.as_millis()).unwrap_or(u64::MAX),
             later: 0,

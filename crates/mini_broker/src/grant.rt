@@ -1,15 +1,14 @@
 ghost use Rattle.std.specs.Prelude.{◌≡◌, ◌<◌, IfOk};
 ghost use Rattle.mini_broker.specs.Found.{subject_at, row_granted, IsFoundWithin, IsGrantWithin};
-ghost use Rattle.mini_broker.specs.Index.{IsIndexed};
 ghost use Rattle.mini_broker.specs.Renewing.{asked_or, granted, is_deny, new_end, renewal, shortened, step_of};
 ghost use Rattle.mini_broker.specs.Slots.{listed_rows};
 
 use crate::call::Call;
 use crate::fault::Fault;
-use crate::index::Index;
 use crate::refusal::Refusal;
 use crate::row::Row;
-use crate::slot::{Slot, slot_in};
+use crate::slot::slot_in;
+use crate::slots::Slots;
 use crate::subject::{Found, subject};
 use keep_moment::{Moment, Span};
 use keep_tree::capped;
@@ -27,21 +26,19 @@ pub struct Grant {
 #[tactic(auto, unfolding(crate::specs::Renewing::renewal))]
 pub(crate) fn renewal(
     alloc: Global,
-    slots: &[Slot],
-    index: &Index,
+    slots: &Slots,
     t: Moment,
     call: Call,
     request: &Request,
     fault: Option<Fault>,
 ) -> Result<Result<Grant, Refusal>, AllocError>
-    requires { IsIndexed index.now slots.now }
     ensures granted { IfOk result (λ grant. row_granted slots.now grant ≡ renewal (listed_rows slots.now) t call request.now fault) }
     ensures within { IfOk result (λ grant. IsGrantWithin slots.now grant) }
 {
     if is_deny(fault) {
         return Ok(Err(Refusal::PermissionDenied));
     }
-    let found = subject(alloc, slots, index, call, request)?;
+    let found = subject(alloc, slots, call, request)?;
     Ok(granted(slots, t, fault, found))
 }
 
@@ -56,7 +53,7 @@ fn is_deny(fault: Option<Fault>) -> bool
 
 /// The new end of a row that was found, where it can be renewed.
 fn granted(
-    slots: &[Slot],
+    slots: &Slots,
     t: Moment,
     fault: Option<Fault>,
     found: Result<Found, Refusal>,
@@ -68,7 +65,7 @@ fn granted(
     match found {
         Err(refusal) => Err(refusal),
         Ok(found) => {
-            let row = &slot_in(slots, found.place).row;
+            let row = &slot_in(slots.list(), found.place).row;
             if row.renewable {
                 Ok(Grant {
                     place: found.place,

@@ -20,6 +20,7 @@ mod row;
 mod serve;
 mod served;
 mod slot;
+mod slots;
 mod stream;
 mod subject;
 mod table;

@@ -1,14 +1,13 @@
 ghost use Rattle.std.specs.Prelude.{◌≡◌, ◌<◌, true, IfOk, IfSome, length, option_map};
 ghost use Rattle.mini_broker.specs.Found.{subject_at, IsFoundWithin};
-ghost use Rattle.mini_broker.specs.Index.{IsIndexed};
 ghost use Rattle.mini_broker.specs.Slots.{listed_rows, slot_at};
-ghost use Rattle.mini_broker.specs.Subject.{bearer, belongs, lease_with, named, subject, token_with};
+ghost use Rattle.mini_broker.specs.Subject.{bearer, belongs, named, subject};
 
 use crate::asked::{Asked, read_asked};
 use crate::call::Call;
-use crate::index::Index;
 use crate::refusal::Refusal;
-use crate::slot::{Slot, if_listed, slot_in};
+use crate::slot::slot_in;
+use crate::slots::Slots;
 use keep_moment::{Name, Span, Text};
 use std::alloc::{AllocError, Global};
 use vault_http::Request;
@@ -24,40 +23,36 @@ pub struct Found {
 #[tactic(auto, unfolding(crate::specs::Subject::subject))]
 pub(crate) fn subject(
     alloc: Global,
-    slots: &[Slot],
-    index: &Index,
+    slots: &Slots,
     call: Call,
     request: &Request,
 ) -> Result<Result<Found, Refusal>, AllocError>
-    requires { IsIndexed index.now slots.now }
     ensures found { IfOk result (λ found. subject_at slots.now found ≡ subject (listed_rows slots.now) call request.now) }
     ensures within { IfOk result (λ found. IsFoundWithin slots.now found) }
 {
-    let Some(token) = bearer(slots, index, &request.token) else {
+    let Some(token) = bearer(slots, &request.token) else {
         return Ok(Err(Refusal::PermissionDenied));
     };
     let Some(asked) = read_asked(alloc, call, request.body.list())? else {
         return Ok(Err(Refusal::BadRequest));
     };
-    Ok(named(slots, index, token, &asked))
+    Ok(named(slots, token, &asked))
 }
 
 /// The place of the token row that a request's token names.
-fn bearer(slots: &[Slot], index: &Index, credential: &Option<Text>) -> Option<usize>
-    requires { IsIndexed index.now slots.now }
+fn bearer(slots: &Slots, credential: &Option<Text>) -> Option<usize>
     ensures row { option_map (λ i. (slot_at slots.now i).row) result ≡ bearer (listed_rows slots.now) credential.now }
     ensures within { IfSome result (λ i. (i < length slots.now) × ((slot_at slots.now i).listed ≡ true)) }
 {
     match credential {
         None => None,
-        Some(credential) => place_of_token(slots, index, credential.list()),
+        Some(credential) => slots.token(credential.list()),
     }
 }
 
 /// The place of the row that a body asks about: the token's own, or that of the lease that it names.
-fn named(slots: &[Slot], index: &Index, token: usize, asked: &Asked) -> Result<Found, Refusal>
-    requires token { token < length slots.now }
-    requires indexed { IsIndexed index.now slots.now }
+fn named(slots: &Slots, token: usize, asked: &Asked) -> Result<Found, Refusal>
+    requires { token < length slots.now }
     ensures found { subject_at slots.now result ≡ named (listed_rows slots.now) (slot_at slots.now token).row asked.now.increment asked.now.lease_id }
     ensures within { IsFoundWithin slots.now result }
 {
@@ -67,11 +62,14 @@ fn named(slots: &[Slot], index: &Index, token: usize, asked: &Asked) -> Result<F
             place: token,
             increment,
         }),
-        Some(id) => match place_of_lease(slots, index, id.list()) {
+        Some(id) => match slots.lease(id.list()) {
             None => Err(Refusal::UnknownLease),
             Some(place) => {
-                let lease = slot_in(slots, place);
-                if belongs(&lease.row.parent, slot_in(slots, token).row.name.list()) {
+                let lease = slot_in(slots.list(), place);
+                if belongs(
+                    &lease.row.parent,
+                    slot_in(slots.list(), token).row.name.list(),
+                ) {
                     Ok(Found { place, increment })
                 } else {
                     Err(Refusal::PermissionDenied)
@@ -89,22 +87,4 @@ fn belongs(parent: &Option<Name>, name: &[u8]) -> bool
         None => false,
         Some(parent) => parent.list() == name,
     }
-}
-
-/// The place of the listed token row with that credential.
-fn place_of_token(slots: &[Slot], index: &Index, credential: &[u8]) -> Option<usize>
-    requires { IsIndexed index.now slots.now }
-    ensures row { option_map (λ i. (slot_at slots.now i).row) result ≡ token_with (listed_rows slots.now) credential.now }
-    ensures within { IfSome result (λ i. (i < length slots.now) × ((slot_at slots.now i).listed ≡ true)) }
-{
-    if_listed(slots, index.token(credential))
-}
-
-/// The place of the listed lease row with that id.
-fn place_of_lease(slots: &[Slot], index: &Index, id: &[u8]) -> Option<usize>
-    requires { IsIndexed index.now slots.now }
-    ensures row { option_map (λ i. (slot_at slots.now i).row) result ≡ lease_with (listed_rows slots.now) id.now }
-    ensures within { IfSome result (λ i. (i < length slots.now) × ((slot_at slots.now i).listed ≡ true)) }
-{
-    if_listed(slots, index.lease(id))
 }

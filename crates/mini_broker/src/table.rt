@@ -12,11 +12,11 @@ ghost use Rattle.mini_broker.specs.Stream.{CountsStream, Fails, Handles, IsStrea
 
 use crate::fault::{Fault, SetFault};
 use crate::faults::Faults;
-use crate::index::{Index, index_of};
 use crate::refusal::Refusal;
-use crate::serve::{answer, refuse};
+use crate::serve::refuse;
 use crate::served::{ServeFault, Served};
-use crate::slot::{Slot, end_named, place_named, slots_of, sweep};
+use crate::slot::{end_named, place_named};
+use crate::slots::Slots;
 use crate::stream::{StreamFault, send};
 use keep_inventory::Inventory;
 use keep_moment::Moment;
@@ -29,25 +29,19 @@ use vault_http::{HttpFault, MOST_MESSAGE, Request, Room, Sink, Source};
 /// To contracts it is the record of its rows, its faults and its count.
 #[derive(Debug, Drop)]
 pub struct Table {
-    slots: Vec<Slot>,
-    /// No listed row ends before this moment, so before it a sweep has nothing to do.
-    soonest: u64,
-    index: Index,
-    faults: Faults,
+    pub(crate) slots: Slots,
+    pub(crate) faults: Faults,
     /// What the requests of streams are read into.
     room: Room,
 }
 
 impl Model for Table {
-    ghost use Rattle.mini_broker.specs.Index.{IsIndexed};
     ghost use Rattle.mini_broker.specs.Table.{Table};
-    ghost use Rattle.mini_broker.specs.Slots.{AreKept, listed_rows};
+    ghost use Rattle.mini_broker.specs.Slots.{listed_rows};
 
     ghost Value = { Table };
 
-    ghost view = { λ t. record { rows = listed_rows t.slots.items; faults = t.faults.faults; count = t.faults.count } };
-
-    ghost invariant = { λ t. AreKept t.soonest t.slots.items × IsIndexed t.index t.slots.items };
+    ghost view = { λ t. record { rows = listed_rows t.slots; faults = t.faults.faults; count = t.faults.count } };
 }
 
 impl Table {
@@ -55,12 +49,8 @@ impl Table {
     pub fn load(alloc: Global, inventory: &Inventory) -> Result<Table, AllocError>
         ensures { IfOk result (λ table. table ≡ record { rows = rows_of inventory.now; faults = []; count = 0 }) }
     {
-        let slots = slots_of(alloc, inventory)?;
-        let index = index_of(alloc, &slots)?;
         Ok(Table {
-            slots,
-            soonest: 0,
-            index,
+            slots: Slots::load(alloc, inventory)?,
             faults: Faults::new(alloc),
             room: Room::new(),
         })
@@ -70,21 +60,21 @@ impl Table {
     pub fn sweep(&mut self, t: Moment)
         ensures { self.new ≡ record self.old { rows = swept t self.old.rows } }
     {
-        sweep(&mut self.slots, &mut self.soonest, t);
+        self.slots.sweep(t);
     }
 
     /// Whether a row of that name is listed.
     pub fn alive(&self, name: &[u8]) -> bool
         ensures { result ≡ is_some (row_named self.now.rows name.now) }
     {
-        place_named(&self.slots, name).is_some()
+        place_named(self.slots.list(), name).is_some()
     }
 
     /// The end of the row of that name, `None` where none is listed.
     pub fn end_of(&self, name: &[u8]) -> Option<u64>
         ensures { result ≡ option_map (λ r. r.end) (row_named self.now.rows name.now) }
     {
-        end_named(&self.slots, name)
+        end_named(self.slots.list(), name)
     }
 
     /// Gives the renewal request with that number, counted from 1, a fault, which is used once.
@@ -110,17 +100,7 @@ impl Table {
         ensures unserved { OnErr result (self.new ≡ after_sweep self.old t) }
     {
         self.sweep(t);
-        let alloc = *self.slots.allocator();
-        let served = answer(
-            alloc,
-            &mut self.slots,
-            &mut self.soonest,
-            &self.index,
-            &mut self.faults,
-            t,
-            request,
-        )?;
-        Ok(served)
+        Ok(self.answer(t, request)?)
     }
 
     /// Reads one request of at most 1 MiB, serves it at `t`, and writes the reply, if there is one. A request that cannot
@@ -142,7 +122,7 @@ impl Table {
         ensures unread { IsErrOf result StreamFault.ReadFailed → HandedNoRequest MOST_MESSAGE (S.remaining stream.old) (S.remaining stream.new) }
         ensures unwritten { IsErrOf result StreamFault.ReadFailed → Keeps (S.written stream.old) (S.written stream.new) }
     {
-        let alloc = *self.slots.allocator();
+        let alloc = self.slots.allocator();
         let message = self.read_request(alloc, stream);
         let served = self.handle(t, message)?;
         send(alloc, stream, &served)
@@ -185,7 +165,7 @@ impl Table {
                 | HttpFault::BadChunk
                 | HttpFault::TooLong
                 | HttpFault::TwoLengths,
-            ) => Ok(refuse(*self.slots.allocator(), Refusal::BadRequest)?),
+            ) => Ok(refuse(self.slots.allocator(), Refusal::BadRequest)?),
         }
     }
 }

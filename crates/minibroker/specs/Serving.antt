@@ -1,6 +1,6 @@
 -- Serving: what becomes of one connection, and of the broker's table.
 -- Source: this project's own; what is served is mini_broker's `Stream`, and the moment its `MomentLine`.
-use Rattle.std.specs.Prelude.{◌≡◌, ℕ, ◌⊎◌, Bool, true, false, Result, Ok, Err}
+use Rattle.std.specs.Prelude.{◌≡◌, ℕ, ◌<◌, ◌⊎◌, Bool, true, false, List, [], ◌∷◌, ◌++◌, codes, decimal, length, map, Option, Some, IfSome, Result, Ok, Err}
 use Rattle.std.specs.Io.KnownBytes.{Keeps}
 use Rattle.keep_report.specs.declared.stop.Stop.{Stop}
 use Rattle.keep_report.specs.declared.stop.Stop.TheVariants as stops
@@ -36,3 +36,55 @@ abbrev pub ServesOne : Moments → Lines → Bool → Ends → Table → Result 
 ServesOne moments lines has_time ends old (Ok u) new = (m : ℕ) × (Tells moments (Ok m) lines × IsServedAt m has_time ends old new)
 ServesOne moments lines has_time ends old (Err stop) new =
     HasNone moments lines ends old stop new ⊎ ((stop ≡ stops.Memory) × ((m : ℕ) × (Tells moments (Ok m) lines × Leaves ends old m stream_faults.OutOfMemory new)))
+
+-- ---- connections, one after another
+
+-- a connection as it comes: its bytes, where they are known, and whether it has time-outs
+pub record Connection : Type 0 where
+  pub bytes : Option (List ℕ)
+  pub has_time : Bool
+
+-- these connections, and no others, were handed out between the two states of what hands them out
+abbrev pub HandsOut : Option (List Connection) → Option (List Connection) → List Connection → Type 0
+HandsOut old new these = IfSome old (λ before. new ≡ Some (before ++ these))
+
+-- what became of a connection
+pub record Visit : Type 0 where
+  pub ends : Ends
+  pub has_time : Bool
+
+abbrev pub visited : Visit → Connection
+visited v = record { bytes = v.ends.remaining; has_time = v.has_time }
+
+-- a broker between two connections: the lines to come, the failures of what they are read from, and the table
+pub record Broker : Type 0 where
+  pub lines : Option (List ℕ)
+  pub failures : ℕ
+  pub table : Table
+
+-- one connection takes a broker from the one state to the other, or stops it
+abbrev pub Visits : Moments → Broker → Visit → Result (Unit {0}) Stop → Broker → Type 0
+Visits moments b v result after =
+    ServesOne moments (record { before = b.lines; now = after.lines; failed = b.failures; failures = after.failures }) v.has_time v.ends b.table result after.table
+
+-- connections are served one after another
+abbrev pub AreServed : Moments → Broker → List Visit → Broker → Type 0
+AreServed moments b [] after = after ≡ b
+AreServed moments b (v ∷ later) after = (mid : Broker) × (Visits moments b v (Ok tt) mid × AreServed moments mid later after)
+
+-- behind these no other connection is handed out, or one that stops the broker
+abbrev pub StopsBehind : Moments → Broker → List Visit → Stop → Broker → Option (List Connection) → Option (List Connection) → Type 0
+StopsBehind moments b visits stop after old new =
+    (AreServed moments b visits after × HandsOut old new (map visited visits))
+    ⊎ ((mid : Broker) × (last : Visit) × (AreServed moments b visits mid × (Visits moments mid last (Err stop) after × HandsOut old new (map visited (visits ++ last ∷ [])))))
+
+-- so many connections are handed out and served, each once, in the order in which they come; or the broker stops behind fewer
+abbrev pub ServesAll : ℕ → Moments → Broker → Result (Unit {0}) Stop → Broker → Option (List Connection) → Option (List Connection) → Type 0
+ServesAll count moments b (Ok u) after old new =
+    (visits : List Visit) × ((length visits ≡ count) × (AreServed moments b visits after × HandsOut old new (map visited visits)))
+ServesAll count moments b (Err stop) after old new =
+    (visits : List Visit) × ((length visits < count) × StopsBehind moments b visits stop after old new)
+
+-- the last line
+abbrev pub served_line : ℕ → List ℕ
+served_line count = codes "served " ++ (decimal count ++ codes "\n")

@@ -4,6 +4,7 @@
 
 use std::process::ExitCode;
 
+mod connections;
 mod parser;
 mod run;
 mod serving;

@@ -1,8 +1,9 @@
+use crate::serving::tell_served;
 use crate::sockets::{serve_path, serve_port};
 use crate::words::{Command, PROGRAM, Place, read_command};
 use keep_device::{Counted, Sink, Source, read_file};
 use keep_inventory::{MOST_INVENTORY, read};
-use keep_report::{Exit, Stop, send};
+use keep_report::{Exit, Stop};
 use mini_broker::Table;
 use std::io;
 use std::io::{Read, Write};
@@ -41,7 +42,5 @@ fn obey<R: Files + AllocGlobal + Print + Net, S: Source, E: Sink>(
         Place::Port(port) => serve_port(rt, *port, command, &mut table, lines, errors)?,
         Place::Path(path) => serve_path(rt, path, command, &mut table, lines)?,
     }
-    let count = command.count;
-    let line = format!(in alloc; "served {count}\n")?;
-    send(&mut Counted::new(io::writer(rt)), line.as_bytes())
+    tell_served(alloc, command.count, &mut Counted::new(io::writer(rt)))
 }

@@ -1,10 +1,34 @@
-ghost use Rattle.std.specs.Prelude.{◌≡◌};
-ghost use Rattle.minibroker.specs.Serving.{ServesOne, stop_of_line};
+ghost use Rattle.std.specs.Prelude.{◌≡◌, OnOk};
+ghost use Rattle.keep_report.specs.Sent.{IsAll};
+ghost use Rattle.minibroker.specs.Serving.{ServesAll, ServesOne, served_line, stop_of_line};
 
+use crate::connections::{Connections, Handed};
 use keep_device::{Sink, Source};
-use keep_report::Stop;
+use keep_report::{Stop, Watched, send};
 use mini_broker::{LineFault, Moments, StreamFault, Table, next_moment};
 use std::alloc::Global;
+
+/// Serves so many connections, one after another as they come, each as [`serve_one`] does. An error ends it, behind those that
+/// were served before.
+pub fn serve_all<C: Connections, S: Source>(
+    alloc: Global,
+    connections: &mut C,
+    count: u32,
+    table: &mut Table,
+    moments: &Moments,
+    lines: &mut S,
+) -> Result<(), Stop>
+    ensures { ServesAll count moments.now (record { lines = S.remaining lines.old; failures = S.failed_calls lines.old; table = table.old }) result (record { lines = S.remaining lines.new; failures = S.failed_calls lines.new; table = table.new }) (C.handed connections.old) (C.handed connections.new) }
+{
+    for _ in 0..count {
+        let Handed {
+            mut stream,
+            has_time,
+        } = connections.accept()?;
+        serve_one(alloc, table, *moments, lines, &mut stream, has_time)?;
+    }
+    Ok(())
+}
 
 /// Serves one connection at its moment: that of all, or that of the next line. A connection whose reads or writes fail counts as
 /// served, and so does one without time-outs, which is not read.
@@ -40,4 +64,12 @@ fn line_stop(fault: LineFault) -> Stop
         LineFault::ReadFailed | LineFault::NoMoment => Stop::Read,
         LineFault::OutOfMemory => Stop::Memory,
     }
+}
+
+/// Says how many connections were served.
+pub fn tell_served<W: Sink>(alloc: Global, count: u32, out: &mut W) -> Result<(), Stop>
+    ensures { OnOk result (IsAll (served_line count) (⟦<W as Watched>⟧.sent out.old out.new)) }
+{
+    let line = format!(in alloc; "served {count}\n")?;
+    send(out, line.as_bytes())
 }

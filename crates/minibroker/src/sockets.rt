@@ -1,13 +1,58 @@
-use crate::serving::serve_one;
+use crate::connections::{Connections, Handed};
+use crate::serving::serve_all;
 use crate::words::Command;
 use keep_device::{Counted, Sink, Source};
 use keep_report::{Stop, tell};
 use mini_broker::Table;
 use std::net::{IpAddr, Ipv4Addr, Net, OpenListener, OpenStream, SocketAddr, TcpListener};
-use std::os::unix::net::UnixListener;
+use std::os::unix::net::{UnixListener, UnixStream};
 use std::rt::Files;
 use std::time::Duration;
 use std::{fs, io};
+
+/// The connections to a port, each with time-outs.
+#[derive(Drop)]
+struct Ports<R: Net> {
+    listener: R::Listener,
+    patience: Duration,
+}
+
+impl<R: Net> Connections for Ports<R> {
+    type Stream = Counted<R::Stream>;
+
+    fn accept(&mut self) -> Result<Handed<Counted<R::Stream>>, Stop> {
+        let (stream, _) = self.listener.accept().map_err(|error| stop_of(&error))?;
+        let patience = Some(self.patience);
+        let has_time = stream.set_read_timeout(patience).is_ok()
+            && stream.set_write_timeout(patience).is_ok();
+        Ok(Handed {
+            stream: Counted::new(stream),
+            has_time,
+        })
+    }
+}
+
+/// The connections to a UNIX socket, each with time-outs.
+#[derive(Drop)]
+struct Paths<'a> {
+    listener: &'a UnixListener,
+    patience: Duration,
+}
+
+impl<'a> Connections for Paths<'a> {
+    type Stream = Counted<UnixStream>;
+
+    fn accept(&mut self) -> Result<Handed<Counted<UnixStream>>, Stop> {
+        let (stream, _) = self.listener.accept().map_err(|error| stop_of(&error))?;
+        let patience = Some(self.patience);
+        let has_time = stream.set_read_timeout(patience).is_ok()
+            && stream.set_write_timeout(patience).is_ok();
+        Ok(Handed {
+            stream: Counted::new(stream),
+            has_time,
+        })
+    }
+}
 
 /// Serves the connections to a port of 127.0.0.1, one after the other. Of port 0 a line tells which one the system chose.
 pub fn serve_port<R: AllocGlobal + Net, S: Source, E: Sink>(
@@ -28,21 +73,18 @@ pub fn serve_port<R: AllocGlobal + Net, S: Source, E: Sink>(
         let line = format!(in rt.alloc(); "listening 127.0.0.1:{chosen}\n")?;
         tell(errors, line.as_bytes());
     }
-    let patience = Some(Duration::from_secs(command.patience));
-    for _ in 0..command.count {
-        let (stream, _) = listener.accept().map_err(|error| stop_of(&error))?;
-        let bounded = stream.set_read_timeout(patience).is_ok()
-            && stream.set_write_timeout(patience).is_ok();
-        serve_one(
-            rt.alloc(),
-            table,
-            command.moments,
-            lines,
-            &mut Counted::new(stream),
-            bounded,
-        )?;
-    }
-    Ok(())
+    let mut ports: Ports<R> = Ports {
+        listener,
+        patience: Duration::from_secs(command.patience),
+    };
+    serve_all(
+        rt.alloc(),
+        &mut ports,
+        command.count,
+        table,
+        &command.moments,
+        lines,
+    )
 }
 
 /// Serves the connections to a UNIX socket, one after the other. Its file is made at the start and removed at the end.
@@ -54,33 +96,20 @@ pub fn serve_path<R: AllocGlobal + Net + Files, S: Source>(
     lines: &mut S,
 ) -> Result<(), Stop> {
     let listener = UnixListener::bind(rt, path).map_err(|error| stop_of(&error))?;
-    let answer = serve_all(rt, &listener, command, table, lines);
+    let mut paths = Paths {
+        listener: &listener,
+        patience: Duration::from_secs(command.patience),
+    };
+    let answer = serve_all(
+        rt.alloc(),
+        &mut paths,
+        command.count,
+        table,
+        &command.moments,
+        lines,
+    );
     let _ = fs::remove_file(rt, path);
     answer
-}
-
-fn serve_all<R: AllocGlobal, S: Source>(
-    rt: &R,
-    listener: &UnixListener,
-    command: &Command,
-    table: &mut Table,
-    lines: &mut S,
-) -> Result<(), Stop> {
-    let patience = Some(Duration::from_secs(command.patience));
-    for _ in 0..command.count {
-        let (stream, _) = listener.accept().map_err(|error| stop_of(&error))?;
-        let bounded = stream.set_read_timeout(patience).is_ok()
-            && stream.set_write_timeout(patience).is_ok();
-        serve_one(
-            rt.alloc(),
-            table,
-            command.moments,
-            lines,
-            &mut Counted::new(stream),
-            bounded,
-        )?;
-    }
-    Ok(())
 }
 
 fn stop_of(error: &io::Error) -> Stop {

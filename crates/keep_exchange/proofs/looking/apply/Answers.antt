@@ -1,3 +1,4 @@
+-- What a lookup tells of an entry, applied or refused, leaves as many entries as before.
 use Rattle.keep_exchange.proofs.Looked.{same_count}
 use Rattle.keep_exchange.proofs.looking.apply.Goals as goal
 

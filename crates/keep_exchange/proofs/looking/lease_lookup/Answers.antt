@@ -1,3 +1,4 @@
+-- The request that looks a lease up can be written, and its text is within the limit of a message.
 use Rattle.std.proofs.Common.{◌≤◌, length, subst, sym}
 use Rattle.keep_exchange.proofs.Sendable.{lease_look, lease_look_short}
 use Rattle.vault_http.specs.declared.request.Request.{Request}

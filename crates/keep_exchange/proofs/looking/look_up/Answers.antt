@@ -1,3 +1,4 @@
+-- A reply that came is applied to the inventory as the lookup of an entry wants it.
 use Rattle.keep_exchange.proofs.Looked.{looked_up}
 use Rattle.keep_exchange.proofs.looking.look_up.Goals as goal
 

@@ -1,3 +1,4 @@
+-- The request that renews a lease can be sent and answered.
 use Rattle.std.proofs.Common.{subst, sym}
 use Rattle.keep_exchange.specs.Requests.{IsFit}
 use Rattle.keep_exchange.proofs.Sendable.{lease_fit}

@@ -1,3 +1,4 @@
+-- The text of a request is read as that request without its port, unless memory is wanting.
 use Rattle.std.proofs.Common.{◌≡◌, ◌∙◌, Ok, Err}
 use Rattle.vault_http.specs.declared.http_fault.HttpFault.TheVariants as https
 use Rattle.keep_exchange.proofs.ReadBack.{request_read, memory_of}

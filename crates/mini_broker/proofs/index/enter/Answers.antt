@@ -1,3 +1,4 @@
+-- A place that is entered is found by its credential, and every other credential finds what it found before.
 use Rattle.std.proofs.Common.{List, ℕ, Some, cond, bytes_eq, ap, ◌∙◌}
 use Rattle.mini_broker.specs.Index.{place_in}
 use Rattle.keep_tree.proofs.Names.{at_bytes-insert}

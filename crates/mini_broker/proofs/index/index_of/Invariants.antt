@@ -1,3 +1,4 @@
+-- The index so far is that of the slots before the current place.
 use Rattle.mini_broker.specs.Index.{IsIndexOf}
 use Rattle.mini_broker.proofs.index.index_of.Given as goal
 

@@ -1,3 +1,4 @@
+-- Input with as many bytes as a line may have, and no line feed, has no line; a failed push breaks it off.
 use Rattle.std.proofs.Common.{◌≡◌, ◌==◌, ◌<◌, ◌≤◌, ◌∷◌, [], false, IfSome, length, arith, rules, subst}
 use Rattle.std.proofs.lemmas.Bool.Decides.{nat_tests}
 use Rattle.std.specs.Io.KnownBytes.{Consumes}

@@ -1,3 +1,4 @@
+-- Where there is no line, or one that spells no moment, the input has no moment in front, and its line is passed.
 use Rattle.std.proofs.Common.{◌∙◌, ◌<◌, ◌++◌, ◌∷◌, [], ℕ, List, Option, Vec, Global, IfSome, Ok, ap, inl, length, subst}
 use Rattle.std.specs.Io.KnownBytes.{Consumes}
 use Rattle.mini_broker.specs.declared.moment_line.TheConstants.{MOST_LINE}

@@ -1,7 +1,8 @@
-use Rattle.std.proofs.Common.{Ok, subst, sym}
+-- The row that a lookup finds names a text, so that the reply can have its body.
+use Rattle.std.proofs.Common.{◌∙◌, Ok, ap, subst, sym}
 use Rattle.mini_broker.specs.declared.slot.Slot.{Slot}
 use Rattle.mini_broker.specs.Found.{NamesText, SubjectNamesText, subject_at}
-use Rattle.mini_broker.specs.Slots.{listed_rows}
+use Rattle.mini_broker.specs.Slots.{listed_rows, slot_at}
 use Rattle.mini_broker.proofs.Texts.{subject_names_text}
 use Rattle.mini_broker.proofs.serve.look_up.Goals as goal
 
@@ -12,4 +13,4 @@ body_of-requires c =
     let all : SubjectNamesText call (subject_at slots c.in_ok-refusal.field-0) =
     subst (SubjectNamesText call) (sym c.in_ok-refusal.ensures.found) (subject_names_text (listed_rows slots) call c.args.request.now) in
     let one : SubjectNamesText call (subject_at slots (Ok c.in-Ok.found)) = subst (λ f. SubjectNamesText call (subject_at slots f)) c.in-Ok.is all in
-    subst (λ (s : Slot). NamesText call s.row.credential) (sym c.slot_in.ensures) one
+    subst (λ (s : Slot). NamesText call s.row.credential) (sym (c.slot_in.ensures ∙ ap (λ us. slot_at us c.in-Ok.found.place) c.list.ensures)) one

@@ -1,3 +1,4 @@
+-- A parent that the forest does not lack has a name to be read.
 use Rattle.std.proofs.Common.{◌<◌, length, subst, sym}
 use Rattle.keep_tree.specs.Forest.{Forest}
 use Rattle.keep_tree.proofs.Placed.{parent_below}

@@ -1,3 +1,4 @@
+-- The place that a name finds is that of a listed row, the one of that name.
 use Rattle.std.proofs.Common.{◌∙◌, ap, bytes_eq, option_map}
 use Rattle.mini_broker.specs.declared.row.Row.{Row}
 use Rattle.mini_broker.specs.Rows.{row_named}

@@ -1,3 +1,4 @@
+-- A slot that is judged changes in nothing but whether it is listed.
 use Rattle.std.proofs.Common.{◌≡◌, ◌∙◌, ap, get_or, set, sym}
 use Rattle.mini_broker.specs.declared.slot.Slot.{Slot}
 use Rattle.mini_broker.specs.Slots.{slot_at}

@@ -1,3 +1,4 @@
+-- With another end in a row, the rows, the soonest end and the credentials are what they should be.
 use Rattle.std.proofs.Common.{◌∙◌, ap, min, subst, sym}
 use Rattle.mini_broker.specs.Slots.{AreKept, listed_rows}
 use Rattle.mini_broker.specs.Index.{credentials_of}

@@ -1,3 +1,4 @@
+-- What is read at a place is the slot there.
 use Rattle.mini_broker.proofs.Listed.{slot_read}
 use Rattle.mini_broker.proofs.slot.slot_in.Goals as goal
 

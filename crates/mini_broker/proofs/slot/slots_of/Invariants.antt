@@ -1,3 +1,4 @@
+-- The slots so far are those of the entries before the index, in their order.
 use Rattle.std.proofs.Common.{◌≡◌, map}
 use Rattle.std.specs.List.{range_with_len}
 use Rattle.mini_broker.specs.Slots.{slot_of}

@@ -1,3 +1,4 @@
+-- A sweep judges all slots, and before the soonest end it has nothing to change.
 use Rattle.std.proofs.Common.{◌<◌, ◌∙◌, ap, arith, length, subst, sym}
 use Rattle.mini_broker.specs.Slots.{AreKept, EndFrom, listed_rows}
 use Rattle.mini_broker.specs.Index.{credentials_of}

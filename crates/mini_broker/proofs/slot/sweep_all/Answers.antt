@@ -1,3 +1,4 @@
+-- One slot more is judged, after the one over it, and the soonest end is lowered to its end if it stays listed.
 use Rattle.std.proofs.Common.{◌≡◌, ◌∙◌, ◌+◌, ◌-◌, ◌^◌, ap, arith, length, min, subst, sym}
 use Rattle.mini_broker.specs.Slots.{EndFrom, slot_at, stands}
 use Rattle.mini_broker.proofs.Keeping.{ends_first, ends_more}

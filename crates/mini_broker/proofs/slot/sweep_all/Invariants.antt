@@ -1,3 +1,4 @@
+-- The slots before the place are judged, and those that stay listed end no sooner than the soonest end.
 use Rattle.mini_broker.specs.Slots.{EndFrom}
 use Rattle.mini_broker.proofs.Living.{Judged}
 use Rattle.mini_broker.proofs.slot.sweep_all.Given as goal

@@ -1,3 +1,4 @@
+-- An end that is written changes that field of that slot alone.
 use Rattle.std.proofs.Common.{◌≡◌, ◌∙◌, ap, get_or, set, sym}
 use Rattle.mini_broker.specs.declared.slot.Slot.{Slot}
 use Rattle.mini_broker.specs.Slots.{slot_at}

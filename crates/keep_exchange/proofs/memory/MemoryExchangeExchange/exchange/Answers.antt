@@ -1,3 +1,4 @@
+-- The table serves the request that is heard, whether its reply is delivered, lost or out of memory.
 use Rattle.std.proofs.Common.{Some, ◌++◌, ◌∙◌, ap, refl, subst}
 use Rattle.mini_broker.specs.Table.{Table}
 use Rattle.keep_exchange.specs.Exchanges.{Exchanges}

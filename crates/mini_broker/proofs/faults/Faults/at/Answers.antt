@@ -1,3 +1,4 @@
+-- A request to come has the fault that the map has at its number, and one that was counted has none.
 use Rattle.std.proofs.Common.{◌∙◌, ◌<◌, ◌≤◌, ap, sym}
 use Rattle.mini_broker.specs.Faults.{Faults, fault_at}
 use Rattle.mini_broker.proofs.Pending.{fault_counted, fault_pending}

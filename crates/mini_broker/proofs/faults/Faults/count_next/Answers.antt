@@ -1,3 +1,4 @@
+-- When the next request is counted, its fault is used and those of later ones stay.
 use Rattle.mini_broker.proofs.Pending.{counted_faults}
 use Rattle.mini_broker.proofs.faults.Faults.count_next.Goals as goal
 

@@ -1,3 +1,4 @@
+-- Where no fault was given, no number has one.
 use Rattle.std.proofs.Common.{List, ap, sym, ◌∙◌}
 use Rattle.mini_broker.specs.declared.fault.NumberedFault.{NumberedFault}
 use Rattle.mini_broker.specs.Faults.{fault_at}

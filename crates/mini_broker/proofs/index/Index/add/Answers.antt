@@ -1,3 +1,4 @@
+-- A token's row is entered among the tokens, and a lease's among the leases.
 use Rattle.mini_broker.proofs.Indexed.{lease_enters, token_enters}
 use Rattle.mini_broker.proofs.index.Index.add.Goals as goal
 

@@ -1,3 +1,4 @@
+-- Two empty maps are the index of no slots.
 use Rattle.mini_broker.proofs.Indexed.{index_of_none}
 use Rattle.mini_broker.proofs.index.Index.new.Goals as goal
 

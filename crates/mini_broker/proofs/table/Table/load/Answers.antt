@@ -1,10 +1,9 @@
-use Rattle.std.proofs.Common.{◌≡◌, ◌∙◌, ap, subst, List, []}
+-- The slots of an inventory make a table of its rows, with no faults and no request counted.
+use Rattle.std.proofs.Common.{◌≡◌, ◌∙◌, ap, List, []}
 use Rattle.mini_broker.specs.declared.row.Row.{Row}
 use Rattle.mini_broker.specs.Faults.{Faults}
-use Rattle.mini_broker.specs.Index.{IsIndexed}
 use Rattle.mini_broker.specs.Table.{Table}
 use Rattle.mini_broker.specs.Slots.{listed_rows}
-use Rattle.mini_broker.proofs.Keeping.{loaded_kept}
 use Rattle.mini_broker.proofs.Loaded.{rows_of_slots}
 use Rattle.mini_broker.proofs.table.Table.load.Goals as goal
 
@@ -13,7 +12,4 @@ tables rows rows' f g e same = ap (λ rs. record { rows = rs; faults = f.faults;
 
 pub returns : goal.returns
 returns c =
-    tables _ _ _ (record { faults = []; count = 0 }) (ap listed_rows c.in_ok-slots.ensures.slots ∙ rows_of_slots c.args.inventory.now) c.new.ensures
-
-pub invariant_of-result : goal.invariant_of-result
-invariant_of-result c = (loaded_kept c.args.inventory.now c.in_ok-slots.slots.items c.in_ok-slots.ensures.slots c.in_ok-slots.ensures.sound, subst (IsIndexed c.in_ok-index.index) c.deref.ensures.value c.in_ok-index.ensures)
+    tables _ _ _ (record { faults = []; count = 0 }) (ap listed_rows c.in_ok-load.ensures ∙ rows_of_slots c.args.inventory.now) c.new.ensures

@@ -1,3 +1,4 @@
+-- Reading, serving and sending in turn streams a request, and leaves what was done where one of them fails.
 use Rattle.std.proofs.Common.{refl, subst, sym}
 use Rattle.std.proofs.lemmas.Result.{err_from_is_err_and}
 use Rattle.std.specs.Io.KnownBytes.{Appends}

@@ -1,14 +1,15 @@
+-- A sweep changes no credential, so that the index fits the slots that it leaves.
 use Rattle.std.proofs.Common.{◌≡◌, List, subst, sym}
 use Rattle.mini_broker.specs.declared.slot.Slot.{Slot}
 use Rattle.mini_broker.specs.Index.{IsIndexed, credentials_of}
 use Rattle.mini_broker.specs.Slots.{AreKept}
 use Rattle.mini_broker.proofs.Indexed.{indexed_like, same_length, written_back}
-use Rattle.mini_broker.proofs.table.Table.sweep.Goals as goal
+use Rattle.mini_broker.proofs.slots.Slots.sweep.Goals as goal
 
 pub invariant_of-self : goal.invariant_of-self
 invariant_of-self c =
-    let slots = c.self.inside.slots.items in
+    let slots = c.self.inside.all.items in
     let now = c.sweep.new.slots in
     let credentials : credentials_of now ≡ credentials_of slots = subst (λ (us : List Slot). credentials_of now ≡ credentials_of us) c.deref_mut.ensures.value c.sweep.ensures.credentials in
-    let whole = written_back c.self.inside.slots.len slots now c.self.inside.slots.ok.0 (same_length slots now credentials) in
+    let whole = written_back c.self.inside.all.len slots now c.self.inside.all.ok.0 (same_length slots now credentials) in
     (subst (AreKept c.sweep.new.soonest) (sym whole) c.sweep.ensures.kept, subst (IsIndexed c.self.inside.index) (sym whole) (indexed_like c.self.inside.index slots now credentials c.self.invariant.1))

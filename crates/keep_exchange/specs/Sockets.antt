@@ -1,0 +1,52 @@
+-- Exchanges over sockets, to contracts: where the broker listens, and how long a call may take.
+-- Source: this project's own.
+use Rattle.std.specs.Prelude.{◌≡◌, ℕ, ◌⊎◌, ◌∷◌, [], Bool, min, None, Result, Ok, Err, if◌then◌else◌}
+use Rattle.std.specs.Net.Addr.{ipv4_octets, MatchIp}
+use Rattle.std.specs.Net.Socket.{socket_ip, socket_port}
+use Rattle.std.specs.declared.net.socket_addr.SocketAddr.{SocketAddr}
+use Rattle.keep_exchange.specs.declared.fault.ExchangeFault.{ExchangeFault}
+use Rattle.keep_exchange.specs.declared.link.Place.{Place}
+use Rattle.mini_broker.specs.Stream.{Ends, IsStreamed}
+use Rattle.mini_broker.specs.Table.{Table}
+use Rattle.vault_http.specs.declared.reply.Reply.{Reply}
+
+-- an exchange, one request after another: where its broker listens, the longest time that a call may take, in nanoseconds,
+-- whether those to come may take a quarter of a second at most, and the count of failures
+pub record Socket : Type 0 where
+  pub place : Place
+  pub longest : ℕ
+  pub is_short : Bool
+  pub failures : ℕ
+
+-- exchanges abreast: the time-out of each is in seconds
+pub record Slices : Type 0 where
+  pub place : Place
+  pub seconds : ℕ
+  pub failures : ℕ
+
+-- an exchange with a table that is served in the same thread, at a port
+pub record Served : Type 0 where
+  pub port : ℕ
+  pub table : Table
+  pub failures : ℕ
+
+-- a quarter of a second, or the longest time where that is less
+abbrev pub quarter_of : ℕ → ℕ
+quarter_of longest = min longest 250_000_000
+
+-- how long the next connect, read or write may take
+abbrev pub limit_of : ℕ → Bool → ℕ
+limit_of longest is_short = if is_short then quarter_of longest else longest
+
+-- behind an exchange: the longest time again once there is a reply, and else what it was, or a quarter of a second
+abbrev pub Paces : Result Reply ExchangeFault → ℕ → ℕ → ℕ → Type 0
+Paces (Ok reply) longest old new = new ≡ longest
+Paces (Err fault) longest old new = (new ≡ old) ⊎ (new ≡ quarter_of longest)
+
+-- the port of 127.0.0.1
+abbrev pub IsHere : ℕ → SocketAddr → Type 0
+IsHere port address = (socket_port address ≡ port) × MatchIp (socket_ip address) (λ ip. ipv4_octets ip ≡ 127 ∷ 0 ∷ 0 ∷ 1 ∷ []) (λ ip. ⊥)
+
+-- one message that some client has sent was handled at t
+abbrev pub IsServedOnce : Table → ℕ → Table → Type 0
+IsServedOnce old t new = (ends : Ends) × IsStreamed ends old t new
