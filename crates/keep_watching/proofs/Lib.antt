@@ -2,3 +2,17 @@ pub mod WatchEnding
 pub mod Messages
 pub mod Saying
 pub mod Wording
+pub mod Turns
+pub mod Answering
+pub mod News
+pub mod Clocks
+pub mod Taking
+pub mod LineByLine
+pub mod LinesRead
+pub mod RunOfMachine
+pub mod Once
+pub mod Kept
+pub mod AlikeReplies
+pub mod AlikeTaken
+pub mod AlikeWatches
+pub mod Secrets

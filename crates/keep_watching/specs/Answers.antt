@@ -1,6 +1,7 @@
 -- Answers: what the machine makes of the answers of a slice, and the lines that say so.
 -- Source: this project's own.
-use Rattle.std.specs.Prelude.{◌≡◌, ℕ, ◌+◌, ◌-◌, ◌*◌, Bool, if◌then◌else◌, List, [], ◌∷◌, ◌++◌, Option, Some, None, Ok, min, nat_lt, unwrap_or, IsPermutation, IsSortedBy}
+use Rattle.std.specs.Prelude.{◌≡◌, ℕ, ◌+◌, ◌-◌, ◌*◌, ◌==◌, Bool, if◌then◌else◌, List, [], ◌∷◌, ◌++◌, Option, Some, None, Ok, min, find, flat_map, length, option_to_list, unwrap_or}
+use Rattle.std.specs.List.{range_with_len}
 use Rattle.keep_exchange.specs.Abreast.{Answer}
 use Rattle.keep_inventory.specs.Inventories.{Inventory}
 use Rattle.keep_run.specs.Text.{name_of}
@@ -65,6 +66,9 @@ pub record Answered : Type 0 where
   pub request : Request
   pub answer : Answer
 
+abbrev pub with_answer : Request → Answer → Answered
+with_answer request answer = record { request = request; answer = answer }
+
 -- the answer is handed to the machine as the event of its own request, and these are its lines
 pub record IsTaken (s : Inventory) (x : Answered) (old new : State) (text : List ℕ) : Type 0 where
   pub output : Output
@@ -80,15 +84,21 @@ AreTaken s (x ∷ xs) old new text =
 
 -- requests and their answers, each with its own
 abbrev pub answered : List Request → List Answer → List Answered
-answered (r ∷ rs) (a ∷ later) = record { request = r; answer = a } ∷ answered rs later
+answered (r ∷ rs) (a ∷ later) = with_answer r a ∷ answered rs later
 answered rs later = []
 
-abbrev pub goes_before : Answered → Answered → Bool
-goes_before x y = nat_lt x.request.entry y.request.entry
+-- it is the answer to a request of i
+abbrev pub is_of : ℕ → Answered → Bool
+is_of i x = x.request.entry == i
+
+-- by the indices of their entries: for each entry the answer to its own request, if it was asked
+unfoldable pub by_index : ℕ → List Answered → List Answered
+by_index n xs = flat_map (λ i. option_to_list (find (is_of i) xs)) (range_with_len 0 n)
 
 -- the answers of a slice are taken, by the indices of their entries
-pub record AreTakenInOrder (s : Inventory) (requests : List Request) (answers : List Answer) (old new : State) (text : List ℕ) : Type 0 where
-  pub order : List Answered
-  pub all : IsPermutation (answered requests answers) order
-  pub by_index : IsSortedBy goes_before order
-  pub taken : AreTaken s order old new text
+abbrev pub AreTakenByIndex : Inventory → List Request → List Answer → State → State → List ℕ → Type 0
+AreTakenByIndex s requests answers old new text = AreTaken s (by_index (length s.forest.entries) (answered requests answers)) old new text
+
+-- behind a text stands one of which this holds, and nothing else
+abbrev pub Appended : List ℕ → List ℕ → (List ℕ → Type 0) → Type 0
+Appended old new P = (more : List ℕ) × (P more × (new ≡ old ++ more))

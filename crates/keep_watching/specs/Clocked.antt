@@ -2,14 +2,14 @@
 -- when nothing is to be done.
 -- Source: this project's own.
 use Rattle.std.specs.Prelude.{◌≡◌, ℕ, ◌-◌, Bool, true, false, if◌then◌else◌, List, [], ◌++◌, Option, Some, None, Ok, map, option_map, slice_index_or, ◌==◌}
-use Rattle.std.specs.List.{flat_map, list_any}
-use Rattle.keep_inventory.specs.Inventories.{Inventory}
+use Rattle.std.specs.List.{flat_map}
 use Rattle.keep_run.specs.Text.{name_of, names_of}
 use Rattle.keep_tree.specs.Forest.{Forest}
 use Rattle.keep_watch.specs.declared.command.Command.{Command}
 use Rattle.keep_watch.specs.declared.command.Command.TheVariants.{Ask, Wait, Taken}
 use Rattle.keep_watch.specs.declared.command.Output.{Output}
 use Rattle.keep_watch.specs.declared.event.Event.TheVariants.{Clock}
+use Rattle.keep_watch.specs.declared.event.Request.{Request}
 use Rattle.keep_watch.specs.declared.notes.Notes.{Notes}
 use Rattle.keep_watch.specs.declared.readings.Next.{Next}
 use Rattle.keep_watch.specs.History.{Turn}
@@ -17,9 +17,9 @@ use Rattle.keep_watch.specs.Readings.{IsNext, broker_moment, broker_now}
 use Rattle.keep_watch.specs.Shortness.{short_of}
 use Rattle.keep_watch.specs.State.{State, indices}
 use Rattle.keep_watching.specs.Answers.{if_some}
-use Rattle.keep_watching.specs.Slices.{IsSlice, moment_of}
+use Rattle.keep_watching.specs.Slices.{AreOut, IsSlice, moment_of}
 use Rattle.keep_watching.specs.Texts.{begin_line, clock_line, next_line, no_next_line, short_line, wait_line, wake_line}
-use Rattle.keep_watching.specs.Watching.{Watching}
+use Rattle.keep_watching.specs.Watching.{IsClosed, Watching}
 use Rattle.mini_broker.specs.Table.{Table}
 
 -- a watch, and the table behind its exchange, where that is known
@@ -27,15 +27,14 @@ pub record Side : Type 0 where
   pub watching : Watching
   pub table : Option Table
 
+abbrev pub side : Watching → Option Table → Side
+side watching table = record { watching = watching; table = table }
+
 -- ---- what is noted
 
 -- why everything is looked up anew, and the round that opened
 unfoldable pub clock_lines : Forest → State → Notes → List ℕ
 clock_lines g m notes = if_some begin_line notes.began ++ if_some (λ asked. wake_line (broker_now m) (names_of g asked)) notes.round
-
--- a lookup is owed
-abbrev pub owes : State → Bool
-owes m = list_any (λ track. track.owes) m.tracks
 
 -- the reach that was said last of an entry
 abbrev pub said_of : List (Option ℕ) → ℕ → Option ℕ
@@ -59,13 +58,6 @@ later last (Some reach) = Some reach
 
 unfoldable pub said_after : State → List (Option ℕ) → List (Option ℕ)
 said_after m said = map (λ i. later (said_of said i) (short_of m i)) (indices m)
-
--- while a lookup is owed nothing is said of reaches
-unfoldable pub shorts_at : Forest → State → List (Option ℕ) → List ℕ
-shorts_at g m said = if owes m then [] else short_lines g m said
-
-unfoldable pub said_at : State → List (Option ℕ) → List (Option ℕ)
-said_at m said = if owes m then said else said_after m said
 
 -- ---- the next time
 
@@ -93,20 +85,39 @@ changed_line g last next = if was_said last next then [] else line_of_next g nex
 
 -- ---- what is done
 
--- nothing is done before a moment: the next time is said where it changed, and that moment in the reader's milliseconds
-pub record IsWaited (g : Forest) (last : Option (Option Next)) (until : ℕ) (mid new : State) (said : Option (Option Next)) (text : List ℕ) : Type 0 where
-  pub same : new ≡ mid
-  pub next : Option Next
-  pub is_next : IsNext mid next
-  pub said_is : said ≡ Some (option_map (next_there mid) next)
-  pub text_is : text ≡ changed_line g last (option_map (next_there mid) next) ++ wait_line (until - mid.clocks.phase)
+-- the next time of an entry, by the broker's clock
+abbrev pub IsNextThere : State → Option Next → Type 0
+IsNextThere m there = (next : Option Next) × (IsNext m next × (there ≡ option_map (next_there m) next))
 
--- the command is carried out in the state behind the clock: a slice goes out, or nothing is done until a moment
-abbrev pub IsDone : ℕ → Inventory → ℕ → Option (Option Next) → Command → State → State → Option Table → Option Table → Option (Option Next) → List ℕ → Type 0
-IsDone port s wall last (Ask requests patience) mid new before after said text =
-    (said ≡ last) × ((told : List ℕ) × (IsSlice port s (moment_of wall) requests mid new before after told × (text ≡ told ++ clock_line)))
-IsDone port s wall last (Wait until) mid new before after said text = IsWaited s.forest last until mid new said text × (after ≡ before)
-IsDone port s wall last Taken mid new before after said text = ⊥
+-- nothing is done before a moment: the next time is said where it changed, and then that moment in the reader's milliseconds
+pub record IsWaited (old : Watching) (until : ℕ) (new : Watching) (text : List ℕ) : Type 0 where
+  pub next : Option Next
+  pub is_next : IsNextThere old.machine next
+  pub new_is : new ≡ record old { next = Some next }
+  pub text_is : text ≡ changed_line old.inventory.forest old.next next ++ wait_line (until - old.machine.clocks.phase)
+
+-- a slice goes out, and its answers are taken
+pub record IsAsked (port : ℕ) (old : Side) (wall : ℕ) (requests : List Request) (new : Side) (text : List ℕ) : Type 0 where
+  pub told : List ℕ
+  pub slice : IsSlice port old.watching.inventory (moment_of wall) requests old.watching.machine new.watching.machine old.table new.table told
+  pub rest : new.watching ≡ record old.watching { machine = new.watching.machine }
+  pub text_is : text ≡ told ++ clock_line
+
+-- the command is carried out: a slice goes out, or nothing is done until a moment
+abbrev pub IsDone : ℕ → Side → ℕ → Command → Side → List ℕ → Type 0
+IsDone port old wall (Ask requests patience) new text = IsAsked port old wall requests new text
+IsDone port old wall (Wait until) new text = IsWaited old.watching until new.watching text × (new.table ≡ old.table)
+IsDone port old wall Taken new text = ⊥
+
+-- a state in which a clock commands this: its requests have gone out, or every request is answered
+abbrev pub IsCommanded : State → Command → Type 0
+IsCommanded mid (Ask requests patience) = AreOut mid requests
+IsCommanded mid (Wait until) = IsClosed mid
+IsCommanded mid Taken = ⊥
+
+-- what a clock makes of the machine, and which reaches it says
+abbrev pub clocked : Watching → State → Watching
+clocked w mid = record w { machine = mid; said = said_after mid w.said }
 
 -- a clock: one turn of the machine, and what it commands is done before this ends
 pub record IsClocked (port : ℕ) (old : Side) (wall elapsed : ℕ) (new : Side) (text : List ℕ) : Type 0 where
@@ -114,7 +125,5 @@ pub record IsClocked (port : ℕ) (old : Side) (wall elapsed : ℕ) (new : Side)
   pub mid : State
   pub turn : Turn old.watching.machine (Clock wall elapsed) (Ok output) mid
   pub done : List ℕ
-  pub is_done : IsDone port old.watching.inventory wall old.watching.next output.command mid new.watching.machine old.table new.table new.watching.next done
-  pub inventory : new.watching.inventory ≡ old.watching.inventory
-  pub said : new.watching.said ≡ said_at mid old.watching.said
-  pub text_is : text ≡ clock_lines old.watching.inventory.forest mid output.notes ++ (shorts_at old.watching.inventory.forest mid old.watching.said ++ done)
+  pub is_done : IsDone port (side (clocked old.watching mid) old.table) wall output.command new done
+  pub text_is : text ≡ clock_lines old.watching.inventory.forest mid output.notes ++ (short_lines old.watching.inventory.forest mid old.watching.said ++ done)

@@ -8,3 +8,7 @@ pub mod Clocked
 pub mod Hears
 pub mod WatchRun
 pub mod code
+pub mod Listening
+pub mod LawsOfWatching
+pub mod Secrecy
+pub mod Alike

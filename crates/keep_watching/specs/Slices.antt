@@ -1,6 +1,6 @@
 -- Slices: the requests that go out together, and what comes of them.
 -- Source: this project's own.
-use Rattle.std.specs.Prelude.{◌≡◌, ℕ, ◌/◌, List, ◌++◌, codes, filter, length, map, min, Option, IfSome}
+use Rattle.std.specs.Prelude.{◌≡◌, ℕ, ◌/◌, ◌<◌, All, List, ◌++◌, codes, filter, length, map, min, Option, IfSome}
 use Rattle.keep_exchange.specs.Abreast.{Answer, IsSliceServed}
 use Rattle.keep_exchange.specs.Requests.{lookup_of, request_of}
 use Rattle.keep_inventory.specs.Inventories.{Inventory}
@@ -11,8 +11,8 @@ use Rattle.keep_watch.specs.declared.event.Operation.{Operation}
 use Rattle.keep_watch.specs.declared.event.Operation.TheVariants.{Look, Renew}
 use Rattle.keep_watch.specs.declared.event.Request.{Request}
 use Rattle.keep_watch.specs.Refusal.{is_same}
-use Rattle.keep_watch.specs.State.{State}
-use Rattle.keep_watching.specs.Answers.{AreTakenInOrder}
+use Rattle.keep_watch.specs.State.{State, unanswered_of}
+use Rattle.keep_watching.specs.Answers.{AreTakenByIndex}
 use Rattle.keep_watching.specs.Texts.{asked_line}
 use Rattle.mini_broker.specs.Table.{Table}
 use Rattle.vault_http.specs.declared.request.Request as http
@@ -41,10 +41,15 @@ pub record IsExchanged (t : ℕ) (messages : List http.Request) (answers : List 
   pub each : length answers ≡ length messages
   pub served : IfSome old (λ table. IsSliceServed table t messages answers new)
 
+-- these requests have gone out, each of an entry that there is, and none is answered
+pub record AreOut (m : State) (requests : List Request) : Type 0 where
+  pub unanswered : unanswered_of m.slice ≡ requests
+  pub within : All (λ r. r.entry < length m.forest.entries) requests
+
 -- a slice: its requests go out in their order, and the answers are taken by the indices of their entries
 pub record IsSlice (port : ℕ) (s : Inventory) (t : ℕ) (requests : List Request) (mid new : State) (before after : Option Table) (text : List ℕ) : Type 0 where
   pub answers : List Answer
   pub exchanged : IsExchanged t (map (message port s mid) requests) answers before after
   pub told : List ℕ
-  pub taken : AreTakenInOrder s requests answers mid new told
+  pub taken : AreTakenByIndex s requests answers mid new told
   pub text_is : text ≡ asked_lines s.forest requests ++ told

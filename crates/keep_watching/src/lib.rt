@@ -8,6 +8,7 @@
 mod answers;
 mod asking;
 mod clocked;
+mod laws;
 mod line;
 mod listening;
 mod running;
@@ -17,6 +18,6 @@ mod texts;
 mod told;
 mod watching;
 
+pub use laws::{run_of_machine_law, secrets_change_no_watch};
 pub use line::{Line, line_in};
 pub use running::run_watch;
-pub use watching::Watching;

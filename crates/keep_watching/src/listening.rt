@@ -1,7 +1,14 @@
 //! Lines as they come: they are read in pieces, cut at their line feeds, and answered one after another, for as long as they come.
-ghost use Rattle.std.specs.Prelude.{◌≤◌, IfOk, List, OnOk, ℕ, length};
+ghost use Rattle.std.specs.Prelude.{◌≡◌, ◌+◌, ◌∷◌, [], ◌<◌, ◌≤◌, IfOk, OnOk, drop, length};
 ghost use Rattle.std.specs.Result.{IfErr};
-ghost use Rattle.keep_report.specs.Sent.{IsAll};
+ghost use Rattle.keep_report.specs.declared.stop.Stop.TheVariants as stops;
+ghost use Rattle.keep_run.specs.declared.event_line.TheConstants.{MOST_LINE};
+ghost use Rattle.keep_run.specs.declared.listening.TheConstants.{EVENT_ROOM};
+ghost use Rattle.keep_watching.specs.Answers.{cut};
+ghost use Rattle.keep_watching.specs.Clocked.{side};
+ghost use Rattle.keep_watching.specs.code.LineByLine.{HaltsWithin, HearsLine, HearsUpTo};
+ghost use Rattle.keep_watching.specs.Listening.{Listens};
+ghost use Rattle.keep_watching.specs.Watching.{IsClosed};
 ghost use Rattle.keep_watching.specs.WatchRun.{IsListenStop};
 
 use crate::line::line_in;
@@ -9,7 +16,7 @@ use crate::watching::Watching;
 use keep_device::{Sink, Source, zeros};
 use keep_exchange::Abreast;
 use keep_report::{Stop, Watched, send};
-use keep_run::{EVENT_ROOM, MOST_LINE};
+use keep_run::{EVENT_ROOM, Feeding, MOST_LINE};
 use keep_words::cut;
 use std::alloc::Global;
 
@@ -25,7 +32,9 @@ pub(crate) fn listen<R: Source, E: Abreast, W: Sink>(
     exchange: &mut E,
     out: &mut W,
 ) -> Result<(), Stop>
-    ensures { IfErr result IsListenStop }
+    requires closed { IsClosed watching.old.machine }
+    ensures listens { Listens (E.host_port exchange.old) (side watching.old (E.table exchange.old)) result (side watching.new (E.table exchange.new)) (⟦<R as Feeding>⟧.fed lines.old lines.new) (⟦<W as Watched>⟧.sent out.old out.new) }
+    ensures stops { IfErr result IsListenStop }
 {
     let mut room = zeros(alloc, EVENT_ROOM)?;
     let mut pending = Vec::new(alloc);
@@ -40,7 +49,7 @@ pub(crate) fn listen<R: Source, E: Abreast, W: Sink>(
     )
 }
 
-/// Answers lines behind `pending` until they end.
+/// Answers lines behind `pending`, which is empty, until they end.
 fn listen_to<R: Source, E: Abreast, W: Sink>(
     alloc: Global,
     watching: &mut Watching,
@@ -50,7 +59,10 @@ fn listen_to<R: Source, E: Abreast, W: Sink>(
     pending: &mut Vec<u8>,
     out: &mut W,
 ) -> Result<(), Stop>
-    ensures { IfErr result IsListenStop }
+    requires closed { IsClosed watching.old.machine }
+    requires room { length room.old ≡ EVENT_ROOM }
+    requires none { pending.old.items ≡ [] }
+    ensures { Listens (E.host_port exchange.old) (side watching.old (E.table exchange.old)) result (side watching.new (E.table exchange.new)) (⟦<R as Feeding>⟧.fed lines.old lines.new) (⟦<W as Watched>⟧.sent out.old out.new) }
 {
     let mut count: u64 = 0;
     for _ in 0..u64::MAX {
@@ -68,7 +80,8 @@ fn listen_to<R: Source, E: Abreast, W: Sink>(
 
 /// What the end of the lines comes to behind so many: a line without its line feed is none.
 fn at_end(pending: &[u8], count: u64) -> Result<(), Stop>
-    ensures { IfErr result IsListenStop }
+    ensures none { OnOk result (pending.now ≡ []) }
+    ensures some { IfErr result (λ stop. (stop ≡ stops.Line (cut (count + 1))) × (0 < length pending.now)) }
 {
     if pending.is_empty() {
         Ok(())
@@ -87,7 +100,13 @@ fn answer_pending<E: Abreast, W: Sink>(
     count: &mut u64,
     out: &mut W,
 ) -> Result<(), Stop>
-    ensures { IfErr result IsListenStop }
+    requires closed { IsClosed watching.old.machine }
+    requires counted { cut count.old ≡ count.old }
+    ensures heard { OnOk result (HearsUpTo (E.host_port exchange.old) count.old (side watching.old (E.table exchange.old)) pending.old.items (pending.new.items ∷ []) (side watching.new (E.table exchange.new)) count.new (⟦<W as Watched>⟧.sent out.old out.new)) }
+    ensures short { OnOk result (length pending.new.items < MOST_LINE) }
+    ensures closed { OnOk result (IsClosed watching.new.machine) }
+    ensures port { OnOk result (E.host_port exchange.new ≡ E.host_port exchange.old) }
+    ensures halts { IfErr result (λ stop. HaltsWithin (E.host_port exchange.old) count.old (side watching.old (E.table exchange.old)) pending.old.items stop (side watching.new (E.table exchange.new)) (⟦<W as Watched>⟧.sent out.old out.new)) }
 {
     let answered = answer_whole(alloc, watching, exchange, pending, count, out)?;
     pending.drain(..answered);
@@ -98,6 +117,7 @@ fn answer_pending<E: Abreast, W: Sink>(
 }
 
 /// Answers the lines of these bytes that are whole, counts them, and gives the length of them all.
+#[tactic(auto, using(keep_run::proofs::LineByLine::behind_line))]
 fn answer_whole<E: Abreast, W: Sink>(
     alloc: Global,
     watching: &mut Watching,
@@ -106,22 +126,25 @@ fn answer_whole<E: Abreast, W: Sink>(
     count: &mut u64,
     out: &mut W,
 ) -> Result<usize, Stop>
+    requires closed { IsClosed watching.old.machine }
+    requires counted { cut count.old ≡ count.old }
+    ensures heard { IfOk result (λ n. HearsUpTo (E.host_port exchange.old) count.old (side watching.old (E.table exchange.old)) bytes.now (drop n bytes.now ∷ []) (side watching.new (E.table exchange.new)) count.new (⟦<W as Watched>⟧.sent out.old out.new)) }
     ensures within { IfOk result (λ n. n ≤ length bytes.now) }
-    ensures stops { IfErr result IsListenStop }
+    ensures closed { IfOk result (λ _. IsClosed watching.new.machine) }
+    ensures port { IfOk result (λ _. E.host_port exchange.new ≡ E.host_port exchange.old) }
+    ensures halts { IfErr result (λ stop. HaltsWithin (E.host_port exchange.old) count.old (side watching.old (E.table exchange.old)) bytes.now stop (side watching.new (E.table exchange.new)) (⟦<W as Watched>⟧.sent out.old out.new)) }
 {
     let mut rest = bytes;
-    for _ in 0..bytes.len() {
-        let Some((line, behind)) = cut(rest, b'\n') else {
-            break;
-        };
+    while let Some((line, behind)) = cut(rest, b'\n') {
         *count = count.saturating_add(1);
         answer_line(alloc, watching, exchange, line, *count, out)?;
         rest = behind;
     }
-    Ok(bytes.len().saturating_sub(rest.len()))
+    Ok(bytes.len() - rest.len())
 }
 
 /// Answers one line, which is without its line feed and has this number: writes and flushes its lines.
+#[tactic(auto, using(crate::proofs::Taking::within_machine))]
 fn answer_line<E: Abreast, W: Sink>(
     alloc: Global,
     watching: &mut Watching,
@@ -130,10 +153,12 @@ fn answer_line<E: Abreast, W: Sink>(
     number: u64,
     out: &mut W,
 ) -> Result<(), Stop>
-    ensures answered { OnOk result ((text : List ℕ) × IsAll text (⟦<W as Watched>⟧.sent out.old out.new)) }
-    ensures stops { IfErr result IsListenStop }
+    requires closed { IsClosed watching.old.machine }
+    ensures hears { HearsLine (E.host_port exchange.old) number (side watching.old (E.table exchange.old)) line.now result (side watching.new (E.table exchange.new)) (⟦<W as Watched>⟧.sent out.old out.new) }
+    ensures closed { OnOk result (IsClosed watching.new.machine) }
+    ensures port { OnOk result (E.host_port exchange.new ≡ E.host_port exchange.old) }
 {
-    let Some(line) = line_in(watching.forest(), line) else {
+    let Some(line) = line_in(watching.names(), line) else {
         return Err(Stop::Line(number));
     };
     let mut text = Vec::new(alloc);

@@ -1,6 +1,6 @@
 //! A watch from the inventory to the end of the lines.
 ghost use Rattle.std.specs.Result.{IfErr};
-ghost use Rattle.keep_watching.specs.WatchRun.{IsWatchStop, WatchEnds};
+ghost use Rattle.keep_watching.specs.WatchRun.{IsWatchStop, WatchEnds, WatchRun, WatchesTo};
 
 use crate::listening::listen;
 use crate::watching::Watching;
@@ -8,6 +8,7 @@ use keep_device::{Sink, Source};
 use keep_exchange::Abreast;
 use keep_inventory::read;
 use keep_report::{Exit, Stop, Watched};
+use keep_run::Feeding;
 use std::alloc::Global;
 
 /// Watches over the entries of an inventory, and sends at most `width` requests abreast over the exchange, as `lines` hand in
@@ -26,7 +27,8 @@ pub fn run_watch<R: Source, E: Abreast, W: Sink, F: Sink>(
     out: &mut W,
     errors: &mut F,
 ) -> Exit
-    ensures { WatchEnds inventory.now result (⟦<F as Watched>⟧.sent errors.old errors.new) }
+    ensures ends { WatchEnds inventory.now result (⟦<F as Watched>⟧.sent errors.old errors.new) }
+    ensures run { WatchRun (E.host_port exchange.old) inventory.now width (E.table exchange.old) result (⟦<R as Feeding>⟧.fed lines.old lines.new) (⟦<W as Watched>⟧.sent out.old out.new) (⟦<F as Watched>⟧.sent errors.old errors.new) (E.table exchange.new) }
 {
     match watch(alloc, inventory, width, lines, exchange, out) {
         Ok(()) => Exit::Done,
@@ -43,7 +45,8 @@ fn watch<R: Source, E: Abreast, W: Sink>(
     exchange: &mut E,
     out: &mut W,
 ) -> Result<(), Stop>
-    ensures { IfErr result (IsWatchStop bytes.now) }
+    ensures stops { IfErr result (IsWatchStop bytes.now) }
+    ensures run { WatchesTo (E.host_port exchange.old) bytes.now width (E.table exchange.old) result (⟦<R as Feeding>⟧.fed lines.old lines.new) (⟦<W as Watched>⟧.sent out.old out.new) (E.table exchange.new) }
 {
     let inventory = read(alloc, bytes)?;
     let mut watching = Watching::new(alloc, inventory, width)?;

@@ -1,4 +1,7 @@
 //! Needs that cannot be kept any more.
+ghost use Rattle.std.specs.Prelude.{◌≡◌, ◌++◌, OnOk, length};
+ghost use Rattle.keep_watching.specs.Clocked.{later, news_line, said_after, short_lines};
+
 use crate::texts::{name_of, push_short};
 use keep_tree::Forest;
 use keep_watch::Watch;
@@ -11,25 +14,40 @@ pub(crate) fn push_shorts(
     names: &Forest,
     said: &mut [Option<u64>],
     text: &mut Vec<u8>,
-) -> Result<(), AllocError> {
+) -> Result<(), AllocError>
+    requires { length said.old ≡ length watch.now.forest.entries }
+    ensures text { OnOk result (text.new.items ≡ text.old.items ++ short_lines names.now watch.now said.old) }
+    ensures said { OnOk result (said.new ≡ said_after watch.now said.old) }
+    ensures count { length said.new ≡ length said.old }
+{
     for entry in 0..watch.forest().len() {
-        if let Some(reach) = watch.short_of(entry) {
-            if is_news(said, entry, reach) {
-                push_short(alloc, name_of(names, entry), reach, text)?;
-            }
-        }
+        let reach = watch.short_of(entry);
+        let last = said[entry as usize];
+        push_news(alloc, name_of(names, entry), last, reach, text)?;
+        said[entry as usize] = later(last, reach);
     }
     Ok(())
 }
 
-/// Notes that this is said to be the reach of the entry; whether it was not said last.
-fn is_news(said: &mut [Option<u64>], entry: u32, reach: u64) -> bool {
-    match said.get_mut(entry as usize) {
-        None => false,
-        Some(last) => {
-            let is_new = *last != Some(reach);
-            *last = Some(reach);
-            is_new
-        }
+/// Appends that the entry of that name cannot be kept past a moment, where that is news.
+fn push_news(
+    alloc: Global,
+    name: &[u8],
+    last: Option<u64>,
+    reach: Option<u64>,
+    text: &mut Vec<u8>,
+) -> Result<(), AllocError>
+    ensures { OnOk result (text.new.items ≡ text.old.items ++ news_line name.now last reach) }
+{
+    match reach {
+        Some(reach) if last != Some(reach) => push_short(alloc, name, reach, text),
+        _ => Ok(()),
     }
+}
+
+/// What was said last of an entry, once that is said, too.
+fn later(last: Option<u64>, reach: Option<u64>) -> Option<u64>
+    ensures { result ≡ later last reach }
+{
+    reach.or(last)
 }

@@ -1,48 +1,40 @@
 //! A slice: its requests go out abreast, and their answers are taken.
-ghost use Rattle.std.specs.Prelude.{◌≡◌, min, ◌/◌};
-ghost use Rattle.keep_moment.specs.declared.moment.TheConstants.{LAST};
+ghost use Rattle.std.specs.Prelude.{◌≡◌, ◌++◌, ◌==◌, OnOk, length, position};
+ghost use Rattle.keep_watching.specs.Answers.{Appended, AreTakenByIndex};
+ghost use Rattle.keep_watching.specs.Slices.{AreOut, IsSlice, asked_lines, moment_of};
+ghost use Rattle.keep_watching.specs.Watching.{IsClosed};
 
-use crate::asking::{messages, waiting};
+use crate::asking::waiting;
 use crate::texts::push_asked;
 use crate::watching::Watching;
-use keep_exchange::Abreast;
+use keep_exchange::{Abreast, ExchangeFault};
 use keep_moment::{LAST, Moment};
+use keep_tree::Forest;
 use keep_watch::{Operation, Patience, Request};
 use std::alloc::{AllocError, Global};
+use vault_http::DatedReply;
 
 /// The moment that a wall clock shows at so many milliseconds; after the last one, that.
 fn moment_of(wall: u64) -> Moment
-    ensures { result ≡ min (wall / 1000) LAST }
+    ensures { result ≡ moment_of wall }
 {
     Moment::new((wall / 1000).min(LAST)).unwrap()
 }
 
-/// A request in a slice.
-#[derive(Clone, Copy, Debug)]
-struct Placed {
-    place: usize,
-    request: Request,
+/// Appends of whom what is asked, in the order in which it goes out: the lookups, and then the renewals.
+#[tactic(auto, unfolding(crate::specs::Slices::asked_lines))]
+fn push_asked_lines(names: &Forest, asked: &[Request], text: &mut Vec<u8>) -> Result<(), AllocError>
+    ensures { OnOk result (text.new.items ≡ text.old.items ++ asked_lines names.now asked.now) }
+{
+    push_asked(names, b"look", asked, Operation::Look, text)?;
+    push_asked(names, b"renew", asked, Operation::Renew, text)
 }
 
-/// The lesser of the request so far and one of an entry from `from` on, by their entries.
-fn nearer(found: Option<Placed>, placed: Placed, from: u32) -> Option<Placed> {
-    if placed.request.entry < from {
-        return found;
-    }
-    match found {
-        Some(found) if found.request.entry <= placed.request.entry => Some(found),
-        _ => Some(placed),
-    }
-}
-
-/// The request of the lowest entry from `from` on.
-fn next_from(asked: &[Request], from: u32) -> Option<Placed> {
-    let mut found = None;
-    for place in 0..asked.len() {
-        let request = asked[place];
-        found = nearer(found, Placed { place, request }, from);
-    }
-    found
+/// The place of the request of an entry, if it was asked.
+fn place_of(asked: &[Request], entry: u32) -> Option<usize>
+    ensures { result ≡ position (λ r. r.entry == entry) asked.now }
+{
+    asked.iter().position(|request| request.entry == entry)
 }
 
 impl Watching {
@@ -56,27 +48,39 @@ impl Watching {
         asked: &[Request],
         patience: Patience,
         text: &mut Vec<u8>,
-    ) -> Result<(), AllocError> {
-        let names = self.inventory.forest();
-        push_asked(names, b"look", asked, Operation::Look, text)?;
-        push_asked(names, b"renew", asked, Operation::Renew, text)?;
-        let forest = self.watch.forest();
-        let made = messages(alloc, exchange.port(), &self.inventory, forest, asked)?;
-        let Some(messages) = made else {
-            return Ok(());
-        };
+    ) -> Result<(), AllocError>
+        requires out { AreOut self.old.machine asked.now }
+        ensures slice { OnOk result (Appended text.old.items text.new.items (IsSlice (E.host_port exchange.old) self.old.inventory (moment_of wall) asked.now self.old.machine self.new.machine (E.table exchange.old) (E.table exchange.new))) }
+        ensures rest { OnOk result (self.new ≡ record self.old { machine = self.new.machine }) }
+        ensures closed { OnOk result (IsClosed self.new.machine) }
+        ensures port { OnOk result (E.host_port exchange.new ≡ E.host_port exchange.old) }
+    {
+        push_asked_lines(self.names(), asked, text)?;
+        let port = exchange.port();
+        let messages = self.messages(alloc, port, asked)?;
         let t = moment_of(wall);
         let answers = exchange.exchange_slice(alloc, t, &messages, waiting(patience))?;
-        let mut from = 0;
-        for _ in 0..asked.len() {
-            let Some(placed) = next_from(asked, from) else {
-                break;
-            };
-            from = placed.request.entry.saturating_add(1);
-            let Some(answer) = answers.get(placed.place) else {
-                break;
-            };
-            self.answer(alloc, placed.request, answer, text)?;
+        self.take_answers(alloc, asked, &answers, text)
+    }
+
+    /// Takes the answers to requests that went out, by the indices of their entries, and appends their lines.
+    fn take_answers(
+        &mut self,
+        alloc: Global,
+        asked: &[Request],
+        answers: &[Result<DatedReply, ExchangeFault>],
+        text: &mut Vec<u8>,
+    ) -> Result<(), AllocError>
+        requires out { AreOut self.old.machine asked.now }
+        requires each { length answers.now ≡ length asked.now }
+        ensures taken { OnOk result (Appended text.old.items text.new.items (AreTakenByIndex self.old.inventory asked.now answers.now self.old.machine self.new.machine)) }
+        ensures rest { OnOk result (self.new ≡ record self.old { machine = self.new.machine }) }
+        ensures closed { OnOk result (IsClosed self.new.machine) }
+    {
+        for entry in 0..self.names().len() {
+            if let Some(place) = place_of(asked, entry) {
+                self.answer(alloc, asked[place], &answers[place], text)?;
+            }
         }
         Ok(())
     }

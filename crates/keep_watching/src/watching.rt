@@ -1,17 +1,27 @@
 //! A watch over the entries of an inventory, and what it has said.
-ghost use Rattle.std.specs.Prelude.{◌≡◌, ◌++◌, OnOk, codes};
-ghost use Rattle.keep_watching.specs.declared.line.Line.TheVariants as lines;
+ghost use Rattle.std.specs.Prelude.{◌≡◌, ◌<◌, ◌++◌, IfOk, None, Ok, OnOk, is_some, length, replicate};
+ghost use Rattle.keep_watch.specs.History.{Turn};
+ghost use Rattle.keep_watch.specs.Refusal.{refusal};
+ghost use Rattle.keep_watch.specs.declared.event.Event.TheVariants as events;
+ghost use Rattle.keep_watching.specs.Answers.{Appended};
+ghost use Rattle.keep_watching.specs.Clocked.{side};
+ghost use Rattle.keep_watching.specs.Hears.{IsHeard, IsKnown, IsTurned};
+ghost use Rattle.keep_watching.specs.Lines.{IsWithin};
+ghost use Rattle.keep_watching.specs.Texts.{after_clock_line, clock_line, planned_line};
+ghost use Rattle.keep_watching.specs.Watching.{IsClosed, IsWhole, fresh};
 
 use crate::line::Line;
 use keep_exchange::Abreast;
 use keep_inventory::Inventory;
+use keep_moment::Moment;
 use keep_tree::Forest;
-use keep_watch::{Event, Next, Output, Watch, WatchFault};
+use keep_watch::{Event, Next, Output, Watch};
 use std::alloc::{AllocError, Global};
+use std::marker::Model;
 
 /// A watch over the entries of an inventory.
 #[derive(Debug, Drop)]
-pub struct Watching {
+pub(crate) struct Watching {
     pub(crate) watch: Watch,
     /// The names, the credentials, and the terms that lookups are judged by.
     pub(crate) inventory: Inventory,
@@ -21,8 +31,20 @@ pub struct Watching {
     pub(crate) next: Option<Option<Next>>,
 }
 
+impl Model for Watching {
+    ghost use Rattle.keep_watching.specs.Watching.{IsWhole, Watching};
+
+    ghost Value = { Watching };
+
+    ghost view = { λ w. record { machine = w.watch; inventory = w.inventory; said = w.shorts.items; next = w.next } };
+
+    ghost invariant = { λ w. IsWhole (record { machine = w.watch; inventory = w.inventory; said = w.shorts.items; next = w.next }) };
+}
+
 /// A place for each of so many entries, with nothing said of it.
-fn nothing_said(alloc: Global, count: u32) -> Result<Vec<Option<u64>>, AllocError> {
+fn nothing_said(alloc: Global, count: u32) -> Result<Vec<Option<u64>>, AllocError>
+    ensures { IfOk result (λ said. said.items ≡ replicate count None) }
+{
     let mut shorts = Vec::new(alloc);
     for _ in 0..count {
         shorts.push(None)?;
@@ -30,19 +52,17 @@ fn nothing_said(alloc: Global, count: u32) -> Result<Vec<Option<u64>>, AllocErro
     Ok(shorts)
 }
 
-/// What a step of the machine gives, `None` where it refuses the event. The only error is want of memory.
-pub(crate) fn taken(step: Result<Output, WatchFault>) -> Result<Option<Output>, AllocError> {
-    match step {
-        Ok(output) => Ok(Some(output)),
-        Err(WatchFault::OutOfMemory) => Err(AllocError),
-        Err(WatchFault::SliceOpen | WatchFault::NotAsked | WatchFault::BadIndex) => Ok(None),
-    }
-}
-
 impl Watching {
     /// A watch over the entries of an inventory, which sends at most `width` requests in a slice. The only error is want of
     /// memory.
-    pub fn new(alloc: Global, inventory: Inventory, width: u32) -> Result<Watching, AllocError> {
+    #[tactic(auto, using(crate::proofs::Taking::whole_fresh))]
+    pub(crate) fn new(
+        alloc: Global,
+        inventory: Inventory,
+        width: u32,
+    ) -> Result<Watching, AllocError>
+        ensures { IfOk result (λ watching. watching ≡ fresh inventory width) }
+    {
         let forest = inventory.forest().copy()?;
         let shorts = nothing_said(alloc, forest.len())?;
         let watch = match Watch::new(alloc, forest, width) {
@@ -57,35 +77,48 @@ impl Watching {
         })
     }
 
-    /// The entries.
-    pub fn forest(&self) -> &Forest {
-        self.watch.forest()
+    /// The entries, by their names.
+    pub(crate) fn names(&self) -> &Forest
+        ensures names { result.now ≡ self.now.inventory.forest }
+        ensures whole { IsWhole self.now }
+    {
+        self.inventory.forest()
+    }
+
+    /// One turn of the machine, by an event that it does not refuse. The only error is want of memory.
+    pub(crate) fn turn(&mut self, alloc: Global, event: Event) -> Result<Output, AllocError>
+        requires { refusal self.old.machine event ≡ None }
+        ensures turned { IfOk result (λ output. Turn self.old.machine event (Ok output) self.new.machine) }
+        ensures rest { self.new ≡ record self.old { machine = self.new.machine } }
+    {
+        match self.watch.step(alloc, event) {
+            Ok(output) => Ok(output),
+            Err(_) => Err(AllocError),
+        }
     }
 
     /// Takes a line, and appends the lines that answer it. The requests of a clock go out over the exchange before this answers.
     ///
     /// The last line is `wait ELAPSED` or `clock`. A name that no entry has is `fault unknown-name`, and an end that is known
     /// after a clock is `fault after-clock`; both change nothing. The only error is want of memory.
-    pub fn take<E: Abreast>(
+    #[tactic(auto, using(crate::proofs::Taking::heard_need, crate::proofs::Taking::heard_begin, crate::proofs::Taking::heard_known, crate::proofs::Taking::heard_unknown))]
+    pub(crate) fn take<E: Abreast>(
         &mut self,
         alloc: Global,
         exchange: &mut E,
         line: Line,
         text: &mut Vec<u8>,
     ) -> Result<(), AllocError>
-        ensures unknown { line ≡ lines.Unknown → OnOk result ((self.new ≡ self.old) × (text.new.items ≡ text.old.items ++ codes "fault unknown-name\nclock\n")) }
+        requires closed { IsClosed self.old.machine }
+        requires within { IsWithin (length self.old.machine.forest.entries) line }
+        ensures heard { OnOk result (Appended text.old.items text.new.items (IsHeard (E.host_port exchange.old) (side self.old (E.table exchange.old)) line (side self.new (E.table exchange.new)))) }
+        ensures closed { OnOk result (IsClosed self.new.machine) }
+        ensures port { OnOk result (E.host_port exchange.new ≡ E.host_port exchange.old) }
     {
         match line {
             Line::Clock { wall, elapsed } => self.clock(alloc, exchange, wall, elapsed, text),
-            Line::Need { entry, until } => {
-                let until = until.get();
-                taken(self.watch.step(alloc, Event::Need { entry, until }))?;
-                text.extend_from_slice(b"planned\nclock\n")
-            }
-            Line::Begin => {
-                taken(self.watch.step(alloc, Event::Begin))?;
-                text.extend_from_slice(b"clock\n")
-            }
+            Line::Need { entry, until } => self.need(alloc, entry, until, text),
+            Line::Begin => self.begin(alloc, text),
             Line::Known {
                 entry,
                 end,
@@ -95,7 +128,40 @@ impl Watching {
         }
     }
 
+    /// Takes a new need.
+    #[tactic(auto, using(crate::proofs::Turns::need_free, crate::proofs::Turns::need_closed))]
+    fn need(
+        &mut self,
+        alloc: Global,
+        entry: u32,
+        until: Moment,
+        text: &mut Vec<u8>,
+    ) -> Result<(), AllocError>
+        requires closed { IsClosed self.old.machine }
+        requires within { entry < length self.old.machine.forest.entries }
+        ensures needed { OnOk result (IsTurned self.old (events.Need entry until) self.new) }
+        ensures closed { OnOk result (IsClosed self.new.machine) }
+        ensures text { OnOk result (text.new.items ≡ text.old.items ++ (planned_line ++ clock_line)) }
+    {
+        let until = until.get();
+        self.turn(alloc, Event::Need { entry, until })?;
+        text.extend_from_slice(b"planned\nclock\n")
+    }
+
+    /// Everything is to be looked up anew.
+    #[tactic(auto, using(crate::proofs::Turns::begin_free, crate::proofs::Turns::begin_closed))]
+    fn begin(&mut self, alloc: Global, text: &mut Vec<u8>) -> Result<(), AllocError>
+        requires closed { IsClosed self.old.machine }
+        ensures begun { OnOk result (IsTurned self.old events.Begin self.new) }
+        ensures closed { OnOk result (IsClosed self.new.machine) }
+        ensures text { OnOk result (text.new.items ≡ text.old.items ++ clock_line) }
+    {
+        self.turn(alloc, Event::Begin)?;
+        text.extend_from_slice(b"clock\n")
+    }
+
     /// Takes an end over from an earlier watch, rounded down to a whole second.
+    #[tactic(auto, using(crate::proofs::Turns::known_free, crate::proofs::Turns::known_closed))]
     fn know(
         &mut self,
         alloc: Global,
@@ -103,20 +169,23 @@ impl Watching {
         end: u64,
         renewable: bool,
         text: &mut Vec<u8>,
-    ) -> Result<(), AllocError> {
+    ) -> Result<(), AllocError>
+        requires closed { IsClosed self.old.machine }
+        requires within { entry < length self.old.machine.forest.entries }
+        ensures known { OnOk result (Appended text.old.items text.new.items (IsKnown (is_some self.old.machine.begun) self.old entry end renewable self.new)) }
+        ensures closed { OnOk result (IsClosed self.new.machine) }
+    {
         if self.watch.has_begun() {
             return text.extend_from_slice(b"fault after-clock\nclock\n");
         }
         let end = end / 1000;
-        taken(
-            self.watch.step(
-                alloc,
-                Event::Known {
-                    entry,
-                    end,
-                    renewable,
-                },
-            ),
+        self.turn(
+            alloc,
+            Event::Known {
+                entry,
+                end,
+                renewable,
+            },
         )?;
         text.extend_from_slice(b"clock\n")
     }

@@ -1,3 +1,4 @@
+-- The lines of those who are asked are the line of their names, or nothing.
 use Rattle.std.proofs.Common.{◌∙◌, ◌++◌, ◌∷◌, [], ap, flat_map, sym}
 use Rattle.std.proofs.lemmas.List.{append_assoc, append-nil}
 use Rattle.keep_watching.specs.code.Asking.{asked_name}

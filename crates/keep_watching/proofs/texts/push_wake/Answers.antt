@@ -1,3 +1,4 @@
+-- The line of a round is that of its parts.
 use Rattle.std.proofs.Common.{◌∙◌, ◌++◌, ◌∷◌, [], ap, codes, decimal, flat_map, sym}
 use Rattle.keep_run.specs.Text.{name_of}
 use Rattle.keep_run.proofs.Wording.{five, named_line}
