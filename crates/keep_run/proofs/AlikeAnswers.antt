@@ -91,7 +91,7 @@ module _ (g : Forest) (cs ds : List (List ℕ)) (ts : List Terms) (one : IsInven
   abbrev u : Inventory
   u = record { forest = g; credentials = ds; terms = ts }
 
-  said_same : (i t : ℕ) → i < length g.entries → (a b : Answer) → AnswersOf g cs ds i a b → (x y : Served) → Says t a x → Says t b y → MeanSame (entry_at g.entries i).kind (credential_at cs i) (credential_at ds i) i x y
+  said_same : (i t : ℕ) → i < length g.entries → (a b : Answer) → AnswersOf g cs ds (call_for (entry_at g.entries i).kind) i a b → (x y : Served) → Says t a x → Says t b y → MeanSame (entry_at g.entries i).kind (credential_at cs i) (credential_at ds i) i x y
   said_same i t within (answer_refuses v) (answer_refuses w) same x y a b = refused_same (entry_at g.entries i).kind (credential_at cs i) (credential_at ds i) i t v w same x y a b
   said_same i t within (answer_refuses v) (tells d q) same x y a b = absurd same
   said_same i t within (answer_refuses v) drops same x y a b = absurd same
@@ -145,7 +145,7 @@ module _ (g : Forest) (cs ds : List (List ℕ)) (ts : List Terms) (one : IsInven
       let q = request_of other ds g i in
       let ask : request_of port cs h i ≡ r = ask_same port cs h like i in
       let ask' : request_of other ds h y.entry ≡ q = ap (request_of other ds h) here ∙ ask_same other ds h like i in
-      let outcome : OutcomesOf g cs ds i (step b.table t r) (step c.table t q) = steps_both g cs ds ts ts one two port other t i b.table c.table within alike in
+      let outcome : OutcomesOf g cs ds (call_for (entry_at g.entries i).kind) i (step b.table t r) (step c.table t q) = steps_both g cs ds ts ts one two port other t i b.table c.table within alike in
       let says = subst (λ (p : Request). Says t (step b.table t p).answer x.sent) ask a.says in
       let says' = subst (λ (p : Request). Says t (step c.table t p).answer y.sent) ask' d.says in
       let means = said_same i t within (step b.table t r).answer (step c.table t q).answer outcome.0 x.sent y.sent says says' in

@@ -35,7 +35,7 @@ use Rattle.keep_run.proofs.Serving.{asks_renewal}
 pub as_both : {X Y : Type 0} (P : X → Y → Type 0) (a b : X) (c d : Y) → b ≡ a → d ≡ c → P a c → P b d
 as_both P a b c d left right is = subst (λ x. P x d) (sym left) (subst (P a) (sym right) is)
 
-by_kind : (k : Kind) (P : Type 0) → (k ≡ Token → P) → (k ≡ Lease → P) → P
+pub by_kind : (k : Kind) (P : Type 0) → (k ≡ Token → P) → (k ≡ Lease → P) → P
 by_kind Token P token lease = token refl
 by_kind Lease P token lease = lease refl
 
@@ -60,34 +60,35 @@ owner_of g forest i within lease =
     (λ root. absurd (let bad : true ≡ false = sym (ap is_none root) ∙ some in cc))
     (λ p child. (p, (child, (placed.parent_first p child, token_under es p (sym (ap (is_under_lease es) child) ∙ placed.parent_is_token)))))
 
--- ---- of whom a renewal speaks
+-- ---- of whom a request speaks
 
-by_token : ℕ → Option Row → Result Subject Refusal
+pub by_token : Option ℕ → Option Row → Result Subject Refusal
 by_token n None = Err PermissionDenied
-by_token n (Some r) = Ok (record { row = r; increment = Some n })
+by_token n (Some r) = Ok (record { row = r; increment = n })
 
-by_owner : List Row → List ℕ → ℕ → Option Row → Result Subject Refusal
+pub by_owner : List Row → List ℕ → Option ℕ → Option Row → Result Subject Refusal
 by_owner rows id n None = Err PermissionDenied
-by_owner rows id n (Some token) = owned token (Some n) (lease_with rows id)
+by_owner rows id n (Some token) = owned token n (lease_with rows id)
 
-token_told : (rows : List Row) (body c : List ℕ) (n : ℕ) → asked RenewSelf body ≡ Some (asked_for Token c n) → (o : Option Row) → with_bearer rows RenewSelf body o ≡ by_token n o
+token_told : (rows : List Row) (call : Call) (body : List ℕ) (n : Option ℕ) → asked call body ≡ Some (record { lease_id = None; increment = n }) → (o : Option Row) → with_bearer rows call body o ≡ by_token n o
 unfolding by_token
-token_told rows body c n is None = refl
-token_told rows body c n is (Some token) = ap (with_asked rows token) is
+token_told rows call body n is None = refl
+token_told rows call body n is (Some token) = ap (with_asked rows token) is
 
-lease_told : (rows : List Row) (body c : List ℕ) (n : ℕ) → asked RenewLease body ≡ Some (asked_for Lease c n) → (o : Option Row) → with_bearer rows RenewLease body o ≡ by_owner rows c n o
+lease_told : (rows : List Row) (call : Call) (body c : List ℕ) (n : Option ℕ) → asked call body ≡ Some (record { lease_id = Some c; increment = n }) → (o : Option Row) → with_bearer rows call body o ≡ by_owner rows c n o
 unfolding by_owner
-lease_told rows body c n is None = refl
-lease_told rows body c n is (Some token) = ap (with_asked rows token) is
+lease_told rows call body c n is None = refl
+lease_told rows call body c n is (Some token) = ap (with_asked rows token) is
 
-token_subject : (rows : List Row) (r : Request) (c : List ℕ) (n : ℕ) → r.token ≡ Some c → asked RenewSelf r.body ≡ Some (asked_for Token c n) → subject rows RenewSelf r ≡ by_token n (token_with rows c)
+pub token_subject : (rows : List Row) (call : Call) (r : Request) (c : List ℕ) (n : Option ℕ) → r.token ≡ Some c → asked call r.body ≡ Some (record { lease_id = None; increment = n }) →
+    subject rows call r ≡ by_token n (token_with rows c)
 unfolding subject
-token_subject rows r c n bears body = ap (λ o. with_bearer rows RenewSelf r.body (bearer rows o)) bears ∙ token_told rows r.body c n body (token_with rows c)
+token_subject rows call r c n bears body = ap (λ o. with_bearer rows call r.body (bearer rows o)) bears ∙ token_told rows call r.body n body (token_with rows c)
 
-lease_subject : (rows : List Row) (r : Request) (owner c : List ℕ) (n : ℕ) → r.token ≡ Some owner → asked RenewLease r.body ≡ Some (asked_for Lease c n) →
-    subject rows RenewLease r ≡ by_owner rows c n (token_with rows owner)
+pub lease_subject : (rows : List Row) (call : Call) (r : Request) (owner c : List ℕ) (n : Option ℕ) → r.token ≡ Some owner → asked call r.body ≡ Some (record { lease_id = Some c; increment = n }) →
+    subject rows call r ≡ by_owner rows c n (token_with rows owner)
 unfolding subject
-lease_subject rows r owner c n bears body = ap (λ o. with_bearer rows RenewLease r.body (bearer rows o)) bears ∙ lease_told rows r.body c n body (token_with rows owner)
+lease_subject rows call r owner c n bears body = ap (λ o. with_bearer rows call r.body (bearer rows o)) bears ∙ lease_told rows call r.body c n body (token_with rows owner)
 
 allowed : (l : Table) (t : ℕ) (r : Request) (k : Kind) → is_write r.method ≡ true → by_call l t r (Some (call_for k)) ≡ renews l t (call_for k) r
 allowed l t r Token write = cond-true (is_write r.method) (renews l t RenewSelf r) (record { answer = refuses UnsupportedMethod; table = l }) write
@@ -116,7 +117,7 @@ module _ (g : Forest) (cs ds : List (List ℕ)) where
   abbrev pub RowsOf : ℕ → Row → Row → Type 0
   RowsOf i r q = R r q × ((r.credential ≡ credential_at cs i) × (q.credential ≡ credential_at ds i))
 
-  abbrev SubjectsOf : ℕ → Result Subject Refusal → Result Subject Refusal → Type 0
+  abbrev pub SubjectsOf : ℕ → Result Subject Refusal → Result Subject Refusal → Type 0
   SubjectsOf i (Err x) (Err y) = y ≡ x
   SubjectsOf i (Err x) (Ok b) = ⊥
   SubjectsOf i (Ok a) (Err y) = ⊥
@@ -128,22 +129,22 @@ module _ (g : Forest) (cs ds : List (List ℕ)) where
   RenewedOf i (Ok r) (Err y) = ⊥
   RenewedOf i (Ok r) (Ok q) = RowsOf i r q
 
-  -- answers that say the same of the entry i
-  abbrev pub AnswersOf : ℕ → Answer → Answer → Type 0
-  AnswersOf i (refuses x) (refuses y) = y ≡ x
-  AnswersOf i (refuses x) (tells d q) = ⊥
-  AnswersOf i (refuses x) drops = ⊥
-  AnswersOf i (tells c r) (refuses y) = ⊥
-  AnswersOf i (tells c r) (tells d q) = (c ≡ call_for (entry_at g.entries i).kind) × ((d ≡ call_for (entry_at g.entries i).kind) × RowsOf i r q)
-  AnswersOf i (tells c r) drops = ⊥
-  AnswersOf i drops (refuses y) = ⊥
-  AnswersOf i drops (tells d q) = ⊥
-  AnswersOf i drops drops = Unit {0}
+  -- answers to that call that say the same of the entry i
+  abbrev pub AnswersOf : Call → ℕ → Answer → Answer → Type 0
+  AnswersOf call i (refuses x) (refuses y) = y ≡ x
+  AnswersOf call i (refuses x) (tells d q) = ⊥
+  AnswersOf call i (refuses x) drops = ⊥
+  AnswersOf call i (tells c r) (refuses y) = ⊥
+  AnswersOf call i (tells c r) (tells d q) = (c ≡ call) × ((d ≡ call) × RowsOf i r q)
+  AnswersOf call i (tells c r) drops = ⊥
+  AnswersOf call i drops (refuses y) = ⊥
+  AnswersOf call i drops (tells d q) = ⊥
+  AnswersOf call i drops drops = Unit {0}
 
-  abbrev pub OutcomesOf : ℕ → Outcome → Outcome → Type 0
-  OutcomesOf i x y = AnswersOf i x.answer y.answer × AreTablesAlike g cs ds x.table y.table
+  abbrev pub OutcomesOf : Call → ℕ → Outcome → Outcome → Type 0
+  OutcomesOf call i x y = AnswersOf call i x.answer y.answer × AreTablesAlike g cs ds x.table y.table
 
-  token_both : (i n : ℕ) (x y : Option Row) → BothFound R (is_token_with (credential_at cs i)) (is_token_with (credential_at ds i)) x y → SubjectsOf i (by_token n x) (by_token n y)
+  pub token_both : (i : ℕ) (n : Option ℕ) (x y : Option Row) → BothFound R (is_token_with (credential_at cs i)) (is_token_with (credential_at ds i)) x y → SubjectsOf i (by_token n x) (by_token n y)
   unfolding by_token
   token_both i n None None both = refl
   token_both i n None (Some q) both = absurd both
@@ -153,15 +154,15 @@ module _ (g : Forest) (cs ds : List (List ℕ)) where
   belongs_both : (r q a b : Row) → R r q → R a b → belongs q.parent b.name ≡ belongs r.parent a.name
   belongs_both r q a b one two = ap (λ n. belongs q.parent n) (name_both g cs ds a b two) ∙ ap (λ (x : Row). belongs x.parent a.name) one.same
 
-  owned_both : (i n : ℕ) (a b : Row) → R a b → (x y : Option Row) → BothFound R (is_lease_with (credential_at cs i)) (is_lease_with (credential_at ds i)) x y → SubjectsOf i (owned a (Some n) x) (owned b (Some n) y)
+  owned_both : (i : ℕ) (n : Option ℕ) (a b : Row) → R a b → (x y : Option Row) → BothFound R (is_lease_with (credential_at cs i)) (is_lease_with (credential_at ds i)) x y → SubjectsOf i (owned a n x) (owned b n y)
   owned_both i n a b two None None both = refl
   owned_both i n a b two None (Some q) both = absurd both
   owned_both i n a b two (Some r) None both = absurd both
   owned_both i n a b two (Some r) (Some q) both =
-      by_test (SubjectsOf i) (belongs r.parent a.name) (belongs q.parent b.name) (Ok (record { row = r; increment = Some n })) (Err PermissionDenied) (Ok (record { row = q; increment = Some n })) (Err PermissionDenied)
+      by_test (SubjectsOf i) (belongs r.parent a.name) (belongs q.parent b.name) (Ok (record { row = r; increment = n })) (Err PermissionDenied) (Ok (record { row = q; increment = n })) (Err PermissionDenied)
       (belongs_both r q a b both.0 two) (λ hit. ((both.0, (lease_hit (credential_at cs i) r both.1.0, lease_hit (credential_at ds i) q both.1.1)), refl)) (λ miss. refl)
 
-  owner_both : (i n : ℕ) (c d : List ℕ) (xs ys : List Row) → BothFound R (is_lease_with (credential_at cs i)) (is_lease_with (credential_at ds i)) (lease_with xs (credential_at cs i)) (lease_with ys (credential_at ds i)) →
+  pub owner_both : (i : ℕ) (n : Option ℕ) (c d : List ℕ) (xs ys : List Row) → BothFound R (is_lease_with (credential_at cs i)) (is_lease_with (credential_at ds i)) (lease_with xs (credential_at cs i)) (lease_with ys (credential_at ds i)) →
       (x y : Option Row) → BothFound R (is_token_with c) (is_token_with d) x y → SubjectsOf i (by_owner xs (credential_at cs i) n x) (by_owner ys (credential_at ds i) n y)
   unfolding by_owner
   owner_both i n c d xs ys leases None None both = refl
@@ -197,31 +198,34 @@ module _ (g : Forest) (cs ds : List (List ℕ)) where
       (λ deny. refl) (λ none. granted_both i t fault (subject xs call r) (subject ys call q) same)
 
   counted_both : (i n : ℕ) (l m : Table) (fault : Option Fault) (x y : Result Row Refusal) → AreTablesAlike g cs ds l m → RenewedOf i x y →
-      OutcomesOf i (counted l n (call_for (entry_at g.entries i).kind) fault x) (counted m n (call_for (entry_at g.entries i).kind) fault y)
+      OutcomesOf (call_for (entry_at g.entries i).kind) i (counted l n (call_for (entry_at g.entries i).kind) fault x) (counted m n (call_for (entry_at g.entries i).kind) fault y)
   counted_both i n l m fault (Err x) (Err y) a same = (same, record { rows = a.rows; faults = ap (λ fs. without fs n) a.faults; count = refl })
   counted_both i n l m fault (Err x) (Ok q) a same = absurd same
   counted_both i n l m fault (Ok r) (Err y) a same = absurd same
   counted_both i n l m fault (Ok r) (Ok q) a same =
       let call = call_for (entry_at g.entries i).kind in (
-        by_test (AnswersOf i) (is_drop fault) (is_drop fault) drops (tells call r) drops (tells call q) refl (λ dropped. tt) (λ told. (refl, (refl, same))),
+        by_test (AnswersOf call i) (is_drop fault) (is_drop fault) drops (tells call r) drops (tells call q) refl (λ dropped. tt) (λ told. (refl, (refl, same))),
         record { rows = with_both g cs ds l.rows m.rows a.rows r q same.0; faults = ap (λ fs. without fs n) a.faults; count = refl },
       )
 
-  renews_both : (i t : ℕ) (l m : Table) (r q : Request) → AreTablesAlike g cs ds l m → SubjectsOf i (subject l.rows (call_for (entry_at g.entries i).kind) r) (subject m.rows (call_for (entry_at g.entries i).kind) q) →
-      OutcomesOf i (renews l t (call_for (entry_at g.entries i).kind) r) (renews m t (call_for (entry_at g.entries i).kind) q)
+  pub renews_both : (i t : ℕ) (l m : Table) (r q : Request) → AreTablesAlike g cs ds l m → SubjectsOf i (subject l.rows (call_for (entry_at g.entries i).kind) r) (subject m.rows (call_for (entry_at g.entries i).kind) q) →
+      OutcomesOf (call_for (entry_at g.entries i).kind) i (renews l t (call_for (entry_at g.entries i).kind) r) (renews m t (call_for (entry_at g.entries i).kind) q)
   unfolding renews
   renews_both i t l m r q a same =
       let call = call_for (entry_at g.entries i).kind in
       let n = next_number l.count in
       let fault = fault_at l.faults n in
       let found : RenewedOf i (renewal l.rows t call r fault) (renewal m.rows t call q fault) = renewal_both i t l.rows m.rows call r q fault same in
-      let one : OutcomesOf i (counted l n call fault (renewal l.rows t call r fault)) (counted m n call fault (renewal m.rows t call q fault)) =
+      let one : OutcomesOf call i (counted l n call fault (renewal l.rows t call r fault)) (counted m n call fault (renewal m.rows t call q fault)) =
       counted_both i n l m fault (renewal l.rows t call r fault) (renewal m.rows t call q fault) a found in
-      let two = subst (λ k. OutcomesOf i (counted l n call fault (renewal l.rows t call r fault)) (counted m k call (fault_at l.faults k) (renewal m.rows t call q (fault_at l.faults k)))) (sym (ap next_number a.count)) one in
+      let two = subst (λ k. OutcomesOf call i (counted l n call fault (renewal l.rows t call r fault)) (counted m k call (fault_at l.faults k) (renewal m.rows t call q (fault_at l.faults k)))) (sym (ap next_number a.count)) one in
       let k = next_number m.count in
-      subst (λ fs. OutcomesOf i (counted l n call fault (renewal l.rows t call r fault)) (counted m k call (fault_at fs k) (renewal m.rows t call q (fault_at fs k)))) (sym a.faults) two
+      subst (λ fs. OutcomesOf call i (counted l n call fault (renewal l.rows t call r fault)) (counted m k call (fault_at fs k) (renewal m.rows t call q (fault_at fs k)))) (sym a.faults) two
 
   -- ---- the step
+
+  pub swept_tables : (t : ℕ) (l m : Table) → AreTablesAlike g cs ds l m → AreTablesAlike g cs ds (after_sweep l t) (after_sweep m t)
+  swept_tables t l m a = record { rows = swept_both g cs ds l.rows m.rows a.rows t; faults = a.faults; count = a.count }
 
   module _ (ts us : List Terms) (one : IsInventory (record { forest = g; credentials = cs; terms = ts })) (two : IsInventory (record { forest = g; credentials = ds; terms = us })) where
     s : Inventory
@@ -239,35 +243,33 @@ module _ (g : Forest) (cs ds : List (List ℕ)) where
         let d = credential_at ds i in
         by_kind e.kind (SubjectsOf i (subject xs (call_for e.kind) r) (subject ys (call_for e.kind) q))
         (λ token.
-        as_both (SubjectsOf i) (by_token e.step (token_with xs c)) (subject xs (call_for e.kind) r) (by_token e.step (token_with ys d)) (subject ys (call_for e.kind) q)
+        as_both (SubjectsOf i) (by_token (Some e.step) (token_with xs c)) (subject xs (call_for e.kind) r) (by_token (Some e.step) (token_with ys d)) (subject ys (call_for e.kind) q)
         (ap (λ k. subject xs (call_for k) r) token
-        ∙ token_subject xs r c e.step (a.token ∙ ap (λ k. bearer_for k s i) token) (sym (ap (λ k. asked (call_for k) r.body) token) ∙ a.body ∙ ap (λ k. Some (asked_for k c e.step)) token))
+        ∙ token_subject xs RenewSelf r c (Some e.step) (a.token ∙ ap (λ k. bearer_for k s i) token) (sym (ap (λ k. asked (call_for k) r.body) token) ∙ a.body ∙ ap (λ k. Some (asked_for k c e.step)) token))
         (ap (λ k. subject ys (call_for k) q) token
-        ∙ token_subject ys q d e.step (b.token ∙ ap (λ k. bearer_for k u i) token) (sym (ap (λ k. asked (call_for k) q.body) token) ∙ b.body ∙ ap (λ k. Some (asked_for k d e.step)) token))
-        (token_both i e.step (token_with xs c) (token_with ys d) (token_found_both g cs ds xs ys zip i within token)))
+        ∙ token_subject ys RenewSelf q d (Some e.step) (b.token ∙ ap (λ k. bearer_for k u i) token) (sym (ap (λ k. asked (call_for k) q.body) token) ∙ b.body ∙ ap (λ k. Some (asked_for k d e.step)) token))
+        (token_both i (Some e.step) (token_with xs c) (token_with ys d) (token_found_both g cs ds xs ys zip i within token)))
         (λ lease.
         let over = owner_of g one.forest i within lease in
         let p = over.0 in
         let first : p < i = over.1.1.0 in
-        as_both (SubjectsOf i) (by_owner xs c e.step (token_with xs (credential_at cs p))) (subject xs (call_for e.kind) r) (by_owner ys d e.step (token_with ys (credential_at ds p))) (subject ys (call_for e.kind) q)
+        as_both (SubjectsOf i) (by_owner xs c (Some e.step) (token_with xs (credential_at cs p))) (subject xs (call_for e.kind) r) (by_owner ys d (Some e.step) (token_with ys (credential_at ds p))) (subject ys (call_for e.kind) q)
         (ap (λ k. subject xs (call_for k) r) lease
-        ∙ lease_subject xs r (credential_at cs p) c e.step (a.token ∙ ap (λ k. bearer_for k s i) lease ∙ ap (option_map (credential_at cs)) over.1.0)
+        ∙ lease_subject xs RenewLease r (credential_at cs p) c (Some e.step) (a.token ∙ ap (λ k. bearer_for k s i) lease ∙ ap (option_map (credential_at cs)) over.1.0)
         (sym (ap (λ k. asked (call_for k) r.body) lease) ∙ a.body ∙ ap (λ k. Some (asked_for k c e.step)) lease))
         (ap (λ k. subject ys (call_for k) q) lease
-        ∙ lease_subject ys q (credential_at ds p) d e.step (b.token ∙ ap (λ k. bearer_for k u i) lease ∙ ap (option_map (credential_at ds)) over.1.0)
+        ∙ lease_subject ys RenewLease q (credential_at ds p) d (Some e.step) (b.token ∙ ap (λ k. bearer_for k u i) lease ∙ ap (option_map (credential_at ds)) over.1.0)
         (sym (ap (λ k. asked (call_for k) q.body) lease) ∙ b.body ∙ ap (λ k. Some (asked_for k d e.step)) lease))
-        (owner_both i e.step (credential_at cs p) (credential_at ds p) xs ys (lease_found_both g cs ds xs ys zip i within lease) (token_with xs (credential_at cs p)) (token_with ys (credential_at ds p))
+        (owner_both i (Some e.step) (credential_at cs p) (credential_at ds p) xs ys (lease_found_both g cs ds xs ys zip i within lease) (token_with xs (credential_at cs p)) (token_with ys (credential_at ds p))
         (token_found_both g cs ds xs ys zip p (omega arith) over.1.1.1)))
-
-    swept_tables : (t : ℕ) (l m : Table) → AreTablesAlike g cs ds l m → AreTablesAlike g cs ds (after_sweep l t) (after_sweep m t)
-    swept_tables t l m a = record { rows = swept_both g cs ds l.rows m.rows a.rows t; faults = a.faults; count = a.count }
 
     steps_by : (v : Inventory) (t i : ℕ) (l : Table) (r : Request) → AsksRenewal v i r → step l t r ≡ renews (after_sweep l t) t (call_for (entry_at v.forest.entries i).kind) r
     unfolding step
     steps_by v t i l r asks = ap (by_call (after_sweep l t) t r) asks.call ∙ allowed (after_sweep l t) t r (entry_at v.forest.entries i).kind asks.method
 
     -- the renewal of an entry
-    pub steps_both : (port other t i : ℕ) (l m : Table) → i < length g.entries → AreTablesAlike g cs ds l m → OutcomesOf i (step l t (request_of port cs g i)) (step m t (request_of other ds g i))
+    pub steps_both : (port other t i : ℕ) (l m : Table) → i < length g.entries → AreTablesAlike g cs ds l m →
+        OutcomesOf (call_for (entry_at g.entries i).kind) i (step l t (request_of port cs g i)) (step m t (request_of other ds g i))
     unfolding s u
     steps_both port other t i l m within a =
         let r = request_of port cs g i in
@@ -276,5 +278,5 @@ module _ (g : Forest) (cs ds : List (List ℕ)) where
         let asks = asks_renewal s one port i within in
         let asks' = asks_renewal u two other i within in
         let left = swept_tables t l m a in
-        as_both (OutcomesOf i) (renews (after_sweep l t) t call r) (step l t r) (renews (after_sweep m t) t call q) (step m t q) (steps_by s t i l r asks) (steps_by u t i m q asks')
+        as_both (OutcomesOf call i) (renews (after_sweep l t) t call r) (step l t r) (renews (after_sweep m t) t call q) (step m t q) (steps_by s t i l r asks) (steps_by u t i m q asks')
         (renews_both i t (after_sweep l t) (after_sweep m t) r q left (subjects_both i r q (after_sweep l t).rows (after_sweep m t).rows within left.rows asks asks'))

@@ -33,9 +33,13 @@ pub mod EventsRead
 pub mod LiveListening
 pub mod AlikeRows
 pub mod AlikeSteps
+pub mod AlikeLooks
+pub mod Dated
+pub mod AlikeLookups
 pub mod AlikeAnswers
 pub mod AlikeRuns
 pub mod NextAsks
 pub mod AlikeCourses
 pub mod AlikeFronts
 pub mod AlikeLines
+pub mod AlikeLives

@@ -68,22 +68,23 @@ told_one s i t lookup = record {
   others = λ j apart. entry_at_set_other s.forest.entries i j _ apart;
 }
 
-of_told : (s : Inventory) (i t : ℕ) (answer : Result Lookup ReplyFault) (new : Inventory) → applied s i t answer ≡ Some new → IsToldOne s i new
-of_told s i t (Err fault) new e = absurd (let bad : None ≡ Some new = e in cc)
-of_told s i t (Ok lookup) new e = by_flag (is_none (lookup_fault s i lookup)) e where
-  by_flag : (b : Bool) → cond b (Some (told s i lookup t)) None ≡ Some new → IsToldOne s i new
-  by_flag true h = let is : told s i lookup t ≡ new = (let g : Some (told s i lookup t) ≡ Some new = h in cc) in subst (IsToldOne s i) is (told_one s i t lookup)
+-- what holds of every inventory that a lookup makes holds of what is behind a reply
+of_told : (s : Inventory) (i t : ℕ) (P : Inventory → Type 0) → ((lookup : Lookup) → P (told s i lookup t)) → (answer : Result Lookup ReplyFault) (new : Inventory) → applied s i t answer ≡ Some new → P new
+of_told s i t P holds (Err fault) new e = absurd (let bad : None ≡ Some new = e in cc)
+of_told s i t P holds (Ok lookup) new e = by_flag (is_none (lookup_fault s i lookup)) e where
+  by_flag : (b : Bool) → cond b (Some (told s i lookup t)) None ≡ Some new → P new
+  by_flag true h = let is : told s i lookup t ≡ new = (let g : Some (told s i lookup t) ≡ Some new = h in cc) in subst P is (holds lookup)
   by_flag false h = absurd (let bad : None ≡ Some new = h in cc)
 
-of_reply : (s : Inventory) (i t : ℕ) (answer : Result Reply ExchangeFault) (new : Inventory) → looked s i t answer ≡ Some new → IsToldOne s i new
-of_reply s i t (Err fault) new e = absurd (let bad : None ≡ Some new = e in cc)
-of_reply s i t (Ok r) new e = by_flag (r.status == 200) e where
-  by_flag : (b : Bool) → cond b (applied s i t (lookup_in (entry_at s.forest.entries i).kind r.body)) None ≡ Some new → IsToldOne s i new
-  by_flag true h = of_told s i t (lookup_in (entry_at s.forest.entries i).kind r.body) new h
+pub of_reply : (s : Inventory) (i t : ℕ) (P : Inventory → Type 0) → ((lookup : Lookup) → P (told s i lookup t)) → (answer : Result Reply ExchangeFault) (new : Inventory) → looked s i t answer ≡ Some new → P new
+of_reply s i t P holds (Err fault) new e = absurd (let bad : None ≡ Some new = e in cc)
+of_reply s i t P holds (Ok r) new e = by_flag (r.status == 200) e where
+  by_flag : (b : Bool) → cond b (applied s i t (lookup_in (entry_at s.forest.entries i).kind r.body)) None ≡ Some new → P new
+  by_flag true h = of_told s i t P holds (lookup_in (entry_at s.forest.entries i).kind r.body) new h
   by_flag false h = absurd (let bad : None ≡ Some new = h in cc)
 
 told_by : (port t : ℕ) (old : Looked) (i : ℕ) (inventory : Inventory) (new : Option Behind) → Applies port t old i inventory new → IsToldOne old.inventory i inventory
-told_by port t old i inventory new a = of_reply old.inventory i t (received a.1.1.sent) inventory a.1.1.applied_is
+told_by port t old i inventory new a = of_reply old.inventory i t (IsToldOne old.inventory i) (told_one old.inventory i t) (received a.1.1.sent) inventory a.1.1.applied_is
 
 pub same_credentials : (port t : ℕ) (old : Looked) (is : List ℕ) (new : Looked) → AreLookedUp port t old is new → new.inventory.credentials ≡ old.inventory.credentials
 same_credentials port t old [] new all = ap (λ (u : Looked). u.inventory.credentials) all

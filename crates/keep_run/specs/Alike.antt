@@ -1,10 +1,11 @@
 -- Alike: tables of two brokers that differ in credentials alone, where one has the credential of an entry the other has its own
 -- for the same entry.
 -- Source: this project's own.
-use Rattle.std.specs.Prelude.{◌≡◌, ◌↔◌, ℕ, ◌<◌, List, length}
+use Rattle.std.specs.Prelude.{◌≡◌, ◌↔◌, ℕ, ◌<◌, ◌≤◌, All, List, length}
 use Rattle.std.specs.List.{AllZip}
 use Rattle.keep_tree.specs.Forest.{Forest, entry_at}
 use Rattle.keep_inventory.specs.Inventories.{credential_at}
+use Rattle.keep_moment.specs.declared.moment.TheConstants.{LAST}
 use Rattle.mini_broker.specs.declared.row.Row.{Row}
 use Rattle.mini_broker.specs.Table.{Table}
 
@@ -19,3 +20,7 @@ pub record AreTablesAlike (g : Forest) (cs ds : List (List ℕ)) (l m : Table) :
   pub rows : AllZip (AreRowsAlike g cs ds) l.rows m.rows
   pub faults : m.faults ≡ l.faults
   pub count : m.count ≡ l.count
+
+-- each row was issued at a moment that a date can tell
+abbrev pub AreDated : Table → Type 0
+AreDated l = All (λ row. row.issued ≤ LAST) l.rows

@@ -1,14 +1,18 @@
--- Secrecy: a live run answers the same event lines by the same lines, whatever the secrets are. The contract of a public function
--- without a body.
-use Rattle.std.specs.Prelude.{◌≡◌, ℕ, List, Some}
-use Rattle.keep_tree.specs.Forest.{Forest}
-use Rattle.keep_inventory.specs.Inventories.{IsInventory}
+-- Secrecy: a live run is opened by the same lines, and answers the same event lines by the same lines, whatever the secrets are. The
+-- contract of a public function without a body.
+use Rattle.std.specs.Prelude.{◌≡◌, ℕ, ◌<◌, All, Bool, List, Option, Some, length}
+use Rattle.keep_tree.specs.Forest.{Forest, entry_at}
+use Rattle.keep_inventory.specs.Inventories.{Inventory, IsInventory}
 use Rattle.keep_inventory.specs.declared.terms.Terms.{Terms}
 use Rattle.keep_core.specs.LawsOfSteps.{IsShaped}
 use Rattle.keep_exchange.specs.Exchanges.{Behind}
-use Rattle.keep_run.specs.Alike.{AreTablesAlike}
+use Rattle.keep_exchange.specs.Lookups.{IsLookedUp}
+use Rattle.keep_run.specs.Alike.{AreDated, AreTablesAlike}
+use Rattle.keep_run.specs.Closed.{World}
 use Rattle.keep_run.specs.Listening.{AreHeard}
 use Rattle.keep_run.specs.Live.{Side}
+use Rattle.keep_run.specs.LiveRun.{IsLiveOpening, IsLiveRun}
+use Rattle.keep_run.specs.Looking.{AreLookedUp, Looked}
 
 -- two sides with one keeper, over brokers that differ in credentials alone
 pub record AreSidesAlike (g : Forest) (cs ds : List (List ℕ)) (old other : Side) : Type 0 where
@@ -27,3 +31,48 @@ AlikeAnswersLaw =
     (g : Forest) (cs ds : List (List ℕ)) (ts : List Terms) → IsInventory (record { forest = g; credentials = cs; terms = ts }) → IsInventory (record { forest = g; credentials = ds; terms = ts }) →
     (port other_port : ℕ) (old other new last : Side) (lines : List (List ℕ)) (text more : List ℕ) → IsShaped g old.keeper.forest → AreSidesAlike g cs ds old other →
     AreHeard port cs old lines new text → AreHeard other_port ds other lines last more → (more ≡ text) × AreSidesAlike g cs ds new last
+
+-- ---- the lookups before
+
+-- a forest behind lookups: as many entries, each of its kind, and under its parent
+pub record IsToldOf (g h : Forest) : Type 0 where
+  pub count : length h.entries ≡ length g.entries
+  pub kinds : (i : ℕ) → (entry_at h.entries i).kind ≡ (entry_at g.entries i).kind
+  pub parents : (i : ℕ) → (entry_at h.entries i).parent ≡ (entry_at g.entries i).parent
+
+-- two inventories that differ in their credentials alone, which are looked up over brokers that do
+pub record AreLookedAlike (g : Forest) (cs ds : List (List ℕ)) (old other : Looked) : Type 0 where
+  pub credentials : old.inventory.credentials ≡ cs
+  pub inventory : other.inventory ≡ record old.inventory { credentials = ds }
+  pub told : IsToldOf g old.inventory.forest
+  pub tables : AreTablesAlike g cs ds old.behind.table other.behind.table
+  pub dated : AreDated old.behind.table
+
+-- behind the same lookups they are alike again, and the next is applied to both, or to neither
+abbrev pub AlikeLookupsLaw : Type 0
+AlikeLookupsLaw =
+    (g : Forest) (cs ds : List (List ℕ)) (ts : List Terms) → IsInventory (record { forest = g; credentials = cs; terms = ts }) → IsInventory (record { forest = g; credentials = ds; terms = ts }) →
+    (port other_port t : ℕ) (old other new last : Looked) (is : List ℕ) → All (λ i. i < length g.entries) is → AreLookedAlike g cs ds old other → AreLookedUp port t old is new → AreLookedUp other_port t other is last →
+    AreLookedAlike g cs ds new last
+    × ((i : ℕ) (x y : Bool) (after behind : Inventory) (left gone : Option Behind) → i < length g.entries →
+    IsLookedUp port new.behind.table t new.inventory i x after left → IsLookedUp other_port last.behind.table t last.inventory i y behind gone → y ≡ x)
+
+-- so two runs of such inventories, over such brokers, that are opened are opened by one text, with one keeper, and leave brokers that
+-- differ in credentials alone
+abbrev pub AlikeOpeningsLaw : Type 0
+AlikeOpeningsLaw =
+    (g : Forest) (cs ds : List (List ℕ)) (ts : List Terms) → IsInventory (record { forest = g; credentials = cs; terms = ts }) → IsInventory (record { forest = g; credentials = ds; terms = ts }) →
+    (port other_port start : ℕ) (b c : Behind) (opening last : World) (text more : List ℕ) → AreTablesAlike g cs ds b.table c.table → AreDated b.table →
+    IsLiveOpening port start (record { inventory = record { forest = g; credentials = cs; terms = ts }; behind = b }) opening text →
+    IsLiveOpening other_port start (record { inventory = record { forest = g; credentials = ds; terms = ts }; behind = c }) last more →
+    (more ≡ text) × ((last.keeper ≡ opening.keeper) × AreTablesAlike g cs ds opening.behind.table last.behind.table)
+
+-- and where what the lookups leave is an inventory, as each is that a run holds, the same event lines are answered by the same lines:
+-- one text for the whole run
+abbrev pub AlikeRunsLaw : Type 0
+AlikeRunsLaw =
+    (g : Forest) (cs ds : List (List ℕ)) (ts : List Terms) → IsInventory (record { forest = g; credentials = cs; terms = ts }) → IsInventory (record { forest = g; credentials = ds; terms = ts }) →
+    (port other_port start : ℕ) (b c : Behind) (lines : List (List ℕ)) (final last : Side) (text more : List ℕ) → AreTablesAlike g cs ds b.table c.table → AreDated b.table →
+    (run : IsLiveRun port start (record { inventory = record { forest = g; credentials = cs; terms = ts }; behind = b }) lines final text) → IsInventory run.opened.looked.inventory →
+    IsLiveRun other_port start (record { inventory = record { forest = g; credentials = ds; terms = ts }; behind = c }) lines last more →
+    (more ≡ text) × AreSidesAlike run.opened.looked.inventory.forest cs ds final last

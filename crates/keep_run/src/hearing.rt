@@ -27,6 +27,8 @@ use std::alloc::Global;
 /// A tick before the last moment is `fault clock-back`, and an unknown name `fault unknown-name`; both change nothing. Errors:
 /// `TooLong`, the plan with a new need would have more than 10,000,000 wake-ups; `Write`, `out` failed, and nobody was asked
 /// behind that; `Memory`.
+///
+/// The line has begun at the exchange: the first request may take as long as any.
 pub fn hear<E: Exchange, W: Sink>(
     alloc: Global,
     keeper: &mut Keeper,
@@ -39,6 +41,7 @@ pub fn hear<E: Exchange, W: Sink>(
     requires ready { IsReady credentials.now keeper.old }
     requires within { IsWithin (length keeper.old.forest.entries) heard }
     requires flushed { IsTrue (W.is_flushed out.old) }
+    requires begun { E.limit exchange.old ≡ E.longest exchange.old }
     ensures hears { HearsTo port credentials.now (side keeper.old (E.behind exchange.old)) heard result (side keeper.new (E.behind exchange.new)) (⟦<W as Watched>⟧.sent out.old out.new) }
     ensures count { OnOk result (W.failed_calls out.new ≡ W.failed_calls out.old) }
     ensures ready { OnOk result (IsReady credentials.now keeper.new) }

@@ -6,7 +6,7 @@ ghost use Rattle.keep_run.specs.declared.listening.TheConstants.{EVENT_ROOM, MOS
 ghost use Rattle.keep_run.specs.declared.playing.TheConstants.{MOST_WAKES};
 ghost use Rattle.keep_run.specs.Laws.{AnswersTakenLaw, LeastLaw, PlannedRunLaw, RehearsalLaw, SoFarLaw, StandsLaw};
 ghost use Rattle.keep_run.specs.PlannedRehearsal.{PlannedRehearsalLaw};
-ghost use Rattle.keep_run.specs.Secrecy.{AlikeAnswersLaw};
+ghost use Rattle.keep_run.specs.Secrecy.{AlikeAnswersLaw, AlikeLookupsLaw, AlikeOpeningsLaw, AlikeRunsLaw};
 ghost use Rattle.keep_run.specs.Stops.{AnswerMoreLaw, EndLaw, NeverRefusedLaw, SplitLaw, TickMoreLaw};
 
 /// The law of a run so far: without faults, the run of an inventory that a plan keeps has its rounds at the plan's moments,
@@ -74,10 +74,16 @@ pub fn planned_rehearsal_law()
 {}
 
 /// The law that secrets change no answer of a live run: of two inventories that differ in their credentials alone, and over two
-/// brokers that do, the same event lines are answered by the same lines, and leave one keeper.
+/// brokers that do, the same event lines are answered by the same lines, and leave one keeper. The lookups before them are applied
+/// to both or to neither, and open both runs by the same lines, with one keeper. So two whole runs have one text.
 pub fn secrets_change_no_answer()
-    ensures { AlikeAnswersLaw }
-{}
+    ensures answers { AlikeAnswersLaw }
+    ensures lookups { AlikeLookupsLaw }
+    ensures openings { AlikeOpeningsLaw }
+    ensures runs { AlikeRunsLaw }
+{
+    vault_json::laws::looked_lease_is_read();
+}
 
 /// The limits of rehearsals as numbers: the most wake-ups, and the greatest number that a FAULT word names. It does nothing.
 pub fn limits_of_rehearsals()

@@ -11,12 +11,13 @@ use keep_moment::Text;
 use mini_broker::{Fault, Table};
 use std::alloc::Global;
 use std::fs;
+use std::io::Read;
 use std::net::{IpAddr, Ipv4Addr, OpenListener, SocketAddr, TcpListener};
 use std::os::unix::net::UnixListener;
 use std::process::Abort;
 use std::test::Fail;
 use std::time::Duration;
-use vault_http::{Device, HttpFault, Reply, Request};
+use vault_http::{Counted, Device, HttpFault, Reply, Request, read_all};
 
 const RENEWED: &[u8] = b"{\"auth\":{\"lease_duration\":60,\"renewable\":true}}";
 
@@ -108,6 +109,13 @@ fn serves_itself_over_a_socket(rt: HostRuntime) -> Result<(), Fail> {
     Ok(())
 }
 
+// The connection that waits has taken the request, once, and its other end is closed.
+fn has_sent<S: Read + Drop, R: AllocGlobal + Abort>(rt: &R, stream: S) -> Result<(), Fail> {
+    let sent = read_all(rt.alloc(), &mut Counted::new(stream), 1000)?;
+    assert!(rt; sent.list() == &WIRE[..172]);
+    Ok(())
+}
+
 /// Nobody listens; and then somebody does, and says nothing: the second wait is a quarter of a second, or this would take
 /// longer than a test may.
 #[test]
@@ -119,6 +127,8 @@ fn waits_for_no_silent_peer(rt: HostRuntime) -> Result<(), Fail> {
     let late = ExchangeFault::Http(HttpFault::ReadFailed);
     fails_with(&rt, &mut silent, late, 1)?;
     fails_with(&rt, &mut silent, late, 2)?;
+    let (stream, _) = listener.accept()?;
+    has_sent(&rt, stream)?;
     drop(listener);
     let mut nobody = TcpExchange::new(&rt, port);
     fails_with(&rt, &mut nobody, ExchangeFault::ConnectFailed, 1)
@@ -134,6 +144,8 @@ fn asks_over_a_unix_socket(rt: HostRuntime) -> Result<(), Fail> {
     let mut silent = UnixExchange::patient(&rt, path, Duration::from_secs(1));
     let late = ExchangeFault::Http(HttpFault::ReadFailed);
     fails_with(&rt, &mut silent, late, 1)?;
+    let (stream, _) = listener.accept()?;
+    has_sent(&rt, stream)?;
     drop(listener);
     let _ = fs::remove_file(&rt, path);
     Ok(())

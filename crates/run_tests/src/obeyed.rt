@@ -4,9 +4,12 @@ use crate::checks::IN_RUNS;
 use crate::inventories::WEB;
 use crate::moments::moment;
 use crate::outcomes::Outcome;
-use keep_device::{InputFault, MemorySink};
-use keep_engine::{Command, Exit, Inputs, MarginQuery, obey};
+use keep_device::{InputFault, MemorySink, MemorySource};
+use keep_engine::{Command, Exit, Inputs, MarginQuery, keep_alive, obey};
+use keep_exchange::MemoryExchange;
+use keep_inventory::read;
 use keep_moment::Text;
+use mini_broker::Table;
 use std::alloc::Global;
 use std::test::Fail;
 
@@ -210,5 +213,38 @@ fn commands_are_obeyed_over_files(rt: HostRuntime) -> Result<(), Fail> {
     for (asked, file, certificate, exit, text, fault) in &OBEYED {
         obeys(rt.alloc(), *asked, file, certificate)?.is(&rt, *exit, text, fault);
     }
+    Ok(())
+}
+
+// A live run of the file from 1000 on, over a broker that lists the web example.
+fn keeps_alive(alloc: Global, file: &str) -> Result<(Outcome, u64), Fail> {
+    let table = Table::load(alloc, &read(alloc, WEB.as_bytes())?)?;
+    let mut exchange = MemoryExchange::new(alloc, table);
+    let lines = Vec::from_slice(alloc, b"tick 1059\n")?;
+    let mut events = MemorySource::new(lines, Vec::new(alloc), None);
+    let mut inputs = Folder;
+    let mut out = MemorySink::new(alloc, None);
+    let mut errors = MemorySink::new(alloc, None);
+    let exit = keep_alive(
+        alloc,
+        file,
+        moment(1000)?,
+        &mut inputs,
+        &mut events,
+        &mut exchange,
+        &mut out,
+        &mut errors,
+    );
+    Ok((Outcome { exit, out, errors }, events.reads()))
+}
+
+#[test]
+fn a_live_run_reads_its_file_first(rt: HostRuntime) -> Result<(), Fail> {
+    let text = "entry web 1060\nwake 1059 web\ntold web 60\nnext 1118\n";
+    let (kept, _) = keeps_alive(rt.alloc(), "web.toml")?;
+    kept.is(&rt, Exit::Done, text, "");
+    let (unread, reads) = keeps_alive(rt.alloc(), "other.toml")?;
+    unread.is(&rt, Exit::Device, "", "leasekeep: read\n");
+    assert!(rt; reads == 0, "{reads}");
     Ok(())
 }

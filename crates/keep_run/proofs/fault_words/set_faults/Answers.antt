@@ -1,3 +1,4 @@
+-- A word that writes a new fault adds it to the table, and the first that does not is named by its place.
 use Rattle.std.proofs.Common.{◌≡◌, ◌∙◌, ◌+◌, ◌∷◌, ◌++◌, [], None, Some, Err, ap, arith, drop, refl, sym, subst}
 use Rattle.std.proofs.Math.ListN.{drop_of_length-le}
 use Rattle.std.proofs.lemmas.List.{drop_more}

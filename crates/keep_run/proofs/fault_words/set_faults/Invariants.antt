@@ -1,3 +1,4 @@
+-- The table has the faults of the words that were passed, and those left decide the rest.
 use Rattle.std.proofs.Common.{◌≡◌, ◌+◌, drop}
 use Rattle.keep_run.specs.FaultWords.{faults_from, faults_of}
 use Rattle.keep_run.proofs.fault_words.set_faults.Given as goal

@@ -1,3 +1,4 @@
+-- A text with a second byte of this value has more than two pieces.
 use Rattle.std.proofs.Common.{◌∷◌, ◌∙◌, ap, sym}
 use Rattle.keep_words.specs.Pieces.{two}
 use Rattle.keep_run.proofs.FaultWord.{two_of_more}

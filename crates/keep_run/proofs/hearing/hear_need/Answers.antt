@@ -1,3 +1,4 @@
+-- A new need and the needs that it shortens are of entries, and a need that is taken leaves the keeper ready.
 use Rattle.std.proofs.Common.{◌≤◌, ap, ◌∙◌, length, sym, subst}
 use Rattle.keep_moment.specs.declared.moment.TheConstants.{LAST}
 use Rattle.keep_tree.specs.Forest.{Forest}

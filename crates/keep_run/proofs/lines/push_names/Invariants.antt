@@ -1,3 +1,4 @@
+-- The text so far has gained the names of the entries that were passed.
 use Rattle.std.proofs.Common.{◌≡◌, ◌++◌, ◌∷◌, flat_map, take}
 use Rattle.keep_run.specs.Text.{name_of}
 use Rattle.keep_run.proofs.lines.push_names.Given as goal

@@ -1,3 +1,4 @@
+-- The text so far has gained the lines of the shortened needs that were passed.
 use Rattle.std.proofs.Common.{◌≡◌, ◌++◌, take}
 use Rattle.keep_run.specs.Text.{short_lines}
 use Rattle.keep_run.proofs.lines.push_short_lines.Given as goal

@@ -1,3 +1,4 @@
+-- The word, the moment, the names and the line feed that are appended are the line of a wake-up.
 use Rattle.std.proofs.Common.{◌∙◌, ◌++◌, ◌∷◌, [], ap, codes, decimal, flat_map, sym}
 use Rattle.keep_run.specs.Text.{name_of}
 use Rattle.keep_run.proofs.Wording.{five, named_line}

@@ -1,3 +1,4 @@
+-- Once all entries are looked up and planned the keeper is ready, and each step that fails ends the run early.
 use Rattle.std.proofs.Common.{◌≡◌, ◌∙◌, ◌++◌, ap, length, refl, sym, subst}
 use Rattle.keep_report.specs.declared.stop.Stop.TheVariants as stops
 use Rattle.keep_tree.specs.Forest.{Forest}

@@ -1,3 +1,4 @@
+-- A live run is cut off by its inventory or its beginning, or else goes as far as it listens.
 use Rattle.keep_run.proofs.LiveListening.{at_port, early_lives, listened_lives, read_lives}
 use Rattle.keep_run.proofs.live.live.Goals as goal
 

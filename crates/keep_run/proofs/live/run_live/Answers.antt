@@ -1,3 +1,4 @@
+-- The exit of a live run, and its fault line if it stops, are those of what it did.
 use Rattle.keep_run.proofs.LiveListening.{done_runs, stopped_runs}
 use Rattle.keep_run.proofs.live.run_live.Goals as goal
 

@@ -1,3 +1,4 @@
+-- One entry more is looked up and its line sent, or the run stops at it.
 use Rattle.std.proofs.Common.{◌<◌, ap, arith, length}
 use Rattle.keep_tree.specs.Forest.{Forest}
 use Rattle.keep_run.proofs.LookedUp.{looking_first, looking_more, looking_stops}

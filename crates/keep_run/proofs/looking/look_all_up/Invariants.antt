@@ -1,3 +1,4 @@
+-- The entries before the index are looked up, one after another, and there are 4096 at most.
 use Rattle.std.proofs.Common.{◌-◌}
 use Rattle.keep_run.proofs.LookedUp.{IsLooking, sent_by}
 use Rattle.keep_run.proofs.looking.look_all_up.Given as goal

@@ -1,3 +1,4 @@
+-- A tick asks at once, or sleeps until one that asks, or leaves nothing to do.
 use Rattle.std.proofs.Common.{ap, arith, subst}
 use Rattle.keep_core.specs.declared.event.Output.TheVariants as out
 use Rattle.keep_core.specs.State.{State}

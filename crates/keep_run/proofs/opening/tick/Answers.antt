@@ -1,3 +1,4 @@
+-- The shortened needs and the asked entries of a tick are of the forest, and only want of memory refuses one.
 use Rattle.std.proofs.Common.{ap, ◌∙◌, ◌<◌, ◌≤◌, Err, Ok, arith, length, sym, subst}
 use Rattle.std.specs.List.{All}
 use Rattle.keep_tree.specs.Forest.{Forest}

@@ -1,3 +1,4 @@
+-- Behind the last wake-up allowed the run ends, or tells that another is due.
 use Rattle.std.proofs.Common.{subst}
 use Rattle.keep_run.specs.Playing.{OpensOrEnds}
 use Rattle.keep_run.proofs.Goes.{due_of}

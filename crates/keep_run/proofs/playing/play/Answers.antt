@@ -1,3 +1,4 @@
+-- One wake-up more is played and its lines are written; a run that stops on the way is told as far as it came.
 use Rattle.std.proofs.Common.{◌≡◌, ◌∙◌, ◌≤◌, None, Some, arith, refl, subst}
 use Rattle.std.specs.Io.KnownBytes.{Appends}
 use Rattle.keep_device.specs.Front.{AppendsFront}

@@ -1,3 +1,4 @@
+-- The wake-ups so far are those of the run, and their lines are written behind those that came before.
 use Rattle.keep_run.specs.Stops.{both}
 use Rattle.keep_run.proofs.Written.{Going}
 use Rattle.keep_run.proofs.playing.play.Given as goal

@@ -1,3 +1,4 @@
+-- A rehearsal stops at its words or its opening, or else plays from the keeper that it opened.
 use Rattle.std.proofs.Common.{◌≡◌, ◌∙◌, ◌++◌, ◌≤◌, [], ap, length, refl, sym, subst}
 use Rattle.keep_moment.specs.declared.moment.TheConstants.{LAST}
 use Rattle.keep_tree.specs.Forest.{Forest}

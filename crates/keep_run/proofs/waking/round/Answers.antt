@@ -1,3 +1,4 @@
+-- One asked entry more has its answer, and when all have, the round is closed and the keeper ready.
 use Rattle.std.proofs.Common.{ap, ◌∙◌, ◌+◌, ◌++◌, ◌∷◌, [], drop, sym, subst, take, get_or, arith}
 use Rattle.std.proofs.lemmas.List.{take_all, take_more}
 use Rattle.keep_core.proofs.Shaped.{both_shaped, same}

@@ -1,3 +1,4 @@
+-- The asked entries before the index have their answers, and the round stands for those that are left.
 use Rattle.std.proofs.Common.{◌≡◌, [], drop, length, take}
 use Rattle.keep_core.specs.LawsOfSteps.{IsShaped}
 use Rattle.keep_run.specs.Live.{Between}

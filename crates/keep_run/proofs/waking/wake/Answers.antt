@@ -1,3 +1,4 @@
+-- The round that a tick opens can be played, and where nobody is asked any more the run ends.
 use Rattle.std.specs.Prelude.{◌≢◌}
 use Rattle.std.proofs.Common.{◌≡◌, ap, ◌∙◌, ◌++◌, List, [], ℕ, Some, length, sym, subst, true, false}
 use Rattle.keep_run.specs.Live.{Between}

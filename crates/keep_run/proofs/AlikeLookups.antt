@@ -1,0 +1,374 @@
+-- Alike lookups: over two brokers whose tables differ in credentials alone, lookups make of two inventories that do the same, and
+-- a run is opened by one text.
+use Rattle.std.proofs.Common.{◌≡◌, ◌∙◌, ◌==◌, ℕ, zero, suc, ◌+◌, ◌<◌, ◌≤◌, ◌^◌, Bool, true, false, cond, is_none, List, [], ◌∷◌, ◌++◌, Option, Some, None, Result, Ok, Err, IsUtf8, bytes_eq, length, nat_le, option_map, set, refl, sym, ap, ap₂, subst, arith, inl, inr}
+use Rattle.std.proofs.lemmas.Bool.{cases_eq, cond-true}
+use Rattle.std.proofs.lemmas.Bool.Decides.{nat_tests}
+use Rattle.std.proofs.lemmas.List.{length-set}
+use Rattle.std.proofs.lemmas.List.Elements.{All-head, All-nil, All-cons, All-tail}
+use Rattle.std.specs.Cmp.Lexicographic.{bytes_decides}
+use Rattle.std.specs.List.{All, range_with_len}
+use Rattle.keep_core.specs.Replan.{Replan}
+use Rattle.keep_core.specs.State.{State, unplanned}
+use Rattle.keep_core.proofs.Orders.{replan_once}
+use Rattle.keep_exchange.specs.declared.fault.ExchangeFault.{ExchangeFault}
+use Rattle.keep_exchange.specs.declared.fault.ExchangeFault.TheVariants.{Http}
+use Rattle.keep_exchange.specs.Exchanges.{Behind, received}
+use Rattle.keep_exchange.specs.Lookups.{IsLookedUp, applied, behind_if, looked, lookup_in}
+use Rattle.keep_exchange.specs.Requests.{Fits, lookup_of, looked_as}
+use Rattle.keep_exchange.proofs.Lengths.{looked_lease_short, ok_short, reply_short, status_short}
+use Rattle.keep_inventory.specs.Inventories.{IsInventory, Inventory, credential_at, terms_at}
+use Rattle.keep_inventory.specs.Lookup.{lookup_fault, told, told_entry, told_terms}
+use Rattle.keep_inventory.specs.declared.lookup.LookupFault.TheVariants.{OtherEntry, OtherKind}
+use Rattle.keep_inventory.specs.declared.terms.Terms.{Terms}
+use Rattle.keep_inventory.proofs.Inventories.{credential_text, sendable_at}
+use Rattle.keep_moment.specs.declared.moment.TheConstants.{LAST}
+use Rattle.keep_moment.specs.Rfc3339.{face}
+use Rattle.keep_tree.specs.declared.entry.Entry.{Entry}
+use Rattle.keep_tree.specs.declared.entry.Kind.{Kind}
+use Rattle.keep_tree.specs.declared.entry.Kind.TheVariants.{Token, Lease}
+use Rattle.keep_tree.specs.Forest.{Forest, entry_at}
+use Rattle.keep_tree.specs.Push.{is_lease}
+use Rattle.keep_tree.proofs.Entries.{entry_at_set_other, entry_at_set_same}
+use Rattle.mini_broker.specs.declared.call.Call.TheVariants.{LookupSelf, LookupLease}
+use Rattle.mini_broker.specs.declared.refusal.Refusal.{Refusal}
+use Rattle.mini_broker.specs.declared.refusal.Refusal.TheVariants.{UnsupportedPath, UnsupportedMethod, PermissionDenied, BadRequest, UnknownLease, NotRenewable}
+use Rattle.mini_broker.specs.declared.row.Row.{Row}
+use Rattle.mini_broker.specs.declared.served.Served.{Served}
+use Rattle.mini_broker.specs.declared.served.Served.TheVariants as served
+use Rattle.mini_broker.specs.Request.{status_of}
+use Rattle.mini_broker.specs.Step.{Answer, IsBody, Says, Tells, drops, refuses, seconds_to, step, tells}
+use Rattle.vault_http.specs.declared.http_fault.HttpFault.TheVariants as https
+use Rattle.vault_http.specs.declared.known.TheConstants.{MOST_MESSAGE}
+use Rattle.vault_http.specs.declared.reply.Reply.{Reply}
+use Rattle.vault_http.specs.declared.request.Request.{Request}
+use Rattle.vault_http.specs.Written.{reply_text}
+use Rattle.vault_json.specs.declared.fault.ReplyFault.{ReplyFault}
+use Rattle.vault_json.specs.declared.lookup.Lookup.{Lookup}
+use Rattle.vault_json.specs.declared.lookup.Lookup.TheVariants as lookups
+use Rattle.vault_json.specs.Laws.{LookedLeaseIsRead}
+use Rattle.vault_json.specs.Lookup.{lookup_lease_answer}
+use Rattle.vault_json.specs.Written.{looked_self_text}
+use Rattle.keep_run.specs.Alike.{AreDated, AreTablesAlike}
+use Rattle.keep_run.specs.Closed.{World, taken}
+use Rattle.keep_run.specs.LiveRun.{IsLiveOpening}
+use Rattle.keep_run.specs.Looking.{AreLookedUp, Looked, first, looked_text}
+use Rattle.keep_run.specs.Secrecy.{AlikeLookupsLaw, AlikeOpeningsLaw, AreLookedAlike, IsToldOf}
+use Rattle.keep_run.specs.Text.{short_lines}
+use Rattle.keep_run.proofs.AlikeLooks.{look_for, looks_both}
+use Rattle.keep_run.proofs.AlikeSteps.{AnswersOf, by_kind}
+use Rattle.keep_run.proofs.Dated.{Speaks, if_both, step_dated}
+use Rattle.keep_run.proofs.LookedUp.{of_reply}
+
+-- ---- what is received
+
+pub fits_received : (reply : Reply) → Fits (served.Reply reply) → received (served.Reply reply) ≡ Ok reply
+fits_received reply fits =
+    let test : nat_le (length (reply_text reply)) MOST_MESSAGE ≡ true = grind (arith, fits, nat_tests) in
+    cond-true (nat_le (length (reply_text reply)) MOST_MESSAGE) (Ok reply) (Err (Http https.TooLong)) test
+
+pub reply_of_parts : (x y : Reply) → y.status ≡ x.status → y.body ≡ x.body → y ≡ x
+reply_of_parts x y status body = ap₂ (λ n bs. record { status = n; body = bs }) status body
+
+pub small : (end t : ℕ) → seconds_to end t < 2 ^ 32
+small end t = omega arith
+
+-- what a lookup of a lease tells, and that its reply is received
+abbrev pub lease_told : List ℕ → Row → ℕ → Lookup
+lease_told id row t = lookups.Lease id row.issued row.renewable (seconds_to row.end t)
+
+pub lease_read : LookedLeaseIsRead → (id : List ℕ) (t : ℕ) (row : Row) (reply : Reply) → row.credential ≡ id → IsUtf8 id → length id ≤ 256 → row.issued ≤ LAST → Tells t LookupLease row (served.Reply reply) →
+    (received (served.Reply reply) ≡ Ok reply) × (lookup_lease_answer reply.body ≡ Ok (lease_told id row t))
+unfolding IsBody
+lease_read read id t row reply same text brief early is =
+    let n = seconds_to row.end t in
+    let body = is.1 in
+    let twenty : length (face body.1.0 84 ++ 90 ∷ []) ≡ 20 = refl in
+    let short : length reply.body ≤ 2000 =
+    subst (λ (bs : List ℕ). length bs ≤ 2000) (sym body.2) (looked_lease_short row.credential body.0 row.renewable n (subst (λ (bs : List ℕ). length bs ≤ 256) (sym same) brief) (subst (λ (bs : List ℕ). length bs ≤ 20) (sym body.1.4) (omega (arith, twenty))) (small row.end t)) in (
+      fits_received reply (reply_short reply (status_short reply.status 200 is.0 ok_short) short),
+      read reply.body row.credential row.issued row.renewable n (subst IsUtf8 (sym same) text) early (small row.end t) body ∙ ap (λ c. Ok (lease_told c row t)) same,
+    )
+
+pub brief : (v : Inventory) → IsInventory v → (i : ℕ) → i < length v.forest.entries → length (credential_at v.credentials i) ≤ 256
+brief v is i within = (sendable_at v.credentials i (omega (arith, within, is.credentials)) is.sendable).1
+
+-- the lookup of a lease that tells its own id is taken
+pub own_lease : (v : Inventory) (i : ℕ) (id : List ℕ) (issued ttl : ℕ) (renewable : Bool) → credential_at v.credentials i ≡ id → (entry_at v.forest.entries i).kind ≡ Lease → lookup_fault v i (lookups.Lease id issued renewable ttl) ≡ None
+unfolding lookup_fault
+own_lease v i id issued ttl renewable same lease =
+    ap (λ k. cond (is_lease k) (cond (bytes_eq (credential_at v.credentials i) id) None (Some OtherEntry)) (Some OtherKind)) lease
+    ∙ cond-true (bytes_eq (credential_at v.credentials i) id) None (Some OtherEntry) ((bytes_decides (credential_at v.credentials i) id).1 same)
+
+-- ---- what a lookup leaves of the forest
+
+module _ (g : Forest) where
+  pub told_itself : IsToldOf g g
+  told_itself = record { count = refl; kinds = λ i. refl; parents = λ i. refl }
+
+  same_kind : (now : ℕ) (lookup : Lookup) (t : Terms) (e : Entry) → (told_entry now lookup t e).kind ≡ e.kind
+  same_kind now (lookups.Token ttl created explicit_max orphan renewable period) t e = refl
+  same_kind now (lookups.Lease id issued renewable ttl) t e = refl
+
+  same_parent : (now : ℕ) (lookup : Lookup) (t : Terms) (e : Entry) → (told_entry now lookup t e).parent ≡ e.parent
+  same_parent now (lookups.Token ttl created explicit_max orphan renewable period) t e = refl
+  same_parent now (lookups.Lease id issued renewable ttl) t e = refl
+
+  -- what it leaves of an inventory
+  abbrev Leaves : Inventory → Inventory → Type 0
+  Leaves v new = IsToldOf g new.forest × (new.credentials ≡ v.credentials)
+
+  told_leaves : (v : Inventory) (i t : ℕ) → i < length v.forest.entries → IsToldOf g v.forest → (lookup : Lookup) → Leaves v (told v i lookup t)
+  unfolding told
+  told_leaves v i t within like lookup =
+      let es = v.forest.entries in
+      let terms = told_terms lookup (terms_at v.terms i) in
+      let e = told_entry t lookup terms (entry_at es i) in
+      let here = entry_at_set_same es i e within in (
+        record {
+          count = length-set es i e ∙ like.count;
+          kinds = λ j. elim (cases_eq j i) as (λ _. (entry_at (set es i e) j).kind ≡ (entry_at g.entries j).kind) [
+            | inl same ↦ ap (λ k. (entry_at (set es i e) k).kind) same ∙ ap (λ (x : Entry). x.kind) here ∙ same_kind t lookup terms (entry_at es i) ∙ like.kinds i ∙ ap (λ k. (entry_at g.entries k).kind) (sym same)
+            | inr other ↦ ap (λ (x : Entry). x.kind) (entry_at_set_other es i j e other) ∙ like.kinds j
+          ];
+          parents = λ j. elim (cases_eq j i) as (λ _. (entry_at (set es i e) j).parent ≡ (entry_at g.entries j).parent) [
+            | inl same ↦ ap (λ k. (entry_at (set es i e) k).parent) same ∙ ap (λ (x : Entry). x.parent) here ∙ same_parent t lookup terms (entry_at es i) ∙ like.parents i ∙ ap (λ k. (entry_at g.entries k).parent) (sym same)
+            | inr other ↦ ap (λ (x : Entry). x.parent) (entry_at_set_other es i j e other) ∙ like.parents j
+          ];
+        },
+        refl,
+      )
+
+  -- the request is that of the inventory before
+  looked_same : (k : Kind) (port : ℕ) (xs : List (List ℕ)) (i : ℕ) (e f : Entry) → f.parent ≡ e.parent → looked_as k port xs i f ≡ looked_as k port xs i e
+  looked_same Token port xs i e f same = refl
+  looked_same Lease port xs i e f same = ap (λ p. looked_as Lease port xs i (record e { parent = p })) same
+
+  lookup_same : (port : ℕ) (xs : List (List ℕ)) (h : Forest) (i : ℕ) → IsToldOf g h → lookup_of port xs h i ≡ lookup_of port xs g i
+  unfolding lookup_of
+  lookup_same port xs h i like =
+      looked_same (entry_at h.entries i).kind port xs i (entry_at g.entries i) (entry_at h.entries i) (like.parents i) ∙ ap (λ k. looked_as k port xs i (entry_at g.entries i)) (like.kinds i)
+
+-- ---- what a reply makes of two inventories
+
+mapped_if : {X Y : Type 0} (f : X → Y) (b : Bool) (x : Option X) (y : Option Y) → y ≡ option_map f x → cond b y None ≡ option_map f (cond b x None)
+mapped_if f true x y same = same
+mapped_if f false x y same = refl
+
+by_refusal : {X : Type 0} (v : Refusal) (x : Option X) → cond (status_of v == 200) x None ≡ None
+by_refusal UnsupportedPath x = refl
+by_refusal UnsupportedMethod x = refl
+by_refusal PermissionDenied x = refl
+by_refusal BadRequest x = refl
+by_refusal UnknownLease x = refl
+by_refusal NotRenewable x = refl
+
+none_of_refusal : (v : Inventory) (i t : ℕ) (refusal : Refusal) (reply : Reply) → reply.status ≡ status_of refusal → looked v i t (received (served.Reply reply)) ≡ None
+none_of_refusal v i t refusal reply is =
+    if_both (λ r. looked v i t r ≡ None) (nat_le (length (reply_text reply)) MOST_MESSAGE) (Ok reply) (Err (Http https.TooLong))
+    (ap (λ n. cond (n == 200) (applied v i t (lookup_in (entry_at v.forest.entries i).kind reply.body)) None) is ∙ by_refusal refusal (applied v i t (lookup_in (entry_at v.forest.entries i).kind reply.body)))
+    refl
+
+module _ (g : Forest) (cs ds : List (List ℕ)) (ts : List Terms) (one : IsInventory (record { forest = g; credentials = cs; terms = ts })) (two : IsInventory (record { forest = g; credentials = ds; terms = ts })) (read : LookedLeaseIsRead) where
+  abbrev s : Inventory
+  s = record { forest = g; credentials = cs; terms = ts }
+
+  abbrev u : Inventory
+  u = record { forest = g; credentials = ds; terms = ts }
+
+  abbrev other_of : Inventory → Inventory
+  other_of v = record v { credentials = ds }
+
+  abbrev Alike : Inventory → ℕ → ℕ → Served → Served → Type 0
+  Alike v i t a b = looked (other_of v) i t (received b) ≡ option_map other_of (looked v i t (received a))
+
+  -- of a token, one lookup is applied alike
+  applied_alike : (v : Inventory) (i t : ℕ) → (entry_at v.forest.entries i).kind ≡ Token → (answer : Result Lookup ReplyFault) → applied (other_of v) i t answer ≡ option_map other_of (applied v i t answer)
+  unfolding lookup_fault told
+  applied_alike v i t token (Err fault) = refl
+  applied_alike v i t token (Ok (lookups.Token ttl created explicit_max orphan renewable period)) =
+      let lookup = lookups.Token ttl created explicit_max orphan renewable period in
+      mapped_if other_of (is_none (lookup_fault v i lookup)) (Some (told v i lookup t)) (Some (told (other_of v) i lookup t)) refl
+  applied_alike v i t token (Ok (lookups.Lease id issued renewable ttl)) =
+      let lookup = lookups.Lease id issued renewable ttl in
+      ap (λ k. cond (is_none (cond (is_lease k) (cond (bytes_eq (credential_at ds i) id) None (Some OtherEntry)) (Some OtherKind))) (Some (told (other_of v) i lookup t)) None) token
+      ∙ sym (ap (λ k. option_map other_of (cond (is_none (cond (is_lease k) (cond (bytes_eq (credential_at v.credentials i) id) None (Some OtherEntry)) (Some OtherKind))) (Some (told v i lookup t)) None)) token)
+
+  reply_alike : (v : Inventory) (i t : ℕ) → (entry_at v.forest.entries i).kind ≡ Token → (r : Result Reply ExchangeFault) → looked (other_of v) i t r ≡ option_map other_of (looked v i t r)
+  reply_alike v i t token (Err fault) = refl
+  reply_alike v i t token (Ok r) =
+      let answer = lookup_in (entry_at v.forest.entries i).kind r.body in
+      mapped_if other_of (r.status == 200) (applied v i t answer) (applied (other_of v) i t answer) (applied_alike v i t token answer)
+
+  refused_alike : (v : Inventory) (i t : ℕ) (x y : Refusal) (a b : Served) → Says t (refuses x) a → Says t (refuses y) b → Alike v i t a b
+  refused_alike v i t x y served.Dropped b p q = absurd p
+  refused_alike v i t x y (served.Reply reply) served.Dropped p q = absurd q
+  refused_alike v i t x y (served.Reply reply) (served.Reply other) p q = none_of_refusal (other_of v) i t y other q.0 ∙ sym (ap (option_map other_of) (none_of_refusal v i t x reply p.0))
+
+  dropped_alike : (v : Inventory) (i t : ℕ) (a b : Served) → Says t drops a → Says t drops b → Alike v i t a b
+  dropped_alike v i t served.Dropped served.Dropped p q = refl
+  dropped_alike v i t (served.Reply reply) b p q = absurd p
+  dropped_alike v i t served.Dropped (served.Reply other) p q = absurd q
+
+  token_alike : (v : Inventory) (i t : ℕ) (r q : Row) → (entry_at v.forest.entries i).kind ≡ Token → q ≡ record r { credential = q.credential } → (a b : Served) → Tells t LookupSelf r a → Tells t LookupSelf q b → Alike v i t a b
+  unfolding IsBody
+  token_alike v i t r q token same served.Dropped b x y = absurd x
+  token_alike v i t r q token same (served.Reply reply) served.Dropped x y = absurd y
+  token_alike v i t r q token same (served.Reply reply) (served.Reply other) x y =
+      let text : Row → List ℕ = λ row. looked_self_text (seconds_to row.end t) row.issued row.explicit_max (is_none row.parent) row.renewable row.period in
+      let replied : other ≡ reply = reply_of_parts reply other (y.0 ∙ sym x.0) (y.1 ∙ ap text same ∙ sym x.1) in
+      ap (λ z. looked (other_of v) i t (received (served.Reply z))) replied ∙ reply_alike v i t token (received (served.Reply reply))
+
+  -- a lease that is told by its own id
+  taken_lease : (v : Inventory) (i t : ℕ) (id : List ℕ) (row : Row) (reply : Reply) → credential_at v.credentials i ≡ id → (entry_at v.forest.entries i).kind ≡ Lease → reply.status ≡ 200 → received (served.Reply reply) ≡ Ok reply → lookup_lease_answer reply.body ≡ Ok (lease_told id row t) →
+      looked v i t (received (served.Reply reply)) ≡ Some (told v i (lease_told id row t) t)
+  taken_lease v i t id row reply own lease ok here said =
+      let answer = lookup_in (entry_at v.forest.entries i).kind reply.body in
+      ap (looked v i t) here
+      ∙ cond-true (reply.status == 200) (applied v i t answer) None (ap (λ n. n == 200) ok)
+      ∙ ap (λ k. applied v i t (lookup_in k reply.body)) lease
+      ∙ ap (applied v i t) said
+      ∙ ap (λ fault. cond (is_none fault) (Some (told v i (lease_told id row t) t)) None) (own_lease v i id row.issued (seconds_to row.end t) row.renewable own lease)
+
+  lease_alike : (v : Inventory) (i t : ℕ) (r q : Row) → i < length g.entries → v.credentials ≡ cs → (entry_at v.forest.entries i).kind ≡ Lease → q ≡ record r { credential = q.credential } → r.credential ≡ credential_at cs i → q.credential ≡ credential_at ds i →
+      r.issued ≤ LAST → (a b : Served) → Tells t LookupLease r a → Tells t LookupLease q b → Alike v i t a b
+  unfolding told
+  lease_alike v i t r q within credentials lease same c d early served.Dropped b x y = absurd x
+  lease_alike v i t r q within credentials lease same c d early (served.Reply reply) served.Dropped x y = absurd y
+  lease_alike v i t r q within credentials lease same c d early (served.Reply reply) (served.Reply other) x y =
+      let dated : q.issued ≤ LAST = subst (λ (row : Row). row.issued ≤ LAST) (sym same) early in
+      let first = lease_read read (credential_at cs i) t r reply c (credential_text s one i within) (brief s one i within) early x in
+      let second = lease_read read (credential_at ds i) t q other d (credential_text u two i within) (brief u two i within) dated y in
+      let said : lookup_lease_answer other.body ≡ Ok (lease_told (credential_at ds i) r t) = second.1 ∙ ap (λ (row : Row). Ok (lease_told (credential_at ds i) row t)) same in
+      taken_lease (other_of v) i t (credential_at ds i) r other refl lease y.0 second.0 said
+      ∙ sym (ap (option_map other_of) (taken_lease v i t (credential_at cs i) r reply (ap (λ xs. credential_at xs i) credentials) lease x.0 first.0 first.1))
+
+  looked_alike : (v : Inventory) (i t : ℕ) → i < length g.entries → v.credentials ≡ cs → IsToldOf g v.forest → (x y : Answer) → AnswersOf g cs ds (look_for (entry_at g.entries i).kind) i x y → Speaks x → (a b : Served) → Says t x a → Says t y b → Alike v i t a b
+  looked_alike v i t within own like (refuses x) (refuses y) same speaks a b p q = refused_alike v i t x y a b p q
+  looked_alike v i t within own like (refuses x) (tells d q) same speaks a b p o = absurd same
+  looked_alike v i t within own like (refuses x) drops same speaks a b p o = absurd same
+  looked_alike v i t within own like (tells c r) (refuses y) same speaks a b p o = absurd same
+  looked_alike v i t within own like (tells c r) drops same speaks a b p o = absurd same
+  looked_alike v i t within own like drops (refuses y) same speaks a b p o = absurd same
+  looked_alike v i t within own like drops (tells d q) same speaks a b p o = absurd same
+  looked_alike v i t within own like drops drops same speaks a b p o = dropped_alike v i t a b p o
+  looked_alike v i t within own like (tells c r) (tells d q) same speaks a b p o =
+      let kind = (entry_at g.entries i).kind in
+      let first = subst (λ call. Tells t call r a) same.0 p in
+      let second = subst (λ call. Tells t call q b) same.1.0 o in
+      let rows = same.1.1 in
+      by_kind kind (Alike v i t a b)
+      (λ token. token_alike v i t r q (like.kinds i ∙ token) rows.0.same a b (subst (λ k. Tells t (look_for k) r a) token first) (subst (λ k. Tells t (look_for k) q b) token second))
+      (λ lease. lease_alike v i t r q within own (like.kinds i ∙ lease) rows.0.same rows.1.0 rows.1.1 speaks a b (subst (λ k. Tells t (look_for k) r a) lease first) (subst (λ k. Tells t (look_for k) q b) lease second))
+
+  -- ---- one lookup
+
+  flag_same : (x y : Bool) (after behind : Inventory) → behind_if y behind ≡ option_map other_of (behind_if x after) → y ≡ x
+  flag_same true true after behind same = refl
+  flag_same false false after behind same = refl
+  flag_same true false after behind same = absurd cc
+  flag_same false true after behind same = absurd cc
+
+  value_same : (x y : Inventory) → Some y ≡ Some (other_of x) → y ≡ other_of x
+  value_same x y same = cc
+
+  left_same : (x y : Behind) → Some x ≡ Some y → x ≡ y
+  left_same x y same = cc
+
+  module _ (port other t i : ℕ) (old begun : Looked) (within : i < length g.entries) (alike : AreLookedAlike g cs ds old begun) where
+    r : Request
+    r = lookup_of port cs g i
+
+    q : Request
+    q = lookup_of other ds g i
+
+    asked : lookup_of port old.inventory.credentials old.inventory.forest i ≡ r
+    unfolding r
+    asked = ap (λ xs. lookup_of port xs old.inventory.forest i) alike.credentials ∙ lookup_same g port cs old.inventory.forest i alike.told
+
+    asked_too : lookup_of other begun.inventory.credentials begun.inventory.forest i ≡ q
+    unfolding q
+    asked_too = ap (λ (v : Inventory). lookup_of other v.credentials v.forest i) alike.inventory ∙ lookup_same g other ds old.inventory.forest i alike.told
+
+    results : (x y : Bool) (after behind : Inventory) (new last : Option Behind) → IsLookedUp port old.behind.table t old.inventory i x after new → IsLookedUp other begun.behind.table t begun.inventory i y behind last →
+        behind_if y behind ≡ option_map other_of (behind_if x after)
+    unfolding r q
+    results x y after behind new last a b =
+        let outcome = looks_both g cs ds ts ts one two port other t i old.behind.table begun.behind.table within alike.tables in
+        let speaks = (step_dated old.behind.table alike.dated t r).0 in
+        let says = subst (λ z. Says t (step old.behind.table t z).answer a.sent) asked a.says in
+        let says_too = subst (λ z. Says t (step begun.behind.table t z).answer b.sent) asked_too b.says in
+        let same = looked_alike old.inventory i t within alike.credentials alike.told (step old.behind.table t r).answer (step begun.behind.table t q).answer outcome.0 speaks a.sent b.sent says says_too in
+        sym b.applied_is ∙ ap (λ (v : Inventory). looked v i t (received b.sent)) alike.inventory ∙ same ∙ ap (option_map other_of) a.applied_is
+
+    pub flags : (x y : Bool) (after behind : Inventory) (new last : Option Behind) → IsLookedUp port old.behind.table t old.inventory i x after new → IsLookedUp other begun.behind.table t begun.inventory i y behind last → y ≡ x
+    flags x y after behind new last a b = flag_same x y after behind (results x y after behind new last a b)
+
+    pub one_both : (mid after : Looked) → IsLookedUp port old.behind.table t old.inventory i true mid.inventory (Some mid.behind) → IsLookedUp other begun.behind.table t begun.inventory i true after.inventory (Some after.behind) → AreLookedAlike g cs ds mid after
+    unfolding r q
+    one_both mid after a b =
+        let outcome = looks_both g cs ds ts ts one two port other t i old.behind.table begun.behind.table within alike.tables in
+        let left = step_dated old.behind.table alike.dated t r in
+        let n = alike.told.count in
+        let leaves = of_reply old.inventory i t (Leaves g old.inventory) (told_leaves g old.inventory i t (omega (arith, within, n)) alike.told) (received a.sent) mid.inventory a.applied_is in
+        let first : mid.behind.table ≡ (step old.behind.table t r).table = ap (λ (z : Behind). z.table) (left_same mid.behind _ a.is) ∙ ap (λ z. (step old.behind.table t z).table) asked in
+        let second : after.behind.table ≡ (step begun.behind.table t q).table = ap (λ (z : Behind). z.table) (left_same after.behind _ b.is) ∙ ap (λ z. (step begun.behind.table t z).table) asked_too in
+        record {
+          credentials = leaves.1 ∙ alike.credentials;
+          inventory = value_same mid.inventory after.inventory (results true true mid.inventory after.inventory (Some mid.behind) (Some after.behind) a b);
+          told = leaves.0;
+          tables = subst (λ l. AreTablesAlike g cs ds l after.behind.table) (sym first) (subst (AreTablesAlike g cs ds (step old.behind.table t r).table) (sym second) outcome.1);
+          dated = subst AreDated (sym first) left.1;
+        }
+
+  -- ---- lookups, one after another
+
+  all_both : (port other t : ℕ) (is : List ℕ) (old begun new last : Looked) → All (λ i. i < length g.entries) is → AreLookedAlike g cs ds old begun → AreLookedUp port t old is new → AreLookedUp other t begun is last → AreLookedAlike g cs ds new last
+  all_both port other t [] old begun new last within alike a b = subst (λ x. AreLookedAlike g cs ds x last) (sym a) (subst (AreLookedAlike g cs ds old) (sym b) alike)
+  all_both port other t (i ∷ is) old begun new last within alike a b =
+      all_both port other t is a.0 b.0 new last (All-tail (λ k. k < length g.entries) i is within)
+      (one_both port other t i old begun (All-head (λ k. k < length g.entries) i is within) alike a.0 b.0 a.1.0 b.1.0) a.1.1 b.1.1
+
+  -- ---- the opening
+
+  all_first : (m n a : ℕ) → a + n ≤ m → All (λ i. i < m) (range_with_len a n)
+  all_first m zero a h = All-nil (λ i. i < m)
+  all_first m (suc n) a h = All-cons (λ i. i < m) a (range_with_len (a + 1) n) (omega arith) (all_first m n (a + 1) (omega arith))
+
+  abbrev pub started : Inventory → Behind → Looked
+  started v b = record { inventory = v; behind = b }
+
+  fresh_both : (b c : Behind) → AreTablesAlike g cs ds b.table c.table → AreDated b.table → AreLookedAlike g cs ds (started s b) (started u c)
+  fresh_both b c tables dated = record { credentials = refl; inventory = refl; told = told_itself g; tables = tables; dated = dated }
+
+  pub opened_looked : (port other start : ℕ) (b c : Behind) (opening last : World) (text more : List ℕ) → AreTablesAlike g cs ds b.table c.table → AreDated b.table →
+      (a : IsLiveOpening port start (started s b) opening text) (d : IsLiveOpening other start (started u c) last more) → AreLookedAlike g cs ds a.looked d.looked
+  opened_looked port other start b c opening last text more tables dated a d =
+      let n = length g.entries in
+      all_both port other start (first n) (started s b) (started u c) a.looked d.looked (all_first n n 0 (omega arith)) (fresh_both b c tables dated) a.all d.all
+
+  pub opened_both : (port other start : ℕ) (b c : Behind) (opening last : World) (text more : List ℕ) → AreTablesAlike g cs ds b.table c.table → AreDated b.table →
+      IsLiveOpening port start (started s b) opening text → IsLiveOpening other start (started u c) last more → (more ≡ text) × ((last.keeper ≡ opening.keeper) × AreTablesAlike g cs ds opening.behind.table last.behind.table)
+  unfolding looked_text
+  opened_both port other start b c opening last text more tables dated a d =
+      let n = length g.entries in
+      let alike = opened_looked port other start b c opening last text more tables dated a d in
+      let second = subst (λ (v : Inventory). ◌≡◌ {A = Forest} v.forest a.looked.inventory.forest) (sym alike.inventory) refl in
+      let keeper : d.keeper ≡ a.keeper = sym (replan_once (unplanned a.looked.inventory.forest) start a.keeper d.keeper a.planned (subst (λ h. Replan (unplanned h) start d.keeper) second d.planned)) in
+      let opened = ap (λ (w : World). w.keeper) a.is in (
+        d.text_is
+            ∙ ap (λ (v : Inventory). looked_text v (first n) ++ short_lines v.forest d.keeper.shortened) alike.inventory
+            ∙ ap (λ (k : State). looked_text a.looked.inventory (first n) ++ short_lines a.looked.inventory.forest k.shortened) keeper
+            ∙ sym a.text_is,
+        (
+          ap (λ (w : World). w.keeper) d.is ∙ ap taken keeper ∙ sym opened,
+          subst (λ (w : World). AreTablesAlike g cs ds w.behind.table last.behind.table) (sym a.is) (subst (λ (w : World). AreTablesAlike g cs ds a.looked.behind.table w.behind.table) (sym d.is) alike.tables),
+        ),
+      )
+
+pub alike_openings : LookedLeaseIsRead → AlikeOpeningsLaw
+alike_openings read g cs ds ts one two port other start b c opening last text more tables dated a d = opened_both g cs ds ts one two read port other start b c opening last text more tables dated a d
+
+pub alike_lookups : LookedLeaseIsRead → AlikeLookupsLaw
+alike_lookups read g cs ds ts one two port other t old begun new last is within alike a b =
+    let behind = all_both g cs ds ts one two read port other t is old begun new last within alike a b in
+    (behind, λ i x y after then' left gone low c d. flags g cs ds ts one two read port other t i new last low behind x y after then' left gone c d)
