@@ -1,6 +1,6 @@
 ghost use Rattle.std.specs.Prelude.{◌≡◌, ◌≤◌, ℕ, List, IfOk};
 ghost use Rattle.keep_cert.specs.Answers.{Gives};
-ghost use Rattle.keep_cert.specs.Lines.{four_words, line_at, lines, number_at, six_words, three_words, two_words};
+ghost use Rattle.keep_cert.specs.Lines.{line_at, lines, number_at};
 
 use crate::fault::CertFault;
 use keep_moment::LAST;
@@ -15,41 +15,6 @@ pub(crate) fn line_at(n: u64, text: &[u8]) -> Result<(&[u8], &[u8]), CertFault>
         None if text.is_empty() => Err(CertFault::Truncated),
         None => Err(CertFault::BadLine(n)),
     }
-}
-
-/// The words of the `n`th line, where it has two.
-#[tactic(auto, unfolding(crate::specs::Lines::two_words))]
-pub(crate) fn two_words(n: u64, line: &[u8]) -> Result<(&[u8], &[u8]), CertFault>
-    ensures { Gives {Y = List ℕ × List ℕ} (λ w. (w.0.now, w.1.now)) result (two_words n line.now) }
-{
-    keep_words::two_words(line).ok_or(CertFault::BadLine(n))
-}
-
-/// The words of the `n`th line, where it has three.
-#[tactic(auto, unfolding(crate::specs::Lines::three_words))]
-pub(crate) fn three_words(n: u64, line: &[u8]) -> Result<(&[u8], &[u8], &[u8]), CertFault>
-    ensures { Gives {Y = List ℕ × List ℕ × List ℕ} (λ w. (w.0.now, w.1.now, w.2.now)) result (three_words n line.now) }
-{
-    keep_words::three_words(line).ok_or(CertFault::BadLine(n))
-}
-
-/// The words of the `n`th line, where it has four.
-#[tactic(auto, unfolding(crate::specs::Lines::four_words))]
-pub(crate) fn four_words(n: u64, line: &[u8]) -> Result<(&[u8], &[u8], &[u8], &[u8]), CertFault>
-    ensures { Gives {Y = List ℕ × List ℕ × List ℕ × List ℕ} (λ w. (w.0.now, w.1.now, w.2.now, w.3.now)) result (four_words n line.now) }
-{
-    keep_words::four_words(line).ok_or(CertFault::BadLine(n))
-}
-
-/// The words of the `n`th line, where it has six.
-#[tactic(auto, unfolding(crate::specs::Lines::six_words))]
-pub(crate) fn six_words(
-    n: u64,
-    line: &[u8],
-) -> Result<(&[u8], &[u8], &[u8], &[u8], &[u8], &[u8]), CertFault>
-    ensures { Gives {Y = List ℕ × List ℕ × List ℕ × List ℕ × List ℕ × List ℕ} (λ w. (w.0.now, w.1.now, w.2.now, w.3.now, w.4.now, w.5.now)) result (six_words n line.now) }
-{
-    keep_words::six_words(line).ok_or(CertFault::BadLine(n))
 }
 
 /// The number of a word in the `n`th line, where it is at most [`LAST`].

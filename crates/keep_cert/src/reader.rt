@@ -7,13 +7,13 @@ ghost use Rattle.keep_cert.specs.declared.cert.Version.{Version};
 
 use crate::cert::{Body, Cert, Version};
 use crate::fault::CertFault;
-use crate::lines::{line_at, number_at, three_words, two_words};
+use crate::lines::{line_at, number_at};
 use crate::run_line::{entry_named, nothing_behind};
 use crate::run_lines::runs_of;
 use crate::runs::Runs;
 use keep_moment::Moment;
 use keep_tree::Forest;
-use keep_words::{begins, cut};
+use keep_words::{begins, cut, three_words, two_words};
 use std::alloc::Global;
 
 /// The certificate that a text writes over a forest, in version 1 or 2. A line `wake` of version 1 is a run of one
@@ -70,14 +70,14 @@ fn version_of(line: &[u8]) -> Result<Version, CertFault>
 }
 
 /// The moment of the second line, `start N`.
-#[tactic(auto, unfolding(crate::specs::Reading::start_of))]
+#[tactic(auto, unfolding(crate::specs::Reading::start_of, crate::specs::Lines::two_words))]
 fn start_of(line: &[u8]) -> Result<Moment, CertFault>
     ensures { Gives (λ start. start) result (start_of line.now) }
 {
     if !begins(line, b"start") {
         return Err(CertFault::BadLine(2));
     }
-    let (_, word) = two_words(2, line)?;
+    let (_, word) = two_words(line).ok_or(CertFault::BadLine(2))?;
     let seconds = number_at(2, word)?;
     Moment::new(seconds).ok_or(CertFault::BadNumber(2))
 }
@@ -98,11 +98,11 @@ fn body_of(alloc: Global, forest: &Forest, version: Version, text: &[u8]) -> Res
 }
 
 /// The third line, `unkeepable ENTRY NEEDED`.
-#[tactic(auto, unfolding(crate::specs::Reading::unkeepable_of))]
+#[tactic(auto, unfolding(crate::specs::Reading::unkeepable_of, crate::specs::Lines::three_words))]
 fn unkeepable_of(forest: &Forest, line: &[u8]) -> Result<Body, CertFault>
     ensures { Gives (λ body. body) result (unkeepable_of forest.now.entries line.now) }
 {
-    let (_, entry, needed) = three_words(3, line)?;
+    let (_, entry, needed) = three_words(line).ok_or(CertFault::BadLine(3))?;
     let entry = entry_named(forest, 3, entry)?;
     let needed = entry_named(forest, 3, needed)?;
     Ok(Body::Unkeepable { entry, needed })

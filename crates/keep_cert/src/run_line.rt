@@ -6,11 +6,11 @@ ghost use Rattle.keep_cert.specs.Reading.{entry_named, wake_of, run_of, is_run, 
 
 use crate::cert::Version;
 use crate::fault::CertFault;
-use crate::lines::{four_words, number_at, six_words, two_words};
+use crate::lines::number_at;
 use keep_moment::LAST;
 use keep_rule::{LIMIT, Run};
 use keep_tree::Forest;
-use keep_words::begins;
+use keep_words::{begins, four_words, six_words, two_words};
 
 /// The entry that a word of the `n`th line names.
 #[tactic(auto, unfolding(crate::specs::Reading::entry_named))]
@@ -51,12 +51,12 @@ pub(crate) fn run_line(
 }
 
 /// The line `wake N ENTRY NEEDED`.
-#[tactic(auto, unfolding(crate::specs::Reading::wake_of))]
+#[tactic(auto, unfolding(crate::specs::Reading::wake_of, crate::specs::Lines::four_words))]
 fn wake_of(forest: &Forest, n: u64, line: &[u8]) -> Result<Run, CertFault>
     ensures value { Gives (λ run. run) result (wake_of n forest.now.entries line.now) }
     ensures within { IfOk result (λ run. run.count ≤ LIMIT) }
 {
-    let (_, moment, entry, needed) = four_words(n, line)?;
+    let (_, moment, entry, needed) = four_words(line).ok_or(CertFault::BadLine(n))?;
     let first = number_at(n, moment)?;
     let entry = entry_named(forest, n, entry)?;
     let needed = entry_named(forest, n, needed)?;
@@ -70,13 +70,13 @@ fn wake_of(forest: &Forest, n: u64, line: &[u8]) -> Result<Run, CertFault>
 }
 
 /// The line `run FIRST STEP COUNT ENTRY NEEDED`, behind so many wake-ups.
-#[tactic(auto, unfolding(crate::specs::Reading::run_of))]
+#[tactic(auto, unfolding(crate::specs::Reading::run_of, crate::specs::Lines::six_words))]
 fn run_of(forest: &Forest, n: u64, before: u64, line: &[u8]) -> Result<Run, CertFault>
     requires { before ≤ MAX_LINES * LIMIT }
     ensures value { Gives (λ run. run) result (run_of n forest.now.entries before line.now) }
     ensures within { IfOk result (λ run. run.count ≤ LIMIT) }
 {
-    let (_, first, step, count, entry, needed) = six_words(n, line)?;
+    let (_, first, step, count, entry, needed) = six_words(line).ok_or(CertFault::BadLine(n))?;
     let first = number_at(n, first)?;
     let step = number_at(n, step)?;
     let count = number_at(n, count)?;
@@ -118,14 +118,14 @@ pub(crate) fn ending(n: u64, count: u64, line: &[u8], rest: &[u8]) -> Result<(),
     nothing_behind(rest)
 }
 
-#[tactic(auto, unfolding(crate::specs::Reading::end_of_runs))]
+#[tactic(auto, unfolding(crate::specs::Reading::end_of_runs, crate::specs::Lines::two_words))]
 fn end_of_runs(n: u64, count: u64, line: &[u8]) -> Result<(), CertFault>
     ensures { Gives (λ u. u) result (end_of_runs n count line.now) }
 {
     if !begins(line, b"end") {
         return Err(CertFault::BadLine(n));
     }
-    let (_, word) = two_words(n, line)?;
+    let (_, word) = two_words(line).ok_or(CertFault::BadLine(n))?;
     if number_at(n, word)? == count {
         Ok(())
     } else {

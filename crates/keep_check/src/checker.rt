@@ -11,8 +11,8 @@ ghost use Rattle.keep_check.specs.Laws.{Holds};
 ghost use Rattle.keep_cert.specs.declared.cert.Body.TheVariants as body;
 
 use crate::answer::{Answer, Cause, CheckFault};
-use crate::gap_tree::GapTree;
 use crate::kept::first_short;
+use crate::rising_runs::RisingRuns;
 use crate::walk::first_fault;
 use keep_cert::{Body, Cert};
 use keep_moment::Moment;
@@ -69,8 +69,8 @@ fn check_runs(
         Some(cause) => return Ok(Answer::No(cause)),
         None => {}
     }
-    let gaps = GapTree::over(alloc, runs)?;
-    match first_short(alloc, forest, start, &gaps, runs)? {
+    let rising = RisingRuns::over(alloc, start, runs)?;
+    match first_short(alloc, forest, &rising)? {
         Some(index) => Ok(Answer::No(Cause::NotKept(index))),
         None => Ok(Answer::Yes),
     }

@@ -1,15 +1,13 @@
-ghost use Rattle.std.specs.Prelude.{◌≡◌, ℕ, ◌+◌, ◌-◌, ◌*◌, ◌<◌, ◌≤◌, ◌⊎◌, true, IfOk, length, slice_index};
+ghost use Rattle.std.specs.Prelude.{◌≡◌, ◌+◌, ◌-◌, ◌*◌, ◌<◌, ◌≤◌, true, IfOk, length};
 ghost use Rattle.keep_moment.specs.declared.moment.TheConstants.{LAST};
 ghost use Rattle.keep_tree.specs.Forest.{end_of, entry_at};
 ghost use Rattle.keep_tree.specs.Push.{IsForest};
-ghost use Rattle.keep_rule.specs.Schedule.{RisesStrictly};
 ghost use Rattle.keep_rule.specs.Runs.{all_wakes, moments_of, wakes};
-ghost use Rattle.keep_check.specs.code.Steps.{AllFit, FirstShort, Stops, least_with};
-ghost use Rattle.keep_check.specs.code.Gaps.{AllNarrow, HasMarks, IsIdleAt, gaps_in, gaps_of};
+ghost use Rattle.keep_check.specs.code.Steps.{FirstShort, Stops, least_with};
 ghost use Rattle.keep_check.specs.Kept.{own, own_end};
 
-use crate::gap_tree::GapTree;
 use crate::gaps::gaps_until;
+use crate::rising_runs::RisingRuns;
 use crate::walk::last_of;
 use keep_rule::Run;
 use keep_tree::{Entry, Forest, renewal};
@@ -20,21 +18,16 @@ use std::alloc::{AllocError, Global};
 pub(crate) fn first_short(
     alloc: Global,
     forest: &Forest,
-    start: u64,
-    gaps: &GapTree,
-    runs: &[Run],
+    rising: &RisingRuns,
 ) -> Result<Option<u32>, AllocError>
-    requires fit { AllFit (length forest.now.entries) runs.now }
-    requires rising { RisesStrictly start (moments_of (all_wakes runs.now)) }
-    requires marks { HasMarks gaps.now }
-    requires gaps { gaps_in gaps.now ≡ gaps_of runs.now }
-    ensures short { IfOk result (λ found. FirstShort forest.now start (own forest.now.entries forest.now.margin (end_of forest.now.entries) (moments_of (all_wakes runs.now))) found) }
+    ensures short { IfOk result (λ found. FirstShort forest.now rising.now.start (own forest.now.entries forest.now.margin (end_of forest.now.entries) (moments_of (all_wakes rising.now.runs))) found) }
     ensures sound { IsForest forest.now }
 {
+    let start = rising.start();
     // The least own end over each entry, itself included.
     let mut lasts = Vec::new(alloc);
     for index in 0..forest.len() {
-        let end = own_end(forest, index, start, gaps, runs);
+        let end = own_end(forest, index, rising);
         let last = least_over(forest, index, end, &lasts);
         let need = forest.get(index).need;
         if start < need && last < need {
@@ -59,17 +52,13 @@ fn least_over(forest: &Forest, index: u32, end: u64, lasts: &[u64]) -> u64
 }
 
 /// The last end of an entry that is asked by itself at each moment of the runs.
-fn own_end(forest: &Forest, index: u32, start: u64, gaps: &GapTree, runs: &[Run]) -> u64
-    requires within { index < length forest.now.entries }
-    requires fit { AllFit (length forest.now.entries) runs.now }
-    requires rising { RisesStrictly start (moments_of (all_wakes runs.now)) }
-    requires marks { HasMarks gaps.now }
-    requires gaps { gaps_in gaps.now ≡ gaps_of runs.now }
-    ensures { result ≡ own forest.now.entries forest.now.margin (end_of forest.now.entries) (moments_of (all_wakes runs.now)) index }
+fn own_end(forest: &Forest, index: u32, rising: &RisingRuns) -> u64
+    requires { index < length forest.now.entries }
+    ensures { result ≡ own forest.now.entries forest.now.margin (end_of forest.now.entries) (moments_of (all_wakes rising.now.runs)) index }
 {
     let entry = forest.get(index);
     if entry.renewable {
-        renewed_end(entry, forest.margin(), start, gaps, runs)
+        renewed_end(entry, forest.margin(), rising)
     } else {
         entry.end
     }
@@ -79,23 +68,20 @@ fn own_end(forest: &Forest, index: u32, start: u64, gaps: &GapTree, runs: &[Run]
 /// the end is at most a step after the last one that came in time, so the first gap that the step does not bridge ends it.
 /// So the loop turns four times at most: it may take the run in which the first moment gains, passes at once all runs whose
 /// gaps are bridged, takes the one behind them, and finds the next too late.
-fn renewed_end(entry: &Entry, margin: u32, start: u64, gaps: &GapTree, runs: &[Run]) -> u64
-    requires renewable { entry.now.renewable ≡ true }
-    requires fit { (n : ℕ) × AllFit n runs.now }
-    requires rising { RisesStrictly start (moments_of (all_wakes runs.now)) }
-    requires marks { HasMarks gaps.now }
-    requires gaps { gaps_in gaps.now ≡ gaps_of runs.now }
-    ensures { result ≡ own_end entry.now margin entry.now.end (moments_of (all_wakes runs.now)) }
+fn renewed_end(entry: &Entry, margin: u32, rising: &RisingRuns) -> u64
+    requires { entry.now.renewable ≡ true }
+    ensures { result ≡ own_end entry.now margin entry.now.end (moments_of (all_wakes rising.now.runs)) }
 {
+    let runs = rising.list();
     // The least gap that the step does not bridge.
     let too_wide = (entry.step as u64 + 1).saturating_sub(margin as u64);
     let mut end = entry.end;
-    let mut at = first_gaining(entry, start, runs);
+    let mut at = rising.first_gaining(entry);
     while at < runs.len() {
         if end < runs[at].first + margin as u64 {
             return end;
         }
-        let wide = wide_from(gaps, at, too_wide, runs);
+        let wide = rising.wide_from(at, too_wide);
         if at < wide {
             end = end.max(renewal(entry, last_of(&runs[wide - 1])));
             at = wide;
@@ -105,33 +91,6 @@ fn renewed_end(entry: &Entry, margin: u32, start: u64, gaps: &GapTree, runs: &[R
         }
     }
     end
-}
-
-/// The place of the first run, `at` or behind it, whose gap is at least `too_wide`; the number of runs where there is none.
-fn wide_from(gaps: &GapTree, at: usize, too_wide: u64, runs: &[Run]) -> usize
-    requires marks { HasMarks gaps.now }
-    requires gaps { gaps_in gaps.now ≡ gaps_of runs.now }
-    ensures within { result ≤ length runs.now }
-    ensures narrow { AllNarrow (gaps_of runs.now) at result too_wide }
-    ensures wide { result < length runs.now → (at ≤ result) × (too_wide ≤ slice_index (gaps_of runs.now) result) }
-{
-    gaps.first_from(at, too_wide).unwrap_or(runs.len())
-}
-
-/// The place of the last run at whose first moment a renewal gives no more than the present end: before that run no moment
-/// gains. 0 where there is no such run.
-fn first_gaining(entry: &Entry, start: u64, runs: &[Run]) -> usize
-    requires fit { (n : ℕ) × AllFit n runs.now }
-    requires rising { RisesStrictly start (moments_of (all_wakes runs.now)) }
-    ensures idle { (result ≡ 0) ⊎ IsIdleAt entry.now entry.now.end runs.now result }
-    ensures last { (at : ℕ) → result < at → IsIdleAt entry.now entry.now.end runs.now at → ⊥ }
-{
-    match entry.end.checked_sub(entry.step as u64) {
-        Some(idle) => runs
-            .partition_point(|run| run.first <= idle)
-            .saturating_sub(1),
-        None => 0,
-    }
 }
 
 /// The end after a run, whose first moment comes in time, of an entry that is asked by itself at each of its moments.

@@ -13,6 +13,7 @@ mod gap_tree;
 mod gaps;
 mod kept;
 mod laws;
+mod rising_runs;
 mod walk;
 
 pub use answer::{Answer, Cause, CheckFault};

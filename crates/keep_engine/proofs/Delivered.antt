@@ -11,8 +11,8 @@ use Rattle.keep_report.specs.declared.stop.Stop.{Stop}
 use Rattle.keep_report.specs.declared.stop.Stop.TheVariants as stops
 use Rattle.keep_report.specs.Sent.{Sent}
 use Rattle.keep_engine.specs.declared.outcome.Outcome.{Outcome}
-use Rattle.keep_engine.specs.Making.{Delivers, Makes}
-use Rattle.keep_engine.specs.PlanRun.{IsCertified, PlanHalts, decided_exit}
+use Rattle.keep_engine.specs.code.Making.{Delivers, Makes, decided_exit}
+use Rattle.keep_engine.specs.PlanRun.{IsCertified, PlanHalts}
 use Rattle.keep_engine.specs.Running.{Halted, Halts, RunOf, Texts}
 
 -- ---- any command

@@ -21,11 +21,11 @@ use Rattle.keep_report.specs.declared.exit.Exit.TheVariants as exits
 use Rattle.keep_engine.specs.declared.outcome.Outcome.{Outcome}
 use Rattle.keep_report.specs.declared.stop.Stop.{Stop}
 use Rattle.keep_report.specs.declared.stop.Stop.TheVariants as stops
-use Rattle.keep_engine.specs.CheckAnswers.{IsNamed, IsStartVerdict, IsVerdict, StartTexts, VerdictTexts}
+use Rattle.keep_engine.specs.code.CheckAnswers.{IsNamed, IsStartVerdict, IsVerdict, StartTexts, VerdictTexts}
 use Rattle.keep_engine.specs.CheckRun.{CheckTexts, IsJudged, IsUnreadable, StartsAsAsked}
 use Rattle.keep_engine.specs.Running.{NoHalts}
 use Rattle.keep_engine.specs.CheckText.{unreadable_line}
-use Rattle.keep_engine.specs.Making.{MakesOf}
+use Rattle.keep_engine.specs.code.Making.{MakesOf}
 
 -- ---- an entry that is not kept is one of the forest
 

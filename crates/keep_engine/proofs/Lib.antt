@@ -5,11 +5,11 @@ pub mod Own
 pub mod OneText
 mod Sizes
 mod OwnText
-pub mod Obeying
 pub mod Reaching
 mod Bounding
 pub mod Renewals
 pub mod Margins
+pub mod Obeying
 mod Until
 mod SameRun
 pub mod Unheard

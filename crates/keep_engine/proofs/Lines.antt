@@ -8,7 +8,7 @@ use Rattle.keep_tree.specs.declared.entry.Entry.{Entry}
 use Rattle.keep_tree.specs.Forest.{entry_at}
 use Rattle.keep_rule.specs.declared.wake.Wake.{Wake}
 use Rattle.keep_rule.specs.Ends.{listed}
-use Rattle.keep_engine.specs.Making.{at_index}
+use Rattle.keep_engine.specs.code.Making.{at_index}
 use Rattle.keep_engine.specs.EndsText.{all_asked, end_line, end_lines}
 
 pub range_more : (n : ℕ) → range_with_len 0 (n + 1) ≡ range_with_len 0 n ++ n ∷ []

@@ -23,8 +23,8 @@ use Rattle.keep_report.specs.declared.stop.Stop.{Stop}
 use Rattle.keep_report.specs.declared.stop.Stop.TheVariants as stops
 use Rattle.keep_engine.specs.declared.margin.MarginQuery.{MarginQuery}
 use Rattle.keep_engine.specs.declared.outcome.Outcome.{Outcome}
-use Rattle.keep_engine.specs.Making.{MakesOf}
-use Rattle.keep_engine.specs.MarginMaking.{HaltsFrom, IsPair, IsRefusal, TextsFrom}
+use Rattle.keep_engine.specs.code.Making.{MakesOf}
+use Rattle.keep_engine.specs.code.MarginMaking.{HaltsFrom, IsPair, IsRefusal, TextsFrom}
 use Rattle.keep_engine.specs.MarginRun.{HasNoCount, MarginHalts, MarginTexts}
 use Rattle.keep_engine.specs.MarginText.{AreOwnAndWidest, IsMarginText, IsNoMargin, IsNone, IsPairLine, IsWidestLine, OneMarginText, asked_about, margin_line, with_least}
 

@@ -31,7 +31,7 @@ use Rattle.keep_run.proofs.AlikeCourses.{courses_both, not_stopped, stops_both}
 use Rattle.keep_run.proofs.AlikeFronts.{fronts_both, run_of_course, run_of_stopped}
 use Rattle.keep_engine.specs.Running.{line_of}
 use Rattle.keep_engine.specs.Secrecy.{IsWhole, RehearseSecrecy, TellSame, WriteFronts, WriteSame}
-use Rattle.keep_engine.proofs.SameRun.{keeps_appends}
+use Rattle.keep_run.proofs.Written.{keeps_appends}
 
 -- ---- how a rehearsal of an inventory comes to its end
 

@@ -1,15 +1,14 @@
 -- Same run: of two inventories that differ in credentials alone each run that comes to its end has one exit and one text,
 -- for every command whose text and whose reason to have none are told by the forest.
-use Rattle.std.proofs.Common.{◌≡◌, ◌∙◌, ℕ, Bool, suc, List, [], ◌∷◌, Option, Some, None, Ok, Err, length, refl, sym, ap, subst, arith, inl, inr, ◌⊎◌}
+use Rattle.std.proofs.Common.{◌≡◌, ◌∙◌, ℕ, Bool, List, [], Option, Some, Ok, Err, length, refl, sym, ap, subst, arith, inl, inr, ◌⊎◌}
 use Rattle.std.specs.Io.KnownBytes.{Appends, Keeps}
-use Rattle.std.proofs.lemmas.List.{append-nil, length-map}
+use Rattle.std.proofs.lemmas.List.{length-map}
 use Rattle.std.proofs.KnownBytes.{Keeps-refl}
 use Rattle.keep_device.specs.Front.{AppendsFront}
 use Rattle.keep_tree.specs.Forest.{Forest}
 use Rattle.keep_tree.specs.Push.{IsForest}
 use Rattle.keep_rule.specs.declared.wake.Wake.{Wake}
 use Rattle.keep_rule.specs.Plans.{moments}
-use Rattle.keep_rule.specs.declared.force.Force.{Force}
 use Rattle.keep_rule.specs.Runs.{all_wakes, moments_of}
 use Rattle.keep_plan.specs.Decides.{IsTooLong}
 use Rattle.keep_inventory.specs.Inventories.{Inventory}
@@ -36,6 +35,8 @@ use Rattle.keep_engine.proofs.Reaching.{one_reach_text}
 use Rattle.keep_engine.specs.ReachRun.{ReachTexts}
 use Rattle.keep_engine.proofs.Margins.{one_margin_text, one_reason, text_or_reason}
 use Rattle.keep_engine.proofs.OneText.{one_check_text, one_ends_text, one_plan_text}
+use Rattle.keep_plan.proofs.Deciding.{length_moments}
+use Rattle.keep_run.proofs.Written.{keeps_appends}
 
 -- ---- the forest is one
 
@@ -44,11 +45,6 @@ one_forest bytes other d = (secrecy_law bytes other d.inventory d.other_inventor
 
 one_inventory : (bytes : List ℕ) (x y : Inventory) → read_inventory bytes ≡ Ok x → read_inventory bytes ≡ Ok y → x.forest ≡ y.forest
 one_inventory bytes x y a b = let same : x ≡ y = cc in ap (λ (s : Inventory). s.forest) same
-
-pub keeps_appends : (old new : Option (List ℕ)) → Keeps old new → Appends old new []
-keeps_appends None new h = tt
-keeps_appends (Some xs) None h = absurd h
-keeps_appends (Some xs) (Some ys) h = h ∙ sym (append-nil xs)
 
 -- ---- sendings that were cut short
 
@@ -159,10 +155,6 @@ one_ends s at = record {
 pub ends_secrecy : EndsSecrecy
 ends_secrecy bytes other s at exit exit' out out' errors errors' d a b = runs_alike (EndsTexts s at) (EndsHalts s at) bytes other exit exit' out out' errors errors' (one_ends s at) d a b
 
-count_moments : (xs : List Force) → length (moments_of xs) ≡ length xs
-count_moments [] = refl
-count_moments (x ∷ xs) = ap (λ k. suc k) (count_moments xs)
-
 long_or_planned : {X : Type 0} (g : Forest) (s : ℕ) (text : List ℕ) → IsTooLong g s → IsPlanText g s text → X
 long_or_planned g s text a b =
     let plan = b.best.least.plan in
@@ -170,7 +162,7 @@ long_or_planned g s text a b =
     let few = b.best.few in
     let one : length (moments plan) ≡ length plan = length-map plan (λ (w : Wake). w.at) in
     let two : length (moments plan) ≡ length (moments_of (all_wakes b.runs)) = ap length b.best.least.at_these in
-    let three = count_moments (all_wakes b.runs) in
+    let three = length_moments (all_wakes b.runs) in
     absurd (omega (arith, long, few, one, two, three))
 
 long_or_pair : {X : Type 0} (g : Forest) (s : ℕ) (text : List ℕ) → IsTooLong g s → IsPairText g s text → X

@@ -1,8 +1,7 @@
 -- Sizes: the certificate of few runs, or of a pair, over a forest is short, so that a file of it is read.
-use Rattle.std.proofs.Common.{◌≡◌, ◌↔◌, ℕ, ◌+◌, ◌-◌, ◌*◌, ◌<◌, ◌≤◌, ◌++◌, List, [], ◌∷◌, codes, decimal, flat_map, length, true, nat_le, arith, inl, inr}
+use Rattle.std.proofs.Common.{◌≡◌, ◌↔◌, ℕ, ◌+◌, ◌-◌, ◌*◌, ◌<◌, ◌≤◌, ◌++◌, List, [], ◌∷◌, codes, decimal, flat_map, length, nat_le, arith, inl, inr}
 use Rattle.std.specs.List.{join_with_byte, list_all}
 use Rattle.std.proofs.lemmas.Bool.{and_parts, cases_lt}
-use Rattle.std.proofs.lemmas.Bool.Decides.{nat_tests}
 use Rattle.std.proofs.lemmas.Fmt.{length-decimal-le}
 use Rattle.std.proofs.lemmas.List.{length-append}
 use Rattle.std.proofs.Math.Nat.{mul-le-mul_right}
@@ -19,6 +18,7 @@ use Rattle.keep_rule.specs.Runs.{counted}
 use Rattle.keep_cert.specs.CertificateText.{AreRunsOf, IsBody, IsRunOf, body_text, certificate_text, end_text, header_text, line_text, name_of, run_text, start_text, unkeepable_text}
 use Rattle.keep_cert.specs.Printing.{certified}
 use Rattle.keep_cert.specs.declared.cert.TheConstants.{MOST_CERTIFICATE}
+use Rattle.keep_inventory.proofs.Entered.{within_test}
 
 -- the sizes of words, each with the byte behind it
 abbrev sizes : List (List ℕ) → ℕ
@@ -40,9 +40,6 @@ line_size ws = let parts = length-append (join_with_byte 32 ws) (10 ∷ []) in l
 -- a number is at most twelve digits, and a name at most sixty-four bytes
 number_size : (n : ℕ) → n ≤ LAST → length (decimal n) ≤ 12
 number_size n within = length-decimal-le 12 n (omega arith) (omega arith) (omega arith)
-
-within_test : (m n : ℕ) → nat_le m n ≡ true → m ≤ n
-within_test m n h = grind (arith, nat_tests)
 
 name_size : (g : Forest) → IsForest g → (i : ℕ) → i < length g.entries → length (name_of g.entries i) ≤ 64
 unfolding name_of is_name

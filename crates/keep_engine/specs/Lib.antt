@@ -8,14 +8,12 @@ pub mod ReachLaws
 pub mod Renewed
 pub mod MarginText
 pub mod MarginRun
-pub mod MarginMaking
 pub mod CheckText
 pub mod CheckRun
-pub mod CheckAnswers
 pub mod From
 pub mod RehearseFrom
 pub mod LiveFrom
 pub mod Obeys
-pub mod Making
 pub mod Laws
 pub mod Secrecy
+pub mod code

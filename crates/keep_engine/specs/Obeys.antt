@@ -1,6 +1,6 @@
 -- Obeys: what each command of the program does with its files.
 -- Source: this project's own.
-use Rattle.std.specs.Prelude.{string_bytes}
+use Rattle.std.specs.Prelude.{ℕ, List, string_bytes}
 use Rattle.keep_report.specs.declared.exit.Exit.{Exit}
 use Rattle.keep_report.specs.Sent.{Sent}
 use Rattle.keep_engine.specs.declared.command.Command.{Command}
@@ -15,13 +15,24 @@ use Rattle.keep_engine.specs.PlanRun.{PlanRun}
 use Rattle.keep_engine.specs.ReachRun.{ReachRun}
 use Rattle.keep_engine.specs.RehearseFrom.{Rehearses}
 
--- each reads its inventory first, and `check` its certificate behind it
+-- the path of a command's inventory
+abbrev pub path_of : Command → List ℕ
+path_of (commands.Ends file start moments) = string_bytes file
+path_of (commands.Plan file start) = string_bytes file
+path_of (commands.Margin file query) = string_bytes file
+path_of (commands.Reach file start dates) = string_bytes file
+path_of (commands.Rehearse file start words) = string_bytes file
+path_of (commands.Check file certificate start) = string_bytes file
+
+-- what it does over the bytes of that; `check` reads its certificate
+abbrev pub ObeysOver : Command → Files → List ℕ → Exit → Sent → Sent → Type 0
+ObeysOver (commands.Ends file start moments) files bytes exit out errors = EndsRun bytes start moments.items exit out errors
+ObeysOver (commands.Plan file start) files bytes exit out errors = PlanRun bytes start exit out errors
+ObeysOver (commands.Margin file query) files bytes exit out errors = MarginRun bytes query exit out errors
+ObeysOver (commands.Reach file start dates) files bytes exit out errors = ReachRun bytes start dates exit out errors
+ObeysOver (commands.Rehearse file start words) files bytes exit out errors = Rehearses bytes start words.items exit out errors
+ObeysOver (commands.Check file certificate start) files bytes exit out errors = RunFrom (files (string_bytes certificate)) MOST_CERTIFICATE (λ text. CheckRun bytes text start) exit out errors
+
+-- each reads its inventory first
 abbrev pub Obeys : Command → Files → Exit → Sent → Sent → Type 0
-Obeys (commands.Ends file start moments) files exit out errors =
-    RunFrom (files (string_bytes file)) MOST_INVENTORY (λ bytes. EndsRun bytes start moments.items) exit out errors
-Obeys (commands.Plan file start) files exit out errors = RunFrom (files (string_bytes file)) MOST_INVENTORY (λ bytes. PlanRun bytes start) exit out errors
-Obeys (commands.Margin file query) files exit out errors = RunFrom (files (string_bytes file)) MOST_INVENTORY (λ bytes. MarginRun bytes query) exit out errors
-Obeys (commands.Reach file start dates) files exit out errors = RunFrom (files (string_bytes file)) MOST_INVENTORY (λ bytes. ReachRun bytes start dates) exit out errors
-Obeys (commands.Rehearse file start words) files exit out errors = RunFrom (files (string_bytes file)) MOST_INVENTORY (λ bytes. Rehearses bytes start words.items) exit out errors
-Obeys (commands.Check file certificate start) files exit out errors =
-    RunFrom (files (string_bytes file)) MOST_INVENTORY (λ bytes. RunFrom (files (string_bytes certificate)) MOST_CERTIFICATE (λ text. CheckRun bytes text start)) exit out errors
+Obeys command files exit out errors = RunFrom (files (path_of command)) MOST_INVENTORY (λ bytes. ObeysOver command files bytes) exit out errors

@@ -3,8 +3,6 @@
 use Rattle.std.specs.Prelude.{◌≡◌, ℕ, List}
 use Rattle.keep_tree.specs.Forest.{Forest}
 use Rattle.keep_rule.specs.declared.run.Run.{Run}
-use Rattle.keep_plan.specs.declared.decision.Decision.{Decision}
-use Rattle.keep_plan.specs.declared.decision.Decision.TheVariants as decision
 use Rattle.keep_plan.specs.Decides.{AreBest, IsTooLong, NoneKeeps}
 use Rattle.keep_plan.specs.Shortfall.{IsShortfall}
 use Rattle.keep_cert.specs.declared.cert.Body.TheVariants as body
@@ -47,9 +45,3 @@ PlanTexts s g exit text = IsCertified g s exit text
 -- `plan` over the bytes of an inventory
 abbrev pub PlanRun : List ℕ → ℕ → Exit → Sent → Sent → Type 0
 PlanRun bytes s exit out errors = RunOf (PlanTexts s) (PlanHalts s) bytes exit out errors
-
--- the exit that goes with a decision
-abbrev pub decided_exit : Decision → Exit
-decided_exit (decision.Keep p) = exits.Done
-decided_exit (decision.Unkeepable entry needed) = exits.Unkeepable
-decided_exit decision.TooLong = exits.TooLong

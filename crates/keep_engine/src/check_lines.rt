@@ -1,7 +1,7 @@
 ghost use Rattle.std.specs.Prelude.{◌≡◌, IfOk, Some, length};
 ghost use Rattle.std.specs.Result.{IfErr};
 ghost use Rattle.keep_engine.specs.CheckText.{no_line, not_kept, numbered, unreadable_line};
-ghost use Rattle.keep_engine.specs.CheckAnswers.{IsNamed};
+ghost use Rattle.keep_engine.specs.code.CheckAnswers.{IsNamed};
 ghost use Rattle.keep_report.specs.declared.stop.Stop.TheVariants.{Memory};
 
 use keep_cert::CertFault;

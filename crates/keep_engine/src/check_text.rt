@@ -1,8 +1,8 @@
 ghost use Rattle.keep_check.specs.Fit.{CanBeJudged};
 ghost use Rattle.std.specs.Prelude.{◌↔◌, IsTrue};
-ghost use Rattle.keep_engine.specs.CheckAnswers.{StartTexts, VerdictTexts};
+ghost use Rattle.keep_engine.specs.code.CheckAnswers.{StartTexts, VerdictTexts};
 ghost use Rattle.keep_engine.specs.CheckRun.{CheckTexts, StartsAsAsked};
-ghost use Rattle.keep_engine.specs.Making.{Makes, MakesOf};
+ghost use Rattle.keep_engine.specs.code.Making.{Makes, MakesOf};
 ghost use Rattle.keep_engine.specs.Running.{NoHalts};
 
 use crate::check_lines::{no_line, unreadable_line};

@@ -1,15 +1,8 @@
 ghost use Rattle.std.specs.Prelude.{◌≡◌};
 ghost use Rattle.keep_report.specs.Exits.{exit_of, stop_of_input};
 ghost use Rattle.keep_report.specs.Told.{Reports};
-ghost use Rattle.keep_engine.specs.From.{RunFrom};
 ghost use Rattle.keep_engine.specs.Running.{line_of};
-ghost use Rattle.keep_engine.specs.CheckRun.{CheckRun};
-ghost use Rattle.keep_engine.specs.EndsRun.{EndsRun};
-ghost use Rattle.keep_engine.specs.MarginRun.{MarginRun};
-ghost use Rattle.keep_engine.specs.Obeys.{Obeys};
-ghost use Rattle.keep_engine.specs.PlanRun.{PlanRun};
-ghost use Rattle.keep_engine.specs.ReachRun.{ReachRun};
-ghost use Rattle.keep_engine.specs.RehearseFrom.{Rehearses};
+ghost use Rattle.keep_engine.specs.Obeys.{Obeys, ObeysOver, path_of};
 
 use crate::check::run_check;
 use crate::deliver::PROGRAM;
@@ -65,6 +58,22 @@ pub enum Command {
     },
 }
 
+impl Command {
+    /// The path of its inventory.
+    fn inventory(&self) -> &str
+        ensures { result.now ≡ path_of self.now }
+    {
+        match self {
+            Command::Ends { file, .. }
+            | Command::Plan { file, .. }
+            | Command::Margin { file, .. }
+            | Command::Reach { file, .. }
+            | Command::Rehearse { file, .. }
+            | Command::Check { file, .. } => file,
+        }
+    }
+}
+
 /// Does what a command asks: [`run_ends`], [`run_plan`], [`run_margin`], [`run_reach`], [`run_rehearse`](keep_run::run_rehearse) or [`run_check`] over the bytes of its files.
 ///
 /// The inventory is read first, at most [`MOST_INVENTORY`] bytes, and for `check` the certificate behind it, at most
@@ -79,151 +88,43 @@ pub fn obey<I: Inputs, W: Sink, E: Sink>(
 ) -> Exit
     ensures { Obeys command.now (I.bytes_at inputs.old) result (⟦<W as Watched>⟧.sent out.old out.new) (⟦<E as Watched>⟧.sent errors.old errors.new) }
 {
+    match inputs.read(alloc, command.inventory(), MOST_INVENTORY) {
+        Ok(inventory) => obey_over(alloc, command, inventory.list(), inputs, out, errors),
+        Err(fault) => tell_unread(fault, errors),
+    }
+}
+
+/// Does what a command asks over the bytes of its inventory. For `check` it reads the certificate.
+fn obey_over<I: Inputs, W: Sink, E: Sink>(
+    alloc: Global,
+    command: &Command,
+    inventory: &[u8],
+    inputs: &mut I,
+    out: &mut W,
+    errors: &mut E,
+) -> Exit
+    ensures { ObeysOver command.now (I.bytes_at inputs.old) inventory.now result (⟦<W as Watched>⟧.sent out.old out.new) (⟦<E as Watched>⟧.sent errors.old errors.new) }
+{
     match command {
-        Command::Ends {
-            file,
-            start,
-            moments,
-        } => ends_from(alloc, file, *start, moments, inputs, out, errors),
-        Command::Plan { file, start } => plan_from(alloc, file, *start, inputs, out, errors),
-        Command::Margin { file, query } => margin_from(alloc, file, query, inputs, out, errors),
-        Command::Reach { file, start, dates } => {
-            reach_from(alloc, file, *start, *dates, inputs, out, errors)
+        Command::Ends { start, moments, .. } => {
+            run_ends(alloc, inventory, *start, moments, out, errors)
         }
-        Command::Rehearse { file, start, words } => {
-            rehearse_from(alloc, file, *start, words, inputs, out, errors)
+        Command::Plan { start, .. } => run_plan(alloc, inventory, *start, out, errors),
+        Command::Margin { query, .. } => run_margin(alloc, inventory, query, out, errors),
+        Command::Reach { start, dates, .. } => {
+            run_reach(alloc, inventory, *start, *dates, out, errors)
+        }
+        Command::Rehearse { start, words, .. } => {
+            rehearse(alloc, inventory, *start, words, out, errors)
         }
         Command::Check {
-            file,
             certificate,
             start,
-        } => check_from(alloc, file, certificate, *start, inputs, out, errors),
-    }
-}
-
-fn ends_from<I: Inputs, W: Sink, E: Sink>(
-    alloc: Global,
-    file: &str,
-    start: Moment,
-    moments: &[Moment],
-    inputs: &mut I,
-    out: &mut W,
-    errors: &mut E,
-) -> Exit
-    ensures { RunFrom (I.bytes_at inputs.old file.now) MOST_INVENTORY (λ bytes. EndsRun bytes start moments.now) result (⟦<W as Watched>⟧.sent out.old out.new) (⟦<E as Watched>⟧.sent errors.old errors.new) }
-{
-    match inputs.read(alloc, file, MOST_INVENTORY) {
-        Ok(inventory) => run_ends(alloc, inventory.list(), start, moments, out, errors),
-        Err(fault) => tell_unread(fault, errors),
-    }
-}
-
-fn plan_from<I: Inputs, W: Sink, E: Sink>(
-    alloc: Global,
-    file: &str,
-    start: Moment,
-    inputs: &mut I,
-    out: &mut W,
-    errors: &mut E,
-) -> Exit
-    ensures { RunFrom (I.bytes_at inputs.old file.now) MOST_INVENTORY (λ bytes. PlanRun bytes start) result (⟦<W as Watched>⟧.sent out.old out.new) (⟦<E as Watched>⟧.sent errors.old errors.new) }
-{
-    match inputs.read(alloc, file, MOST_INVENTORY) {
-        Ok(inventory) => run_plan(alloc, inventory.list(), start, out, errors),
-        Err(fault) => tell_unread(fault, errors),
-    }
-}
-
-fn margin_from<I: Inputs, W: Sink, E: Sink>(
-    alloc: Global,
-    file: &str,
-    query: &MarginQuery,
-    inputs: &mut I,
-    out: &mut W,
-    errors: &mut E,
-) -> Exit
-    ensures { RunFrom (I.bytes_at inputs.old file.now) MOST_INVENTORY (λ bytes. MarginRun bytes query.now) result (⟦<W as Watched>⟧.sent out.old out.new) (⟦<E as Watched>⟧.sent errors.old errors.new) }
-{
-    match inputs.read(alloc, file, MOST_INVENTORY) {
-        Ok(inventory) => run_margin(alloc, inventory.list(), query, out, errors),
-        Err(fault) => tell_unread(fault, errors),
-    }
-}
-
-fn reach_from<I: Inputs, W: Sink, E: Sink>(
-    alloc: Global,
-    file: &str,
-    start: Moment,
-    dates: bool,
-    inputs: &mut I,
-    out: &mut W,
-    errors: &mut E,
-) -> Exit
-    ensures { RunFrom (I.bytes_at inputs.old file.now) MOST_INVENTORY (λ bytes. ReachRun bytes start dates) result (⟦<W as Watched>⟧.sent out.old out.new) (⟦<E as Watched>⟧.sent errors.old errors.new) }
-{
-    match inputs.read(alloc, file, MOST_INVENTORY) {
-        Ok(inventory) => run_reach(alloc, inventory.list(), start, dates, out, errors),
-        Err(fault) => tell_unread(fault, errors),
-    }
-}
-
-fn rehearse_from<I: Inputs, W: Sink, E: Sink>(
-    alloc: Global,
-    file: &str,
-    start: Moment,
-    words: &[Text],
-    inputs: &mut I,
-    out: &mut W,
-    errors: &mut E,
-) -> Exit
-    ensures { RunFrom (I.bytes_at inputs.old file.now) MOST_INVENTORY (λ bytes. Rehearses bytes start words.now) result (⟦<W as Watched>⟧.sent out.old out.new) (⟦<E as Watched>⟧.sent errors.old errors.new) }
-{
-    match inputs.read(alloc, file, MOST_INVENTORY) {
-        Ok(inventory) => rehearse(alloc, inventory.list(), start, words, out, errors),
-        Err(fault) => tell_unread(fault, errors),
-    }
-}
-
-fn check_from<I: Inputs, W: Sink, E: Sink>(
-    alloc: Global,
-    file: &str,
-    certificate: &str,
-    start: Option<Moment>,
-    inputs: &mut I,
-    out: &mut W,
-    errors: &mut E,
-) -> Exit
-    ensures { RunFrom (I.bytes_at inputs.old file.now) MOST_INVENTORY (λ bytes. RunFrom (I.bytes_at inputs.old certificate.now) MOST_CERTIFICATE (λ text. CheckRun bytes text start)) result (⟦<W as Watched>⟧.sent out.old out.new) (⟦<E as Watched>⟧.sent errors.old errors.new) }
-{
-    match inputs.read(alloc, file, MOST_INVENTORY) {
-        Ok(inventory) => check_text_from(
-            alloc,
-            inventory.list(),
-            certificate,
-            start,
-            inputs,
-            out,
-            errors,
-        ),
-        Err(fault) => tell_unread(fault, errors),
-    }
-}
-
-/// The rest of `check`, behind its inventory.
-fn check_text_from<I: Inputs, W: Sink, E: Sink>(
-    alloc: Global,
-    inventory: &[u8],
-    certificate: &str,
-    start: Option<Moment>,
-    inputs: &mut I,
-    out: &mut W,
-    errors: &mut E,
-) -> Exit
-    ensures { RunFrom (I.bytes_at inputs.old certificate.now) MOST_CERTIFICATE (λ text. CheckRun inventory.now text start) result (⟦<W as Watched>⟧.sent out.old out.new) (⟦<E as Watched>⟧.sent errors.old errors.new) }
-{
-    match inputs.read(alloc, certificate, MOST_CERTIFICATE) {
-        Ok(text) => run_check(alloc, inventory, text.list(), start, out, errors),
-        Err(fault) => tell_unread(fault, errors),
+            ..
+        } => match inputs.read(alloc, certificate, MOST_CERTIFICATE) {
+            Ok(text) => run_check(alloc, inventory, text.list(), *start, out, errors),
+            Err(fault) => tell_unread(fault, errors),
+        },
     }
 }
 

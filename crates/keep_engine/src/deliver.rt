@@ -1,4 +1,4 @@
-ghost use Rattle.keep_engine.specs.Making.{Delivers};
+ghost use Rattle.keep_engine.specs.code.Making.{Delivers};
 
 use crate::outcome::Outcome;
 use keep_device::Sink;

@@ -1,7 +1,7 @@
 ghost use Rattle.std.specs.Prelude.{◌≡◌, ◌++◌, ◌<◌, IfOk, OnOk, length};
 ghost use Rattle.std.specs.List.{range_with_len};
 ghost use Rattle.keep_engine.specs.EndsRun.{EndsHalts, EndsTexts};
-ghost use Rattle.keep_engine.specs.Making.{Makes, MakesOf, at_index};
+ghost use Rattle.keep_engine.specs.code.Making.{Makes, MakesOf, at_index};
 ghost use Rattle.keep_engine.specs.EndsText.{all_asked, end_line, end_lines, keeps_line};
 
 use crate::outcome::Outcome;

@@ -4,8 +4,8 @@ ghost use Rattle.keep_rule.specs.declared.limit.TheConstants.{LIMIT};
 ghost use Rattle.keep_plan.specs.Widest.{IsFewest, IsWidest};
 ghost use Rattle.keep_report.specs.declared.exit.Exit.TheVariants as exits;
 ghost use Rattle.keep_report.specs.declared.stop.Stop.TheVariants.{Memory};
-ghost use Rattle.keep_engine.specs.Making.{Makes, MakesOf};
-ghost use Rattle.keep_engine.specs.MarginMaking.{HaltsFrom, TextsFrom};
+ghost use Rattle.keep_engine.specs.code.Making.{Makes, MakesOf};
+ghost use Rattle.keep_engine.specs.code.MarginMaking.{HaltsFrom, TextsFrom};
 ghost use Rattle.keep_engine.specs.MarginRun.{MarginHalts, MarginTexts};
 ghost use Rattle.keep_engine.specs.MarginText.{AreOwnAndWidest, IsWidestLine, asked_about, margin_line};
 

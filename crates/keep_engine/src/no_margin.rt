@@ -3,7 +3,7 @@ ghost use Rattle.std.specs.Result.{IfErr};
 ghost use Rattle.keep_plan.specs.Decides.{SomeKeeps};
 ghost use Rattle.keep_cert.specs.CertificateText.{unkeepable_text};
 ghost use Rattle.keep_report.specs.declared.stop.Stop.TheVariants.{Memory};
-ghost use Rattle.keep_engine.specs.MarginMaking.{IsPair, IsRefusal};
+ghost use Rattle.keep_engine.specs.code.MarginMaking.{IsPair, IsRefusal};
 ghost use Rattle.keep_engine.specs.MarginText.{with_least};
 
 use crate::outcome::Outcome;

@@ -1,6 +1,6 @@
 ghost use Rattle.std.specs.Prelude.{◌≡◌};
-ghost use Rattle.keep_engine.specs.Making.{Makes, MakesOf};
-ghost use Rattle.keep_engine.specs.PlanRun.{PlanHalts, PlanTexts, decided_exit};
+ghost use Rattle.keep_engine.specs.code.Making.{Makes, MakesOf, decided_exit};
+ghost use Rattle.keep_engine.specs.PlanRun.{PlanHalts, PlanTexts};
 
 use crate::outcome::Outcome;
 use keep_cert::{PrintFault, print};

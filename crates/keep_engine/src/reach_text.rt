@@ -1,7 +1,7 @@
 ghost use Rattle.std.specs.Prelude.{◌≡◌, ◌<◌, IfOk, OnOk, decimal, length, []};
 ghost use Rattle.std.specs.Result.{IfErr};
 ghost use Rattle.keep_report.specs.declared.stop.Stop.TheVariants.{Memory};
-ghost use Rattle.keep_engine.specs.Making.{Makes, MakesOf};
+ghost use Rattle.keep_engine.specs.code.Making.{Makes, MakesOf};
 ghost use Rattle.keep_engine.specs.ReachRun.{ReachTexts};
 ghost use Rattle.keep_engine.specs.ReachText.{AreReachLines, IsKept, IsMomentWord, IsNeedWord, IsReachLine, IsUntilWord, four_words};
 ghost use Rattle.keep_engine.specs.Running.{NoHalts};

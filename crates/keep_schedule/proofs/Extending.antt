@@ -1,5 +1,5 @@
 -- Extending a stretch: until when one that has joined leads, and how many wake-ups that is.
-use Rattle.std.proofs.Common.{◌≡◌, ℕ, zero, suc, ◌+◌, ◌-◌, ◌*◌, ◌/◌, ◌<◌, ◌≤◌, Some, sym, ap, ◌∙◌, subst, arith, inl, inr}
+use Rattle.std.proofs.Common.{◌≡◌, ℕ, zero, suc, ◌+◌, ◌-◌, ◌*◌, ◌/◌, ◌<◌, ◌≤◌, Some, length, sym, ap, ◌∙◌, subst, arith, inl, inr}
 use Rattle.std.proofs.Math.Nat.{div-mul-le_self, mul-le-mul_right}
 use Rattle.std.proofs.lemmas.Bool.{cases_lt}
 use Rattle.keep_moment.specs.declared.moment.TheConstants.{LAST}
@@ -8,6 +8,7 @@ use Rattle.keep_schedule.specs.declared.groups.Next.{Next}
 use Rattle.keep_schedule.specs.code.Groups.{IsGrouped, IsHead, Joins, Settles, Waits}
 use Rattle.keep_schedule.specs.code.Line.{FirstOf}
 use Rattle.keep_schedule.specs.code.Stretches.{Stretches}
+use Rattle.keep_schedule.specs.Prospect.{Prospect, terms_of}
 use Rattle.keep_schedule.specs.Terms.{Ahead, Leads, Terms}
 use Rattle.keep_schedule.specs.code.Sound.{IsSound}
 use Rattle.keep_schedule.proofs.Grouping.{join_leads, later}
@@ -29,12 +30,12 @@ in_room n u last d later gains within =
 
 -- one that has joined and leads now goes on to lead before its need, as long as the first that waits does not come before it
 pub until_front :
-    (t : Terms) (n last f h v : ℕ) (g : Groups) → IsGrouped t n (Some last) g → IsHead t last (Waits t g) (Joins t g) f → FirstOf g.waits.spots (Some h) → last ≤ v → v + t.step f < t.need f →
-    Ahead (v + t.step f) f (t.end h) h → Leads t (Some v) f
-until_front t n last f h v g grouped head front le short before =
-    let first = first_key t.end n h g.waits.spots grouped.filed.waits front in
-    join_leads t v f (Waits t g) (Joins t g) (later t last v (Waits t g) (Joins t g) le grouped.grouped) head.joined short head.joins
-    (λ i w. let a = none_ahead t.end h g.waits.spots first i w in ahead _ _ _ _ (omega arith) (λ e. omega arith))
+    (o : Prospect) (last f h v : ℕ) (g : Groups) → IsGrouped o (Some last) g → IsHead (terms_of o) last (Waits (terms_of o) g) (Joins (terms_of o) g) f → FirstOf g.waits.spots (Some h) → last ≤ v → v + (terms_of o).step f < (terms_of o).need f →
+    Ahead (v + (terms_of o).step f) f ((terms_of o).end h) h → Leads (terms_of o) (Some v) f
+until_front o last f h v g grouped head front le short before =
+    let first = first_key (terms_of o).end (length o.loads) h g.waits.spots grouped.filed.waits front in
+    join_leads (terms_of o) v f (Waits (terms_of o) g) (Joins (terms_of o) g) (later (terms_of o) last v (Waits (terms_of o) g) (Joins (terms_of o) g) le grouped.grouped) head.joined short head.joins
+    (λ i w. let a = none_ahead (terms_of o).end h g.waits.spots first i w in ahead _ _ _ _ (omega arith) (λ e. omega arith))
 
 -- the last of so many is a moment
 pub reach_moment :
@@ -51,20 +52,20 @@ reach_moment t f last u c d sound short is later leads some fits =
       product zero d some = absurd (omega arith)
       product (suc c) d some = let e : suc c - 1 ≡ c = omega arith in (let s : suc c * d ≡ c * d + d = omega arith in s ∙ ap (λ k. k * d + d) (sym e))
 
-pub grouped_later : (t : Terms) (n v w : ℕ) (g : Groups) → v ≤ w → IsGrouped t n (Some v) g → IsGrouped t n (Some w) g
-grouped_later t n v w g le grouped = record { filed = grouped.filed; grouped = later t v w (Waits t g) (Joins t g) le grouped.grouped }
+pub grouped_later : (o : Prospect) (v w : ℕ) (g : Groups) → v ≤ w → IsGrouped o (Some v) g → IsGrouped o (Some w) g
+grouped_later o v w g le grouped = record { filed = grouped.filed; grouped = later (terms_of o) v w (Waits (terms_of o) g) (Joins (terms_of o) g) le grouped.grouped }
 
 -- a stretch of more wake-ups
 pub stretched :
-    (t : Terms) (n f first most more last u c d v : ℕ) (old mid new : Groups) (next next' : Next) → IsSound t → t.end f < t.need f → d ≡ t.step f - t.margin →
-    Stretches t n f first most old mid more last next → last < u → ((w : ℕ) → last ≤ w → w < u → Leads t (Some w) f) →
-    0 < c → c ≤ (u - last - 1) / d + 1 → more + c < most → v ≡ last + c * d → Settles t n v mid new next' →
-    Stretches t n f first most old new (more + c) v next'
-stretched t n f first most more last u c d v old mid new next next' sound short step so_far later leads some fits within is settles =
+    (o : Prospect) (f first most more last u c d v : ℕ) (old mid new : Groups) (next next' : Next) → IsSound (terms_of o) → (terms_of o).end f < (terms_of o).need f → d ≡ (terms_of o).step f - (terms_of o).margin →
+    Stretches o f first most old mid more last next → last < u → ((w : ℕ) → last ≤ w → w < u → Leads (terms_of o) (Some w) f) →
+    0 < c → c ≤ (u - last - 1) / d + 1 → more + c < most → v ≡ last + c * d → Settles o v mid new next' →
+    Stretches o f first most old new (more + c) v next'
+stretched o f first most more last u c d v old mid new next next' sound short step so_far later leads some fits within is settles =
     let gains = sound.step f short in
     let ends : last ≡ first + more * d = so_far.ends ∙ ap (λ (e : ℕ). first + more * e) (sym step) in
     let both : (more + c) * d ≡ more * d + c * d = omega arith in
-    let moment = reach_moment t f last u c d sound short step later leads some fits in
+    let moment = reach_moment (terms_of o) f last u c d sound short step later leads some fits in
     let shrunk = so_far.settles.shrinks in
     let shrinks = settles.shrinks in
     let fewer = shrunk.fewer in
@@ -77,8 +78,8 @@ stretched t n f first most more last u c d v old mid new next next' sound short 
         | inl old' ↦ so_far.leads k old'
         | inr new' ↦
             let j = k - more in
-            let split : first + k * (t.step f - t.margin) ≡ last + j * d = ap (λ (e : ℕ). first + k * e) (sym step) ∙ shifted first last more d k j ends (omega arith) in
-            subst (λ (w : ℕ). Leads t (Some w) f) (sym split) (leads (last + j * d) (omega arith) (in_reach j u last d later (omega arith) (omega arith)))
+            let split : first + k * ((terms_of o).step f - (terms_of o).margin) ≡ last + j * d = ap (λ (e : ℕ). first + k * e) (sym step) ∙ shifted first last more d k j ends (omega arith) in
+            subst (λ (w : ℕ). Leads (terms_of o) (Some w) f) (sym split) (leads (last + j * d) (omega arith) (in_reach j u last d later (omega arith) (omega arith)))
       ];
       settles = record {
         shrinks = record {

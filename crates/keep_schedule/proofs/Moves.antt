@@ -9,6 +9,7 @@ use Rattle.keep_schedule.specs.declared.groups.Groups.{Groups}
 use Rattle.keep_schedule.specs.declared.groups.Turn.TheVariants.{Comes, Leaves}
 use Rattle.keep_schedule.specs.code.Groups.{IsGrouped, IsKeyed, IsTurn, Shrinks, size}
 use Rattle.keep_schedule.specs.code.Line.{FirstOf, IsFirst, Lined, Spot, spot}
+use Rattle.keep_schedule.specs.Prospect.{Prospect, terms_of}
 use Rattle.keep_schedule.specs.Terms.{Ahead, Terms}
 use Rattle.keep_schedule.proofs.Lines.{contains_cons, contains_head, contains_more}
 
@@ -38,32 +39,32 @@ first_within key n f spots keyed among = (All-contains (λ (x : Spot). (x.0.0 �
 
 -- the first that has joined has reached its need, and left
 pub left :
-    (t : Terms) (n v f : ℕ) (old new : Groups) → IsGrouped t n (Some v) old → t.need f ≤ v + t.step f →
-    IsPermutation old.joined.spots (spot (t.step f) f ∷ new.joined.spots) → new.joined.room ≡ old.joined.room → new.waits ≡ old.waits →
-    IsGrouped t n (Some v) new × (size new < size old)
-left t n v f old new grouped done moved room waits =
+    (o : Prospect) (v f : ℕ) (old new : Groups) → IsGrouped o (Some v) old → (terms_of o).need f ≤ v + (terms_of o).step f →
+    IsPermutation old.joined.spots (spot ((terms_of o).step f) f ∷ new.joined.spots) → new.joined.room ≡ old.joined.room → new.waits ≡ old.waits →
+    IsGrouped o (Some v) new × (size new < size old)
+left o v f old new grouped done moved room waits =
     let g = grouped.grouped in
     let filed = grouped.filed in
-    let fewer = left_length old.joined.spots new.joined.spots (spot (t.step f) f) moved in
+    let fewer = left_length old.joined.spots new.joined.spots (spot ((terms_of o).step f) f) moved in
     let same : new.waits.spots ≡ old.waits.spots = ap (λ (l : Lined). l.spots) waits in
     let length_same : length new.waits.spots ≡ length old.waits.spots = ap length same in
     let r = filed.room in (
       record {
         filed = record {
-          waits = subst (IsKeyed t.end n) (sym same) filed.waits;
-          joined = keyed_left t.step n old.joined.spots new.joined.spots (spot (t.step f) f) moved filed.joined;
+          waits = subst (IsKeyed (terms_of o).end (length o.loads)) (sym same) filed.waits;
+          joined = keyed_left (terms_of o).step (length o.loads) old.joined.spots new.joined.spots (spot ((terms_of o).step f) f) moved filed.joined;
           room = omega arith;
         };
         grouped = record {
           all = λ i short. elim (g.all i short) [
-            | inl w ↦ inl (subst (λ l. Contains l (spot (t.end i) i)) (sym same) w)
+            | inl w ↦ inl (subst (λ l. Contains l (spot ((terms_of o).end i) i)) (sym same) w)
             | inr j ↦ elim (cases_eq i f) [
-              | inl e ↦ absurd (let at : t.need f ≡ t.need i = ap t.need (sym e) in let step : t.step f ≡ t.step i = ap t.step (sym e) in omega arith)
-              | inr other ↦ inr (stays old.joined.spots new.joined.spots (t.step f) f (t.step i) i moved other j)
+              | inl e ↦ absurd (let at : (terms_of o).need f ≡ (terms_of o).need i = ap (terms_of o).need (sym e) in let step : (terms_of o).step f ≡ (terms_of o).step i = ap (terms_of o).step (sym e) in omega arith)
+              | inr other ↦ inr (stays old.joined.spots new.joined.spots ((terms_of o).step f) f ((terms_of o).step i) i moved other j)
             ]
           ];
-          short = λ i w. g.short i (subst (λ l. Contains l (spot (t.end i) i)) same w);
-          joined = λ i j. g.joined i (was old.joined.spots new.joined.spots (spot (t.step f) f) (spot (t.step i) i) moved j);
+          short = λ i w. g.short i (subst (λ l. Contains l (spot ((terms_of o).end i) i)) same w);
+          joined = λ i j. g.joined i (was old.joined.spots new.joined.spots (spot ((terms_of o).step f) f) (spot ((terms_of o).step i) i) moved j);
         };
       },
       omega arith,
@@ -78,32 +79,32 @@ joins_was t f i old new added j =
 
 -- the first that waits has its end reached, and joined
 pub joined :
-    (t : Terms) (n v f : ℕ) (old new : Groups) → IsGrouped t n (Some v) old → f < n → t.end f ≤ v + t.step f →
-    IsPermutation old.waits.spots (spot (t.end f) f ∷ new.waits.spots) → IsPermutation (spot (t.step f) f ∷ old.joined.spots) new.joined.spots → old.joined.room ≤ new.joined.room →
-    IsGrouped t n (Some v) new × (size new + 1 ≡ size old)
-joined t n v f old new grouped within reached moved added room =
+    (o : Prospect) (v f : ℕ) (old new : Groups) → IsGrouped o (Some v) old → f < length o.loads → (terms_of o).end f ≤ v + (terms_of o).step f →
+    IsPermutation old.waits.spots (spot ((terms_of o).end f) f ∷ new.waits.spots) → IsPermutation (spot ((terms_of o).step f) f ∷ old.joined.spots) new.joined.spots → old.joined.room ≤ new.joined.room →
+    IsGrouped o (Some v) new × (size new + 1 ≡ size old)
+joined o v f old new grouped within reached moved added room =
     let g = grouped.grouped in
     let filed = grouped.filed in
-    let fewer = left_length old.waits.spots new.waits.spots (spot (t.end f) f) moved in
-    let more = more_length old.joined.spots new.joined.spots (spot (t.step f) f) added in
+    let fewer = left_length old.waits.spots new.waits.spots (spot ((terms_of o).end f) f) moved in
+    let more = more_length old.joined.spots new.joined.spots (spot ((terms_of o).step f) f) added in
     let r = filed.room in (
       record {
         filed = record {
-          waits = keyed_left t.end n old.waits.spots new.waits.spots (spot (t.end f) f) moved filed.waits;
-          joined = All-permutation (λ (y : Spot). (y.0.0 ≡ t.step y.0.1) × (y.0.1 < n)) (spot (t.step f) f ∷ old.joined.spots) new.joined.spots added (All-cons (λ (y : Spot). (y.0.0 ≡ t.step y.0.1) × (y.0.1 < n)) (spot (t.step f) f) old.joined.spots (refl, within) filed.joined);
+          waits = keyed_left (terms_of o).end (length o.loads) old.waits.spots new.waits.spots (spot ((terms_of o).end f) f) moved filed.waits;
+          joined = All-permutation (λ (y : Spot). (y.0.0 ≡ (terms_of o).step y.0.1) × (y.0.1 < length o.loads)) (spot ((terms_of o).step f) f ∷ old.joined.spots) new.joined.spots added (All-cons (λ (y : Spot). (y.0.0 ≡ (terms_of o).step y.0.1) × (y.0.1 < length o.loads)) (spot ((terms_of o).step f) f) old.joined.spots (refl, within) filed.joined);
           room = omega arith;
         };
         grouped = record {
           all = λ i short. elim (g.all i short) [
             | inl w ↦ elim (cases_eq i f) [
-              | inl e ↦ inr (Contains-permutation (spot (t.step f) f ∷ old.joined.spots) new.joined.spots (spot (t.step i) i) added (subst (λ k. Contains (spot (t.step f) f ∷ old.joined.spots) (spot (t.step k) k)) (sym e) (contains_head (spot (t.step f) f) old.joined.spots)))
-              | inr other ↦ inl (stays old.waits.spots new.waits.spots (t.end f) f (t.end i) i moved other w)
+              | inl e ↦ inr (Contains-permutation (spot ((terms_of o).step f) f ∷ old.joined.spots) new.joined.spots (spot ((terms_of o).step i) i) added (subst (λ k. Contains (spot ((terms_of o).step f) f ∷ old.joined.spots) (spot ((terms_of o).step k) k)) (sym e) (contains_head (spot ((terms_of o).step f) f) old.joined.spots)))
+              | inr other ↦ inl (stays old.waits.spots new.waits.spots ((terms_of o).end f) f ((terms_of o).end i) i moved other w)
             ]
-            | inr j ↦ inr (Contains-permutation (spot (t.step f) f ∷ old.joined.spots) new.joined.spots (spot (t.step i) i) added (contains_more (spot (t.step i) i) (spot (t.step f) f) old.joined.spots j))
+            | inr j ↦ inr (Contains-permutation (spot ((terms_of o).step f) f ∷ old.joined.spots) new.joined.spots (spot ((terms_of o).step i) i) added (contains_more (spot ((terms_of o).step i) i) (spot ((terms_of o).step f) f) old.joined.spots j))
           ];
-          short = λ i w. g.short i (was old.waits.spots new.waits.spots (spot (t.end f) f) (spot (t.end i) i) moved w);
-          joined = λ i j. elim (joins_was t f i old.joined.spots new.joined.spots added j) [
-            | inl same ↦ subst (λ k. t.end k ≤ v + t.step k) same reached
+          short = λ i w. g.short i (was old.waits.spots new.waits.spots (spot ((terms_of o).end f) f) (spot ((terms_of o).end i) i) moved w);
+          joined = λ i j. elim (joins_was (terms_of o) f i old.joined.spots new.joined.spots added j) [
+            | inl same ↦ subst (λ k. (terms_of o).end k ≤ v + (terms_of o).step k) same reached
             | inr rest ↦ g.joined i rest
           ];
         };
@@ -111,8 +112,8 @@ joined t n v f old new grouped within reached moved added room =
       omega arith,
     )
 
-pub shrinks_more : (t : Terms) (n v : ℕ) (first old new : Groups) → Shrinks t n v first old → IsGrouped t n (Some v) new → size new < size old → Shrinks t n v first new
-shrinks_more t n v first old new shrinks grouped less =
+pub shrinks_more : (o : Prospect) (v : ℕ) (first old new : Groups) → Shrinks o v first old → IsGrouped o (Some v) new → size new < size old → Shrinks o v first new
+shrinks_more o v first old new shrinks grouped less =
     let f = shrinks.fewer in
     record { grouped = grouped; fewer = omega arith; same = λ e. absurd (omega arith) }
 
@@ -121,22 +122,22 @@ pub none_ahead : (key : ℕ → ℕ) (f : ℕ) (spots : List Spot) → IsFirst s
 none_ahead key f spots first i among = All-contains (λ (y : Spot). Ahead (key f) f y.0.0 y.0.1) spots (spot (key i) i) first.ahead among
 
 pub turn_left :
-    (t : Terms) (n v f : ℕ) (first old new : Groups) → Shrinks t n v first old → IsTurn t n v old (Leaves f) →
+    (o : Prospect) (v f : ℕ) (first old new : Groups) → Shrinks o v first old → IsTurn o v old (Leaves f) →
     ((x : Spot) → IsFirst old.joined.spots x → IsPermutation old.joined.spots (x ∷ new.joined.spots)) → new.joined.room ≡ old.joined.room → new.waits ≡ old.waits →
-    Shrinks t n v first new × (size new < size old)
-turn_left t n v f first old new shrinks turn moved room waits =
-    let done = left t n v f old new shrinks.grouped turn.1.1 (moved (spot (t.step f) f) turn.0) room waits in
-    (shrinks_more t n v first old new shrinks done.0 done.1, done.1)
+    Shrinks o v first new × (size new < size old)
+turn_left o v f first old new shrinks turn moved room waits =
+    let done = left o v f old new shrinks.grouped turn.1.1 (moved (spot ((terms_of o).step f) f) turn.0) room waits in
+    (shrinks_more o v first old new shrinks done.0 done.1, done.1)
 
 pub turn_joined :
-    (t : Terms) (n v f : ℕ) (first old new : Groups) → Shrinks t n v first old → IsTurn t n v old (Comes f) → t.end f ≤ v + t.step f →
-    IsPermutation old.waits.spots (spot (t.end f) f ∷ new.waits.spots) → IsPermutation (spot (t.step f) f ∷ old.joined.spots) new.joined.spots → old.joined.room ≤ new.joined.room →
-    Shrinks t n v first new × (size new < size old)
-turn_joined t n v f first old new shrinks turn reached moved added room =
-    let done = joined t n v f old new shrinks.grouped turn.1.0 reached moved added room in
+    (o : Prospect) (v f : ℕ) (first old new : Groups) → Shrinks o v first old → IsTurn o v old (Comes f) → (terms_of o).end f ≤ v + (terms_of o).step f →
+    IsPermutation old.waits.spots (spot ((terms_of o).end f) f ∷ new.waits.spots) → IsPermutation (spot ((terms_of o).step f) f ∷ old.joined.spots) new.joined.spots → old.joined.room ≤ new.joined.room →
+    Shrinks o v first new × (size new < size old)
+turn_joined o v f first old new shrinks turn reached moved added room =
+    let done = joined o v f old new shrinks.grouped turn.1.0 reached moved added room in
     let e = done.1 in
     let less : size new < size old = omega arith in
-    (shrinks_more t n v first old new shrinks done.0 less, less)
+    (shrinks_more o v first old new shrinks done.0 less, less)
 
 -- the key of the first of a line
 pub first_key : (key : ℕ → ℕ) (n h : ℕ) (spots : List Spot) → IsKeyed key n spots → FirstOf spots (Some h) → IsFirst spots (spot (key h) h)

@@ -29,35 +29,35 @@ use Rattle.keep_schedule.proofs.Lists.{IsEnded, no_longer}
 use Rattle.keep_schedule.proofs.Moves.{first_key, first_within, joined, joins_was, none_ahead}
 use Rattle.keep_schedule.proofs.Stretches.{led_run, run_led}
 
-pub fills_added : (t : Terms) (n k : ℕ) (old new : Lined) → Fills t n k old → k < n → t.end k < t.need k → IsPermutation (spot (t.end k) k ∷ old.spots) new.spots → old.room ≤ new.room → length new.spots ≡ length old.spots + 1 → Fills t n (k + 1) new
-fills_added t n k old new fills within short added room longer =
+pub fills_added : (o : Prospect) (k : ℕ) (old new : Lined) → Fills o k old → k < length o.loads → (terms_of o).end k < (terms_of o).need k → IsPermutation (spot ((terms_of o).end k) k ∷ old.spots) new.spots → old.room ≤ new.room → length new.spots ≡ length old.spots + 1 → Fills o (k + 1) new
+fills_added o k old new fills within short added room longer =
     let count = fills.count in
     let roomy = fills.room in
     record {
-      keyed = All-permutation (λ (y : Spot). (y.0.0 ≡ t.end y.0.1) × (y.0.1 < n)) (spot (t.end k) k ∷ old.spots) new.spots added (All-cons (λ (y : Spot). (y.0.0 ≡ t.end y.0.1) × (y.0.1 < n)) (spot (t.end k) k) old.spots (refl, within) fills.keyed);
+      keyed = All-permutation (λ (y : Spot). (y.0.0 ≡ (terms_of o).end y.0.1) × (y.0.1 < length o.loads)) (spot ((terms_of o).end k) k ∷ old.spots) new.spots added (All-cons (λ (y : Spot). (y.0.0 ≡ (terms_of o).end y.0.1) × (y.0.1 < length o.loads)) (spot ((terms_of o).end k) k) old.spots (refl, within) fills.keyed);
       short = λ i among.
-          elim (contains_cons (spot (t.end i) i) (spot (t.end k) k) old.spots (Contains-permutation new.spots (spot (t.end k) k ∷ old.spots) (spot (t.end i) i) (IsPermutation-sym (spot (t.end k) k ∷ old.spots) new.spots added) among)) [
-            | inl same ↦ subst (λ j. t.end j < t.need j) (ap (λ (x : Spot). x.0.1) same) short
+          elim (contains_cons (spot ((terms_of o).end i) i) (spot ((terms_of o).end k) k) old.spots (Contains-permutation new.spots (spot ((terms_of o).end k) k ∷ old.spots) (spot ((terms_of o).end i) i) (IsPermutation-sym (spot ((terms_of o).end k) k ∷ old.spots) new.spots added) among)) [
+            | inl same ↦ subst (λ j. (terms_of o).end j < (terms_of o).need j) (ap (λ (x : Spot). x.0.1) same) short
             | inr rest ↦ fills.short i rest
           ];
       all = λ i h falls.
-          Contains-permutation (spot (t.end k) k ∷ old.spots) new.spots (spot (t.end i) i) added
+          Contains-permutation (spot ((terms_of o).end k) k ∷ old.spots) new.spots (spot ((terms_of o).end i) i) added
           (elim (cases_eq i k) [
-            | inl same ↦ subst (λ j. Contains (spot (t.end k) k ∷ old.spots) (spot (t.end j) j)) (sym same) (contains_head (spot (t.end k) k) old.spots)
-            | inr other ↦ contains_more (spot (t.end i) i) (spot (t.end k) k) old.spots (fills.all i (omega arith) falls)
+            | inl same ↦ subst (λ j. Contains (spot ((terms_of o).end k) k ∷ old.spots) (spot ((terms_of o).end j) j)) (sym same) (contains_head (spot ((terms_of o).end k) k) old.spots)
+            | inr other ↦ contains_more (spot ((terms_of o).end i) i) (spot ((terms_of o).end k) k) old.spots (fills.all i (omega arith) falls)
           ]);
       count = omega arith;
       room = omega arith;
     }
 
-pub fills_kept : (t : Terms) (n k : ℕ) (l : Lined) → Fills t n k l → t.need k ≤ t.end k → Fills t n (k + 1) l
-fills_kept t n k l fills lasts =
+pub fills_kept : (o : Prospect) (k : ℕ) (l : Lined) → Fills o k l → (terms_of o).need k ≤ (terms_of o).end k → Fills o (k + 1) l
+fills_kept o k l fills lasts =
     let count = fills.count in
     record {
       keyed = fills.keyed;
       short = fills.short;
       all = λ i h falls. elim (cases_eq i k) [
-        | inl same ↦ absurd (let e : t.end i ≡ t.end k = ap t.end same in let d : t.need i ≡ t.need k = ap t.need same in omega arith)
+        | inl same ↦ absurd (let e : (terms_of o).end i ≡ (terms_of o).end k = ap (terms_of o).end same in let d : (terms_of o).need i ≡ (terms_of o).need k = ap (terms_of o).need same in omega arith)
         | inr other ↦ fills.all i (omega arith) falls
       ];
       count = omega arith;
@@ -67,7 +67,7 @@ fills_kept t n k l fills lasts =
 none_in : (k i : ℕ) (spots : List Spot) → spots ≡ [] → Contains spots (spot k i) → ⊥
 none_in k i spots e among = let l = (subst (λ s. Contains s (spot k i)) e among).1 in omega arith
 
-new_grouped : (o : Prospect) (g : Groups) → Fills (terms_of o) (length o.loads) (length o.loads) g.waits → g.joined ≡ record { spots = []; room = length o.loads } → IsGrouped (terms_of o) (length o.loads) None g
+new_grouped : (o : Prospect) (g : Groups) → Fills o (length o.loads) g.waits → g.joined ≡ record { spots = []; room = length o.loads } → IsGrouped o None g
 new_grouped o g fills empty =
     let t = terms_of o in
     let n = length o.loads in
@@ -88,13 +88,13 @@ new_grouped o g fills empty =
       };
     }
 
-pub new_done : (o : Prospect) (g : Groups) → Fills (terms_of o) (length o.loads) (length o.loads) g.waits → g.joined ≡ record { spots = []; room = length o.loads } → FirstOf g.waits.spots None → IsReady (terms_of o) (length o.loads) None g Done
+pub new_done : (o : Prospect) (g : Groups) → Fills o (length o.loads) g.waits → g.joined ≡ record { spots = []; room = length o.loads } → FirstOf g.waits.spots None → IsReady o None g Done
 new_done o g fills empty first =
     let t = terms_of o in
     let none : g.joined.spots ≡ [] = ap (λ (l : Lined). l.spots) empty in
     none_lacks t None (Waits t g) (Joins t g) (new_grouped o g fills empty).grouped (λ i w. none_in (t.end i) i g.waits.spots first w) (λ i j. none_in (t.step i) i g.joined.spots none j)
 
-pub new_due : (o : Prospect) (g : Groups) (h : ℕ) → Fills (terms_of o) (length o.loads) (length o.loads) g.waits → g.joined ≡ record { spots = []; room = length o.loads } → FirstOf g.waits.spots (Some h) → IsReady (terms_of o) (length o.loads) None g (Waiting h)
+pub new_due : (o : Prospect) (g : Groups) (h : ℕ) → Fills o (length o.loads) g.waits → g.joined ≡ record { spots = []; room = length o.loads } → FirstOf g.waits.spots (Some h) → IsReady o None g (Waiting h)
 new_due o g h fills empty first =
     let t = terms_of o in
     let n = length o.loads in
@@ -112,76 +112,76 @@ new_due o g h fills empty first =
       within : (t : Terms) (n h : ℕ) (spots : List Spot) → IsKeyed t.end n spots → Contains spots (spot (t.end h) h) → h < n
       within t n h spots keyed among = first_within t.end n h spots keyed among
 
-grouped_at : (t : Terms) (n : ℕ) (prev : Option ℕ) (w : ℕ) (g : Groups) → IsGrouped t n prev g → ((v : ℕ) → prev ≡ Some v → v ≤ w) → IsGrouped t n (Some w) g
-grouped_at t n None w g grouped le =
+grouped_at : (o : Prospect) (prev : Option ℕ) (w : ℕ) (g : Groups) → IsGrouped o prev g → ((v : ℕ) → prev ≡ Some v → v ≤ w) → IsGrouped o (Some w) g
+grouped_at o None w g grouped le =
     let old = grouped.grouped in
     record {
       filed = grouped.filed;
       grouped = record { all = λ i short. old.all i (omega arith); short = old.short; joined = λ i j. absurd (old.joined i j) };
     }
-grouped_at t n (Some v) w g grouped le = record { filed = grouped.filed; grouped = later t v w (Waits t g) (Joins t g) (le v refl) grouped.grouped }
+grouped_at o (Some v) w g grouped le = record { filed = grouped.filed; grouped = later (terms_of o) v w (Waits (terms_of o) g) (Joins (terms_of o) g) (le v refl) grouped.grouped }
 
 -- an entry that waits and forces the next wake-up joins with it
 pub begun_waiting :
-    (t : Terms) (n : ℕ) (prev : Option ℕ) (h first : ℕ) (old new : Groups) → IsSound t → IsDue t n prev old h → first ≡ deadline t prev h - t.margin →
-    IsPermutation old.waits.spots (spot (t.end h) h ∷ new.waits.spots) → IsPermutation (spot (t.step h) h ∷ old.joined.spots) new.joined.spots → old.joined.room ≤ new.joined.room →
-    IsBegun t n prev old new (Waiting h) h first
-begun_waiting t n prev h first old new sound due at moved added room =
-    let short = short_before t prev h due.leads.short in
+    (o : Prospect) (prev : Option ℕ) (h first : ℕ) (old new : Groups) → IsSound (terms_of o) → IsDue o prev old h → first ≡ deadline (terms_of o) prev h - (terms_of o).margin →
+    IsPermutation old.waits.spots (spot ((terms_of o).end h) h ∷ new.waits.spots) → IsPermutation (spot ((terms_of o).step h) h ∷ old.joined.spots) new.joined.spots → old.joined.room ≤ new.joined.room →
+    IsBegun o prev old new (Waiting h) h first
+begun_waiting o prev h first old new sound due at moved added room =
+    let short = short_before (terms_of o) prev h due.leads.short in
     let gains = sound.step h short in
     let within = sound.end h short in
-    let below = end_below_deadline t prev h in
-    let grouped = grouped_at t n prev first old due.grouped (λ v e. let u = due.unjoined v e in (omega arith)) in
-    let done = joined t n first h old new grouped due.within (omega arith) moved added room in
+    let below = end_below_deadline (terms_of o) prev h in
+    let grouped = grouped_at o prev first old due.grouped (λ v e. let u = due.unjoined v e in (omega arith)) in
+    let done = joined o first h old new grouped due.within (omega arith) moved added room in
     let sizes = done.1 in
     record {
       leads = due.leads;
       within = due.within;
       at = at;
       grouped = done.0;
-      joined = Contains-permutation (spot (t.step h) h ∷ old.joined.spots) new.joined.spots (spot (t.step h) h) added (contains_head (spot (t.step h) h) old.joined.spots);
-      least = λ i j. elim (joins_was t h i old.joined.spots new.joined.spots added j) [
-        | inl same ↦ subst (λ k. Ahead (t.step h) h (t.step k) k) same (inr (refl, omega arith))
+      joined = Contains-permutation (spot ((terms_of o).step h) h ∷ old.joined.spots) new.joined.spots (spot ((terms_of o).step h) h) added (contains_head (spot ((terms_of o).step h) h) old.joined.spots);
+      least = λ i j. elim (joins_was (terms_of o) h i old.joined.spots new.joined.spots added j) [
+        | inl same ↦ subst (λ k. Ahead ((terms_of o).step h) h ((terms_of o).step k) k) same (inr (refl, omega arith))
         | inr rest ↦ inl (due.least i rest)
       ];
       left = omega arith;
     }
 
 -- the settled groups are ready
-pub ready_settled : (t : Terms) (n v : ℕ) (old new : Groups) (next : Next) → Settles t n v old new next → IsReady t n (Some v) new next
-ready_settled t n v old new Done settles =
-    none_lacks t (Some v) (Waits t new) (Joins t new) settles.shrinks.grouped.grouped
-    (λ i w. none_in (t.end i) i new.waits.spots settles.settled.0 w) (λ i j. none_in (t.step i) i new.joined.spots settles.settled.1 j)
-ready_settled t n v old new (Waiting h) settles =
+pub ready_settled : (o : Prospect) (v : ℕ) (old new : Groups) (next : Next) → Settles o v old new next → IsReady o (Some v) new next
+ready_settled o v old new Done settles =
+    none_lacks (terms_of o) (Some v) (Waits (terms_of o) new) (Joins (terms_of o) new) settles.shrinks.grouped.grouped
+    (λ i w. none_in ((terms_of o).end i) i new.waits.spots settles.settled.0 w) (λ i j. none_in ((terms_of o).step i) i new.joined.spots settles.settled.1 j)
+ready_settled o v old new (Waiting h) settles =
     let front = settles.settled.1.1 in
     let unjoined = front.unjoined in
     record {
       grouped = settles.shrinks.grouped;
-      leads = wait_leads t v h (Waits t new) (Joins t new) settles.shrinks.grouped.grouped front.waiting front.unjoined front.joins front.waits;
+      leads = wait_leads (terms_of o) v h (Waits (terms_of o) new) (Joins (terms_of o) new) settles.shrinks.grouped.grouped front.waiting front.unjoined front.joins front.waits;
       within = settles.settled.0;
       front = settles.settled.1.0;
       least = λ i j. let a = front.joins i j in omega arith;
       unjoined = λ w e. let same : v ≡ w = cc in omega arith;
     }
-ready_settled t n v old new (Joined f) settles = record { at = v; is = refl; grouped = settles.shrinks.grouped; within = settles.settled.0; head = settles.settled.1 }
+ready_settled o v old new (Joined f) settles = record { at = v; is = refl; grouped = settles.shrinks.grouped; within = settles.settled.0; head = settles.settled.1 }
 
 -- where another forces the next wake-up, f does not
-not_led : (t : Terms) (n v f : ℕ) (g : Groups) (next : Next) → IsReady t n (Some v) g next → IsOther f next → t.end f ≤ v + t.step f → Leads t (Some v) f → ⊥
-not_led t n v f g Done ready other reached leads = let l = ready f in let s = leads.short in omega arith
-not_led t n v f g (Waiting h) ready other reached leads =
-    let same : h ≡ f = one_leads t (Some v) h f ready.leads leads in
+not_led : (o : Prospect) (v f : ℕ) (g : Groups) (next : Next) → IsReady o (Some v) g next → IsOther f next → (terms_of o).end f ≤ v + (terms_of o).step f → Leads (terms_of o) (Some v) f → ⊥
+not_led o v f g Done ready other reached leads = let l = ready f in let s = leads.short in omega arith
+not_led o v f g (Waiting h) ready other reached leads =
+    let same : h ≡ f = one_leads (terms_of o) (Some v) h f ready.leads leads in
     let u = ready.unjoined v refl in
-    let e : t.end h ≡ t.end f = ap t.end same in
-    let d : t.step h ≡ t.step f = ap t.step same in
+    let e : (terms_of o).end h ≡ (terms_of o).end f = ap (terms_of o).end same in
+    let d : (terms_of o).step h ≡ (terms_of o).step f = ap (terms_of o).step same in
     omega arith
-not_led t n v f g (Joined k) ready other reached leads =
+not_led o v f g (Joined k) ready other reached leads =
     let at : v ≡ ready.at = let s : Some v ≡ Some ready.at = ready.is in cc in
-    let lasts = join_leads t ready.at k (Waits t g) (Joins t g) ready.grouped.grouped ready.head.joined ready.head.short ready.head.joins ready.head.waits in
-    other (one_leads t (Some v) k f (subst (λ (w : ℕ). Leads t (Some w) k) (sym at) lasts) leads)
+    let lasts = join_leads (terms_of o) ready.at k (Waits (terms_of o) g) (Joins (terms_of o) g) ready.grouped.grouped ready.head.joined ready.head.short ready.head.joins ready.head.waits in
+    other (one_leads (terms_of o) (Some v) k f (subst (λ (w : ℕ). Leads (terms_of o) (Some w) k) (sym at) lasts) leads)
 
-ended : (t : Terms) (n v f : ℕ) (g : Groups) (next : Next) → IsReady t n (Some v) g next → IsOther f next → t.end f ≤ v + t.step f → (rest : List Force) → AreLed t (Some v) rest → IsEnded f rest
-ended t n v f g next ready other reached [] led = tt
-ended t n v f g next ready other reached (x ∷ xs) led = λ same. not_led t n v f g next ready other reached (subst (λ i. Leads t (Some v) i) same led.0)
+ended : (o : Prospect) (v f : ℕ) (g : Groups) (next : Next) → IsReady o (Some v) g next → IsOther f next → (terms_of o).end f ≤ v + (terms_of o).step f → (rest : List Force) → AreLed (terms_of o) (Some v) rest → IsEnded f rest
+ended o v f g next ready other reached [] led = tt
+ended o v f g next ready other reached (x ∷ xs) led = λ same. not_led o v f g next ready other reached (subst (λ i. Leads (terms_of o) (Some v) i) same led.0)
 
 wakes_are :
     (first s d more f needed m : ℕ) → needed ≡ m → ((more ≡ 0) × (s ≡ 0)) ⊎ ((0 < more) × (s ≡ d)) →
@@ -196,13 +196,13 @@ wakes_are first s d more f needed m is step =
 
 -- what a run that was begun and stretched takes from the list to come
 pub taken :
-    (o : Prospect) (n : ℕ) (prev : Option ℕ) (f first most more last s needed : ℕ) (old mid new : Groups) (now next : Next) → IsSound (terms_of o) →
-    IsBegun (terms_of o) n prev old mid now f first → Stretches (terms_of o) n f first most mid new more last next → (more + 1 ≡ most) ⊎ IsOther f next →
+    (o : Prospect) (prev : Option ℕ) (f first most more last s needed : ℕ) (old mid new : Groups) (now next : Next) → IsSound (terms_of o) →
+    IsBegun o prev old mid now f first → Stretches o f first most mid new more last next → (more + 1 ≡ most) ⊎ IsOther f next →
     needed ≡ (terms_of o).from f → ((more ≡ 0) × (s ≡ 0)) ⊎ ((0 < more) × (s ≡ (terms_of o).step f - (terms_of o).margin)) →
     IsFirstRun (IsToCome (record { prospect = o; last = prev })) (IsToCome (record { prospect = o; last = Some last })) most
     (record { first = first; step = s; count = more + 1; entry = f; needed = needed })
 unfolding IsToCome
-taken o n prev f first most more last s needed old mid new now next sound begun stretch over is step =
+taken o prev f first most more last s needed old mid new now next sound begun stretch over is step =
     let t = terms_of o in
     let d = t.step f - t.margin in
     let short = short_before t prev f begun.leads.short in
@@ -227,7 +227,7 @@ taken o n prev f first most more last s needed old mid new now next sound begun 
         | inr ends' ↦
             let parts = splits (wakes other ++ rest) led in
             no_longer first s needed other.first other.step other.needed f other.entry (more + 1) other.count parts.0 rest (omega arith) (sym parts.1.0)
-            (ended t n last f new next (ready_settled t n last mid new next stretch.settles) ends' (omega arith) parts.0 parts.1.1)
+            (ended o last f new next (ready_settled o last mid new next stretch.settles) ends' (omega arith) parts.0 parts.1.1)
       ];
     } where
       lone_step : (more s d : ℕ) → ((more ≡ 0) × (s ≡ 0)) ⊎ ((0 < more) × (s ≡ d)) → 0 < d → (s ≡ 0 → more + 1 ≡ 1) × (more + 1 ≡ 1 → s ≡ 0)

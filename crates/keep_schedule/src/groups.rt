@@ -48,7 +48,7 @@ impl Groups {
     /// Moves the first that waits to those that have joined.
     pub(crate) fn join(&mut self, outlook: &Outlook, index: u32)
         requires first { IsFirst self.old.waits.spots (spot ((terms_of outlook.now).end index) index) }
-        requires filed { IsFiled (terms_of outlook.now) (length outlook.now.loads) self.old }
+        requires filed { IsFiled outlook.now self.old }
         ensures waits { IsPermutation self.old.waits.spots (spot ((terms_of outlook.now).end index) index ∷ self.new.waits.spots) }
         ensures joined { IsPermutation (spot ((terms_of outlook.now).step index) index ∷ self.old.joined.spots) self.new.joined.spots }
         ensures room { self.old.joined.room ≤ self.new.joined.room }
@@ -60,9 +60,9 @@ impl Groups {
 
 /// What is to be done with the groups after a wake-up at `at`.
 fn turn_at(outlook: &Outlook, groups: &Groups, at: u64) -> Turn
-    requires filed { IsFiled (terms_of outlook.now) (length outlook.now.loads) groups.now }
+    requires filed { IsFiled outlook.now groups.now }
     requires within { at ≤ LAST }
-    ensures { IsTurn (terms_of outlook.now) (length outlook.now.loads) at groups.now result }
+    ensures { IsTurn outlook.now at groups.now result }
 {
     let Some(head) = groups.joined.first() else {
         return match groups.waits.first() {
@@ -95,9 +95,9 @@ fn is_ahead(end: u64, index: u32, other_end: u64, other: u32) -> bool
 
 /// Moves entries between the groups until it shows what forces the wake-up behind the one at `at`.
 pub(crate) fn settle(outlook: &Outlook, groups: &mut Groups, at: u64) -> Next
-    requires grouped { IsGrouped (terms_of outlook.now) (length outlook.now.loads) (Some at) groups.old }
+    requires grouped { IsGrouped outlook.now (Some at) groups.old }
     requires within { at ≤ LAST }
-    ensures { Settles (terms_of outlook.now) (length outlook.now.loads) at groups.old groups.new result }
+    ensures { Settles outlook.now at groups.old groups.new result }
 {
     loop {
         match turn_at(outlook, groups, at) {

@@ -45,7 +45,7 @@ impl<'a> Model for QueueSchedule<'a> {
 
     ghost view = { λ q. record { course = record { prospect = q.outlook; last = q.last }; runs = runs_left q.groups q.next } };
 
-    ghost invariant = { λ q. IsWithin q.last × IsReady (terms_of q.outlook) (length q.outlook.loads) q.last q.groups q.next };
+    ghost invariant = { λ q. IsWithin q.last × IsReady q.outlook q.last q.groups q.next };
 }
 
 impl<'a> QueueSchedule<'a> {
@@ -134,9 +134,9 @@ struct Begun {
 
 /// Takes the next wake-up, behind the one at `last`. Where an entry that waits forces it, that has now joined.
 fn begin(outlook: &Outlook, groups: &mut Groups, last: Option<u64>, next: Next) -> Option<Begun>
-    requires ready { IsReady (terms_of outlook.now) (length outlook.now.loads) last groups.old next }
+    requires ready { IsReady outlook.now last groups.old next }
     requires last { IsWithin last }
-    ensures begun { IfSome result (λ b. IsBegun (terms_of outlook.now) (length outlook.now.loads) last groups.old groups.new next b.entry b.first) }
+    ensures begun { IfSome result (λ b. IsBegun outlook.now last groups.old groups.new next b.entry b.first) }
     ensures moment { IfSome result (λ b. b.first ≤ LAST) }
     ensures none { result ≡ None → (next ≡ Next.Done) × (groups.new ≡ groups.old) }
 {
@@ -156,7 +156,7 @@ fn begin(outlook: &Outlook, groups: &mut Groups, last: Option<u64>, next: Next) 
 
 /// The line of those that fall short before any wake-up.
 fn waiting(alloc: Global, outlook: &Outlook) -> Result<Line, AllocError>
-    ensures { IfOk result (λ line. Fills (terms_of outlook.now) (length outlook.now.loads) (length outlook.now.loads) line) }
+    ensures { IfOk result (λ line. Fills outlook.now (length outlook.now.loads) line) }
 {
     let mut line = Line::with_room(alloc, outlook.len() as usize)?;
     for index in 0..outlook.len() {

@@ -25,12 +25,12 @@ pub(crate) fn extend(
     first: u64,
     most: u64,
 ) -> Stretch
-    requires grouped { IsGrouped (terms_of outlook.now) (length outlook.now.loads) (Some first) groups.old }
+    requires grouped { IsGrouped outlook.now (Some first) groups.old }
     requires entry { entry < length outlook.now.loads }
     requires short { (terms_of outlook.now).end entry < (terms_of outlook.now).need entry }
     requires moment { first ≤ LAST }
     requires most { 1 ≤ most }
-    ensures taken { Stretches (terms_of outlook.now) (length outlook.now.loads) entry first most groups.old groups.new result.more result.last result.next }
+    ensures taken { Stretches outlook.now entry first most groups.old groups.new result.more result.last result.next }
     ensures sound { IsSound (terms_of outlook.now) }
     ensures ended { (result.more + 1 ≡ most) ⊎ IsOther entry result.next }
 {
@@ -61,7 +61,7 @@ fn is_head(next: Next, entry: u32) -> bool
 
 /// Before when `entry`, which forces the wake-up behind the one at `last`, goes on to do so, as far as the groups tell.
 fn until(outlook: &Outlook, groups: &Groups, entry: u32, last: u64) -> u64
-    requires grouped { IsGrouped (terms_of outlook.now) (length outlook.now.loads) (Some last) groups.now }
+    requires grouped { IsGrouped outlook.now (Some last) groups.now }
     requires head { IsHead (terms_of outlook.now) last (Waits (terms_of outlook.now) groups.now) (Joins (terms_of outlook.now) groups.now) entry }
     requires entry { entry < length outlook.now.loads }
     ensures later { last < result }

@@ -13,6 +13,12 @@ use keep_moment::Text;
 use std::alloc::{AllocError, Global};
 use thiserror::Error;
 
+/// The bytes that most messages have at most: so many are asked for at once.
+const USUAL_TEXT: usize = 512;
+
+/// The same of the line with a token.
+const USUAL_LINE: usize = 64;
+
 /// Why a message was not written.
 #[derive(Clone, Copy, Debug, PartialEq, Eq, Error)]
 pub enum SendFault {
@@ -103,7 +109,7 @@ fn text_of_request(alloc: Global, request: &Request) -> Result<Vec<u8>, AllocErr
     let token = text_of_token(alloc, &request.token)?;
     let lines = text_of_body_lines(alloc, request.method.as_str(), request.body.list().len())?;
     let last = text_of_last(alloc)?;
-    let mut text = Vec::new(alloc);
+    let mut text = Vec::with_capacity(alloc, USUAL_TEXT)?;
     text.extend_from_slice(request.method.as_str().as_bytes())?;
     text.extend_from_slice(b" ")?;
     text.extend_from_slice(request.path.list())?;
@@ -122,7 +128,7 @@ fn text_of_reply(alloc: Global, reply: &Reply) -> Result<Vec<u8>, AllocError>
     let line = text_of_status(alloc, reply.status)?;
     let lines = text_of_length(alloc, reply.body.list().len())?;
     let last = text_of_last(alloc)?;
-    let mut text = Vec::new(alloc);
+    let mut text = Vec::with_capacity(alloc, USUAL_TEXT)?;
     text.extend_from_slice(line.as_bytes())?;
     text.extend_from_slice(lines.as_bytes())?;
     text.extend_from_slice(last.as_bytes())?;
@@ -141,7 +147,7 @@ fn text_of_host(alloc: Global, port: u16) -> Result<String, AllocError>
 fn text_of_token(alloc: Global, token: &Option<Text>) -> Result<Vec<u8>, AllocError>
     ensures { IfOk result (λ text. text.items ≡ token_line token.now) }
 {
-    let mut text = Vec::new(alloc);
+    let mut text = Vec::with_capacity(alloc, USUAL_LINE)?;
     if let Some(token) = token {
         text.extend_from_slice(b"X-Vault-Token: ")?;
         text.extend_from_slice(token.list())?;

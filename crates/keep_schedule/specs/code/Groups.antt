@@ -8,6 +8,7 @@ use Rattle.keep_schedule.specs.declared.groups.Next.TheVariants.{Done, Joined, W
 use Rattle.keep_schedule.specs.declared.groups.Turn.{Turn}
 use Rattle.keep_schedule.specs.declared.groups.Turn.TheVariants.{Comes, Empty, Leaves, Steady}
 use Rattle.keep_schedule.specs.code.Line.{IsFirst, Spot, spot}
+use Rattle.keep_schedule.specs.Prospect.{Prospect, terms_of}
 use Rattle.keep_schedule.specs.Terms.{Ahead, Terms, deadline}
 
 -- a wake-up at prev reaches the end that the entry has now
@@ -48,9 +49,9 @@ abbrev pub IsKeyed : (ℕ → ℕ) → ℕ → List Spot → Type 0
 IsKeyed key n spots = All (λ x. (x.0.0 ≡ key x.0.1) × (x.0.1 < n)) spots
 
 -- the lines are those of the entries, and what waits has room among what has joined
-pub record IsFiled (t : Terms) (n : ℕ) (g : Groups) : Type 0 where
-  pub waits : IsKeyed t.end n g.waits.spots
-  pub joined : IsKeyed t.step n g.joined.spots
+pub record IsFiled (o : Prospect) (g : Groups) : Type 0 where
+  pub waits : IsKeyed (terms_of o).end (length o.loads) g.waits.spots
+  pub joined : IsKeyed (terms_of o).step (length o.loads) g.joined.spots
   pub room : length g.waits.spots + length g.joined.spots ≤ g.joined.room
 
 -- how often an entry can still change its group
@@ -58,30 +59,30 @@ abbrev pub size : Groups → ℕ
 size g = 2 * length g.waits.spots + length g.joined.spots
 
 -- the groups are filed, and hold what falls short after a wake-up at prev
-pub record IsGrouped (t : Terms) (n : ℕ) (prev : Option ℕ) (g : Groups) : Type 0 where
-  pub filed : IsFiled t n g
-  pub grouped : Grouped t prev (Waits t g) (Joins t g)
+pub record IsGrouped (o : Prospect) (prev : Option ℕ) (g : Groups) : Type 0 where
+  pub filed : IsFiled o g
+  pub grouped : Grouped (terms_of o) prev (Waits (terms_of o) g) (Joins (terms_of o) g)
 
 -- what is to be done with the groups after a wake-up at v
-abbrev pub IsTurn : Terms → ℕ → ℕ → Groups → Turn → Type 0
-IsTurn t n v g Empty = (g.waits.spots ≡ []) × (g.joined.spots ≡ [])
-IsTurn t n v g (Leaves f) = IsFirst g.joined.spots (spot (t.step f) f) × ((f < n) × (t.need f ≤ v + t.step f))
-IsTurn t n v g (Comes h) = IsFirst g.waits.spots (spot (t.end h) h) × ((h < n) × ((i : ℕ) → Joins t g i → Ahead (t.end h) h (v + t.step i) i))
-IsTurn t n v g (Steady f) = (f < n) × IsHead t v (Waits t g) (Joins t g) f
+abbrev pub IsTurn : Prospect → ℕ → Groups → Turn → Type 0
+IsTurn o v g Empty = (g.waits.spots ≡ []) × (g.joined.spots ≡ [])
+IsTurn o v g (Leaves f) = IsFirst g.joined.spots (spot ((terms_of o).step f) f) × ((f < length o.loads) × ((terms_of o).need f ≤ v + (terms_of o).step f))
+IsTurn o v g (Comes h) = IsFirst g.waits.spots (spot ((terms_of o).end h) h) × ((h < length o.loads) × ((i : ℕ) → Joins (terms_of o) g i → Ahead ((terms_of o).end h) h (v + (terms_of o).step i) i))
+IsTurn o v g (Steady f) = (f < length o.loads) × IsHead (terms_of o) v (Waits (terms_of o) g) (Joins (terms_of o) g) f
 
 -- what forces the wake-up behind the one at v
-abbrev pub IsSettled : Terms → ℕ → ℕ → Groups → Next → Type 0
-IsSettled t n v g Done = (g.waits.spots ≡ []) × (g.joined.spots ≡ [])
-IsSettled t n v g (Waiting h) = (h < n) × (IsFirst g.waits.spots (spot (t.end h) h) × IsFront t v (Waits t g) (Joins t g) h)
-IsSettled t n v g (Joined f) = (f < n) × IsHead t v (Waits t g) (Joins t g) f
+abbrev pub IsSettled : Prospect → ℕ → Groups → Next → Type 0
+IsSettled o v g Done = (g.waits.spots ≡ []) × (g.joined.spots ≡ [])
+IsSettled o v g (Waiting h) = (h < length o.loads) × (IsFirst g.waits.spots (spot ((terms_of o).end h) h) × IsFront (terms_of o) v (Waits (terms_of o) g) (Joins (terms_of o) g) h)
+IsSettled o v g (Joined f) = (f < length o.loads) × IsHead (terms_of o) v (Waits (terms_of o) g) (Joins (terms_of o) g) f
 
 -- the groups after some changes: none has been put back, and where they are as large as before there was no change
-pub record Shrinks (t : Terms) (n v : ℕ) (old new : Groups) : Type 0 where
-  pub grouped : IsGrouped t n (Some v) new
+pub record Shrinks (o : Prospect) (v : ℕ) (old new : Groups) : Type 0 where
+  pub grouped : IsGrouped o (Some v) new
   pub fewer : size new ≤ size old
   pub same : size new ≡ size old → (new.waits.spots ≡ old.waits.spots) × (new.joined.spots ≡ old.joined.spots)
 
 -- the groups settled after a wake-up at v
-pub record Settles (t : Terms) (n v : ℕ) (old new : Groups) (next : Next) : Type 0 where
-  pub shrinks : Shrinks t n v old new
-  pub settled : IsSettled t n v new next
+pub record Settles (o : Prospect) (v : ℕ) (old new : Groups) (next : Next) : Type 0 where
+  pub shrinks : Shrinks o v old new
+  pub settled : IsSettled o v new next

@@ -7,7 +7,8 @@ use Rattle.keep_schedule.specs.declared.groups.Next.{Next}
 use Rattle.keep_schedule.specs.declared.groups.Next.TheVariants.{Done, Joined, Waiting}
 use Rattle.keep_schedule.specs.code.Groups.{IsGrouped, IsHead, IsKeyed, Joins, Waits, size}
 use Rattle.keep_schedule.specs.code.Line.{IsFirst, Lined, spot}
-use Rattle.keep_schedule.specs.Terms.{Ahead, Leads, Terms, deadline}
+use Rattle.keep_schedule.specs.Prospect.{Prospect, terms_of}
+use Rattle.keep_schedule.specs.Terms.{Ahead, Leads, deadline}
 
 -- how many runs at most are still to come: an entry ends one when it joins, and one when it leaves
 abbrev pub runs_left : Groups → Next → ℕ
@@ -16,42 +17,42 @@ runs_left g (Waiting h) = size g - 1
 runs_left g (Joined f) = size g
 
 -- h, which waits, forces the wake-up behind the one at prev
-pub record IsDue (t : Terms) (n : ℕ) (prev : Option ℕ) (g : Groups) (h : ℕ) : Type 0 where
-  pub grouped : IsGrouped t n prev g
-  pub leads : Leads t prev h
-  pub within : h < n
-  pub front : IsFirst g.waits.spots (spot (t.end h) h)
-  pub least : (i : ℕ) → Joins t g i → t.step h < t.step i
-  pub unjoined : (v : ℕ) → prev ≡ Some v → v + t.step h < t.end h
+pub record IsDue (o : Prospect) (prev : Option ℕ) (g : Groups) (h : ℕ) : Type 0 where
+  pub grouped : IsGrouped o prev g
+  pub leads : Leads (terms_of o) prev h
+  pub within : h < length o.loads
+  pub front : IsFirst g.waits.spots (spot ((terms_of o).end h) h)
+  pub least : (i : ℕ) → Joins (terms_of o) g i → (terms_of o).step h < (terms_of o).step i
+  pub unjoined : (v : ℕ) → prev ≡ Some v → v + (terms_of o).step h < (terms_of o).end h
 
 -- f, which has joined, forces the wake-up behind the one at prev
-pub record IsLasting (t : Terms) (n : ℕ) (prev : Option ℕ) (g : Groups) (f : ℕ) : Type 0 where
+pub record IsLasting (o : Prospect) (prev : Option ℕ) (g : Groups) (f : ℕ) : Type 0 where
   pub at : ℕ
   pub is : prev ≡ Some at
-  pub grouped : IsGrouped t n (Some at) g
-  pub within : f < n
-  pub head : IsHead t at (Waits t g) (Joins t g) f
+  pub grouped : IsGrouped o (Some at) g
+  pub within : f < length o.loads
+  pub head : IsHead (terms_of o) at (Waits (terms_of o) g) (Joins (terms_of o) g) f
 
 -- the groups and what forces the wake-up behind the one at prev
-abbrev pub IsReady : Terms → ℕ → Option ℕ → Groups → Next → Type 0
-IsReady t n prev g Done = (i : ℕ) → t.need i ≤ deadline t prev i
-IsReady t n prev g (Waiting h) = IsDue t n prev g h
-IsReady t n prev g (Joined f) = IsLasting t n prev g f
+abbrev pub IsReady : Prospect → Option ℕ → Groups → Next → Type 0
+IsReady o prev g Done = (i : ℕ) → (terms_of o).need i ≤ deadline (terms_of o) prev i
+IsReady o prev g (Waiting h) = IsDue o prev g h
+IsReady o prev g (Joined f) = IsLasting o prev g f
 
 -- the first wake-up of a run by f, at `first`, is taken
-pub record IsBegun (t : Terms) (n : ℕ) (prev : Option ℕ) (old new : Groups) (next : Next) (f first : ℕ) : Type 0 where
-  pub leads : Leads t prev f
-  pub within : f < n
-  pub at : first ≡ deadline t prev f - t.margin
-  pub grouped : IsGrouped t n (Some first) new
-  pub joined : Joins t new f
-  pub least : (i : ℕ) → Joins t new i → Ahead (t.step f) f (t.step i) i
+pub record IsBegun (o : Prospect) (prev : Option ℕ) (old new : Groups) (next : Next) (f first : ℕ) : Type 0 where
+  pub leads : Leads (terms_of o) prev f
+  pub within : f < length o.loads
+  pub at : first ≡ deadline (terms_of o) prev f - (terms_of o).margin
+  pub grouped : IsGrouped o (Some first) new
+  pub joined : Joins (terms_of o) new f
+  pub least : (i : ℕ) → Joins (terms_of o) new i → Ahead ((terms_of o).step f) f ((terms_of o).step i) i
   pub left : size new ≡ runs_left old next
 
 -- of the first k entries those that fall short before any wake-up stand in the line
-pub record Fills (t : Terms) (n k : ℕ) (l : Lined) : Type 0 where
-  pub keyed : IsKeyed t.end n l.spots
-  pub short : (i : ℕ) → Contains l.spots (spot (t.end i) i) → t.end i < t.need i
-  pub all : (i : ℕ) → i < k → t.end i < t.need i → Contains l.spots (spot (t.end i) i)
+pub record Fills (o : Prospect) (k : ℕ) (l : Lined) : Type 0 where
+  pub keyed : IsKeyed (terms_of o).end (length o.loads) l.spots
+  pub short : (i : ℕ) → Contains l.spots (spot ((terms_of o).end i) i) → (terms_of o).end i < (terms_of o).need i
+  pub all : (i : ℕ) → i < k → (terms_of o).end i < (terms_of o).need i → Contains l.spots (spot ((terms_of o).end i) i)
   pub count : length l.spots ≤ k
-  pub room : n ≤ l.room
+  pub room : length o.loads ≤ l.room

@@ -6,6 +6,7 @@ use Rattle.keep_schedule.specs.declared.groups.Groups.{Groups}
 use Rattle.keep_schedule.specs.declared.groups.Next.{Next}
 use Rattle.keep_schedule.specs.declared.groups.Next.TheVariants.{Done, Joined, Waiting}
 use Rattle.keep_schedule.specs.code.Groups.{Settles}
+use Rattle.keep_schedule.specs.Prospect.{Prospect, terms_of}
 use Rattle.keep_schedule.specs.Terms.{Leads, Terms}
 
 -- f leads after each of n wake-ups, the first at w, d apart
@@ -13,12 +14,12 @@ abbrev pub LeadsAll : Terms → ℕ → ℕ → ℕ → ℕ → Type 0
 LeadsAll t w d f n = (k : ℕ) → k < n → Leads t (Some (w + k * d)) f
 
 -- behind a wake-up at first come `more` by f, of fewer than `most`, the last at `last`, after which the groups are settled
-pub record Stretches (t : Terms) (n f first most : ℕ) (old new : Groups) (more last : ℕ) (next : Next) : Type 0 where
+pub record Stretches (o : Prospect) (f first most : ℕ) (old new : Groups) (more last : ℕ) (next : Next) : Type 0 where
   pub within : more < most
-  pub ends : last ≡ first + more * (t.step f - t.margin)
+  pub ends : last ≡ first + more * ((terms_of o).step f - (terms_of o).margin)
   pub moment : last ≤ LAST
-  pub leads : LeadsAll t first (t.step f - t.margin) f more
-  pub settles : Settles t n last old new next
+  pub leads : LeadsAll (terms_of o) first ((terms_of o).step f - (terms_of o).margin) f more
+  pub settles : Settles o last old new next
 
 -- another entry forces the next wake-up, or none
 abbrev pub IsOther : ℕ → Next → Type 0

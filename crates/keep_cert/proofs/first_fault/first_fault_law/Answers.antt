@@ -1,3 +1,4 @@
+-- The fault of a text says how far it begins that of a certificate, and one line at most is the first at fault.
 use Rattle.keep_cert.proofs.FirstFault.{fault_says, one_first}
 use Rattle.keep_cert.proofs.first_fault.first_fault_law.Goals as goal
 

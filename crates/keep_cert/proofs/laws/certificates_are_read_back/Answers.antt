@@ -1,3 +1,4 @@
+-- What is read is what the text writes, and a text that writes a certificate is read as it.
 use Rattle.keep_cert.proofs.FoundRuns.{read_is_written}
 use Rattle.keep_cert.proofs.ReadBackAll.{written_is_read}
 use Rattle.keep_cert.proofs.laws.certificates_are_read_back.Goals as goal

@@ -1,3 +1,4 @@
+-- A decision has the indices of entries, and its printed text is read as what it claims.
 use Rattle.keep_cert.proofs.Printing.{decided_is_of, printed_is_read}
 use Rattle.keep_cert.proofs.laws.decisions_are_read_back.Goals as goal
 

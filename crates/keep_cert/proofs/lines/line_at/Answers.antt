@@ -1,3 +1,4 @@
+-- A line with its line feed is found; without one the text ends before the line or within it.
 use Rattle.std.proofs.Common.{ap, ◌∙◌, sym, Err, eqb-true}
 use Rattle.std.proofs.lemmas.Bool.{eqb-false}
 use Rattle.keep_cert.specs.Lines.{line_at}

@@ -1,3 +1,4 @@
+-- The first line gives the version or its fault, and a text without a line has no header.
 use Rattle.std.proofs.Common.{ap, sym, ◌∙◌}
 use Rattle.std.proofs.lemmas.Result.{err_from_is_err_and}
 use Rattle.keep_cert.specs.Reading.{header_of, version_of}

@@ -1,3 +1,4 @@
+-- A text writes the certificate that is read from it, and that certificate can be written.
 use Rattle.keep_cert.proofs.FoundRuns.{found_can_be_written, found_writes}
 use Rattle.keep_cert.proofs.reader.read.Goals as goal
 

@@ -1,3 +1,4 @@
+-- A run that was read has no more wake-ups than the limit.
 use Rattle.std.proofs.Common.{sym, ◌∙◌}
 use Rattle.keep_cert.proofs.Turns.{run_is_small}
 use Rattle.keep_cert.proofs.run_line.run_of.Goals as goal

@@ -1,3 +1,4 @@
+-- One line more adds its run, ends the runs, or has the fault that the whole text has.
 use Rattle.std.proofs.Common.{◌≡◌, ◌+◌, ◌++◌, ◌∷◌, ◌<◌, ◌≤◌, [], true, false, bytes_eq, ap, arith, length, length-append, sym, ◌∙◌}
 use Rattle.std.proofs.lemmas.Result.{err_from_is_err_and}
 use Rattle.keep_cert.specs.declared.cert.TheConstants.{MAX_LINES}

@@ -1,3 +1,4 @@
+-- The wake-ups that were counted, and those of the runs that are left, are all.
 use Rattle.std.proofs.Common.{◌≡◌, ◌+◌, drop}
 use Rattle.keep_rule.specs.Runs.{counted}
 use Rattle.keep_cert.proofs.writer.count_of.Given as goal

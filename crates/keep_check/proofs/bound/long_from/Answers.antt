@@ -1,3 +1,4 @@
+-- From a step before a need on, a renewal leads up to it, unless the entry cannot be renewed or its ceiling is lower.
 use Rattle.std.proofs.Common.{◌≡◌, ◌-◌, arith}
 use Rattle.keep_check.proofs.Longs.{long_fixed, long_free, long_high, long_low}
 use Rattle.keep_check.proofs.bound.long_from.Goals as goal

@@ -1,3 +1,4 @@
+-- What the certificate claims holds where the answer to its runs, or to its pair, is Yes.
 use Rattle.std.proofs.Common.{◌≡◌, subst, sym}
 use Rattle.keep_rule.specs.Runs.{all_wakes}
 use Rattle.keep_check.specs.declared.answer.Answer.TheVariants.{Yes}

@@ -1,3 +1,4 @@
+-- The building of the tree ends, since each side has fewer gaps.
 use Rattle.std.proofs.Common.{length}
 use Rattle.keep_check.proofs.gap_tree.+tree_of.Given as goal
 

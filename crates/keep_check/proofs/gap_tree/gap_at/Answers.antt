@@ -1,3 +1,4 @@
+-- The run at the place has a last moment, from which its gap is counted.
 use Rattle.keep_check.proofs.Jumps.{fit_at}
 use Rattle.keep_check.proofs.gap_tree.gap_at.Goals as goal
 

@@ -1,3 +1,4 @@
+-- The moments in time stop at a gap over the step, at the ceiling, or at the end of the run.
 use Rattle.std.proofs.Common.{◌≡◌, ◌+◌, ◌-◌, ◌*◌, ◌<◌, ◌⊎◌, arith, subst}
 use Rattle.keep_check.proofs.OwnRuns.{stops_at_ceiling, stops_at_last, stops_early}
 use Rattle.keep_check.proofs.kept.more_in_time.Goals as goal

@@ -1,3 +1,4 @@
+-- After a run the entry has the end that its last moment in time gives, if that is later than before.
 use Rattle.std.proofs.Common.{◌∙◌, max, ap}
 use Rattle.keep_check.proofs.OwnRuns.{own_run}
 use Rattle.keep_check.proofs.kept.own_after_run.Goals as goal

@@ -1,3 +1,4 @@
+-- Each turn passes runs, and those that are left lead from the end so far to the entry's last end.
 use Rattle.std.proofs.Common.{◌≡◌, ◌-◌, drop, length}
 use Rattle.keep_rule.specs.Runs.{all_wakes, moments_of}
 use Rattle.keep_check.specs.Kept.{own_end}

@@ -1,3 +1,4 @@
+-- A walk that has passed all runs has found no fault in them.
 use Rattle.std.proofs.Common.{◌∙◌, ap, arith, sym}
 use Rattle.std.proofs.lemmas.List.{drop_all}
 use Rattle.keep_tree.specs.Forest.{end_of}

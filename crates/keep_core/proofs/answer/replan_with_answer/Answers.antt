@@ -1,3 +1,4 @@
+-- Where planning after an answer is refused, the entry gets back the end and the renewability that it had.
 use Rattle.std.proofs.Common.{◌∙◌, ap}
 use Rattle.keep_tree.specs.declared.entry.Entry.{Entry}
 use Rattle.keep_tree.proofs.Placed.{read_range}

@@ -1,3 +1,4 @@
+-- An entry that was told has its new end, and one that was refused can no longer be renewed.
 use Rattle.std.proofs.Common.{◌∙◌, ◌+◌, ap, set, sym}
 use Rattle.keep_tree.specs.declared.entry.Entry.{Entry}
 use Rattle.keep_tree.specs.Forest.{Forest, entry_at}

@@ -1,3 +1,4 @@
+-- The least reach over a root is its own, and over a child the lesser of its own and its parent's.
 use Rattle.std.proofs.Common.{◌≡◌, ◌∙◌, Some, ap, sym}
 use Rattle.keep_tree.specs.declared.entry.Entry.{Entry}
 use Rattle.keep_tree.specs.Forest.{entry_at}

@@ -1,3 +1,4 @@
+-- The list so far has the least reaches of the entries before the index.
 use Rattle.keep_core.specs.code.Passes.{AreLeast}
 use Rattle.keep_core.proofs.least.least_reaches.Given as goal
 

@@ -1,3 +1,4 @@
+-- Where planning with a new need is refused, the entry gets back the need that it had.
 use Rattle.std.proofs.Common.{◌≡◌, ◌∙◌, ap, arith}
 use Rattle.keep_tree.specs.declared.entry.Entry.{Entry}
 use Rattle.keep_tree.specs.Forest.{entry_at}

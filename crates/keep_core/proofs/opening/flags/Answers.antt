@@ -1,3 +1,4 @@
+-- The flag of one asked entry more is set, which lies among the flags since no index is past the entries.
 use Rattle.std.proofs.Common.{◌<◌, arith, length, refl}
 use Rattle.keep_rule.proofs.Lists.{asked_within}
 use Rattle.keep_core.proofs.Waking.{flags_more}

@@ -1,3 +1,4 @@
+-- Set so far are the flags of those asked entries that were passed, and no others.
 use Rattle.std.proofs.Common.{take}
 use Rattle.keep_core.specs.code.Waking.{AreFlags}
 use Rattle.keep_core.proofs.opening.flags.Given as goal

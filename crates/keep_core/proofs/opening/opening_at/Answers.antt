@@ -1,3 +1,4 @@
+-- The Asks at a moment that is due are entries, and what opens the round waits for each of them.
 use Rattle.std.proofs.Common.{◌≡◌, ◌∙◌, ◌≤◌, ◌<◌, ℕ, List, ◌∷◌, ap, arith, false, length, refl, subst, sym}
 use Rattle.keep_tree.specs.Forest.{end_of}
 use Rattle.keep_rule.specs.Asks.{asks, first_of}

@@ -1,3 +1,4 @@
+-- Where no pair is unkeepable, the planner names none, so a plan that is refused is too long.
 use Rattle.std.proofs.Common.{subst, inl, inr}
 use Rattle.keep_plan.specs.Decides.{Decides}
 use Rattle.keep_plan.proofs.Deciding.{some_keeps}

@@ -1,3 +1,4 @@
+-- After shortening no pair is unkeepable, and where the plan is refused the needs are put back.
 use Rattle.std.proofs.Common.{◌≡◌, ◌∙◌, ap, arith, length, subst, sym}
 use Rattle.keep_tree.specs.Forest.{Forest, end_of}
 use Rattle.keep_rule.specs.Unkeepable.{AllKeepable}

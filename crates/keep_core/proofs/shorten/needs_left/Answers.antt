@@ -1,3 +1,4 @@
+-- What is left of one need more is a moment, which the least reach over the entry decides.
 use Rattle.std.proofs.Common.{◌≡◌, ◌∙◌, ◌+◌, ◌<◌, ℕ, IfSome, Option, ap, arith, length, subst, sym, unwrap_or}
 use Rattle.keep_tree.specs.declared.entry.Entry.{Entry}
 use Rattle.keep_core.specs.code.Passes.{AreNeeds}

@@ -1,3 +1,4 @@
+-- The need of one entry more is a moment, and is listed as it is.
 use Rattle.std.proofs.Common.{◌≡◌, ◌+◌, ◌∙◌, ℕ, IfSome, Option, ap, arith, subst, sym}
 use Rattle.keep_tree.specs.declared.entry.Entry.{Entry}
 use Rattle.keep_tree.specs.Forest.{entry_at}

@@ -1,3 +1,4 @@
+-- The list so far has the needs of the entries before the index.
 use Rattle.keep_tree.specs.Forest.{entry_at}
 use Rattle.keep_core.specs.code.Passes.{AreNeeds}
 use Rattle.keep_core.proofs.shorten.needs_of.Given as goal

@@ -1,3 +1,4 @@
+-- One entry more is noted exactly where its least reach falls short of its need.
 use Rattle.std.proofs.Common.{◌∙◌, ◌<◌, ap, arith, length, sym}
 use Rattle.keep_tree.specs.declared.entry.Entry.{Entry}
 use Rattle.keep_core.proofs.Passing.{found_short, found_whole, pairs_all, pairs_more, pairs_same}

@@ -1,3 +1,4 @@
+-- Noted so far are those entries before the current one whose needs are shortened.
 use Rattle.std.proofs.Common.{◌≡◌, filter, map}
 use Rattle.std.specs.List.{range_with_len}
 use Rattle.keep_core.specs.Shorten.{is_short, pair_of}

@@ -1,3 +1,4 @@
+-- The entries before the index have their new needs, and the others those that they had.
 use Rattle.std.proofs.Common.{◌≡◌}
 use Rattle.keep_core.specs.code.Passes.{needing, so_far}
 use Rattle.keep_core.proofs.shorten.set_needs.Given as goal

@@ -1,3 +1,4 @@
+-- At a late tick a plan can be made after shortening, and where it is refused nothing is changed.
 use Rattle.std.proofs.Common.{◌≡◌, ◌∙◌, ap, arith, length, subst, sym}
 use Rattle.keep_tree.specs.Forest.{Forest, end_of}
 use Rattle.keep_rule.specs.Unkeepable.{AllKeepable}

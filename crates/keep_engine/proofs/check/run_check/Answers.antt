@@ -1,3 +1,4 @@
+-- The exit, the text and the fault line of `check` are what its text, once delivered, calls for.
 use Rattle.keep_engine.specs.CheckRun.{CheckTexts}
 use Rattle.keep_engine.specs.Running.{NoHalts}
 use Rattle.keep_engine.proofs.Delivered.{run_delivered}

@@ -1,3 +1,4 @@
+-- The exit, the text and the fault line of `ends` are what its text, once delivered, calls for.
 use Rattle.keep_engine.specs.EndsRun.{EndsHalts, EndsTexts}
 use Rattle.keep_engine.proofs.Delivered.{run_delivered}
 use Rattle.keep_engine.proofs.ends.run_ends.Goals as goal

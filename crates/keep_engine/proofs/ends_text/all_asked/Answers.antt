@@ -1,3 +1,4 @@
+-- One wake-up more is listed, at its moment and with every entry asked.
 use Rattle.std.proofs.Common.{◌∙◌, ◌++◌, ◌∷◌, [], ap, sym, length, arith}
 use Rattle.std.proofs.lemmas.List.{get_or_read}
 use Rattle.keep_engine.proofs.Lines.{all_asked_more, all_asked_none}

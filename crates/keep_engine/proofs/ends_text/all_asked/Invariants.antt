@@ -1,3 +1,4 @@
+-- The wake-ups so far are at the moments that were passed, and ask every entry.
 use Rattle.std.proofs.Common.{◌≡◌, length, take}
 use Rattle.keep_engine.specs.EndsText.{all_asked}
 use Rattle.keep_engine.proofs.ends_text.all_asked.Given as goal

@@ -1,3 +1,4 @@
+-- One index more is listed behind those before it.
 use Rattle.std.proofs.Common.{◌∙◌, ◌++◌, ◌∷◌, [], ap, sym}
 use Rattle.keep_engine.proofs.Lines.{range_more}
 use Rattle.keep_engine.proofs.ends_text.every_index.Goals as goal

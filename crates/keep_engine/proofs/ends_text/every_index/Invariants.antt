@@ -1,3 +1,4 @@
+-- The indices so far are those below the current one.
 use Rattle.std.proofs.Common.{◌≡◌}
 use Rattle.std.specs.List.{range_with_len}
 use Rattle.keep_engine.proofs.ends_text.every_index.Given as goal

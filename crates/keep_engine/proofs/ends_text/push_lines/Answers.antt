@@ -1,7 +1,8 @@
+-- The line of one entry more, with its end, is appended.
 use Rattle.std.proofs.Common.{◌∙◌, ◌++◌, ap, sym}
 use Rattle.std.proofs.lemmas.List.{append-nil, append_assoc}
 use Rattle.keep_tree.specs.Forest.{entry_at}
-use Rattle.keep_engine.specs.Making.{at_index}
+use Rattle.keep_engine.specs.code.Making.{at_index}
 use Rattle.keep_engine.specs.EndsText.{end_line, end_lines}
 use Rattle.keep_engine.proofs.Lines.{end_lines_more, end_lines_none}
 use Rattle.keep_engine.proofs.ends_text.push_lines.Goals as goal

@@ -1,5 +1,6 @@
+-- The text so far has gained the lines of the entries before the index, with their ends.
 use Rattle.std.proofs.Common.{◌≡◌, ◌++◌}
-use Rattle.keep_engine.specs.Making.{at_index}
+use Rattle.keep_engine.specs.code.Making.{at_index}
 use Rattle.keep_engine.specs.EndsText.{end_lines}
 use Rattle.keep_engine.proofs.ends_text.push_lines.Given as goal
 

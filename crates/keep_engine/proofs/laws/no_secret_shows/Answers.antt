@@ -1,3 +1,4 @@
+-- Of inventories with one forest, each command writes one text with one exit.
 use Rattle.keep_engine.proofs.Margins.{one_margin_text}
 use Rattle.keep_engine.proofs.OneText.{one_check_text, one_ends_text, one_plan_text}
 use Rattle.keep_engine.proofs.Reaching.{one_reach_text}

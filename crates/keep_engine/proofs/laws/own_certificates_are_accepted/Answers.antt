@@ -1,3 +1,4 @@
+-- A certificate that is printed, or that `plan` writes, gets nothing but Yes.
 use Rattle.keep_engine.proofs.Own.{own_accepted}
 use Rattle.keep_engine.proofs.OwnText.{own_text}
 use Rattle.keep_engine.proofs.laws.own_certificates_are_accepted.Goals as goal

@@ -1,3 +1,4 @@
+-- Inventories that differ in secrets alone have runs that write fronts of one text, with one exit.
 use Rattle.keep_engine.proofs.SameRun.{check_secrecy, ends_secrecy, margin_secrecy, plan_secrecy, reach_secrecy}
 use Rattle.keep_engine.proofs.SameRehearsal.{rehearse_secrecy}
 use Rattle.keep_engine.proofs.laws.secrets_change_no_run.Goals as goal

@@ -1,3 +1,4 @@
+-- Some plan keeps an entry until the moment that `reach` shows and none any longer, whatever is needed.
 use Rattle.keep_engine.proofs.Until.{until_law, whatever_is_needed}
 use Rattle.keep_engine.proofs.laws.until_law.Goals as goal
 

@@ -1,3 +1,4 @@
+-- The exit, the text and the fault line of `margin` are what its text, once delivered, calls for.
 use Rattle.keep_engine.specs.MarginRun.{MarginHalts, MarginTexts}
 use Rattle.keep_engine.proofs.Delivered.{run_delivered}
 use Rattle.keep_engine.proofs.margin.run_margin.Goals as goal

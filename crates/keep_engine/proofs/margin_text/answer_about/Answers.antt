@@ -1,7 +1,8 @@
+-- The text about the ends as they are, or renewed, is the one that is asked for.
 use Rattle.std.proofs.Common.{subst}
 use Rattle.keep_tree.specs.Forest.{Forest}
-use Rattle.keep_engine.specs.Making.{MakesOf}
-use Rattle.keep_engine.specs.MarginMaking.{HaltsFrom, TextsFrom}
+use Rattle.keep_engine.specs.code.Making.{MakesOf}
+use Rattle.keep_engine.specs.code.MarginMaking.{HaltsFrom, TextsFrom}
 use Rattle.keep_engine.proofs.Margins.{asked_makes}
 use Rattle.keep_engine.proofs.margin_text.answer_about.Goals as goal
 

@@ -1,3 +1,4 @@
+-- The plan for the forest's own margin, where it keeps, has the fewest wake-ups.
 use Rattle.std.proofs.Common.{subst, sym}
 use Rattle.keep_plan.specs.Decides.{Decides, IsKept}
 use Rattle.keep_plan.specs.Widest.{IsFewest}

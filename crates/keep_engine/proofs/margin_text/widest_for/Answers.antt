@@ -1,3 +1,4 @@
+-- Where the own margin is enough, some margin is found.
 use Rattle.keep_engine.proofs.Margins.{own_found}
 use Rattle.keep_engine.proofs.margin_text.widest_for.Goals as goal
 

@@ -1,3 +1,4 @@
+-- Where no margin does with so few wake-ups, the text is `none` or names the pair.
 use Rattle.keep_engine.proofs.Margins.{none_makes}
 use Rattle.keep_engine.proofs.margin_text.widest_within.Goals as goal
 

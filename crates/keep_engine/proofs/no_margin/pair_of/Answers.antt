@@ -1,3 +1,4 @@
+-- An entry that falls short is half of a pair that no plan keeps; without one some plan keeps.
 use Rattle.keep_engine.proofs.Margins.{pair_matched}
 use Rattle.keep_engine.proofs.no_margin.pair_of.Goals as goal
 

@@ -1,3 +1,4 @@
+-- The exit, the text and the fault line of `plan` are what its text, once delivered, calls for.
 use Rattle.keep_engine.specs.PlanRun.{PlanHalts, PlanTexts}
 use Rattle.keep_engine.proofs.Delivered.{run_delivered}
 use Rattle.keep_engine.proofs.plan.run_plan.Goals as goal

@@ -1,3 +1,4 @@
+-- The exit, the text and the fault line of `reach` are what its text, once delivered, calls for.
 use Rattle.keep_engine.specs.ReachRun.{ReachTexts}
 use Rattle.keep_engine.specs.Running.{NoHalts}
 use Rattle.keep_engine.proofs.Delivered.{run_delivered}

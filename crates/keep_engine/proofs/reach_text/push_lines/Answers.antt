@@ -1,3 +1,4 @@
+-- The line of one entry more, with what binds it, is appended.
 use Rattle.std.proofs.Common.{◌∙◌, ◌++◌, ap}
 use Rattle.keep_engine.proofs.Reaching.{lines_more}
 use Rattle.keep_engine.proofs.reach_text.push_lines.Goals as goal

@@ -1,3 +1,4 @@
+-- The text so far is the lines of the entries before the index, with what binds them.
 use Rattle.keep_engine.specs.ReachText.{AreReachLines}
 use Rattle.keep_engine.proofs.reach_text.push_lines.Given as goal
 

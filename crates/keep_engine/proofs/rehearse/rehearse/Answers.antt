@@ -1,3 +1,4 @@
+-- A rehearsal for whose exchange memory is wanting reports that and writes nothing on `out`.
 use Rattle.std.proofs.Common.{refl}
 use Rattle.std.proofs.KnownBytes.{Keeps-refl}
 use Rattle.keep_engine.proofs.Unheard.{unheard}

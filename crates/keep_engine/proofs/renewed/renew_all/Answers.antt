@@ -1,3 +1,4 @@
+-- By falling index one entry more is renewed, while all over it still have their old ends.
 use Rattle.std.proofs.Common.{◌≡◌, ◌+◌, ◌-◌, ◌<◌, arith, length, subst, sym}
 use Rattle.keep_tree.specs.Forest.{Forest}
 use Rattle.keep_tree.proofs.Placed.{parents_first}

@@ -1,3 +1,4 @@
+-- The entries from the index on have their renewed ends, and those before it their old ones.
 use Rattle.keep_engine.proofs.Renewals.{IsRenewedFrom}
 use Rattle.keep_engine.proofs.renewed.renew_all.Given as goal
 

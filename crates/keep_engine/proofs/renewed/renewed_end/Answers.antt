@@ -1,3 +1,4 @@
+-- The end that a renewal leaves is within the range of ends.
 use Rattle.std.proofs.Common.{◌<◌, ◌≤◌, ◌^◌, subst, sym}
 use Rattle.keep_tree.specs.declared.entry.Entry.{Entry}
 use Rattle.keep_tree.specs.declared.forest.TheConstants.{END_MAX}

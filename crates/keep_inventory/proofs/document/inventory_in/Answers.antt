@@ -1,3 +1,4 @@
+-- What is taken in from a document's tree is an inventory.
 use Rattle.toml.specs.View.{table_view}
 use Rattle.keep_inventory.proofs.Inventoried.{intake_is_inventory}
 use Rattle.keep_inventory.proofs.document.inventory_in.Goals as goal

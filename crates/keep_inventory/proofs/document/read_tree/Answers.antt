@@ -1,3 +1,4 @@
+-- Bytes that are not UTF-8 have no tree, and others have the tree of their text.
 use Rattle.toml.specs.View.{table_view}
 use Rattle.keep_inventory.proofs.Trees.{tree_of_bytes, tree_of_text}
 use Rattle.keep_inventory.proofs.document.read_tree.Goals as goal

@@ -1,3 +1,4 @@
+-- A table's list has these keys alone exactly where its view does.
 use Rattle.std.proofs.Common.{◌∙◌}
 use Rattle.keep_inventory.specs.Keys.{is_one_of}
 use Rattle.keep_inventory.proofs.Keys.{keys_listed}

@@ -1,3 +1,4 @@
+-- Each credential of the inventory of a text can be sent, and what can be sent is UTF-8.
 use Rattle.keep_inventory.proofs.Inventoried.{sendable_law}
 use Rattle.keep_inventory.proofs.Inventories.{text_law}
 use Rattle.keep_inventory.proofs.laws.credentials_are_sendable.Goals as goal

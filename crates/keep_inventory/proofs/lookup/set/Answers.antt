@@ -1,3 +1,4 @@
+-- Three changes of an entry, one after another, set the four fields that a lookup tells.
 use Rattle.keep_tree.specs.declared.entry.Entry.{Entry}
 use Rattle.keep_inventory.proofs.Told.{set_thrice}
 use Rattle.keep_inventory.proofs.lookup.set.Goals as goal

@@ -1,3 +1,4 @@
+-- Values are all tables exactly where their views are.
 use Rattle.std.proofs.Common.{◌∙◌}
 use Rattle.keep_inventory.proofs.Tables.{tables_listed}
 use Rattle.keep_inventory.proofs.value.are_tables.Goals as goal

@@ -1,3 +1,4 @@
+-- The value at a key is the member of that name in the view of the table.
 use Rattle.std.proofs.Common.{◌≡◌, List, ℕ, subst}
 use Rattle.std.specs.Option.{option_map}
 use Rattle.toml.specs.Data.{get_member}

@@ -1,3 +1,4 @@
+-- A text that writes a moment is read as that moment, and a moment has one text.
 use Rattle.keep_moment.proofs.Moments.{date_text_reads, one_date_text}
 use Rattle.keep_moment.proofs.date.dates_are_read_back.Goals as goal
 

@@ -1,3 +1,4 @@
+-- What is read is the moment that the text writes; `BadTime` means that it writes none, and no memory is asked for.
 use Rattle.std.proofs.Common.{sym, ◌∙◌}
 use Rattle.keep_moment.proofs.Moments.{moment_reads, moment_if_found, moment_bad, moment_none, moment_takes_none}
 use Rattle.keep_moment.proofs.date.read_rfc3339.Goals as goal

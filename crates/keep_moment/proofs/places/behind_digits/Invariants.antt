@@ -1,3 +1,4 @@
+-- What follows the digits at the front stays the same when some of those digits are dropped.
 use Rattle.std.proofs.Common.{◌≡◌, drop}
 use Rattle.keep_moment.specs.MomentOf.{after_digits}
 use Rattle.keep_moment.proofs.places.behind_digits.Given as goal

@@ -1,3 +1,4 @@
+-- The date of a day number, which counts from 1970, has no negative year.
 use Rattle.std.proofs.Common.{◌≡◌, pos, rules}
 use Rattle.jiff_core.specs.Date.{epoch_day}
 use Rattle.keep_moment.proofs.Calendar.{year_from_epoch}

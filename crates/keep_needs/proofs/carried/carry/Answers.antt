@@ -1,3 +1,4 @@
+-- When every entry has handed its load up, each has the need that it carries.
 use Rattle.std.proofs.Common.{◌≡◌, ◌++◌, List, drop, length, map, ap, arith, subst, sym, take}
 use Rattle.std.proofs.lemmas.List.{take_at}
 use Rattle.keep_tree.proofs.Placed.{parents_first}

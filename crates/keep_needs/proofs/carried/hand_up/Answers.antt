@@ -1,3 +1,4 @@
+-- One entry more hands its load up: its parent then has the heavier of the two, and a root hands it to nobody.
 use Rattle.std.proofs.Common.{◌≡◌, ◌<◌, ◌+◌, ◌-◌, ◌∙◌, length, length-set, ap, arith, subst, sym}
 use Rattle.keep_tree.specs.declared.entry.Entry.{Entry}
 use Rattle.keep_tree.proofs.Placed.{parents_first}

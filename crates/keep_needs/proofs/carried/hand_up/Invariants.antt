@@ -1,3 +1,4 @@
+-- The entries from the index on have handed up their loads, and there is a load for each entry.
 use Rattle.std.proofs.Common.{◌≡◌, ℕ, length}
 use Rattle.keep_needs.specs.code.Loads.{AllOwn, IsHandedUp}
 use Rattle.keep_needs.proofs.carried.hand_up.Given as goal

@@ -1,3 +1,4 @@
+-- One entry more is listed with its own need, if that comes after the start.
 use Rattle.std.proofs.Common.{◌≡◌, ◌∙◌, ap, arith}
 use Rattle.std.proofs.lemmas.Grind.{common_steps}
 use Rattle.keep_tree.specs.Forest.{entry_at}

@@ -1,3 +1,4 @@
+-- The list so far has the own loads of the entries before the current one.
 use Rattle.std.proofs.Common.{◌≡◌, ℕ, ◌<◌, vec_len}
 use Rattle.keep_needs.specs.code.Loads.{nth, own_load}
 use Rattle.keep_needs.proofs.carried.own_loads.Given as goal

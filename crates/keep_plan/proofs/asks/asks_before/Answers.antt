@@ -1,3 +1,4 @@
+-- One entry more is asked exactly where it is wanted, and the entries that are wanted are the Asks.
 use Rattle.std.proofs.Common.{◌≡◌, ◌∙◌, ◌++◌, ◌∷◌, [], true, false, ap, arith, filter, sym}
 use Rattle.std.proofs.lemmas.Bool.{cond-true, cond-false}
 use Rattle.std.proofs.lemmas.List.{append-nil}

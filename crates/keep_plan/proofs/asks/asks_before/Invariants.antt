@@ -1,3 +1,4 @@
+-- Asked so far are the entries before the index that are wanted at the moment.
 use Rattle.std.proofs.Common.{◌≡◌, ℕ, filter}
 use Rattle.std.specs.List.{range_with_len}
 use Rattle.keep_tree.specs.Forest.{end_of}

@@ -1,3 +1,4 @@
+-- One run more is taken from the list, which is overlong where the run has no room left.
 use Rattle.std.proofs.Common.{◌-◌, ◌<◌, arith, subst, sym}
 use Rattle.keep_schedule.specs.Courses.{IsToCome}
 use Rattle.keep_plan.specs.code.Collecting.{IsTaken}

@@ -1,3 +1,4 @@
+-- The runs so far are the front of the list, and the room for more of them shrinks.
 use Rattle.keep_schedule.specs.Courses.{IsToCome}
 use Rattle.keep_plan.specs.code.Collecting.{IsTaken}
 use Rattle.keep_plan.proofs.collect.collect.Given as goal

@@ -1,3 +1,4 @@
+-- The first entry that falls short is the lowest of an unkeepable pair; where none does, no pair is unkeepable.
 use Rattle.std.proofs.Common.{◌≡◌, ◌∙◌, ◌<◌, Some, length, ap, arith, subst, sym, inl, inr}
 use Rattle.std.proofs.lemmas.Bool.{cases_lt}
 use Rattle.keep_tree.specs.Carried.{carried}

@@ -1,3 +1,4 @@
+-- No entry before the current one is the first of an unkeepable pair.
 use Rattle.std.proofs.Common.{ℕ, ◌<◌}
 use Rattle.keep_tree.specs.Forest.{end_of}
 use Rattle.keep_rule.specs.Unkeepable.{Unkeepable}

@@ -1,3 +1,4 @@
+-- The runs of the whole list are the least and latest plan, and an overlong list makes it too long.
 use Rattle.keep_schedule.specs.Courses.{IsToCome}
 use Rattle.keep_plan.specs.code.Collecting.{IsOverlong, IsWhole}
 use Rattle.keep_plan.specs.Decides.{AreBest, IsTooLong}

@@ -1,3 +1,4 @@
+-- A run with a wake-up after the moment answers for all runs, and one without is passed.
 use Rattle.std.proofs.Common.{◌∙◌, ◌+◌, ap, arith, drop, get_or, subst, sym}
 use Rattle.std.proofs.lemmas.List.{drop_more}
 use Rattle.keep_rule.specs.declared.run.Run.{Run}

@@ -1,3 +1,4 @@
+-- What is left is a list of runs, with the same next wake-up as the whole list.
 use Rattle.std.proofs.Common.{◌≡◌, drop}
 use Rattle.keep_rule.specs.Runs.{AreRuns, all_wakes}
 use Rattle.keep_plan.specs.Planned.{next_after}

@@ -1,3 +1,4 @@
+-- The next wake-up of a run is its first, or the first of its steps past the moment, or there is none.
 use Rattle.std.proofs.Common.{◌≡◌, ◌∙◌, ◌+◌, ◌-◌, ◌*◌, ◌/◌, ◌<◌, ◌≤◌, Some, ap, arith, suc, sym}
 use Rattle.keep_moment.specs.declared.moment.TheConstants.{LAST}
 use Rattle.keep_plan.proofs.Nexts.{all_passed, made, next_behind, next_first, next_none, passed, within_run}

@@ -1,3 +1,4 @@
+-- Trying the middle leaves the widest margin between the bounds, which are one in the end.
 use Rattle.std.proofs.Common.{◌≡◌, ◌∙◌, ◌-◌, ◌/◌, ◌<◌, ◌≤◌, MatchOption, ap, arith, refl, subst}
 use Rattle.keep_tree.specs.Forest.{Forest}
 use Rattle.keep_plan.specs.Widest.{IsFewest, KeepsWithin}

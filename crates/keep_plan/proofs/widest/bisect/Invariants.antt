@@ -1,3 +1,4 @@
+-- The widest margin lies between the bounds, each turn brings them together, and the entries stay.
 use Rattle.std.proofs.Common.{◌≡◌, ◌-◌}
 use Rattle.keep_plan.specs.code.Widening.{IsBetween}
 use Rattle.keep_plan.proofs.widest.bisect.Given as goal

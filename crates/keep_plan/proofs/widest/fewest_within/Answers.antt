@@ -1,3 +1,4 @@
+-- The plan that keeps has the fewest wake-ups, and their number tells whether any plan is within the bound.
 use Rattle.std.proofs.Common.{subst}
 use Rattle.keep_plan.specs.Decides.{Decides, IsKept}
 use Rattle.keep_plan.proofs.Widening.{told_fewest}

@@ -1,3 +1,4 @@
+-- The margin that is found is the widest, or none is enough where it is 0, and the forest gets its own margin back.
 use Rattle.std.proofs.Common.{List, arith, subst, sym}
 use Rattle.keep_tree.specs.declared.entry.Entry.{Entry}
 use Rattle.keep_tree.specs.Margins.{IsMargin}

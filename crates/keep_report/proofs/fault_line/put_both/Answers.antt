@@ -1,3 +1,4 @@
+-- Two pieces that are written one after the other are written as one.
 use Rattle.keep_report.proofs.Pieces.{piece_more}
 use Rattle.keep_report.proofs.fault_line.put_both.Goals as goal
 

@@ -1,3 +1,4 @@
+-- What is written for each fault of an inventory is its words, with the entry and the key that it names.
 use Rattle.std.proofs.Common.{ℕ, List, ◌++◌, ◌∷◌, Some, subst, sym}
 use Rattle.std.specs.Prelude.{codes}
 use Rattle.keep_inventory.specs.declared.fault.InvFault.{InvFault}

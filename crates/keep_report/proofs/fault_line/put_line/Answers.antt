@@ -1,3 +1,4 @@
+-- The pieces that are written make up the fault line, and a write that fails leaves a front of it.
 use Rattle.std.proofs.Common.{ℕ, List, [], ◌++◌, ◌∷◌, ap, sym}
 use Rattle.std.specs.Prelude.{codes}
 use Rattle.keep_report.specs.FaultLine.{fault_line, stop_words}

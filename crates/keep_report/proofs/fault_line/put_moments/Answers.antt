@@ -1,3 +1,4 @@
+-- The words of a wake-up that asks past the entries are written with its number.
 use Rattle.std.proofs.Common.{subst, sym}
 use Rattle.keep_report.specs.FaultLine.{moments_words}
 use Rattle.keep_report.specs.Sent.{Puts}

@@ -1,3 +1,4 @@
+-- Words and the place of an entry are written as one piece.
 use Rattle.keep_report.specs.FaultLine.{place_word}
 use Rattle.keep_report.proofs.Pieces.{piece_more}
 use Rattle.keep_report.proofs.fault_line.put_where.Goals as goal

@@ -1,3 +1,4 @@
+-- Words, a place, a blank and a word are one piece, of which a write that fails leaves a front.
 use Rattle.std.proofs.Common.{ℕ, List, ◌++◌, ◌∷◌, ap, sym}
 use Rattle.keep_report.specs.FaultLine.{place_word}
 use Rattle.keep_report.proofs.Pieces.{handed_on, piece_cut, piece_more, piece_named}

@@ -1,3 +1,4 @@
+-- Where the flush fails, what was written is a front of the text, and the answer says why it stopped.
 use Rattle.std.specs.Io.KnownBytes.{Appends}
 use Rattle.keep_report.proofs.Fronts.{unsent, whole_front}
 use Rattle.keep_report.proofs.sending.send.Goals as goal

@@ -1,3 +1,4 @@
+-- A line is reported whatever the write and the flush answer.
 use Rattle.keep_report.specs.Sent.{Sent}
 use Rattle.keep_report.proofs.Reporting.{reported}
 use Rattle.keep_report.proofs.telling.tell.Goals as goal

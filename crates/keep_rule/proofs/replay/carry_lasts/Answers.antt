@@ -1,3 +1,4 @@
+-- One entry more lasts until its own end, or until its parent no longer lasts where that comes sooner.
 use Rattle.std.proofs.Common.{ℕ, ◌<◌, ◌∙◌, ap, arith, length, subst, sym, ◌+◌, set}
 use Rattle.keep_tree.specs.declared.entry.Entry.{Entry}
 use Rattle.keep_tree.proofs.Placed.{parents_first}

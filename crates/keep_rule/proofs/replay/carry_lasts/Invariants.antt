@@ -1,3 +1,4 @@
+-- The entries before the index have the least end among their own and those of all over them.
 use Rattle.std.proofs.Common.{◌≡◌, ℕ, ◌<◌, get_or, nat_le}
 use Rattle.keep_tree.specs.Renewal.{all_last}
 use Rattle.keep_rule.specs.code.Replay.{shown}

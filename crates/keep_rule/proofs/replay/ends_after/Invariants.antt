@@ -1,3 +1,4 @@
+-- The wake-ups that are left lead from the ends so far to those that all of them lead to.
 use Rattle.std.proofs.Common.{◌≡◌, ℕ, drop, length, vec_len}
 use Rattle.keep_tree.specs.Forest.{end_of}
 use Rattle.keep_rule.specs.Ends.{ends_after}

@@ -1,3 +1,4 @@
+-- Up to the next wake-up everything is kept exactly where the present ends last; the rest is left to what follows.
 use Rattle.std.proofs.Common.{◌≡◌, ◌∙◌, ◌+◌, ◌↔◌, ◌++◌, ◌∷◌, ◌&&◌, [], ℕ, IsTrue, ap, arith, drop, length, subst, sym, take}
 use Rattle.std.proofs.lemmas.List.{drop_all}
 use Rattle.keep_tree.specs.Forest.{end_of}

@@ -1,3 +1,4 @@
+-- All is kept exactly where it was kept so far, and those that are left keep it from the ends so far.
 use Rattle.std.proofs.Common.{◌≡◌, ◌↔◌, IsTrue, drop, length, vec_len}
 use Rattle.keep_tree.specs.Forest.{end_of}
 use Rattle.keep_rule.specs.Keeps.{Keeps}

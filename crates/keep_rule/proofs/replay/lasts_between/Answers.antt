@@ -1,3 +1,4 @@
+-- An entry is alive until a moment and its need exactly where it lasts until the sooner of the two.
 use Rattle.std.proofs.Common.{◌≡◌, ◌∙◌, ◌+◌, ◌-◌, ◌<◌, ◌≤◌, ap, arith, get_or, inl, inr, length, nat_le, refl, subst, sym, true}
 use Rattle.std.proofs.lemmas.Bool.{cases_eq, cases_lt}
 use Rattle.std.proofs.lemmas.Bool.Decides.{nat_tests}

@@ -1,3 +1,4 @@
+-- The entries before the index are alive at each moment of the stretch that comes before their needs.
 use Rattle.std.proofs.Common.{ℕ, ◌≤◌, ◌<◌}
 use Rattle.keep_tree.specs.Forest.{entry_at}
 use Rattle.keep_rule.specs.Keeps.{Alive}

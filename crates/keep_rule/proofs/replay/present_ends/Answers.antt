@@ -1,3 +1,4 @@
+-- One end more is listed, and a list with the end of each entry shows the present ends.
 use Rattle.std.proofs.Common.{◌≡◌, ap, arith, length}
 use Rattle.std.proofs.lemmas.Grind.{common_steps}
 use Rattle.keep_tree.specs.declared.entry.Entry.{Entry}

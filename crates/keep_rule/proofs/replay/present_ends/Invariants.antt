@@ -1,3 +1,4 @@
+-- The list so far has the ends of the entries before the index, in their order.
 use Rattle.std.proofs.Common.{◌≡◌, ℕ, ◌<◌, get_or, vec_len}
 use Rattle.keep_tree.specs.Forest.{end_of}
 use Rattle.keep_rule.proofs.replay.present_ends.Given as goal

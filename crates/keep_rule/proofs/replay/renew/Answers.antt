@@ -1,3 +1,4 @@
+-- Those that a wake-up asks are entries, and each gets its end by what lasted before the wake-up.
 use Rattle.std.proofs.Common.{◌<◌, ◌+◌, ℕ, ap, arith, get_or, length, refl, set, subst, sym}
 use Rattle.std.proofs.lemmas.List.{take_all}
 use Rattle.keep_rule.specs.code.Replay.{shown}

@@ -1,3 +1,4 @@
+-- Each turn of the loop leaves the entries that were asked before it with the ends that the wake-up gives them.
 use Rattle.std.proofs.Common.{◌≡◌, ◌==◌, ℕ, cond, get_or, take}
 use Rattle.std.specs.List.{list_any}
 use Rattle.keep_tree.specs.Renewal.{renewed}

@@ -1,3 +1,4 @@
+-- All over an entry last until a moment where the entry itself does and, if it has a parent, all over that do.
 use Rattle.std.proofs.Common.{◌≡◌, ◌&&◌, ◌∙◌, Some, None, true, false, ap, arith, nat_le, sym}
 use Rattle.std.proofs.lemmas.Bool.Decides.{nat_tests}
 use Rattle.keep_tree.specs.declared.entry.Entry.{Entry}

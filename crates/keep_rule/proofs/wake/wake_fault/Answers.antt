@@ -1,3 +1,4 @@
+-- The first fault that the walk over the wake-ups meets is that of the list; where it meets none, there is none.
 use Rattle.std.proofs.Common.{◌≡◌, ◌+◌, ◌∙◌, ap, arith, drop, is_some, sym, true, false}
 use Rattle.std.proofs.lemmas.List.{drop_all}
 use Rattle.keep_rule.specs.Plans.{fault_at, fault_from, wake_fault}

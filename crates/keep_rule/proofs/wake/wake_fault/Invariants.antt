@@ -1,3 +1,4 @@
+-- The first fault of the wake-ups that are left is that of the whole list.
 use Rattle.std.proofs.Common.{◌≡◌, ◌+◌, drop}
 use Rattle.keep_rule.specs.Plans.{fault_from}
 use Rattle.keep_rule.proofs.wake.wake_fault.Given as goal

@@ -1,10 +1,9 @@
-use Rattle.std.proofs.Common.{length}
+-- The groups only shrink from what they were at first, so that the turns end.
 use Rattle.keep_schedule.specs.code.Groups.{Shrinks, size}
-use Rattle.keep_schedule.specs.Prospect.{terms_of}
 use Rattle.keep_schedule.proofs.groups.settle.Given as goal
 
 abbrev pub invariant-loop-groups : goal.invariant-loop-groups
-invariant-loop-groups l = Shrinks (terms_of l.outlook) (length l.outlook.loads) l.at l.initial.groups l.groups
+invariant-loop-groups l = Shrinks l.outlook l.at l.initial.groups l.groups
 
 abbrev pub decreases-loop-groups : goal.decreases-loop-groups
 decreases-loop-groups l = size l.groups

@@ -1,4 +1,5 @@
-use Rattle.std.proofs.Common.{◌+◌, ◌∷◌, length, subst, sym, arith}
+-- One entry more is filed in the line where it ends before the need that it carries, and left out otherwise.
+use Rattle.std.proofs.Common.{◌+◌, ◌∷◌, subst, sym, arith}
 use Rattle.std.proofs.lemmas.List.Sorted.{length_permutation}
 use Rattle.std.specs.List.Sorted.{IsPermutation}
 use Rattle.keep_schedule.specs.code.Line.{spot}
@@ -10,13 +11,13 @@ use Rattle.keep_schedule.proofs.queue.waiting.Goals.{else-end-need, then-end-nee
 
 pub loop-index-preserved : goal.loop-index-preserved
 loop-index-preserved c =
-    let t = terms_of c.args.outlook.now in
-    let n = length c.args.outlook.now.loads in
+    let o = c.args.outlook.now in
+    let t = terms_of o in
     let k = c.loop-index.index in
     elim c.if-end-need.branch [
-      | then-end-need w ↦ subst (λ l. Fills t n (k + 1) l) (sym w.line-is) (
+      | then-end-need w ↦ subst (λ l. Fills o (k + 1) l) (sym w.line-is) (
           let added = subst (λ e. IsPermutation (spot e k ∷ c.loop-index.line.spots) w.add.new.self.spots) c.end-end.ensures.value w.add.ensures.spots in
           let longer = length_permutation (spot (t.end k) k ∷ c.loop-index.line.spots) w.add.new.self.spots added in
-          fills_added t n k c.loop-index.line w.add.new.self c.loop-index.invariant (omega arith) (omega arith) added w.add.ensures.room (omega arith))
-      | else-end-need w ↦ subst (λ l. Fills t n (k + 1) l) (sym w.line-is) (fills_kept t n k c.loop-index.line c.loop-index.invariant (omega arith))
+          fills_added o k c.loop-index.line w.add.new.self c.loop-index.invariant (omega arith) (omega arith) added w.add.ensures.room (omega arith))
+      | else-end-need w ↦ subst (λ l. Fills o (k + 1) l) (sym w.line-is) (fills_kept o k c.loop-index.line c.loop-index.invariant (omega arith))
     ]

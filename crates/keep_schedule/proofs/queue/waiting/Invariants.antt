@@ -1,7 +1,6 @@
-use Rattle.std.proofs.Common.{length}
-use Rattle.keep_schedule.specs.Prospect.{terms_of}
+-- The line so far has those of the entries before the index that fall short.
 use Rattle.keep_schedule.specs.code.Queueing.{Fills}
 use Rattle.keep_schedule.proofs.queue.waiting.Given as goal
 
 abbrev pub invariant-loop-index : goal.invariant-loop-index
-invariant-loop-index l = Fills (terms_of l.outlook) (length l.outlook.loads) l.index l.line
+invariant-loop-index l = Fills l.outlook l.index l.line

@@ -1,3 +1,4 @@
+-- The leader of all entries is the one that leads when the last of them was passed.
 use Rattle.std.proofs.Common.{◌≡◌, length, subst, arith}
 use Rattle.keep_schedule.specs.code.Scanning.{LeadsBelow}
 use Rattle.keep_schedule.specs.Prospect.{terms_of}

@@ -1,3 +1,4 @@
+-- The entry found so far leads those before the index, and is an entry of the forest.
 use Rattle.std.proofs.Common.{◌<◌, length}
 use Rattle.std.specs.Option.{IfSome}
 use Rattle.keep_schedule.specs.code.Scanning.{LeadsBelow}

@@ -1,4 +1,5 @@
-use Rattle.std.proofs.Common.{◌≡◌, ◌+◌, ◌-◌, ◌*◌, ◌/◌, ◌≤◌, length, arith}
+-- Wake-ups of one entry follow each other at its step less the margin, as long as no other entry leads.
+use Rattle.std.proofs.Common.{◌≡◌, ◌+◌, ◌-◌, ◌*◌, ◌/◌, ◌≤◌, arith}
 use Rattle.keep_schedule.specs.Prospect.{terms_of}
 use Rattle.keep_schedule.proofs.Extending.{grouped_later, in_room, reach_moment, stretched}
 use Rattle.keep_schedule.proofs.stretch.extend.Goals as goal
@@ -21,7 +22,7 @@ overflow_mul-last c =
 
 pub settle-next-requires-in-loop-more-clause-grouped : goal.settle-next-requires-in-loop-more-clause-grouped
 settle-next-requires-in-loop-more-clause-grouped c =
-    grouped_later (terms_of c.args.outlook.now) (length c.args.outlook.now.loads) c.loop-more.last (c.loop-more.last + c.min-count.result * (c.step.result - c.margin.result)) c.loop-more.groups (omega arith)
+    grouped_later c.args.outlook.now c.loop-more.last (c.loop-more.last + c.min-count.result * (c.step.result - c.margin.result)) c.loop-more.groups (omega arith)
     c.loop-more.invariant.settles.shrinks.grouped
 
 pub settle-next-requires-in-loop-more-clause-within : goal.settle-next-requires-in-loop-more-clause-within
@@ -36,13 +37,13 @@ settle-next-requires-in-loop-more-clause-within c =
 
 pub loop-more-preserved : goal.loop-more-preserved
 loop-more-preserved c =
-    let t = terms_of c.args.outlook.now in
-    let n = length c.args.outlook.now.loads in
+    let o = c.args.outlook.now in
+    let t = terms_of o in
     let gains = c.margin.ensures.sound.step c.args.entry c.requires.short in
     let d = c.step.result - c.margin.result in
     let count = c.min-count.result in
     let fits : count ≤ (c.until-until.result - c.loop-more.last - 1) / d + 1 = omega arith in
     let is : d ≡ t.step c.args.entry - t.margin = omega arith in
-    stretched t n c.args.entry c.args.first c.args.most c.loop-more.more c.loop-more.last c.until-until.result count d (c.loop-more.last + count * d)
+    stretched o c.args.entry c.args.first c.args.most c.loop-more.more c.loop-more.last c.until-until.result count d (c.loop-more.last + count * d)
     c.args.groups.now c.loop-more.groups c.settle-next-in-loop-more.new.groups c.loop-more.next c.settle-next-in-loop-more.result
     c.margin.ensures.sound c.requires.short is c.loop-more.invariant c.until-until.ensures.later c.until-until.ensures.leads (omega arith) fits (omega arith) (omega arith) c.settle-next-in-loop-more.ensures

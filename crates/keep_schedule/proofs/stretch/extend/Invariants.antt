@@ -1,10 +1,10 @@
-use Rattle.std.proofs.Common.{◌-◌, length}
-use Rattle.keep_schedule.specs.Prospect.{terms_of}
+-- The wake-ups taken so far are those that the entry forces, and each turn takes more of them.
+use Rattle.std.proofs.Common.{◌-◌}
 use Rattle.keep_schedule.specs.code.Stretches.{Stretches}
 use Rattle.keep_schedule.proofs.stretch.extend.Given as goal
 
 abbrev pub invariant-loop-more : goal.invariant-loop-more
-invariant-loop-more l = Stretches (terms_of l.outlook) (length l.outlook.loads) l.entry l.first l.most l.fn.groups l.groups l.more l.last l.next
+invariant-loop-more l = Stretches l.outlook l.entry l.first l.most l.fn.groups l.groups l.more l.last l.next
 
 abbrev pub decreases-loop-more : goal.decreases-loop-more
 decreases-loop-more l = l.most - l.more

@@ -1,3 +1,4 @@
+-- Before the moment that is given, no entry that waits or has joined comes in front of the one that leads.
 use Rattle.std.proofs.Common.{◌+◌, Some, length, subst, arith}
 use Rattle.keep_schedule.specs.code.Line.{FirstOf}
 use Rattle.keep_schedule.specs.Prospect.{terms_of}
@@ -27,9 +28,9 @@ returns-after-entry-front-clause-leads c =
     let now = c.requires.head.waits h (first_key t.end n h g.waits.spots c.requires.grouped.filed.waits front).among in
     elim c.if-entry-front.branch [
       | then-entry-front w ↦ λ v le less.
-          until_front t n c.args.last f h v g c.requires.grouped c.requires.head front le (omega arith)
+          until_front c.args.outlook.now c.args.last f h v g c.requires.grouped c.requires.head front le (omega arith)
           (ahead (v + t.step f) f (t.end h) h (omega arith) (λ e. omega arith))
       | else-entry-front w ↦ λ v le less.
-          until_front t n c.args.last f h v g c.requires.grouped c.requires.head front le (omega arith)
+          until_front c.args.outlook.now c.args.last f h v g c.requires.grouped c.requires.head front le (omega arith)
           (ahead (v + t.step f) f (t.end h) h (omega arith) (λ e. omega arith))
     ]

@@ -1,3 +1,4 @@
+-- The copies so far are the entries before the current one.
 use Rattle.std.proofs.Common.{◌≡◌, take}
 use Rattle.keep_tree.proofs.forest.copy_entries.Given as goal
 

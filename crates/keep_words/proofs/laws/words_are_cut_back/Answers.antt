@@ -1,3 +1,4 @@
+-- The pieces of a text join to that text, and what is joined is cut into the same pieces.
 use Rattle.keep_words.proofs.Joined.{cut_back, joined_back}
 use Rattle.keep_words.proofs.laws.words_are_cut_back.Goals as goal
 

@@ -1,3 +1,4 @@
+-- A number that is found is spelled by the word; where none is found, the word spells no number up to the bound.
 use Rattle.std.proofs.Common.{◌∙◌, arith, sym}
 use Rattle.keep_words.proofs.Numbers.{number_lost, told_spelled}
 use Rattle.keep_words.proofs.number.number_up_to.Goals as goal

@@ -1,3 +1,4 @@
+-- A word that spells a number is all digits, so that their value may be asked.
 use Rattle.std.proofs.Common.{sym}
 use Rattle.keep_words.proofs.Digits.{spelled_digits}
 use Rattle.keep_words.proofs.number.spelled_number.Goals as goal

@@ -1,3 +1,4 @@
+-- One digit more makes the number so far longer, or takes it past the bound for good.
 use Rattle.std.proofs.Common.{◌+◌, ◌<◌, arith, sym}
 use Rattle.std.proofs.lemmas.Bool.{cond-false, lt-leb}
 use Rattle.std.proofs.lemmas.Str.Parse.{digits_value-take-le}

@@ -1,3 +1,4 @@
+-- The first word ends at the first space, and is the whole line where there is no space.
 use Rattle.std.proofs.Common.{ap, sym}
 use Rattle.keep_words.specs.Pieces.{first, keyword}
 use Rattle.keep_words.proofs.words.keyword.Goals as goal

@@ -1,3 +1,4 @@
+-- A line that has a space behind its second word has more than two words.
 use Rattle.std.proofs.Common.{◌∷◌, ◌∙◌, ap, sym}
 use Rattle.keep_words.specs.Pieces.{two}
 use Rattle.keep_words.proofs.Cutting.{two_of_more}

@@ -1,3 +1,4 @@
+-- Where the flush fails, what was written is a front of the text all the same.
 use Rattle.vault_http.proofs.Sends.{unflushed}
 use Rattle.vault_http.proofs.writing.send.Goals as goal
 

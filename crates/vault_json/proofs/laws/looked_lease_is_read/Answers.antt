@@ -1,3 +1,4 @@
+-- What the reply to a lease's lookup writes is read back, since its dates are.
 use Rattle.vault_json.proofs.ReadBack as laws
 use Rattle.vault_json.proofs.laws.looked_lease_is_read.Goals as goal
 

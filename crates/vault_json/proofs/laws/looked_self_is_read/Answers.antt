@@ -1,3 +1,4 @@
+-- What the reply to a token's lookup writes is read back.
 use Rattle.vault_json.proofs.ReadBack as laws
 use Rattle.vault_json.proofs.laws.looked_self_is_read.Goals as goal
 

@@ -1,3 +1,4 @@
+-- No gap is wider than its tree's mark, and the first that is wide enough is that of the left side, else of the right.
 use Rattle.std.proofs.Common.{◌≡◌, ◌+◌, ◌-◌, ◌++◌, Some, None, ap, arith, length, subst, sym}
 use Rattle.keep_check.specs.code.Gaps.{AllNarrow, HasMarks, IsFirstFrom, gaps_in, mark}
 use Rattle.keep_check.proofs.GapTrees.{found_nowhere, found_right, mark_bounds}

@@ -1,3 +1,4 @@
+-- One gap more is listed, and in the end the gaps of all runs are.
 use Rattle.std.proofs.Common.{◌∙◌, ◌+◌, ◌++◌, List, [], ◌∷◌, ℕ, ap, append_assoc, arith, drop, sym}
 use Rattle.std.proofs.lemmas.List.{drop_more}
 use Rattle.keep_rule.specs.declared.run.Run.{Run}

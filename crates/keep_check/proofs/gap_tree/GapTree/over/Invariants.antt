@@ -1,3 +1,4 @@
+-- The gaps that are listed, and those of the runs that are left, are the gaps of all runs.
 use Rattle.std.proofs.Common.{◌≡◌, ◌++◌, drop}
 use Rattle.keep_check.specs.code.Gaps.{gaps_of}
 use Rattle.keep_check.proofs.gap_tree.GapTree.over.Given as goal

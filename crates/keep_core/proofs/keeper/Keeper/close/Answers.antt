@@ -1,3 +1,4 @@
+-- The last answer leaves what planning anew would, whether the rest of the plan stands or is made anew.
 use Rattle.std.proofs.Common.{◌∙◌, ◌++◌, None, Option, ap, arith, refl, subst, sym}
 use Rattle.keep_tree.specs.Forest.{entry_at}
 use Rattle.keep_tree.specs.Push.{IsForest}

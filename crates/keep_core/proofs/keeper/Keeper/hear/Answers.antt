@@ -1,3 +1,4 @@
+-- An answer that is not the last is heard, and the round goes on waiting for the others.
 use Rattle.std.proofs.Common.{◌≡◌, ◌∙◌, ◌+◌, ◌-◌, ◌<◌, ◌&&◌, false, Option, Some, ap, arith, length, refl, set, subst, sym}
 use Rattle.std.specs.Vec.{with_item}
 use Rattle.keep_tree.specs.Forest.{Forest, entry_at}

@@ -1,3 +1,4 @@
+-- A need that is not refused is a moment of an entry, and planning anew with it makes a keeper.
 use Rattle.std.proofs.Common.{◌≡◌, ◌∙◌, ◌<◌, Option, None, ap, arith, length, subst, sym}
 use Rattle.keep_tree.specs.Push.{IsForest}
 use Rattle.keep_rule.specs.Runs.{moments_of}

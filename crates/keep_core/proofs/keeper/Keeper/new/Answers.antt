@@ -1,3 +1,4 @@
+-- A forest that was planned anew makes a keeper, in which no round is open.
 use Rattle.std.proofs.Common.{◌∙◌, ◌++◌, ap, subst, sym}
 use Rattle.keep_tree.specs.Push.{IsForest}
 use Rattle.keep_core.specs.Shorten.{pairs}

@@ -1,3 +1,4 @@
+-- What a keeper shows is a state, whether a round is open or not.
 use Rattle.std.proofs.Common.{subst}
 use Rattle.keep_core.specs.States.{IsState}
 use Rattle.keep_core.proofs.Made.{keeper_state}

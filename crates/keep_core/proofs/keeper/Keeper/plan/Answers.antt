@@ -1,3 +1,4 @@
+-- Whenever no round is open, the plan of a keeper is in force.
 use Rattle.std.proofs.Common.{◌≡◌, ◌∙◌, None, ap, arith, subst}
 use Rattle.keep_plan.specs.Planned.{to_come}
 use Rattle.keep_core.specs.InForce.{InForce}

@@ -1,3 +1,4 @@
+-- An event that is refused makes the turn of a refusal: its fault, and the state as it was.
 use Rattle.std.proofs.Common.{◌∙◌, sym}
 use Rattle.keep_core.proofs.Stepping.{refused}
 use Rattle.keep_core.proofs.keeper.Keeper.step.Goals as goal

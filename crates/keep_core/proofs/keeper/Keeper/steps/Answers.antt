@@ -1,3 +1,4 @@
+-- One event more makes the history a turn longer, and its result has its room.
 use Rattle.std.proofs.Common.{◌+◌, ◌<◌, ◌++◌, List, [], ◌∷◌, Result, arith, length, subst, sym, take}
 use Rattle.std.proofs.lemmas.List.{take_more}
 use Rattle.keep_core.specs.declared.event.Event.{Event}

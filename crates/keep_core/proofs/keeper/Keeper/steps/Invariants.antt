@@ -1,3 +1,4 @@
+-- Each turn of the loop takes one event and appends its result without asking for memory.
 use Rattle.std.proofs.Common.{◌≡◌, ◌≤◌, length, take}
 use Rattle.std.specs.Vec.{vec_capacity, vec_len}
 use Rattle.keep_core.specs.History.{History}

@@ -1,3 +1,4 @@
+-- A tick leaves the plan unless it is late, when planning anew makes it; then the first wake-up decides.
 use Rattle.std.proofs.lemmas.Result.{err_from_is_err_and}
 use Rattle.std.proofs.Common.{◌≡◌, ◌∙◌, ◌≤◌, Option, None, ap, arith, false, length, subst, sym}
 use Rattle.keep_tree.specs.Push.{IsForest}

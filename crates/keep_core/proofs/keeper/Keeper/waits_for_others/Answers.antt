@@ -1,3 +1,4 @@
+-- Others are waited for exactly where more than one answer is left.
 use Rattle.std.proofs.Common.{◌∙◌, ◌<◌, ap, arith, length, nat_lt, refl, sym}
 use Rattle.keep_core.specs.code.Keeping.{seen, waited_for}
 use Rattle.keep_core.specs.State.{State}

@@ -1,3 +1,4 @@
+-- A keeper whose round opens, with the first wake-up taken off the plan, is a keeper.
 use Rattle.std.proofs.Common.{◌≡◌, ◌∙◌, Option, Some, None, ap, subst, sym}
 use Rattle.keep_rule.specs.Runs.{moments_of}
 use Rattle.keep_plan.specs.Planned.{Planned, to_come}

@@ -1,3 +1,4 @@
+-- To enter the leases that are left gives what it gives to enter all of them.
 use Rattle.std.proofs.Common.{◌≡◌, drop}
 use Rattle.toml.specs.View.{items_view}
 use Rattle.keep_inventory.specs.declared.key.Key.TheVariants.{Lease}

@@ -1,3 +1,4 @@
+-- A credential can be sent, be it the secret of a token or the id of a lease.
 use Rattle.std.proofs.Common.{◌∙◌, ◌<◌, ◌≤◌, ℕ, List, ◌++◌, ◌-◌, ap, length, arith, subst, sym}
 use Rattle.keep_inventory.specs.Inventories.{IsSendable, credential_at}
 use Rattle.keep_inventory.proofs.Inventories.{first_half, second_half, sendable_at}

@@ -1,3 +1,4 @@
+-- What a lookup tells, where it is not refused, has a step over the margin and leaves an inventory.
 use Rattle.std.proofs.Common.{◌≡◌, ◌∙◌, ◌<◌, ◌≤◌, ◌+◌, ap, length, subst, sym, refl, None}
 use Rattle.keep_tree.specs.Forest.{entry_at}
 use Rattle.keep_tree.specs.Push.{IsForest}

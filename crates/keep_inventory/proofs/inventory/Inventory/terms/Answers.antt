@@ -1,3 +1,4 @@
+-- The list that the inventory holds has the terms of each entry at its index.
 use Rattle.std.proofs.Common.{◌<◌, length, arith, sym, subst, ap, ◌∙◌}
 use Rattle.keep_inventory.specs.Inventories.{Inventory, terms_at}
 use Rattle.keep_inventory.proofs.Inventories.{terms_read}

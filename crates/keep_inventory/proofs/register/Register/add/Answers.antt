@@ -1,3 +1,4 @@
+-- A text that is added is held from then on, and is fresh exactly where it was not held before.
 use Rattle.std.proofs.Common.{◌≡◌, ◌∙◌, ◌++◌, ◌∷◌, [], ◌+◌, List, ℕ, ap, arith, is_ok, sym, true, not, vec_len, vec_capacity, ◌≤◌}
 use Rattle.std.proofs.lemmas.Bool.{cond-true}
 use Rattle.keep_inventory.specs.Intake.{holds}

@@ -1,3 +1,4 @@
+-- The text at an index is the one that the register's list has there.
 use Rattle.std.proofs.Common.{◌<◌, List, ℕ, length, sym, subst, ap, ◌∙◌}
 use Rattle.keep_inventory.specs.Inventories.{credential_at}
 use Rattle.keep_inventory.proofs.Inventories.{credential_read}

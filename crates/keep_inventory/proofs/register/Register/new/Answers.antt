@@ -1,3 +1,4 @@
+-- A new register holds no text.
 use Rattle.std.proofs.Common.{List, ℕ, sym, ap, ◌∙◌}
 use Rattle.keep_inventory.specs.Intake.{holds}
 use Rattle.keep_inventory.proofs.Registers.{has_none}

@@ -1,3 +1,4 @@
+-- The day, the time of day and the offset of a stamp give its seconds since 1970.
 use Rattle.std.proofs.Common.{◌≡◌, true, FitsSigned, w32, w64, rules}
 use Rattle.std.proofs.lemmas.Int.{to_z-of_z}
 use Rattle.keep_moment.specs.MomentOf.{is_time}

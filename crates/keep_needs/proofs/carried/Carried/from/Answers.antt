@@ -1,3 +1,4 @@
+-- A carried need of 0 comes from no entry, and every other from the entry that the load names.
 use Rattle.std.proofs.Common.{◌≡◌, ◌==◌, ◌∙◌, Some, None, true, false, cond, ap, arith, sym}
 use Rattle.std.proofs.lemmas.Bool.Decides.{nat_tests}
 use Rattle.keep_needs.specs.Carried.{CarriedNeed}

@@ -1,3 +1,4 @@
+-- The need that is read at an index is the one that the entry there carries.
 use Rattle.std.proofs.Common.{ap}
 use Rattle.keep_needs.specs.Carried.{CarriedNeed}
 use Rattle.keep_needs.proofs.Loads.{seen_read}

@@ -1,3 +1,4 @@
+-- Without its first wake-up the plan is still one, and what is to come is the tail of what was.
 use Rattle.std.proofs.Common.{◌∙◌, ◌<◌, ap, arith, drop, length, subst, sym, ◌∷◌, List}
 use Rattle.std.proofs.lemmas.List.{length-set}
 use Rattle.keep_rule.specs.declared.run.Run.{Run}

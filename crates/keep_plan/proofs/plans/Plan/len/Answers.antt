@@ -1,3 +1,4 @@
+-- The wake-ups of one run more are added, and their number stays within the limit.
 use Rattle.std.proofs.Common.{ap, arith, length}
 use Rattle.keep_rule.specs.Runs.{all_wakes}
 use Rattle.keep_plan.proofs.Walking.{count_from}

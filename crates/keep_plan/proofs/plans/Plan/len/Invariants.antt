@@ -1,3 +1,4 @@
+-- Each turn moves the wake-ups of one run from those that are left to those that are counted.
 use Rattle.std.proofs.Common.{◌≡◌, ◌+◌, drop, length}
 use Rattle.keep_rule.specs.Runs.{all_wakes}
 use Rattle.keep_plan.proofs.plans.Plan.len.Given as goal

@@ -1,3 +1,4 @@
+-- The wake-up that is given is the first of those that were left, and the others are left.
 use Rattle.std.proofs.Common.{◌≡◌, ◌∙◌, ◌∷◌, ap, arith, length, sym, subst}
 use Rattle.std.specs.Option.{IfSome}
 use Rattle.keep_rule.specs.Runs.{AreRuns, IsRun, all_wakes}

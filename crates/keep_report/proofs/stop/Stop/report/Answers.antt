@@ -1,3 +1,4 @@
+-- The fault line is reported, as far as the write and the flush let it.
 use Rattle.keep_report.specs.FaultLine.{fault_line}
 use Rattle.keep_report.specs.Sent.{Sent}
 use Rattle.keep_report.proofs.Reporting.{reported}

@@ -1,3 +1,4 @@
+-- A forest of which no pair is unkeepable is in sight with what its entries carry.
 use Rattle.keep_schedule.proofs.Bridge.{in_sight}
 use Rattle.keep_schedule.proofs.outlook.Outlook.new.Goals as goal
 

@@ -1,4 +1,5 @@
-use Rattle.std.proofs.Common.{◌≡◌, ◌+◌, ◌-◌, ◌<◌, ◌⊎◌, None, Some, length, subst, inl, inr, arith}
+-- The run that is taken is the front of the list, and the queue is ready for what follows it.
+use Rattle.std.proofs.Common.{◌≡◌, ◌+◌, ◌-◌, ◌<◌, ◌⊎◌, None, Some, subst, inl, inr, arith}
 use Rattle.keep_schedule.specs.Courses.{IsToCome}
 use Rattle.keep_schedule.specs.Prospect.{terms_of}
 use Rattle.keep_schedule.specs.code.Queueing.{IsReady}
@@ -12,14 +13,14 @@ pub returns-in_default-clause-run : goal.returns-in_default-clause-run
 returns-in_default-clause-run c =
     let o = c.self.inside.outlook in
     let prev = c.self.inside.last in
-    let ready = subst (λ next. IsReady (terms_of o) (length o.loads) prev c.self.inside.groups next) (c.begin.ensures.none c.in_default.is).0 c.self.invariant.1 in
+    let ready = subst (λ next. IsReady o prev c.self.inside.groups next) (c.begin.ensures.none c.in_default.is).0 c.self.invariant.1 in
     subst (λ (q : Queue). GivesRun (IsToCome q.course) (IsToCome (record { prospect = o; last = prev })) c.args.most None) c.self.view_is (gives_no_run o prev c.args.most ready)
 
 pub invariant_of-self-2 : goal.invariant_of-self-2
 invariant_of-self-2 c =
     let o = c.self.inside.outlook in (
       c.extend-stretch.ensures.taken.moment,
-      ready_settled (terms_of o) (length o.loads) c.extend-stretch.result.last c.begin.new.groups c.extend-stretch.new.groups c.extend-stretch.result.next c.extend-stretch.ensures.taken.settles,
+      ready_settled o c.extend-stretch.result.last c.begin.new.groups c.extend-stretch.new.groups c.extend-stretch.result.next c.extend-stretch.ensures.taken.settles,
     )
 
 pub returns-clause-run : goal.returns-clause-run
@@ -39,5 +40,5 @@ returns-clause-run c =
     ] in
     subst (λ (q : Queue). IsFirstRun (IsToCome q.course) (IsToCome (record { prospect = o; last = Some last })) c.args.most
     (record { first = first; step = s; count = more + 1; entry = f; needed = c.from.result })) c.self.view_is
-    (taken o (length o.loads) prev f first c.args.most more last s c.from.result c.self.inside.groups c.begin.new.groups c.extend-stretch.new.groups c.self.inside.next c.extend-stretch.result.next
+    (taken o prev f first c.args.most more last s c.from.result c.self.inside.groups c.begin.new.groups c.extend-stretch.new.groups c.self.inside.next c.extend-stretch.result.next
     c.extend-stretch.ensures.sound c.in-Some.ensures.begun c.extend-stretch.ensures.taken c.extend-stretch.ensures.ended c.from.ensures step)

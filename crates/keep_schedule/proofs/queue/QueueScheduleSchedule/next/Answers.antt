@@ -1,3 +1,4 @@
+-- A run of at most one wake-up is the head of the list.
 use Rattle.std.proofs.Common.{◌≡◌, subst, refl, rules}
 use Rattle.keep_rule.specs.declared.force.Force.{Force}
 use Rattle.keep_schedule.specs.Courses.{IsToCome}

@@ -1,3 +1,4 @@
+-- What is to come of a new schedule is the list of the forces from the start on.
 use Rattle.keep_schedule.proofs.Taking.{comes_forces}
 use Rattle.keep_schedule.proofs.scan.ScanSchedule.new.Goals as goal
 

@@ -1,3 +1,4 @@
+-- The leader forces the head of the list, and without a leader the list is empty.
 use Rattle.std.proofs.Common.{◌≡◌, ◌-◌, None, Some, subst, rules}
 use Rattle.keep_rule.specs.declared.force.Force.{Force}
 use Rattle.keep_schedule.specs.Courses.{Course, IsToCome}

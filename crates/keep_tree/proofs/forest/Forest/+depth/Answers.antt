@@ -1,3 +1,4 @@
+-- A root has the depth 1, and any other entry one more than its parent; no depth is over the limit.
 use Rattle.std.proofs.Common.{◌≡◌, ◌∙◌, ap, arith, length, sym, Some, ◌≤◌}
 use Rattle.keep_tree.specs.declared.entry.Entry.{Entry}
 use Rattle.keep_tree.specs.declared.forest.TheConstants.{MAX_DEPTH}

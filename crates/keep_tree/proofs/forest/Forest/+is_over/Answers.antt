@@ -1,3 +1,4 @@
+-- An entry is over itself, over no other root, and over a child exactly where it is the child or over its parent.
 use Rattle.std.proofs.Common.{◌≡◌, ◌∙◌, ◌||◌, ◌==◌, true, false, ap, arith, sym, subst}
 use Rattle.std.proofs.lemmas.Bool.Decides.{nat_tests}
 use Rattle.keep_tree.specs.declared.entry.Entry.{Entry}

@@ -1,3 +1,4 @@
+-- The walk up from the lower entry ends, since its index falls at each parent.
 use Rattle.keep_tree.proofs.forest.Forest.+is_over.Given as goal
 
 abbrev pub decreases-is_over : goal.decreases-is_over

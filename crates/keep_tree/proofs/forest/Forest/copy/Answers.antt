@@ -1,3 +1,4 @@
+-- The copy has the same entries and margin, and finds each name where the original does.
 use Rattle.std.proofs.Common.{◌≡◌, ◌∙◌, ℕ, List, ap, subst, sym}
 use Rattle.std.specs.List.{each_same}
 use Rattle.std.specs.BTreeMap.{get_by}

@@ -1,3 +1,4 @@
+-- A parent that the forest does not lack is one of its entries, so that its depth may be asked.
 use Rattle.keep_tree.proofs.Placed.{parent_below}
 use Rattle.keep_tree.proofs.forest.Forest.depth_under.Goals as goal
 

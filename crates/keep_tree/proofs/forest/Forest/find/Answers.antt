@@ -1,3 +1,4 @@
+-- The index that is found for a name is that of an entry.
 use Rattle.std.proofs.Common.{ap, ◌∙◌}
 use Rattle.keep_tree.specs.Forest.{Forest, index_named}
 use Rattle.keep_tree.proofs.Entries.{index_within}

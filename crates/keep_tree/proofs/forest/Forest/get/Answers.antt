@@ -1,3 +1,4 @@
+-- The list that the forest holds has its entry at each index.
 use Rattle.std.proofs.Common.{◌<◌, length, sym, subst, ap, ◌∙◌}
 use Rattle.keep_tree.specs.Forest.{Forest, entry_at}
 use Rattle.keep_tree.proofs.Entries.{entry_read}

@@ -1,3 +1,4 @@
+-- A parent that the forest does not lack may be read.
 use Rattle.keep_tree.proofs.Placed.{parent_below}
 use Rattle.keep_tree.proofs.forest.Forest.is_under_lease.Goals as goal
 

@@ -1,3 +1,4 @@
+-- With one entry more, the greatest margin is the lesser of that before and the entry's step less one.
 use Rattle.std.proofs.Common.{◌≡◌, ◌+◌, ◌-◌, ◌<◌, length, min, arith, ap, ◌∙◌, subst, sym}
 use Rattle.keep_tree.specs.declared.entry.Entry.{Entry}
 use Rattle.keep_tree.specs.Forest.{Forest, entry_at}

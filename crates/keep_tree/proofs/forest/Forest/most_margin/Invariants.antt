@@ -1,3 +1,4 @@
+-- The margin so far is the greatest that the entries before the index allow.
 use Rattle.keep_tree.proofs.Margins.{IsMostOf}
 use Rattle.keep_tree.proofs.forest.Forest.most_margin.Given as goal
 

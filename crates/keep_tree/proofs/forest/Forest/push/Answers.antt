@@ -1,3 +1,4 @@
+-- An entry that is not refused makes a longer forest, and its name then leads to its index.
 use Rattle.std.proofs.Common.{◌≡◌, ◌∙◌, ◌++◌, ◌∷◌, [], ◌+◌, List, ℕ, Some, None, ap, arith, is_ok, length, subst, sym, true, vec_len, vec_capacity, ◌≤◌, Vec, Global}
 use Rattle.std.proofs.lemmas.Bool.{cond-true}
 use Rattle.std.specs.BTreeMap.{Updates}

@@ -1,3 +1,4 @@
+-- Whether an entry can be renewed is free to change: the entries stay a forest, and only this field differs.
 use Rattle.std.proofs.Common.{◌≡◌, ◌<◌, ◌∙◌, ap, length, refl, subst, sym}
 use Rattle.keep_tree.specs.declared.entry.Entry.{Entry}
 use Rattle.keep_tree.specs.Forest.{Forest, entry_at}

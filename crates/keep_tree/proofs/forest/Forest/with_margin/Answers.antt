@@ -1,3 +1,4 @@
+-- No entries and a margin within the range are a forest, in which no name is found.
 use Rattle.std.proofs.Common.{List, sym, subst, ap, ◌∙◌}
 use Rattle.keep_tree.specs.declared.entry.Entry.{Entry}
 use Rattle.keep_tree.specs.Forest.{index_named}

@@ -1,9 +1,12 @@
 -- Words for the parts of a run: what is made before the first write, and its delivery. No public clause cites them.
 use Rattle.std.specs.Prelude.{◌≡◌, ◌⊎◌, ℕ, List, Result, Ok, Err, slice_index}
 use Rattle.keep_tree.specs.Forest.{Forest}
+use Rattle.keep_plan.specs.declared.decision.Decision.{Decision}
+use Rattle.keep_plan.specs.declared.decision.Decision.TheVariants as decision
 use Rattle.keep_inventory.specs.Inventories.{Inventory}
 use Rattle.keep_inventory.specs.Inventory.{read_inventory}
 use Rattle.keep_report.specs.declared.exit.Exit.{Exit}
+use Rattle.keep_report.specs.declared.exit.Exit.TheVariants as exits
 use Rattle.keep_report.specs.declared.stop.Stop.{Stop}
 use Rattle.keep_report.specs.declared.stop.Stop.TheVariants as stops
 use Rattle.keep_report.specs.Exits.{exit_of}
@@ -34,3 +37,9 @@ Delivers (Err stop) exit out errors = (exit ≡ exit_of stop) × IsUntouched out
 -- a list of ends as the function from an index to its end
 unfoldable pub at_index : List ℕ → ℕ → ℕ
 at_index ends i = slice_index ends i
+
+-- the exit that goes with a decision
+abbrev pub decided_exit : Decision → Exit
+decided_exit (decision.Keep p) = exits.Done
+decided_exit (decision.Unkeepable entry needed) = exits.Unkeepable
+decided_exit decision.TooLong = exits.TooLong
