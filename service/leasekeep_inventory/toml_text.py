@@ -15,6 +15,9 @@ _QUOTED = re.compile(r"'([^']*)'|\"([^\"]*)\"")
 _HARMLESS = re.compile(r"[^A-Za-z0-9]*|.|\\.|\\x..|token|lease|margin|system_max", re.DOTALL)
 """What the parser may quote: signs, single characters, and words that are no secret. A key may be one, in the wrong place."""
 
+_LONG_KEY = re.compile(r"""(?<![\w.-])(?:(?:[\w-]++|"[^"\n]*+"|'[^'\n]*+')[ \t]*+\.[ \t]*+){200}""", re.ASCII)
+"""A key of so many parts that the parser takes minutes over a whole file of them. (No secret has so many dots.)"""
+
 _NO_TOML = "the file is not a TOML document"
 
 
@@ -72,6 +75,8 @@ class SyntaxFault:
 
 def parsed(text: str, lines: Lines) -> dict[str, Any] | SyntaxFault:
     """The document's top level, or why it is none."""
+    if (long := _LONG_KEY.search(text)) is not None:
+        return SyntaxFault(text.count("\n", 0, long.start()) + 1, "a key has hundreds of parts", "write each key as one word")
     try:
         return tomllib.loads(text)
     except RecursionError:

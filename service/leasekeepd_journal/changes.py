@@ -140,19 +140,3 @@ def read_when(word: str, now: float) -> int:
     if moment is None or moment > LAST:
         raise ChangeFault('WHEN is a moment (1764000000), a date ("2026-11-22T09:00:00Z") or +90s, +30m, +6h, +2d, or always')
     return moment
-
-
-def compacted(changes: list[Change]) -> list[Change]:
-    """The changes without those that a later one of the same name makes void, whatever the file says: a need or a
-    credential that is given again beside the same words of the file, and all about a name that the file does not have,
-    where that was dropped again."""
-    by_name: dict[str, list[int]] = {}
-    void: set[int] = set()
-    for place, change in enumerate(changes):
-        places = by_name.setdefault(change.name, [])
-        if change.what is What.DROP and change.was == ABSENT:
-            void.update(at for at in (*places, place) if changes[at].was == ABSENT)
-        elif change.what in (What.NEED, What.REPLACE):
-            void.update(at for at in places if (changes[at].what, changes[at].was) == (change.what, change.was))
-        by_name[change.name] = [at for at in (*places, place) if at not in void]
-    return [change for place, change in enumerate(changes) if place not in void]

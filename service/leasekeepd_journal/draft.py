@@ -114,7 +114,8 @@ def replay(inventory: Inventory, changes: list[Change], names_are_secrets: bool)
             try:
                 draft.apply(change)
             except ChangeFault as fault:
-                notes.append(f"{change.what.value} {change.name}: {fault}")
+                if change.what is What.ADD or draft.find(change.name) is not None:  # (Else it is about what was dropped.)
+                    notes.append(f"{change.what.value} {change.name}: {fault}")
         elif not draft.holds(change):
             notes.append(f"{change.what.value} {change.name}: the file has changed since, and wins")
     return draft.inventory(), notes

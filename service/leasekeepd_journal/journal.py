@@ -7,7 +7,8 @@ import zlib
 from dataclasses import dataclass
 from pathlib import Path
 
-from .changes import Change, What, compacted, fingerprint
+from .changes import Change, What, fingerprint
+from .compaction import compacted
 from .storage import Storage
 
 COMPACT_AT = 1000
@@ -41,9 +42,10 @@ class Journal:
     def load(self, file: bytes) -> int:
         """Reads the journal for that file of the inventory; how many records could not be read. OSError where the
         journal cannot be. What a settled file holds is left out."""
-        *lines, torn = (self._storage.read(self._path) or b"").split(b"\n")
+        *lines, last = (self._storage.read(self._path) or b"").split(b"\n")
+        whole = [part for part in (last, last[:-1]) if Change.read(part) is not None]
         self.changes = []
-        for line in lines:
+        for line in (*lines, *whole[:1]):  # (A last one that is whole may have been acknowledged: its line feed was spoiled.)
             change = Change.read(line)
             if change is None:
                 self._unread.append(line + b"\n")
@@ -52,7 +54,7 @@ class Journal:
             elif change.was == fingerprint(file):
                 self.changes = []
         self._mark = _Mark().after(b"".join(line + b"\n" for line in lines))
-        self.is_read, self._is_spoiled = True, bool(torn or self._unread)
+        self.is_read, self._is_spoiled = True, bool(last or self._unread)
         return len(self._unread)
 
     def mend(self) -> None:
@@ -80,7 +82,11 @@ class Journal:
 
     def _append(self, change: Change) -> None:
         line = change.line()
-        self._storage.append(self._path, line)
+        try:
+            self._storage.append(self._path, line)
+        except OSError:
+            self._is_spoiled |= self.is_read  # (A part of it may be left there.)
+            raise
         self._mark = self._mark.after(line)
 
     def _compact(self) -> None:

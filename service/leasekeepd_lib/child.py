@@ -3,7 +3,9 @@
 from __future__ import annotations
 
 import asyncio
+import contextlib
 import os
+import signal
 from dataclasses import dataclass
 from typing import Protocol
 
@@ -65,21 +67,32 @@ class ChildProcess:
             pass
 
     def kill(self) -> None:
-        """Ends it at once."""
-        if self._process.returncode is None:
-            self._process.kill()
+        """Ends it at once, with all that it has started."""
+        kill_session(self._process.pid)
 
     async def end(self) -> ChildExit:
         self._in.close()
+        ended = asyncio.create_task(self._ended())
         try:
-            async with asyncio.timeout(END_SECONDS):
-                await self._process.wait()
-        except TimeoutError:
-            pass
+            await asyncio.wait((ended,), timeout=END_SECONDS)
         finally:
-            self.kill()
+            if not ended.done():
+                self.kill()
+        await asyncio.wait((ended,), timeout=END_SECONDS)
+        if ended.done():
+            return ended.result()
+        ended.cancel()  # (Somebody who has left its session holds its streams.)
+        return ChildExit(-signal.SIGKILL)
+
+    async def _ended(self) -> ChildExit:
         code = await self._process.wait()
         return ChildExit(code, await self._faults)
+
+
+def kill_session(leader: int) -> None:
+    """Ends the process, and all that it has started, which may outlive it."""
+    with contextlib.suppress(ProcessLookupError, PermissionError):
+        os.killpg(leader, signal.SIGKILL)
 
 
 async def _front(stream: asyncio.StreamReader) -> str:
@@ -100,7 +113,8 @@ async def start_child(program: str, command: str, inventory: str, *words: str) -
             file.write(inventory)
         process = await asyncio.create_subprocess_exec(
             program, command, f"/proc/self/fd/{handle}", *words, stdin=asyncio.subprocess.PIPE,
-            stdout=asyncio.subprocess.PIPE, stderr=asyncio.subprocess.PIPE, limit=LINE_MOST, pass_fds=(handle,))
+            stdout=asyncio.subprocess.PIPE, stderr=asyncio.subprocess.PIPE, limit=LINE_MOST, pass_fds=(handle,),
+            start_new_session=True)
     except OSError as error:
         raise LaunchFault(f"cannot start {program}: {error.strerror}") from None
     finally:

@@ -18,6 +18,7 @@ from leasekeep_inventory.dialect import SERVED, STRICT
 from leasekeep_inventory.discover import DiscoverFault, discover, read_short_list
 from leasekeep_inventory.http_client import Address, HttpTransport
 from leasekeep_inventory.inventory import MARGIN_MAX
+from leasekeep_inventory.inventory_file import LIMIT
 from leasekeep_inventory.lint import kinds_of, lint
 from leasekeepd_standby.etcd_client import EtcdAddress
 
@@ -30,17 +31,20 @@ from .widest import widest_margin
 
 EXIT_COMMAND_LINE = 2
 STDIN_MOST = 65536
-SYSTEM_RUNTIME = Path("/run/leasekeepd")
+SYSTEM_RUNTIME, SYSTEM_STATE = Path("/run/leasekeepd"), Path("/var/lib/leasekeepd")
 
 
-def _folder(variable: str, otherwise: str) -> Path:
-    """The folder that the service manager names, else one of the user's own."""
-    return Path(os.environ.get(variable, otherwise).split(":")[0]).expanduser()
+def _folder(variable: str, own: str, of_the_system: Path) -> Path:
+    """The folder that the service manager names, else one of the user's own; the system's where the user has no home."""
+    try:
+        return Path(os.environ.get(variable, own).split(":")[0]).expanduser()
+    except RuntimeError:
+        return of_the_system
 
 
 def _runtime_folder() -> Path:
     own = os.environ.get("XDG_RUNTIME_DIR", "/run")
-    return _folder("RUNTIME_DIRECTORY", f"{own}/leasekeepd")
+    return _folder("RUNTIME_DIRECTORY", f"{own}/leasekeepd", SYSTEM_RUNTIME)
 
 
 def _socket(arguments: argparse.Namespace) -> Path:
@@ -52,7 +56,7 @@ def _socket(arguments: argparse.Namespace) -> Path:
 
 def _state_folder() -> Path:
     own = os.environ.get("XDG_STATE_HOME", "~/.local/state")
-    return _folder("STATE_DIRECTORY", f"{own}/leasekeepd")
+    return _folder("STATE_DIRECTORY", f"{own}/leasekeepd", SYSTEM_STATE)
 
 
 def _program() -> str:
@@ -200,8 +204,8 @@ def main(words: Sequence[str] | None = None) -> int:
 
 def _lint(arguments: argparse.Namespace) -> int:
     try:
-        data = arguments.file.read_bytes()
-        mode = stat.S_IMODE(arguments.file.stat().st_mode)
+        with open(arguments.file, "rb") as file:
+            data, mode = file.read(LIMIT + 1), stat.S_IMODE(os.fstat(file.fileno()).st_mode)
     except OSError as error:
         print(f"leasekeepd: lint: {arguments.file}: {error.strerror}", file=sys.stderr)
         return EXIT_COMMAND_LINE

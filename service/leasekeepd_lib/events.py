@@ -11,6 +11,7 @@ from typing import Callable, Protocol
 
 from leasekeep_inventory.rfc3339 import date_text
 
+from .child import kill_session
 from .clock import Clock
 
 
@@ -115,7 +116,7 @@ class Alerts:
         try:
             process = await asyncio.create_subprocess_exec(
                 self._program, *words, stdin=asyncio.subprocess.DEVNULL, stdout=asyncio.subprocess.DEVNULL,
-                stderr=asyncio.subprocess.DEVNULL)
+                stderr=asyncio.subprocess.DEVNULL, start_new_session=True)
         except OSError:
             return
         try:
@@ -125,5 +126,5 @@ class Alerts:
             pass
         finally:
             if process.returncode is None:
-                process.kill()
+                kill_session(process.pid)
                 await process.wait()

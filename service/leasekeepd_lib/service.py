@@ -3,7 +3,6 @@
 from __future__ import annotations
 
 import asyncio
-import stat
 from dataclasses import dataclass, replace
 from pathlib import Path
 from typing import Any, Awaitable, Callable, Coroutine
@@ -352,11 +351,11 @@ class Service:
 
     def _settle(self, who: str) -> list[str]:
         path = self._around.source.path
-        if path.read_bytes() != self._file.data:
+        present, mode = self._around.source.read()
+        if present != self._file.data:
             raise ChangeFault(f"{path} has changed since it was read: read it anew first (SIGHUP)")
         data = inventory_text(self.inventory, is_served=True).encode()
-        mode = stat.S_IMODE(path.stat().st_mode) & 0o770
-        self._around.journal.settle(path, data, mode)
+        self._around.journal.settle(path, data, mode & 0o770)
         self._file = Loaded(data, self.inventory)
         self._keep_copy()
         self._log.info("settle", "by", who)

@@ -2,13 +2,15 @@
 
 from __future__ import annotations
 
+import errno
+import os
 import stat
 from dataclasses import dataclass
 from pathlib import Path
 
 from leasekeep_inventory.dialect import SERVED
 from leasekeep_inventory.inventory import Inventory
-from leasekeep_inventory.inventory_file import read_inventory
+from leasekeep_inventory.inventory_file import LIMIT, read_inventory
 from leasekeep_inventory.refusals import refusals
 from leasekeepd_journal.storage import Storage
 
@@ -35,11 +37,23 @@ class Source:
     names_are_secrets: bool
     storage: Storage
 
+    def read(self) -> tuple[bytes, int]:
+        """The file's bytes, as far as one may have, and its mode; OSError where it cannot be read. A pipe is none: one that nobody
+        writes to would hold everything up."""
+        handle = os.open(self.path, os.O_RDONLY | os.O_CLOEXEC | os.O_NONBLOCK)
+        try:
+            mode = os.fstat(handle).st_mode
+            if not stat.S_ISREG(mode):
+                raise OSError(errno.EINVAL, "is no ordinary file")
+            with open(handle, "rb", closefd=False) as file:
+                return file.read(LIMIT + 1), stat.S_IMODE(mode)
+        finally:
+            os.close(handle)
+
     def load(self) -> Loaded:
         """Reads the file; SourceFault where it cannot be read or served."""
         try:
-            data = self.path.read_bytes()
-            mode = stat.S_IMODE(self.path.stat().st_mode)
+            data, mode = self.read()
         except OSError as error:
             raise SourceFault(f"{self.path}: {error.strerror}") from None
         reading = read_inventory(data, SERVED)

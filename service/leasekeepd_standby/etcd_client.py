@@ -3,16 +3,21 @@
 from __future__ import annotations
 
 import base64
+import contextlib
 import http.client
 import json
 import re
+import socket
+import threading
 from dataclasses import dataclass
-from typing import Any, Callable
+from typing import Any, Callable, Iterator
 
 from leasekeep_inventory.secret_files import SecretFault
 
 MOST = 4 << 20
 """The longest reply that is read, in bytes: etcd keeps values of a mebibyte and a half, and a reply holds them in base64."""
+WHOLE = 2
+"""A request and its reply may take so many times as long as one read."""
 _ADDRESS = re.compile(r"etcd:http://(?:([A-Za-z0-9_.\-]{1,64})@)?([A-Za-z0-9.\-]{1,253}|\[[0-9A-Fa-f:.]{2,45}\]):(\d{1,5})/([!-~]{1,200})")
 
 
@@ -127,14 +132,31 @@ class Etcd:
         if self._token:
             fields["Authorization"] = self._token
         try:
-            talk.request("POST", f"/v3/{call}", json.dumps(request), fields)
-            reply = talk.getresponse()
-            data = reply.read(MOST)
+            talk.connect()
+            with _ending(talk.sock, WHOLE * self._timeout):
+                talk.request("POST", f"/v3/{call}", json.dumps(request), fields)
+                reply = talk.getresponse()
+                data = reply.read(MOST)
         except (OSError, http.client.HTTPException, ValueError) as error:
             raise EtcdFault(f"etcd does not answer ({getattr(error, 'strerror', None) or type(error).__name__})") from None
         finally:
             talk.close()
         return reply.status, _read(data)
+
+
+@contextlib.contextmanager
+def _ending(sock: socket.socket, seconds: float) -> Iterator[None]:
+    """Ends the connection after so many seconds: a reply may come byte by byte, each within the time of one read."""
+    def end() -> None:
+        with contextlib.suppress(OSError):
+            sock.shutdown(socket.SHUT_RDWR)
+    timer = threading.Timer(seconds, end)
+    timer.daemon = True
+    timer.start()
+    try:
+        yield
+    finally:
+        timer.cancel()
 
 
 def _read(data: bytes) -> dict[str, Any]:

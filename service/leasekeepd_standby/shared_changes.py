@@ -8,7 +8,8 @@ import re
 from pathlib import Path
 
 from leasekeep_inventory.inventory import Entry, Inventory
-from leasekeepd_journal.changes import Change, ChangeFault, What, compacted, only_entry
+from leasekeepd_journal.changes import Change, ChangeFault, What, only_entry
+from leasekeepd_journal.compaction import compacted
 from leasekeepd_journal.journal import COMPACT_AT, Journal
 from leasekeepd_journal.storage import Storage
 from leasekeepd_lib.clock import Clock

@@ -10,10 +10,11 @@ import shutil
 import tempfile
 import unittest
 from dataclasses import replace
+from functools import partial
 from pathlib import Path
 from typing import Any, Callable, Coroutine
 
-from leasekeep_inventory.inventory import Entry, Inventory, Kind, inventory_text
+from leasekeep_inventory.inventory import ALWAYS, Entry, Inventory, Kind, inventory_text
 from leasekeep_inventory.inventory_file import read_inventory
 from leasekeepd_journal.changes import ChangeFault
 from leasekeepd_journal.journal import Journal
@@ -246,20 +247,33 @@ class Journals(InRoom):
         self.in_room(work)
 
     def test_a_kill_between_the_writes_of_settle_is_not_even_noted(self) -> None:
+        """Wherever it comes: before the file is written the journal holds, from then on the file."""
         async def work(room: Room) -> None:
-            await room.service().command(["need", "app", "1040000"], WHO)
-            await room.service().command(["need", "app", "1050000"], WHO)
-            storage = DyingStorage(1_000)
-            service = room.service(storage)
-            storage.left = 7  # The mark (write, sync), the file (write, sync, rename, sync), one of the journal's.
-            with self.assertRaises(Killed):
-                await service.command(["settle"], WHO)
-            self.assertGreater(len((room.folder / "journal").read_bytes()), 0)
-            settled = read_inventory(room.file.read_bytes()).inventory or Inventory()
-            self.assertEqual(meaning(settled)["app"][0], 1_050_000)
-            room.output.truncate(0)
-            self.assertEqual(room.state(), meaning(settled))
-            self.assertNotIn("note", room.output.getvalue())
+            wanted = {"app": (1_050_000, "s.app"), "web": (BEGAN + 80_000, "s.web")}
+            is_settled: list[bool] = []
+            while True:
+                (room.folder / "journal").unlink(missing_ok=True)
+                room.write(INVENTORY)
+                await room.service().command(["need", "app", "1040000"], WHO)
+                await room.service().command(["need", "app", "1050000"], WHO)
+                storage = DyingStorage(1_000)
+                service = room.service(storage)
+                storage.left = len(is_settled)
+                try:
+                    await service.command(["settle"], WHO)
+                    break
+                except Killed:
+                    is_settled.append(room.file.read_text() != inventory_text(INVENTORY))
+                room.output.truncate(0)
+                self.assertEqual(room.state(), wanted, is_settled)
+                self.assertNotIn("note", room.output.getvalue(), is_settled)
+            self.assertEqual(set(is_settled), {False, True})
+        self.in_room(work)
+
+    def test_a_need_that_is_always_holds_after_a_restart(self) -> None:
+        async def work(room: Room) -> None:
+            self.assertEqual(await room.service().command(["need", "app", "always"], WHO), ["app is needed always"])
+            self.assertEqual(room.state()["app"][0], ALWAYS)
         self.in_room(work)
 
     def test_a_moment_stands_in_the_journal_and_never_a_length(self) -> None:
@@ -310,6 +324,10 @@ class Journals(InRoom):
             journal = (room.folder / "journal").read_bytes()
             await service.command(["settle"], WHO)
             settled = room.state()
+            (room.folder / "journal").write_bytes(journal.splitlines(keepends=True)[1] + journal.splitlines(keepends=True)[2])
+            room.output.truncate(0)
+            self.assertEqual(room.state(), settled)
+            self.assertNotIn("note", room.output.getvalue())
             (room.folder / "journal").write_bytes(journal)
             self.assertEqual(room.state(), settled)
         self.in_room(work)
@@ -365,6 +383,9 @@ class Journals(InRoom):
             storage.is_full = False
             service._write_metrics()
             self.assertIn("leasekeepd_margin_seconds 30\n", (room.folder / "metrics").read_text())
+            storage.is_full = True
+            service._write_metrics()
+            self.assertEqual(room.output.getvalue().count("metrics could not be written"), 2)
         self.in_room(work)
 
 
@@ -554,6 +575,53 @@ class Reports(InRoom):
 
 
 class Files(InRoom):
+    def test_a_file_as_people_write_it_and_the_secret_that_it_names(self) -> None:
+        """The last good copy is read as the file is; and what a secret's file held goes on while that holds nothing."""
+        async def work(room: Room) -> None:
+            room.file.write_text('margin = "30s"\n[[token]]\nname = "app"\nincrement = "15m"\nneed = "always"\nsecret_file = "app"\n')
+            (room.folder / "app").write_text("s.app\n")
+            service = room.service()
+            wanted = {"app": (ALWAYS, "s.app")}
+            (room.folder / "app").write_text("")
+            service.reload()
+            self.assertEqual(meaning(service.inventory), wanted)
+            (room.folder / "app").write_text("s.app\n")
+            room.file.write_text("x")
+            self.assertEqual(room.state(), wanted)
+        self.in_room(work)
+
+    def test_what_is_no_ordinary_file_holds_nothing_up(self) -> None:
+        """A pipe that nobody writes to, a folder, a device without an end."""
+        async def work(room: Room) -> None:
+            makes: tuple[Callable[[Path], object], ...] = (os.mkfifo, os.mkdir, partial(os.symlink, "/dev/zero"))
+            for make in makes:
+                room.file.unlink()
+                room.write(INVENTORY)
+                service = room.service()
+                room.file.unlink()
+                make(room.file)
+                room.output.truncate(0)
+                service.reload()
+                self.assertIn(f"alert: file {room.file}: is no ordinary file\n", room.output.getvalue())
+                self.assertEqual((meaning(service.inventory), room.state()), (meaning(INVENTORY), meaning(INVENTORY)))
+                with self.assertRaises(OSError):
+                    await service.command(["settle"], WHO)
+                if room.file.is_dir():
+                    room.file.rmdir()
+                    room.file.touch()
+        self.in_room(work)
+
+    def test_no_more_of_a_file_is_read_than_one_may_have(self) -> None:
+        async def work(room: Room) -> None:
+            os.truncate(room.file, 1 << 40)
+            self.assertIn("the file is over 1048576 bytes", await self.reading(room))
+        self.in_room(work)
+
+    async def reading(self, room: Room) -> str:
+        with self.assertRaises(SourceFault) as caught:
+            room.service()
+        return str(caught.exception)
+
     def test_the_last_good_file_is_kept_and_served(self) -> None:
         async def work(room: Room) -> None:
             room.service()

@@ -6,6 +6,7 @@ import asyncio
 import contextlib
 import io
 import os
+import signal
 import socket
 import tempfile
 import time
@@ -19,6 +20,19 @@ from leasekeepd_lib.child import start_child
 from leasekeepd_lib.control import ControlFault
 from leasekeepd_lib.notify import Notifier
 from leasekeepd_lib.serving import Held, hold
+
+
+def is_gone(process: int) -> bool:
+    """Whether the process is, or is soon."""
+    end = time.monotonic() + 10.0
+    while time.monotonic() < end:
+        try:
+            if Path(f"/proc/{process}/stat").read_text().rpartition(") ")[2][0] == "Z":
+                return True
+        except OSError:
+            return True
+        time.sleep(0.01)
+    return False
 
 
 class Bounds(unittest.TestCase):
@@ -53,6 +67,8 @@ class Bounds(unittest.TestCase):
         own = {"XDG_STATE_HOME": "/own/state", "XDG_RUNTIME_DIR": "/own/run"}
         with mock.patch.dict(os.environ, own, clear=True):
             self.assertEqual((cli._state_folder(), cli._runtime_folder()), (Path("/own/state/leasekeepd"), Path("/own/run/leasekeepd")))
+        with mock.patch.dict(os.environ, clear=True), mock.patch.object(Path, "expanduser", side_effect=RuntimeError):
+            self.assertEqual((cli._state_folder(), cli._runtime_folder()), (Path("/var/lib/leasekeepd"), Path("/run/leasekeepd")))
         with tempfile.TemporaryDirectory() as folder, mock.patch("sys.argv", [f"{folder}/leasekeepd"]):
             beside = Path(folder) / "leasekeep"
             self.assertEqual(cli._program(), "leasekeep")
@@ -121,6 +137,43 @@ class Surroundings(unittest.TestCase):
             Notifier({"NOTIFY_SOCKET": f"{folder}/nobody"}).send("READY=1")
         Notifier({}).send("READY=1")
         self.assertEqual(Notifier({"WATCHDOG_USEC": "30000000"}).watchdog_seconds, 30.0)
+
+    def test_a_line_of_all_names_that_there_may_be(self) -> None:
+        async def go() -> str | None:
+            process = await start_child("sh", "-e", "head -c 266240 /dev/zero | tr '\\0' x; echo")
+            try:
+                return await process.read_line()
+            finally:
+                await process.end()
+        self.assertEqual(asyncio.run(go()), "x" * 4096 * 65)
+
+    def test_what_a_process_has_started_holds_nothing_up_and_is_gone(self) -> None:
+        """As where a script stands around `leasekeep`."""
+        async def go(script: str) -> tuple[int, int]:
+            process = await start_child("sh", "-e", script)
+            below = int(await process.read_line() or "0")
+            ended = await process.end()
+            await asyncio.sleep(0.3)  # (The loop hears that the streams are closed.)
+            return ended.code, below
+        for script, code in (("sleep 30 & echo $!; wait", -9), ("sleep 30 & echo $!; exit 3", 3)):
+            began = time.monotonic()
+            ended, below = asyncio.run(go(script))
+            self.assertEqual(ended, code)
+            self.assertTrue(0.8 <= time.monotonic() - began < 4.0)
+            self.assertTrue(is_gone(below))
+
+    def test_who_leaves_its_session_holds_nothing_up_either(self) -> None:
+        async def go() -> tuple[int, float]:
+            process = await start_child("sh", "-e", "setsid sleep 30 & echo $!; exit 3")
+            left = int(await process.read_line() or "0")
+            began = time.monotonic()
+            ended, seconds = await process.end(), time.monotonic() - began
+            os.kill(left, signal.SIGKILL)
+            await asyncio.sleep(0.3)  # (As above.)
+            return ended.code, seconds
+        code, seconds = asyncio.run(go())
+        self.assertEqual(code, -9)
+        self.assertTrue(1.0 <= seconds < 3.0)
 
     def test_a_process_that_does_not_end_has_half_a_second(self) -> None:
         async def go() -> int:

@@ -6,17 +6,66 @@ import random
 import time
 import unittest
 from dataclasses import replace
+from functools import lru_cache
 from unittest import mock
 
 from leasekeep_inventory.inventory import Entry, Inventory, Kind, inventory_text
 from leasekeep_inventory.inventory_file import LIMIT, read_inventory
-from leasekeepd_journal.changes import Change, ChangeFault, What, compacted, said_by
+from leasekeepd_journal.changes import Change, ChangeFault, What, only_entry, said_by
+from leasekeepd_journal.compaction import compacted
 from leasekeepd_journal.draft import Draft, changed, replay
 from leasekeepd_journal.journal import Journal
 from leasekeepd_lib.source import SourceFault
 
 from .test_changes import BEGAN, INVENTORY, TABLE, InRoom, Room, meaning, token
 from .test_journal import Unsynced
+
+
+def table_of(entry: Entry) -> str:
+    return "[[" + inventory_text(Inventory((entry,))).partition("[[")[2]
+
+
+def random_file(chance: random.Random, credentials: list[str], kept: Inventory) -> Inventory:
+    """Up to four tokens in a tree; most of those that are kept stay as they are."""
+    found: dict[str, Entry] = {}
+    drawn = [replace(token(name, chance.choice((5, 6)), chance.choice(credentials)), parent=chance.choice((None, *"abcd")))
+             for name in chance.sample("abcd", 4)]
+    for entry in (*(entry for entry in kept.entries if chance.random() < 0.7), *drawn):
+        is_free = entry.name not in found and entry.secret not in {other.secret for other in found.values()}
+        if is_free and (entry.parent is None or entry.parent in found):
+            found[entry.name] = entry
+    return Inventory(tuple(found.values()), 30)
+
+
+def random_changes(chance: random.Random, is_live: bool) -> tuple[list[Inventory], list[Change]]:
+    """Four files, and thirty changes beside one or the other; where it is live those alone that were not refused then."""
+    credentials = [f"s.{place}" for place in range(chance.choice((5, 8)))]
+    files = [random_file(chance, credentials, Inventory())]
+    files += [random_file(chance, credentials, files[0]) for _ in range(3)]
+    names, kinds = chance.sample("abcd", chance.choice((2, 3, 4))), chance.choice(((What.ADD, What.DROP), tuple(What)[:4]))
+    file, changes = files[0], list[Change]()
+    now = file
+    for _ in range(30):
+        if chance.random() < 0.07:
+            file = chance.choice(files)
+            now = replay(file, changes, False)[0]
+        name, what = chance.choice(names), chance.choice(kinds)
+        entry = replace(token(name, chance.choice((5, 6)), chance.choice([*credentials, "r.0", "r.1"])),
+                        parent=chance.choice((None, None, *"abcd")))
+        change = Change(what, name, said_by(file, what, name), chance.randint(5, 8), f"r.{chance.randint(0, 3)}" if
+                        chance.random() < 0.7 else chance.choice(credentials), table_of(entry) if what is What.ADD else "")
+        try:
+            now = changed(now, change, False) if is_live else now
+        except ChangeFault:
+            continue
+        changes.append(change)
+    return files, changes
+
+
+def has_a_credential_that_replace_brought(file: Inventory, changes: list[Change]) -> bool:
+    """Whether another entry of the file has it: which of two replaced credentials is refused then is up to the file."""
+    owners = {entry.secret: entry.name for entry in file.entries}
+    return any(change.what is What.REPLACE and owners.get(change.credential, change.name) != change.name for change in changes)
 
 
 def estate(count: int) -> Inventory:
@@ -70,6 +119,19 @@ class Large(InRoom):
         with self.assertRaisesRegex(ChangeFault, "the inventory would be over 1048576 bytes"):
             draft.apply(one_more)
 
+    def test_an_inventory_to_the_last_byte(self) -> None:
+        long = replace(token("e", BEGAN, "s"), name="x" * 64, credential="x")
+        entries = (replace(long, name=f"{place:064}", credential=f"{place:0256}") for place in range(2432))
+        whole = Inventory((*entries, long), 30)
+        left = LIMIT - len(inventory_text(whole))
+        self.assertTrue(0 < left < 255, left)
+        fits = changed(whole, Change(What.REPLACE, long.name, credential="x" * (left + 1)), False)
+        text = inventory_text(fits).encode()
+        self.assertEqual((len(text), read_inventory(text).inventory), (LIMIT, fits))
+        self.assertIsNone(read_inventory(text + b"\n").inventory)
+        with self.assertRaisesRegex(ChangeFault, "the inventory would be over 1048576 bytes"):
+            changed(whole, Change(What.REPLACE, long.name, credential="x" * (left + 2)), False)
+
     def test_a_file_that_is_short_only_as_it_is_written_is_refused(self) -> None:
         """Handed on in leasekeepd's own spelling it would be too long for `leasekeep`."""
         async def work(room: Room) -> None:
@@ -108,6 +170,11 @@ class Large(InRoom):
             self.assertEqual({entry.need for entry in inventory.entries}, {1_080_002})
         self.in_room(work)
 
+    def test_a_compaction_keeps_the_last_need_and_the_last_credential(self) -> None:
+        changes = [Change(what, name, "1", until=until, credential=f"s.{name}{until}")
+                   for until in range(20) for name in ("a", "b") for what in (What.NEED, What.REPLACE)]
+        self.assertEqual(compacted(changes), changes[-4:])
+
     def test_compactions_are_rare(self) -> None:
         """Where they take nothing out: else each change would cost all that are there."""
         async def work(room: Room) -> None:
@@ -125,28 +192,72 @@ class Large(InRoom):
         self.in_room(work)
 
     def test_a_compaction_changes_no_meaning(self) -> None:
-        """Of random changes, whatever the file says when they are replayed."""
-        chance = random.Random(11)
-        for _ in range(400):
-            files = [Inventory(tuple(token(name, BEGAN + chance.choice((70_000, 80_000)), f"s.{name}{chance.randint(0, 1)}")
-                                     for name in ("a", "b", "c") if chance.random() < 0.7), 30) for _ in range(3)]
-            now, changes = files[0], []
-            for _ in range(30):
-                file = files[0] if chance.random() < 0.9 else files[1]
-                name = chance.choice("abc")
-                what = chance.choice((What.NEED, What.REPLACE, What.ADD, What.DROP))
-                added = inventory_text(Inventory((token(name, 5, f"s.{name}{chance.randint(2, 3)}"),)))
-                change = Change(what, name, said_by(file, what, name), BEGAN + chance.randint(1, 3), f"s.{name}4",
-                                "[[" + added.partition("[[")[2])
-                try:
-                    now = changed(now, change, False)
-                except ChangeFault:
-                    continue
-                changes.append(change)
-            fewer = compacted(changes)
-            self.assertLessEqual(len(fewer), len(changes))
-            for file in files:
-                self.assertEqual(set(replay(file, fewer, False)[0].entries), set(replay(file, changes, False)[0].entries))
+        """Of random changes, as a service takes them or any at all, whatever the file says when they are replayed."""
+        compactions = 0
+        with mock.patch("leasekeepd_journal.draft.only_entry", lru_cache(only_entry)):
+            for seed in range(2000):
+                files, changes = random_changes(random.Random(seed), is_live=seed % 2 == 0)
+                fewer = compacted(changes)
+                compactions += len(fewer) < len(changes)
+                for file in files:
+                    if not has_a_credential_that_replace_brought(file, changes):
+                        self.assertEqual(replay(file, fewer, False)[0], replay(file, changes, False)[0], f"seed {seed}")
+        self.assertGreater(compactions, 1500)
+
+    def test_what_is_dropped_and_added_again_and_again(self) -> None:
+        """The first drop stays: another entry may have the credential from then on."""
+        file = Inventory((token("a", 5, "s.a"), token("b", 5, "s.b")), 30)
+        drop, add = (self.beside(file, what, token("a", 6, "s.a")) for what in (What.DROP, What.ADD))
+        other = Change(What.ADD, "c", table=table_of(token("c", 5, "s.a")))
+        self.assertEqual(compacted([drop, add] * 4000), [drop, add])
+        self.assertEqual(compacted([drop, add] * 4000 + [drop]), [drop])
+        self.assertEqual(compacted([drop, add] * 4000 + [drop, other]), [drop, other])
+        changes = [drop, other, *[replace(add, table=table_of(token("a", 6, "s.new"))), drop] * 50]
+        self.assertEqual(compacted(changes), [drop, other])
+        self.assertEqual(set(replay(file, [drop, other], False)[0].entries), {token("b", 5, "s.b"), token("c", 5, "s.a")})
+
+    def test_what_another_change_needs_stays(self) -> None:
+        file = Inventory((token("a", 5, "s.a"), token("b", 5, "s.b")), 30)
+        drop, add = (self.beside(file, what, token("a", 6, "s.a")) for what in (What.DROP, What.ADD))
+        under = Change(What.ADD, "c", table=table_of(replace(token("c", 5, "s.c"), parent="a")))
+        gone = Change(What.DROP, "c")
+        self.assertEqual(compacted([drop, add, under, drop]), [drop, add, under, drop])
+        self.assertEqual(compacted([drop, add, under, gone, drop]), [drop])
+        first, second = (Change(What.REPLACE, "a", said_by(file, What.REPLACE, "a"), credential=word) for word in ("s.1", "s.2"))
+        other = Change(What.ADD, "c", table=table_of(token("c", 5, "s.a")))
+        self.assertEqual(compacted([first, second, other]), [second, other])
+        self.assertEqual(compacted([first, other, second]), [first, other, second])
+
+    def beside(self, file: Inventory, what: What, entry: Entry) -> Change:
+        return Change(what, entry.name, said_by(file, what, entry.name), table=table_of(entry) if what is What.ADD else "")
+
+    def test_entries_that_take_turns_leave_a_few(self) -> None:
+        """A drop is tried once for each level that a tree of these names may have."""
+        names = ("a", "b", "c")
+        file = Inventory(tuple(token(name, 5, f"s.{name}") for name in names), 30)
+        turn = [self.beside(file, what, token(name, 6, f"s.{name}")) for what in (What.DROP, What.ADD) for name in names]
+        fewer = compacted(turn * 1000)
+        self.assertLessEqual(len(fewer), len(names) * (len(names) + 1))
+        self.assertEqual(replay(file, fewer, False), replay(file, turn, False))
+
+    def test_a_compaction_takes_time_by_its_length(self) -> None:
+        def seconds(turns: int) -> float:
+            changes = [Change(what, "a", "a" * 64, table=table_of(token("a", 5, f"s.{turn}")) if what is What.ADD else "")
+                       for turn in range(turns) for what in (What.DROP, What.ADD)]
+            began = time.process_time()
+            self.assertEqual(compacted(changes), [changes[0], changes[-1]])
+            return time.process_time() - began
+        seconds(4000)  # (Tables that were read before are known.)
+        self.assertLess(min(seconds(4000) for _ in range(3)), 8 * min(seconds(1000) for _ in range(3)))
+
+    def test_notes_are_the_same_behind_a_compaction(self) -> None:
+        """A need of an entry that is dropped again is no news."""
+        file = Inventory((token("a", 5, "s.a"), token("b", 5, "s.b")), 30)
+        drop, add = (self.beside(file, what, token("a", 6, "s.a")) for what in (What.DROP, What.ADD))
+        changes = [drop, add, Change(What.NEED, "a", "5", 7), drop]
+        self.assertEqual(compacted(changes), [drop, changes[2]])
+        for kept in (changes, compacted(changes)):
+            self.assertEqual(replay(file, kept, False), (Inventory(file.entries[1:], 30), []))
 
 
 class Drafts(unittest.TestCase):

@@ -3,6 +3,7 @@
 from __future__ import annotations
 
 import base64
+import contextlib
 import json
 import shutil
 import socket
@@ -121,6 +122,23 @@ class Replies(unittest.TestCase):
             with self.assertRaisesRegex(EtcdFault, "does not answer"):
                 client.get("a")
             self.assertLess(time.monotonic() - began, 5.0)
+
+    def test_a_reply_that_drips(self) -> None:
+        """Each byte comes in time, and the whole never does."""
+        for head in (b"HTTP/1.1 200 OK\r\n\r\n", b"HTTP/1.1 200 OK\r\nX: "):
+            with socket.create_server(("127.0.0.1", 0)) as place:
+                def drip() -> None:
+                    talk, _ = place.accept()
+                    with talk, contextlib.suppress(OSError):
+                        talk.sendall(head)
+                        for _ in range(100):
+                            time.sleep(0.05)
+                            talk.sendall(b" ")
+                threading.Thread(target=drip, daemon=True).start()
+                began = time.monotonic()
+                with self.assertRaises(EtcdFault):
+                    Etcd(EtcdAddress("127.0.0.1", place.getsockname()[1], "x"), 0.3).grant(15)
+                self.assertLess(time.monotonic() - began, 3.0)
 
     def test_a_user(self) -> None:
         client = self.client(told(token="T1"), told(), (401, b'{"error":"invalid auth token"}'), told(token="T2"), told(), user="keeper")

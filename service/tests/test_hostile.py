@@ -5,6 +5,7 @@ from __future__ import annotations
 import asyncio
 import random
 import tempfile
+import time
 import unittest
 from pathlib import Path
 from typing import Callable, Iterator
@@ -124,6 +125,16 @@ class Hostile(unittest.TestCase):
         for text in (b"x = " + b"[" * 60_000, b"margin = " + DIGITS, b"x = " + b"{a=" * 20_000):
             (fault,) = read_inventory(text).faults
             self.assertTrue(fault.problem.startswith("the file is not a TOML document: "), fault.problem)
+
+    def test_keys_of_thousands_of_parts(self) -> None:
+        """Python's own reader takes twenty seconds over each: so long nobody would be handed the time."""
+        for part, text in (("a.", "%sa = 1\n"), ("a.", "[%sa]\n"), ("a . ", "x = {%sa = 1}\n"), ('"a".', "%sa = 1\n"), ("'é.'.", "%sa = 1\n")):
+            began = time.process_time()
+            (fault,) = read_inventory(("\n" + text % (part * 30_000)).encode()).faults
+            self.assertEqual((fault.line, fault.problem), (2, "a key has hundreds of parts"))
+            self.assertLess(time.process_time() - began, 2.0)
+        secret = INVENTORY.replace(b"s.app", b"a." * 127 + b"a")
+        self.assertEqual(read_inventory(secret).faults, [])
 
     def test_short_lists(self) -> None:
         with tempfile.TemporaryDirectory() as folder:

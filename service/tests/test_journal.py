@@ -79,6 +79,39 @@ class Unreadable(InRoom):
                     flipped = line[:place] + bytes((line[place] ^ bit,)) + line[place + 1:]
                     self.assertIsNone(Change.read(flipped.removesuffix(b"\n")), flipped)
 
+    def test_a_last_line_feed_that_flipped_drops_nothing(self) -> None:
+        """What was acknowledged ends with one: only of what is cut before it nothing was."""
+        async def work(room: Room) -> None:
+            line = Change(What.NEED, "app", "1070000", 1_075_000).line()
+            for last, need in ((line[:-1] + b"\x0b", 1_075_000), (line[:-1], 1_075_000), (line[:-2], 1_070_000), (line[:9], 1_070_000)):
+                (room.folder / "journal").write_bytes(GOOD + last)
+                self.assertEqual(room.state(), {"app": (need, "s.app"), "web": (1_090_000, "s.web")})
+                self.assertTrue((room.folder / "journal").read_bytes().endswith(b"}\n"))
+                await room.service().command(["need", "web", "1095000"], WHO)
+                self.assertEqual(room.state(), {"app": (need, "s.app"), "web": (1_095_000, "s.web")})
+        self.in_room(work)
+
+    def test_a_part_that_a_failed_write_leaves_spoils_no_later_change(self) -> None:
+        class Torn(Unsynced):
+            is_failing = False
+
+            def append(self, path: Path, data: bytes) -> None:
+                super().append(path, data[:9] if self.is_failing else data)
+                if self.is_failing:
+                    raise OSError(errno.EIO, os.strerror(errno.EIO))
+
+        async def work(room: Room) -> None:
+            storage = Torn()
+            service = room.service(storage)
+            await service.command(["need", "web", "1090000"], WHO)
+            storage.is_failing = True
+            with self.assertRaises(OSError):
+                await service.command(["need", "app", "1075000"], WHO)
+            storage.is_failing = False
+            await service.command(["need", "app", "1076000"], WHO)
+            self.assertEqual(room.state(), {"app": (1_076_000, "s.app"), "web": (1_090_000, "s.web")})
+        self.in_room(work)
+
     def test_no_bytes_end_the_service_or_spoil_the_inventory(self) -> None:
         async def work(room: Room) -> None:
             chance = random.Random(5)
@@ -113,6 +146,21 @@ class Unreadable(InRoom):
             await service.command(["need", "app", "1080000"], WHO)
             self.assertEqual((room.folder / "journal.set-aside").read_bytes(), BAD[0])
             self.assertEqual(room.state(), {"app": (1_080_000, "s.app"), "web": (1_090_000, "s.web")})
+        self.in_room(work)
+
+    def test_a_reload_mends_what_the_start_could_not(self) -> None:
+        async def work(room: Room) -> None:
+            storage = FullStorage()
+            storage.is_full = True
+            (room.folder / "journal").write_bytes(BAD[0] + GOOD)
+            service = room.service(storage)
+            service.reload()
+            self.assertEqual((room.folder / "journal").read_bytes(), BAD[0] + GOOD)
+            storage.is_full = False
+            service.reload()
+            self.assertEqual((room.folder / "journal.set-aside").read_bytes(), BAD[0])
+            (change,) = [Change.read(line) for line in (room.folder / "journal").read_bytes().splitlines()]
+            self.assertEqual(change, Change.read(GOOD))
         self.in_room(work)
 
     def test_a_compaction_that_cannot_be_written_is_left_out(self) -> None:

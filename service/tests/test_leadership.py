@@ -167,6 +167,35 @@ class OneLeader(unittest.TestCase):
         self.assertEqual((taken, first.holds(), second.holds(), first.leader), ([True], False, True, "b"))
         self.assertEqual(len(fleet.etcd.leases), 1)  # (Its own was given back.)
 
+    def test_a_lease_counts_from_before_it_was_asked_for(self) -> None:
+        """However late the reply comes: etcd counts from the moment at which it read the request."""
+        for call, was_leading in (("grant", False), ("keep", True), ("keep", False)):
+            with self.subTest(call=call, was_leading=was_leading):
+                fleet = Fleet("a")
+                place, client = fleet.places["a"], fleet.clients["a"]
+                if call == "keep":
+                    self.assertTrue(place._take(15))
+                    place._old = 0 if was_leading else place._lease
+                asked: Callable[..., Any] = getattr(client, call)
+
+                def late(*words: Any) -> Any:
+                    told = asked(*words)
+                    fleet.clock.suspended += 8
+                    setattr(client, call, asked)
+                    return told
+                setattr(client, call, late)
+                if was_leading:
+                    async def go() -> None:
+                        keeping = asyncio.create_task(place.keep())
+                        await asyncio.sleep(0.1)
+                        keeping.cancel()
+                    simulate(go())
+                else:
+                    self.assertTrue(place._take(15))
+                self.assertTrue(place.holds())
+                fleet.clock.suspended += 5.1
+                self.assertFalse(place.holds())
+
     def test_how_long_a_lease_is(self) -> None:
         self.assertEqual([lease_for(margin) for margin in (4, 20, 32, 60, 240, 3600)], [8, 8, 8, 15, 60, 60])
 

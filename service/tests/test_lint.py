@@ -68,6 +68,7 @@ class Lint(unittest.TestCase):
             (old("increment = 900", "increment = 24", 1), 0o600,
              "f:1: doubt: margin: is over three quarters of the shortest step (24 s of app)"),
             (GOOD, 0o644, "f: fault: others may read or write this file (mode 0644); chmod o-rwx it"),
+            (GOOD, 0o602, "f: fault: others may read or write this file (mode 0602); chmod o-rwx it"),
             (old('"db"', '"hvs.CAESIJ12345678"'), 0o600,
              "f:11: doubt: (a name like a token's value) name: looks like a token's value"),
             (old("1050000", "1764000000000", 1), 0o600, "are these milliseconds? write 1764000000"),
@@ -99,6 +100,11 @@ class Lint(unittest.TestCase):
                 self.assertTrue(any(expected in line for line in lines), lines)
                 for secret in ("hvs.app-secret", "hvs.CAESIJ12345678"):
                     self.assertNotIn(secret, "\n".join(lines))
+
+    def test_names_of_64_letters(self) -> None:
+        for length, faults in ((64, 0), (65, 1)):
+            lines = linted(GOOD.replace('"db"', f'"{"d" * length}"'))
+            self.assertEqual(sum(": fault: " in line for line in lines), faults, lines)
 
     def test_a_round_that_a_slow_broker_makes_longer_than_the_margin(self) -> None:
         text = inventory_text(fleet(320, 600, 60, 300))

@@ -27,6 +27,27 @@ PORT_WORDS = re.compile(r"Listening on.*address=127\.0\.0\.1:(\d+)")
 NEED = 'leasekeepd_need_carried_timestamp_seconds{entry="web"}'
 WRITTEN = "leasekeepd_metrics_written_timestamp_seconds"
 
+END, SUCCESS = 'leasekeepd_end_timestamp_seconds{entry="web"}', 'leasekeepd_last_success_timestamp_seconds{entry="web"}'
+WAKE, KEPT, TRYING = "leasekeepd_next_wake_timestamp_seconds", *(
+    f'leasekeepd_state{{entry="web",state="{name}"}}' for name in ("kept", "trying"))
+END_NEAR: tuple[tuple[dict[str, str], range], ...] = (
+    # A step of 40 s, so a margin of 30 s: renewed each 10 to 15 s, and 25 s or more are left when the figures are written.
+    ({END: "40+15x100", SUCCESS: "0+15x100", KEPT: "1x100"}, range(0)),
+    ({END: "25+15x100", SUCCESS: "-15+15x100", KEPT: "1x100"}, range(0)),
+    # The same, and from 150 s on it is renewed no more: its margin's half is 15 s before 190 s.
+    ({END: "40+15x10 190x100", SUCCESS: "0+15x10 150x100", TRYING: "0x10 1x100"}, range(180, 600, 15)),
+    ({END: "40+15x10 190x100", SUCCESS: "0+15x10 150x100", KEPT: "1x100"}, range(180, 600, 15)),
+    # The figures are from 150 s on the same: a minute later they count as a minute old.
+    ({END: "40+15x10 190x100", SUCCESS: "0+15x10 150x100", KEPT: "1x100", WRITTEN: "0+15x10 150x100"}, range(240, 600, 15)),
+    # A long step: the inventory's margin, half of which is 60 s before 500 s.
+    ({END: "500x100", SUCCESS: "0x100", KEPT: "1x100"}, range(450, 600, 15)),
+    # Never renewed: while it is tried, or where the wake-up of 50 s is a minute late.
+    ({END: "40x100", TRYING: "1x100"}, range(0, 600, 15)),
+    ({END: "40x100", KEPT: "1x100", WAKE: "590x100"}, range(0)),
+    ({END: "130x100", KEPT: "1x100", WAKE: "50x100"}, range(120, 600, 15)),
+)
+"""What is known of an entry that is needed, with an inventory's margin of 120 s, and the seconds at which the alert is there."""
+
 
 def expressions() -> list[str]:
     """What the dashboard asks, for every job and instance."""
@@ -98,6 +119,9 @@ class Rules(unittest.TestCase):
                   "120x100"}, ("LeasekeepdEndNear", "435", 0), ("LeasekeepdEndNear", "450", 1)),
             case({**up, NEED: "500x100", 'leasekeepd_end_timestamp_seconds{entry="web"}': "500x100",
                   "leasekeepd_margin_seconds": "120x100"}, ("LeasekeepdEndNear", "450", 0)),
+            *(case({**needed, **near, "leasekeepd_margin_seconds": "120x100"}, *(
+                ("LeasekeepdEndNear", str(seconds), int(seconds in fires)) for seconds in range(0, 600, 15)))
+              for near, fires in END_NEAR),
             case({**up, "leasekeepd_config_last_reload_successful": "1x4 0x10"}, ("LeasekeepdFileFaulty", "45", 0),
                  ("LeasekeepdFileFaulty", "75", 1)),
             *(case({**up, "leasekeepd_clock_offset_seconds": f"{offset}x100"}, ("LeasekeepdClockOff", "330", fires))

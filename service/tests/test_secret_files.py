@@ -296,6 +296,14 @@ class Changes(InFolder):
         self.stage.look(2400)
         self.assertEqual(self.credentials()[0], "hvs.bad")
 
+    def test_what_was_well_in_between_is_said_again(self) -> None:
+        self.stage.refused["hvs.bad"] = "no"
+        for moment in range(1000, 1010, 4):
+            self.write("app.token", "hvs.bad")
+            self.assertEqual(self.stage.look(moment), ["warning: secret-file app no: it keeps the old one"])
+            self.write("app.token", "hvs.app")
+            self.assertEqual(self.stage.look(moment + 2), [])
+
     def test_another_secret_behind_a_refused_one_is_taken_at_once(self) -> None:
         self.stage.refused["hvs.bad"] = "no"
         self.write("app.token", "hvs.bad")

@@ -5,6 +5,7 @@ from __future__ import annotations
 import asyncio
 import io
 import shutil
+import socket
 import subprocess
 import sys
 import tempfile
@@ -12,6 +13,7 @@ import unittest
 from dataclasses import replace
 from pathlib import Path
 from typing import Any, Callable
+from unittest import mock
 
 from leasekeep_inventory.inventory import Entry, Inventory, Kind, inventory_text
 from leasekeepd_journal.changes import Change, ChangeFault, What
@@ -23,6 +25,7 @@ from leasekeepd_lib.notify import Notifier
 from leasekeepd_lib.source import Source, SourceFault
 from leasekeepd_standby.etcd_client import Kept
 from leasekeepd_standby.leadership import Leadership
+from leasekeepd_standby.serving import _LedNotifier
 from leasekeepd_standby.shared_changes import SharedEnds, SharedJournal, refuse
 from leasekeepd_standby.standby import Led, LedLauncher, Standby
 
@@ -77,6 +80,13 @@ class SharedChanges(unittest.TestCase):
             journal.add(Change(What.NEED, "web", "1200", until=1500))
         self.assertEqual([change.until for change in journal.changes], [1300])
         self.assertEqual([change.until for change in self.journal(1).changes], [1300, 1400])
+
+    def test_who_leads_no_more_writes_nothing_though_nobody_else_has_written(self) -> None:
+        journal = self.journal()
+        self.pass_on()
+        with self.assertRaisesRegex(OSError, "another leads now"):
+            journal.add(Change(What.NEED, "web", "1200", until=1500))
+        self.assertEqual((journal.changes, self.journal(1).changes), ([], []))
 
     def test_etcd_is_away(self) -> None:
         journal = self.journal()
@@ -214,6 +224,23 @@ class Launched:
 
 
 class Gate(unittest.TestCase):
+    def test_who_is_alone_renews_within_half_a_margin(self) -> None:
+        margins = list[int]()
+
+        class Launcher:
+            timeout = 5
+
+            async def launch(self, inventory: Inventory) -> Launched:
+                margins.append(inventory.margin)
+                return Launched()
+
+        async def go() -> None:
+            for is_alone in (False, True):
+                for margin in (60, 1):
+                    await LedLauncher(Launcher(), lambda: True, is_alone).launch(replace(TWO, margin=margin))
+        asyncio.run(go())
+        self.assertEqual(margins, [60, 1, 30, 1])
+
     def test_no_clock_is_handed_in_where_another_may_lead(self) -> None:
         process, may = Launched(), [True]
 
@@ -239,6 +266,17 @@ class Gate(unittest.TestCase):
                 await launcher.launch(TWO)
         asyncio.run(go())
         self.assertEqual(process.written, ["clock 1 1"])
+
+
+class Notes(InFolder):
+    def test_a_term_as_leader_is_no_start_and_no_end_of_the_process(self) -> None:
+        with socket.socket(socket.AF_UNIX, socket.SOCK_DGRAM) as manager:
+            manager.bind(str(self.folder / "notify"))
+            manager.settimeout(10)
+            notifier = _LedNotifier({"NOTIFY_SOCKET": str(self.folder / "notify")})
+            for said in (("READY=1",), ("WATCHDOG=1", "STATUS=well"), ("STOPPING=1",), ("WATCHDOG=1",)):
+                notifier.send(*said)
+            self.assertEqual([manager.recv(100) for _ in range(2)], [b"WATCHDOG=1\nSTATUS=well", b"WATCHDOG=1"])
 
 
 class StubService:
@@ -316,6 +354,31 @@ class Fleet(InFolder):
                 task.cancel()
             await asyncio.gather(*self.tasks, return_exceptions=True)
         simulate(go())
+
+    def test_one_whose_lease_etcd_ended_does_not_go_on_alone(self) -> None:
+        """Though etcd is silent from then on: another may have taken over."""
+        def ended(_lease: int) -> int:
+            self.etcd.is_down = True
+            return 0
+        self.play(200, (30, lambda: setattr(self.a.client, "keep", ended)))
+        self.assertIn("warning: lead no more: its lease has ended", self.a.said())
+        self.assertEqual({is_alone for machine in (self.a, self.b) for *_, is_alone in machine.served}, {False})
+
+    def test_ends_that_could_not_be_shared_are_shared_later(self) -> None:
+        async def go() -> None:
+            standby = self.a.standby
+            self.assertTrue(standby._leadership._take(15))
+            ends = standby._ends(b"")
+            ends.keep(WEB, 5_000_000, True)
+            setattr(standby, "_service", mock.Mock(inventory=TWO))
+            self.etcd.is_down = True
+            pushing = asyncio.create_task(standby._push(ends))
+            await asyncio.sleep(7)
+            self.etcd.is_down = False
+            await asyncio.sleep(5)
+            pushing.cancel()
+        simulate(go())
+        self.assertIn("fleet/ends", self.etcd.keys)
 
     def test_one_serves_and_the_other_waits(self) -> None:
         self.play(100)

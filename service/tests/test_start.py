@@ -131,8 +131,10 @@ class Output(Started):
 
     def test_closed_streams(self) -> None:
         metrics = self.folder / "metrics"
-        self.started(["sh", "-c", 'exec "$@" <&- >&- 2>&-', "sh", *self.words("--metrics", str(metrics))])
+        process = self.started(["sh", "-c", 'exec "$@" <&- >&- 2>&-', "sh", *self.words("--metrics", str(metrics))])
         self.wait_for_renewals(1)
+        # (Else what is opened next would be written to as the log.)
+        self.assertEqual([os.readlink(f"/proc/{process.pid}/fd/{number}") for number in range(3)], ["/dev/null"] * 3)
         status = subprocess.run([str(SERVICE / "leasekeepd"), "status", "--runtime", str(self.folder / "run")],
                                 capture_output=True, text=True, timeout=20)
         self.assertIn("app kept end ", status.stdout)

@@ -170,6 +170,16 @@ class Changes(InStage):
         self.assertEqual(stage.handed_in(1), [clock(1_003_000)])
 
 
+    def test_a_begin_beside_another_inventory_is_that_ones_own(self) -> None:
+        script: Script = [[(clock(1_000_000), ["wait 9000000"])], [(clock(1_003_000), ["wait 9000000"])]]
+
+        def change(stage: WatchStage) -> None:
+            stage.watch.take(TWO)
+            stage.watch.begin()
+        stage = self.played(1004, script, (1003, change))
+        self.assertEqual([stage.handed_in(start) for start in range(2)], [[clock(1_000_000)], [clock(1_003_000)]])
+
+
 class Endings(InStage):
     def test_silence(self) -> None:
         """It ends twice the time-out and 15 seconds behind the last line, and another goes on with the known ends."""

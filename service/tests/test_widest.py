@@ -53,6 +53,16 @@ class Stands(unittest.TestCase):
         self.assertEqual(self.needs(TWO, app=NOW + 1.0, db=NOW + 1.0), {"app": 3000, "db": 3000})
 
 
+class Printed(unittest.TestCase):
+    def test_only_a_margin_that_takes_no_more_wake_ups_counts(self) -> None:
+        with tempfile.TemporaryDirectory() as folder:
+            program = Path(folder) / "leasekeep"
+            program.touch(0o755)
+            for printed, widest in (("20 27\n66 27\n", 66), ("20 27\n20 27\n", None), ("20 27\n66 28\n", None), ("20 27\n", None), ("", None)):
+                program.write_text(f"#!/bin/sh\nprintf '{printed}'\n")
+                self.assertEqual(widest_margin(str(program), program, NOW), widest, printed)
+
+
 @unittest.skipIf(PROGRAM is None, "no built leasekeep")
 class Told(unittest.TestCase):
     def served(self, inventory: Inventory) -> int | None:
