@@ -1,7 +1,7 @@
 use crate::live::Place;
 use keep_device::{Counted, Sink, read_file};
 use keep_engine::{Exit, PROGRAM, Stop};
-use keep_exchange::SocketSlices;
+use keep_exchange::{Abreast, SocketSlices};
 use keep_inventory::MOST_INVENTORY;
 use keep_watch::WIDTH_MAX;
 use keep_watching::run_watch;
@@ -30,26 +30,39 @@ pub fn watch<R: Files + AllocGlobal + Print + Net, I: Read + Drop, E: Sink>(
     input: I,
     errors: &mut E,
 ) -> Exit {
-    let alloc = rt.alloc();
     let text = match read_file(rt, &watched.file, MOST_INVENTORY) {
         Ok(text) => text,
         Err(fault) => return Stop::from(fault).report(PROGRAM, errors),
     };
     let seconds = watched.patience.min(60) as u32;
-    let mut exchange = match &watched.place {
-        Place::Port(port) => SocketSlices::at_port(rt, *port, seconds),
-        Place::Path(path) => SocketSlices::at_path(rt, path, seconds),
-    };
-    let mut lines = Counted::new(input);
-    let mut out = Counted::new(io::writer(rt));
-    let (width, list) = (watched.width.min(WIDTH_MAX as u64) as u32, text.list());
+    match &watched.place {
+        Place::Port(port) => {
+            let mut exchange = SocketSlices::at_port(rt, *port, seconds);
+            watch_over(rt, watched, text.list(), input, &mut exchange, errors)
+        }
+        Place::Path(path) => {
+            let mut exchange = SocketSlices::at_path(rt, path, seconds);
+            watch_over(rt, watched, text.list(), input, &mut exchange, errors)
+        }
+    }
+}
+
+fn watch_over<R: AllocGlobal + Print, I: Read + Drop, X: Abreast, E: Sink>(
+    rt: &R,
+    watched: &Watched,
+    inventory: &[u8],
+    input: I,
+    exchange: &mut X,
+    errors: &mut E,
+) -> Exit {
+    let width = watched.width.min(WIDTH_MAX as u64) as u32;
     run_watch(
-        alloc,
-        list,
+        rt.alloc(),
+        inventory,
         width,
-        &mut lines,
-        &mut exchange,
-        &mut out,
+        &mut Counted::new(input),
+        exchange,
+        &mut Counted::new(io::writer(rt)),
         errors,
     )
 }
