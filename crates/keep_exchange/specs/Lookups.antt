@@ -1,9 +1,9 @@
 -- Lookups: what a broker's reply to a lookup makes of an inventory.
 -- Source: Vault, HTTP API: `auth/token`, "Lookup a token (self)"; `sys/leases`, "Read lease". That nothing but a 200 is taken
 -- is this project's own.
-use Rattle.std.specs.Prelude.{◌≡◌, ℕ, ◌==◌, ◌⊎◌, List, ◌++◌, Bool, Option, Some, None, Result, Ok, Err, is_none, if◌then◌else◌}
+use Rattle.std.specs.Prelude.{◌≡◌, ℕ, ◌==◌, ◌⊎◌, List, ◌++◌, Bool, Option, Some, None, Result, Ok, Err, IfSome, is_none, if◌then◌else◌}
 use Rattle.keep_exchange.specs.declared.fault.ExchangeFault.{ExchangeFault}
-use Rattle.keep_exchange.specs.Exchanges.{Behind, IsGivenUp, received}
+use Rattle.keep_exchange.specs.Exchanges.{Behind, IsExchanged, IsGivenUp}
 use Rattle.keep_exchange.specs.Requests.{lookup_of}
 use Rattle.keep_inventory.specs.Lookup.{lookup_fault, told}
 use Rattle.keep_inventory.specs.Inventories.{Inventory}
@@ -40,20 +40,24 @@ looked s i t (Err fault) = None
 abbrev pub behind_if : Bool → Inventory → Option Inventory
 behind_if is s = if is then Some s else None
 
--- the entry i is looked up at t in the rows of the table, and the lookup applied, if it can be
-pub record IsLookedUp (port : ℕ) (old : Table) (t : ℕ) (s : Inventory) (i : ℕ) (is_applied : Bool) (after : Inventory) (new : Option Behind) : Type 0 where
-  pub sent : Served
-  pub says : Says t (step old t (lookup_of port s.credentials s.forest i)).answer sent
-  pub applied_is : looked s i t (received sent) ≡ behind_if is_applied after
-  pub is : new ≡ Some (record { table = (step old t (lookup_of port s.credentials s.forest i)).table; wire = request_text (lookup_of port s.credentials s.forest i) ++ sent_of sent })
+-- the entry i is looked up at t, and what came of it is applied, if it can be. Where the broker's table is known, that is what is
+-- received of the answer of its step
+pub record IsLookedUp (port : ℕ) (old : Option Behind) (t : ℕ) (s : Inventory) (i : ℕ) (is_applied : Bool) (after : Inventory) (new : Option Behind) : Type 0 where
+  pub came : Result Reply ExchangeFault
+  pub exchanged : IfSome old (λ b. IsExchanged b.table t (lookup_of port s.credentials s.forest i) came new)
+  pub applied_is : looked s i t came ≡ behind_if is_applied after
 
 -- the request was served, and what was sent for it carried
 abbrev pub IsServed : Table → ℕ → Request → Option Behind → Type 0
 IsServed old t r new =
     (sent : Served) × (Says t (step old t r).answer sent × (new ≡ Some (record { table = (step old t r).table; wire = request_text r ++ sent_of sent })))
 
--- what a lookup comes to; where memory was wanting there may have been no exchange, or one whose reply was not read
-abbrev pub LooksUp : {E : Type 0} → ℕ → Behind → ℕ → Inventory → ℕ → Result Bool E → Inventory → Option Behind → Type 0
-LooksUp port old t s i (Ok is_applied) after new = IsLookedUp port old.table t s i is_applied after new
-LooksUp port old t s i (Err fault) after new =
-    (new ≡ Some old) ⊎ (IsGivenUp old.table t (lookup_of port s.credentials s.forest i) new ⊎ IsServed old.table t (lookup_of port s.credentials s.forest i) new)
+-- where memory was wanting, and the table is known, there may have been no exchange, or one whose reply was not read
+abbrev pub IsLookupLeft : ℕ → Option Behind → ℕ → Inventory → ℕ → Option Behind → Type 0
+IsLookupLeft port old t s i new =
+    IfSome old (λ b. (new ≡ Some b) ⊎ (IsGivenUp b.table t (lookup_of port s.credentials s.forest i) new ⊎ IsServed b.table t (lookup_of port s.credentials s.forest i) new))
+
+-- what a lookup comes to
+abbrev pub LooksUp : {E : Type 0} → ℕ → Option Behind → ℕ → Inventory → ℕ → Result Bool E → Inventory → Option Behind → Type 0
+LooksUp port old t s i (Ok is_applied) after new = IsLookedUp port old t s i is_applied after new
+LooksUp port old t s i (Err fault) after new = IsLookupLeft port old t s i new

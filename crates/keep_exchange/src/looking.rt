@@ -22,8 +22,9 @@ use vault_json::{Lookup, ReplyFault, lookup_body, read_lookup_lease, read_lookup
 /// none with status 200 that can be read, or it says what is not applied to this entry; the inventory is then as it was. The
 /// only error is want of memory. No lookup changes the number of entries.
 ///
-/// Where the broker's table is known, the reply is that of the Broker step, and the table is as that step leaves it. Known or
-/// not, nothing but `false` comes of an exchange that has failed: no connection, no whole request, or a read that failed.
+/// Whatever the exchange, the inventory is what some reply makes of it. Where the broker's table is known, that reply is the one
+/// of the Broker step, and the table is as that step leaves it. Known or not, nothing but `false` comes of an exchange that has
+/// failed: no connection, no whole request, or a read that failed.
 pub fn look_up<E: Exchange>(
     alloc: Global,
     exchange: &mut E,
@@ -33,7 +34,7 @@ pub fn look_up<E: Exchange>(
     i: u32,
 ) -> Result<bool, AllocError>
     requires { i < length inventory.old.forest.entries }
-    ensures looked { IfSome (E.behind exchange.old) (λ old. LooksUp port old t inventory.old i result inventory.new (E.behind exchange.new)) }
+    ensures looked { LooksUp port (E.behind exchange.old) t inventory.old i result inventory.new (E.behind exchange.new) }
     ensures unapplied { result ≢ Ok true → inventory.new ≡ inventory.old }
     ensures unanswered { result ≢ Ok false → E.failed_calls exchange.new ≡ E.failed_calls exchange.old }
     ensures count { length inventory.new.forest.entries ≡ length inventory.old.forest.entries }

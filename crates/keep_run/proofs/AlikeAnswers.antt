@@ -32,12 +32,13 @@ use Rattle.keep_core.proofs.Once.{once}
 use Rattle.keep_core.proofs.Shaped.{both_shaped, shape}
 use Rattle.keep_exchange.specs.Exchanges.{Behind}
 use Rattle.keep_exchange.specs.Requests.{asked_as, reply_in, request_of}
-use Rattle.keep_run.specs.Alike.{AreTablesAlike}
+use Rattle.keep_run.specs.Alike.{AreBrokersAlike, AreTablesAlike}
 use Rattle.keep_run.specs.Closed.{AreAnswered, Exchanged, IsAnswered, World, closing, event_in, taken, told_next}
 use Rattle.keep_run.specs.Renewing.{event_of, refuses, told_by}
 use Rattle.keep_run.specs.Stops.{both}
 use Rattle.keep_run.specs.Text.{answer_line, answer_text, line, name_of, short_lines, status_in}
 use Rattle.keep_run.proofs.AlikeSteps.{AnswersOf, OutcomesOf, steps_both}
+use Rattle.keep_run.proofs.OneAnswer.{asked_known, table_after}
 use Rattle.keep_run.proofs.Replying.{sent_told}
 use Rattle.keep_run.proofs.Texts.{same_event}
 
@@ -131,39 +132,56 @@ module _ (g : Forest) (cs ds : List (List ℕ)) (ts : List Terms) (one : IsInven
   pub record AreAnswersAlike (x y : Exchanged) (new last : World) : Type 0 where
     pub output : y.output ≡ x.output
     pub keeper : last.keeper ≡ new.keeper
-    pub tables : AreTablesAlike g cs ds new.behind.table last.behind.table
+    pub brokers : AreBrokersAlike g cs ds new.behind last.behind
     pub text : answer_text u y ≡ answer_text s x
     pub shaped : IsShaped g new.keeper.forest
 
-  answer_both : (port other t : ℕ) (k : State) (b c : Behind) (x y : Exchanged) (new last : World) → IsShaped g k.forest → x.entry < length g.entries → y.entry ≡ x.entry → AreTablesAlike g cs ds b.table c.table →
+  answer_both : (port other t : ℕ) (k : State) (b c : Option Behind) (x y : Exchanged) (new last : World) → IsShaped g k.forest → x.entry < length g.entries → y.entry ≡ x.entry → AreBrokersAlike g cs ds b c →
       IsAnswered port cs t (both k b) x new → IsAnswered other ds t (both k c) y last → AreAnswersAlike x y new last
   unfolding event_in answer_text
   answer_both port other t k b c x y new last like within here alike a d =
       let i = x.entry in
       let h = k.forest in
+      let l = alike.behind in
+      let m = alike.other_behind in
       let r = request_of port cs g i in
       let q = request_of other ds g i in
       let ask : request_of port cs h i ≡ r = ask_same port cs h like i in
       let ask' : request_of other ds h y.entry ≡ q = ap (request_of other ds h) here ∙ ask_same other ds h like i in
-      let outcome : OutcomesOf g cs ds (call_for (entry_at g.entries i).kind) i (step b.table t r) (step c.table t q) = steps_both g cs ds ts ts one two port other t i b.table c.table within alike in
-      let says = subst (λ (p : Request). Says t (step b.table t p).answer x.sent) ask a.says in
-      let says' = subst (λ (p : Request). Says t (step c.table t p).answer y.sent) ask' d.says in
-      let means = said_same i t within (step b.table t r).answer (step c.table t q).answer outcome.0 x.sent y.sent says says' in
-      let event : event_in ds g y ≡ event_in cs g x = ap (λ j. event_of (entry_at g.entries j).kind (credential_at ds j) j (reply_in y.sent)) here ∙ means.0 in
+      let outcome : OutcomesOf g cs ds (call_for (entry_at g.entries i).kind) i (step l.table t r) (step m.table t q) = steps_both g cs ds ts ts one two port other t i l.table m.table within alike.tables in
+      let served = asked_known b l t (request_of port cs h i) x.reply new.behind alike.known a.asked in
+      let served' = asked_known c m t (request_of other ds h y.entry) y.reply last.behind alike.other_known d.asked in
+      let left = table_after l.table t (request_of port cs h i) x.reply new.behind served in
+      let left' = table_after m.table t (request_of other ds h y.entry) y.reply last.behind served' in
+      let says = subst (λ (p : Request). Says t (step l.table t p).answer served.sent) ask served.says in
+      let says' = subst (λ (p : Request). Says t (step m.table t p).answer served'.sent) ask' served'.says in
+      let means = said_same i t within (step l.table t r).answer (step m.table t q).answer outcome.0 served.sent served'.sent says says' in
+      let status : status_in y.reply ≡ status_in x.reply = ap status_in served'.reply_is ∙ means.1 ∙ sym (ap status_in served.reply_is) in
+      let event : event_in ds g y ≡ event_in cs g x =
+      ap (λ j. event_of (entry_at g.entries j).kind (credential_at ds j) j y.reply) here
+      ∙ ap (event_of (entry_at g.entries i).kind (credential_at ds i) i) served'.reply_is
+      ∙ means.0
+      ∙ sym (ap (event_of (entry_at g.entries i).kind (credential_at cs i) i) served.reply_is) in
       let event' : event_in ds h y ≡ event_in cs h x = same_event g h like ds y ∙ event ∙ sym (same_event g h like cs x) in
       let turns = once k a.keeper d.keeper (event_in cs h x) (Ok x.output) (Ok y.output) (λ bad. cc) (λ bad. cc) a.turn (subst (λ e. Turn k e (Ok y.output) d.keeper) event' d.turn) in
       let output : y.output ≡ x.output = (let same : ◌≡◌ {A = Result Output StepFault} (Ok x.output) (Ok y.output) = turns.0 in cc) in
       let short : y.short ≡ x.short = d.short ∙ ap (λ (z : State). z.shortened) (sym turns.1) ∙ sym a.short in
-      let table : new.behind.table ≡ (step b.table t r).table = ap (λ (w : World). w.behind.table) a.is ∙ ap (λ (p : Request). (step b.table t p).table) ask in
-      let table' : last.behind.table ≡ (step c.table t q).table = ap (λ (w : World). w.behind.table) d.is ∙ ap (λ (p : Request). (step c.table t p).table) ask' in
-      let first : new.keeper ≡ taken a.keeper = ap (λ (w : World). w.keeper) a.is in
+      let table : left.0.table ≡ (step l.table t r).table = left.1.1 ∙ ap (λ (p : Request). (step l.table t p).table) ask in
+      let table' : left'.0.table ≡ (step m.table t q).table = left'.1.1 ∙ ap (λ (p : Request). (step m.table t p).table) ask' in
+      let first : new.keeper ≡ taken a.keeper = a.taken_is in
       record {
         output = output;
-        keeper = ap (λ (w : World). w.keeper) d.is ∙ ap taken (sym turns.1) ∙ sym first;
-        tables = subst (λ l. AreTablesAlike g cs ds l last.behind.table) (sym table) (subst (AreTablesAlike g cs ds (step b.table t r).table) (sym table') outcome.1);
-        text = ap (λ e. answer_line g e (reply_in y.sent) ++ short_lines g y.short) event
-            ∙ ap (λ l. l ++ short_lines g y.short) (line_same (event_in cs g x) (reply_in x.sent) (reply_in y.sent) means.1)
-            ∙ ap (λ ps. answer_line g (event_in cs g x) (reply_in x.sent) ++ short_lines g ps) short;
+        keeper = d.taken_is ∙ ap taken (sym turns.1) ∙ sym first;
+        brokers = record {
+          behind = left.0;
+          known = left.1.0;
+          other_behind = left'.0;
+          other_known = left'.1.0;
+          tables = subst (λ z. AreTablesAlike g cs ds z left'.0.table) (sym table) (subst (AreTablesAlike g cs ds (step l.table t r).table) (sym table') outcome.1);
+        };
+        text = ap (λ e. answer_line g e y.reply ++ short_lines g y.short) event
+            ∙ ap (λ z. z ++ short_lines g y.short) (line_same (event_in cs g x) x.reply y.reply status)
+            ∙ ap (λ ps. answer_line g (event_in cs g x) x.reply ++ short_lines g ps) short;
         shaped = subst (λ (z : State). IsShaped g z.forest) (sym first) (both_shaped g h a.keeper.forest like (shape k a.keeper (event_in cs h x) (Ok x.output) a.turn));
       }
 
@@ -173,18 +191,18 @@ module _ (g : Forest) (cs ds : List (List ℕ)) (ts : List Terms) (one : IsInven
     pub closes : (next : Option ℕ) → closing next ys ≡ closing next xs
     pub count : length ys ≡ length xs
     pub keeper : last.keeper ≡ new.keeper
-    pub tables : AreTablesAlike g cs ds new.behind.table last.behind.table
+    pub brokers : AreBrokersAlike g cs ds new.behind last.behind
     pub text : flat_map (answer_text u) ys ≡ flat_map (answer_text s) xs
     pub shaped : IsShaped g new.keeper.forest
 
-  pub answers_both : (port other t : ℕ) (k : State) (b c : Behind) (xs ys : List Exchanged) (new last : World) → IsShaped g k.forest → All (λ i. i < length g.entries) (map (λ (x : Exchanged). x.entry) xs) →
-      map (λ (y : Exchanged). y.entry) ys ≡ map (λ (x : Exchanged). x.entry) xs → AreTablesAlike g cs ds b.table c.table → AreAnswered port cs t (both k b) xs new → AreAnswered other ds t (both k c) ys last → AreAllAlike xs ys new last
+  pub answers_both : (port other t : ℕ) (k : State) (b c : Option Behind) (xs ys : List Exchanged) (new last : World) → IsShaped g k.forest → All (λ i. i < length g.entries) (map (λ (x : Exchanged). x.entry) xs) →
+      map (λ (y : Exchanged). y.entry) ys ≡ map (λ (x : Exchanged). x.entry) xs → AreBrokersAlike g cs ds b c → AreAnswered port cs t (both k b) xs new → AreAnswered other ds t (both k c) ys last → AreAllAlike xs ys new last
   answers_both port other t k b c [] [] new last like within who alike a d =
       record {
         closes = λ next. refl;
         count = refl;
         keeper = ap (λ (w : World). w.keeper) d ∙ ap (λ (w : World). w.keeper) (sym a);
-        tables = subst (λ (w : World). AreTablesAlike g cs ds w.behind.table last.behind.table) (sym a) (subst (λ (w : World). AreTablesAlike g cs ds b.table w.behind.table) (sym d) alike);
+        brokers = subst (λ (w : World). AreBrokersAlike g cs ds w.behind last.behind) (sym a) (subst (λ (w : World). AreBrokersAlike g cs ds b w.behind) (sym d) alike);
         text = refl;
         shaped = subst (λ (w : World). IsShaped g w.keeper.forest) (sym a) like;
       }
@@ -196,13 +214,13 @@ module _ (g : Forest) (cs ds : List (List ℕ)) (ts : List Terms) (one : IsInven
       let mid = a.0 in
       let mid' = d.0 in
       let first = answer_both port other t k b c x y mid mid' like (All-head (λ i. i < length g.entries) x.entry (map (λ (z : Exchanged). z.entry) xs) within) here alike a.1.0 d.1.0 in
-      let more = answers_both port other t mid.keeper mid.behind mid'.behind xs ys new last first.shaped (All-tail (λ i. i < length g.entries) x.entry (map (λ (z : Exchanged). z.entry) xs) within) rest first.tables a.1.1
+      let more = answers_both port other t mid.keeper mid.behind mid'.behind xs ys new last first.shaped (All-tail (λ i. i < length g.entries) x.entry (map (λ (z : Exchanged). z.entry) xs) within) rest first.brokers a.1.1
       (subst (λ (z : State). AreAnswered other ds t (both z mid'.behind) ys last) first.keeper d.1.1) in
       record {
         closes = λ next. ap (λ (o : Output). closing (told_next next o) ys) first.output ∙ more.closes (told_next next x.output);
         count = ap (λ n. suc n) more.count;
         keeper = more.keeper;
-        tables = more.tables;
+        brokers = more.brokers;
         text = ap (λ l. l ++ flat_map (answer_text u) ys) first.text ∙ ap (λ l. answer_text s x ++ l) more.text;
         shaped = more.shaped;
       }

@@ -19,7 +19,7 @@ use Rattle.keep_core.specs.State.{State, unplanned}
 use Rattle.keep_core.proofs.Once.{once}
 use Rattle.keep_core.proofs.Orders.{replan_once}
 use Rattle.keep_core.proofs.Shaped.{replanned, same as same_shape}
-use Rattle.keep_run.specs.Alike.{AreRowsAlike, AreTablesAlike}
+use Rattle.keep_run.specs.Alike.{AreBrokersAlike, AreRowsAlike, AreTablesAlike}
 use Rattle.keep_run.specs.Closed.{Beat, Course, IsClosedRun, IsOpening, Played, World, requests_of, rounds, taken}
 use Rattle.keep_run.specs.Stops.{IsStopped, both}
 use Rattle.keep_run.specs.Text.{beat_text, course_text, done_text, short_lines}
@@ -86,7 +86,7 @@ module _ (g : Forest) (cs ds : List (List ℕ)) (ts : List Terms) (one : IsInven
     pub record AreOpeningsAlike (short shorter : List ShortNeed) (w v : World) : Type 0 where
       pub same : shorter ≡ short
       pub keeper : v.keeper ≡ w.keeper
-      pub tables : AreTablesAlike g cs ds w.behind.table v.behind.table
+      pub brokers : AreBrokersAlike g cs ds w.behind v.behind
       pub shaped : IsShaped g w.keeper.forest
 
     pub openings_both : (short shorter : List ShortNeed) (w v : World) → IsOpening s faults start short w → IsOpening u faults start shorter v → AreOpeningsAlike short shorter w v
@@ -97,7 +97,13 @@ module _ (g : Forest) (cs ds : List (List ℕ)) (ts : List Terms) (one : IsInven
         record {
           same = p.short_is ∙ ap (λ (k : State). k.shortened) (sym same) ∙ sym o.short_is;
           keeper = ap (λ (x : World). x.keeper) p.is ∙ ap taken (sym same) ∙ sym first;
-          tables = subst (λ l. AreTablesAlike g cs ds l v.behind.table) (sym (ap (λ (x : World). x.behind.table) o.is)) (subst (AreTablesAlike g cs ds (table_of s)) (sym (ap (λ (x : World). x.behind.table) p.is)) tables_both);
+          brokers = record {
+            behind = record { table = table_of s; wire = [] };
+            known = ap (λ (x : World). x.behind) o.is;
+            other_behind = record { table = table_of u; wire = [] };
+            other_known = ap (λ (x : World). x.behind) p.is;
+            tables = tables_both;
+          };
           shaped = subst (λ (k : State). IsShaped g k.forest) (sym first) (replanned g (unplanned g) start o.keeper (same_shape g) o.planned);
         }
 
@@ -105,7 +111,7 @@ module _ (g : Forest) (cs ds : List (List ℕ)) (ts : List Terms) (one : IsInven
         Played 8200 cs w (Some start) xs new next → Played 8200 ds v (Some start) ys last then' → Compared g cs ds ts one two 8200 8200 w (both w.keeper v.behind) (Some start) xs ys new last next then'
     compare_from short shorter w v xs ys new last next then' o p first second =
         let begun = openings_both short shorter w v o p in
-        compare g cs ds ts one two 8200 8200 w.keeper w.behind v.behind (Some start) xs ys new last next then' begun.shaped begun.tables first
+        compare g cs ds ts one two 8200 8200 w.keeper w.behind v.behind (Some start) xs ys new last next then' begun.shaped begun.brokers first
         (subst (λ (k : State). Played 8200 ds (both k v.behind) (Some start) ys last then') begun.keeper second)
 
     -- ---- two runs that end

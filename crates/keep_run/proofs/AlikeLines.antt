@@ -1,5 +1,5 @@
 -- Alike lines: over two brokers whose tables differ in credentials alone, one keeper says the same to the same event lines.
-use Rattle.std.proofs.Common.{◌≡◌, ◌∙◌, ℕ, ◌<◌, true, List, [], ◌∷◌, ◌++◌, Some, None, Ok, codes, nat_lt, refl, sym, ap, subst, arith, inl, inr}
+use Rattle.std.proofs.Common.{◌≡◌, ◌∙◌, ℕ, ◌<◌, true, List, [], ◌∷◌, ◌++◌, Option, Some, None, Ok, codes, nat_lt, refl, sym, ap, subst, arith, inl, inr}
 use Rattle.std.proofs.lemmas.Bool.{cases_Bool, cond-true, cond-false}
 use Rattle.std.proofs.lemmas.Bool.Decides.{nat_tests}
 use Rattle.keep_moment.specs.declared.moment.TheConstants.{LAST}
@@ -17,13 +17,13 @@ use Rattle.keep_core.specs.State.{State}
 use Rattle.keep_core.proofs.Once.{once}
 use Rattle.keep_core.proofs.Shaped.{both_shaped, shape}
 use Rattle.keep_exchange.specs.Exchanges.{Behind}
-use Rattle.keep_run.specs.Alike.{AreTablesAlike}
+use Rattle.keep_run.specs.Alike.{AreBrokersAlike}
 use Rattle.keep_run.specs.Secrecy.{AlikeAnswersLaw, AreSidesAlike}
 use Rattle.keep_run.specs.Closed.{Exchanged, World, next_by, taken}
 use Rattle.keep_run.specs.declared.event_line.Heard.{Heard}
 use Rattle.keep_run.specs.declared.event_line.Heard.TheVariants.{Tick, Need, Unknown}
 use Rattle.keep_run.specs.Listening.{AreHeard, IsLineHeard}
-use Rattle.keep_run.specs.Live.{IsHeard, IsNeeded, Side, TicksLive, last_line, next_line, side}
+use Rattle.keep_run.specs.Live.{IsHeard, IsNeeded, TicksLive, last_line, next_line}
 use Rattle.keep_run.specs.Playing.{inventory_with}
 use Rattle.keep_run.specs.Stops.{both}
 use Rattle.keep_run.specs.Text.{beat_text, short_lines}
@@ -63,18 +63,18 @@ module _ (g : Forest) (cs ds : List (List ℕ)) (ts : List Terms) (one : IsInven
   record AreHeardAlike (new last : World) (text more : List ℕ) : Type 0 where
     text_is : more ≡ text
     keeper : last.keeper ≡ new.keeper
-    tables : AreTablesAlike g cs ds new.behind.table last.behind.table
+    brokers : AreBrokersAlike g cs ds new.behind last.behind
     shaped : IsShaped g new.keeper.forest
 
-  nothing_done : (k : State) (b c : Behind) (new last : World) (text more said : List ℕ) → IsShaped g k.forest → AreTablesAlike g cs ds b.table c.table → new ≡ both k b → last ≡ both k c → text ≡ said → more ≡ said → AreHeardAlike new last text more
+  nothing_done : (k : State) (b c : Option Behind) (new last : World) (text more said : List ℕ) → IsShaped g k.forest → AreBrokersAlike g cs ds b c → new ≡ both k b → last ≡ both k c → text ≡ said → more ≡ said → AreHeardAlike new last text more
   nothing_done k b c new last text more said like alike stays stays' is is' = record {
     text_is = is' ∙ sym is;
     keeper = ap (λ (w : World). w.keeper) stays' ∙ ap (λ (w : World). w.keeper) (sym stays);
-    tables = subst (λ (w : World). AreTablesAlike g cs ds w.behind.table last.behind.table) (sym stays) (subst (λ (w : World). AreTablesAlike g cs ds b.table w.behind.table) (sym stays') alike);
+    brokers = subst (λ (w : World). AreBrokersAlike g cs ds w.behind last.behind) (sym stays) (subst (λ (w : World). AreBrokersAlike g cs ds b w.behind) (sym stays') alike);
     shaped = subst (λ (w : World). IsShaped g w.keeper.forest) (sym stays) like;
   }
 
-  ticks_alike : (port other t : ℕ) (k : State) (b c : Behind) (new last : World) (text more : List ℕ) → IsShaped g k.forest → AreTablesAlike g cs ds b.table c.table → TicksLive port cs t (both k b) new text → TicksLive other ds t (both k c) last more →
+  ticks_alike : (port other t : ℕ) (k : State) (b c : Option Behind) (new last : World) (text more : List ℕ) → IsShaped g k.forest → AreBrokersAlike g cs ds b c → TicksLive port cs t (both k b) new text → TicksLive other ds t (both k c) last more →
       AreHeardAlike new last text more
   ticks_alike port other t k b c new last text more like alike a d =
       let x = a.0 in
@@ -86,11 +86,11 @@ module _ (g : Forest) (cs ds : List (List ℕ)) (ts : List Terms) (one : IsInven
             ∙ ap (λ l. beat_text (inventory_with cs k.forest) x ++ l) (last_same x.output y.output x.answers y.answers beats.output beats.next)
             ∙ sym a.1.1.1;
         keeper = beats.keeper;
-        tables = beats.tables;
+        brokers = beats.brokers;
         shaped = beats.shaped;
       }
 
-  needs_alike : (i until : ℕ) (k : State) (b c : Behind) (new last : World) (text more : List ℕ) → IsShaped g k.forest → AreTablesAlike g cs ds b.table c.table → IsNeeded i until (both k b) new text → IsNeeded i until (both k c) last more → AreHeardAlike new last text more
+  needs_alike : (i until : ℕ) (k : State) (b c : Option Behind) (new last : World) (text more : List ℕ) → IsShaped g k.forest → AreBrokersAlike g cs ds b c → IsNeeded i until (both k b) new text → IsNeeded i until (both k c) last more → AreHeardAlike new last text more
   needs_alike i until k b c new last text more like alike a d =
       let event = events.Need i until in
       let turns = once k a.keeper d.keeper event (Ok out.Planned) (Ok out.Planned) (λ bad. cc) (λ bad. cc) a.turn d.turn in
@@ -98,11 +98,11 @@ module _ (g : Forest) (cs ds : List (List ℕ)) (ts : List Terms) (one : IsInven
       record {
         text_is = d.text_is ∙ ap (λ (z : State). short_lines z.forest z.shortened ++ codes "planned\n") (sym turns.1) ∙ sym a.text_is;
         keeper = ap (λ (w : World). w.keeper) d.is ∙ ap taken (sym turns.1) ∙ sym first;
-        tables = subst (λ (w : World). AreTablesAlike g cs ds w.behind.table last.behind.table) (sym a.is) (subst (λ (w : World). AreTablesAlike g cs ds b.table w.behind.table) (sym d.is) alike);
+        brokers = subst (λ (w : World). AreBrokersAlike g cs ds w.behind last.behind) (sym a.is) (subst (λ (w : World). AreBrokersAlike g cs ds b w.behind) (sym d.is) alike);
         shaped = subst (λ (z : State). IsShaped g z.forest) (sym first) (both_shaped g k.forest a.keeper.forest like (shape k a.keeper event (Ok out.Planned) a.turn));
       }
 
-  heard_alike : (port other : ℕ) (says : Heard) (k : State) (b c : Behind) (new last : World) (text more : List ℕ) → IsShaped g k.forest → AreTablesAlike g cs ds b.table c.table → IsHeard port cs (both k b) says new text → IsHeard other ds (both k c) says last more →
+  heard_alike : (port other : ℕ) (says : Heard) (k : State) (b c : Option Behind) (new last : World) (text more : List ℕ) → IsShaped g k.forest → AreBrokersAlike g cs ds b c → IsHeard port cs (both k b) says new text → IsHeard other ds (both k c) says last more →
       AreHeardAlike new last text more
   heard_alike port other (Tick t) k b c new last text more like alike (inl a) (inl d) = nothing_done k b c new last text more (codes "fault clock-back\n") like alike a.1.0 d.1.0 a.1.1 d.1.1
   heard_alike port other (Tick t) k b c new last text more like alike (inl a) (inr d) =
@@ -113,31 +113,23 @@ module _ (g : Forest) (cs ds : List (List ℕ)) (ts : List Terms) (one : IsInven
   heard_alike port other (Need i until) k b c new last text more like alike a d = needs_alike i until k b c new last text more like alike a d
   heard_alike port other Unknown k b c new last text more like alike a d = nothing_done k b c new last text more (codes "fault unknown-name\n") like alike a.0 d.0 a.1 d.1
 
-  line_alike : (port other : ℕ) (k : State) (b c : Behind) (line : List ℕ) (new last : Side) (text more : List ℕ) → IsShaped g k.forest → AreTablesAlike g cs ds b.table c.table → IsLineHeard port cs (side k (Some b)) line new text →
-      IsLineHeard other ds (side k (Some c)) line last more → (more ≡ text) × (AreSidesAlike g cs ds new last × IsShaped g new.keeper.forest)
+  line_alike : (port other : ℕ) (k : State) (b c : Option Behind) (line : List ℕ) (new last : World) (text more : List ℕ) → IsShaped g k.forest → AreBrokersAlike g cs ds b c → IsLineHeard port cs (both k b) line new text →
+      IsLineHeard other ds (both k c) line last more → (more ≡ text) × (AreSidesAlike g cs ds new last × IsShaped g new.keeper.forest)
   line_alike port other k b c line new last text more like alike a d =
       let says : d.says ≡ a.says = (let e = sym d.is ∙ a.is in cc) in
-      let x = a.heard in
-      let y = d.heard in
-      let heard = heard_alike port other a.says k b c (both new.keeper x.0) (both last.keeper y.0) text more like alike x.1.1 (subst (λ (h : Heard). IsHeard other ds (both k c) h (both last.keeper y.0) more) says y.1.1) in (
-        heard.text_is,
-        (
-          record { keeper = heard.keeper; behind = x.0; known = x.1.0; other_behind = y.0; other_known = y.1.0; tables = heard.tables },
-          heard.shaped,
-        ),
-      )
+      let heard = heard_alike port other a.says k b c new last text more like alike a.heard (subst (λ (h : Heard). IsHeard other ds (both k c) h last more) says d.heard) in
+      (heard.text_is, (record { keeper = heard.keeper; brokers = heard.brokers }, heard.shaped))
 
-  lines_alike : (port other : ℕ) (old begun new last : Side) (lines : List (List ℕ)) (text more : List ℕ) → IsShaped g old.keeper.forest → AreSidesAlike g cs ds old begun → AreHeard port cs old lines new text → AreHeard other ds begun lines last more →
+  lines_alike : (port other : ℕ) (old begun new last : World) (lines : List (List ℕ)) (text more : List ℕ) → IsShaped g old.keeper.forest → AreSidesAlike g cs ds old begun → AreHeard port cs old lines new text → AreHeard other ds begun lines last more →
       (more ≡ text) × AreSidesAlike g cs ds new last
   lines_alike port other old begun new last [] text more like alike a d = (
     d.1 ∙ sym a.1,
-    subst (λ (x : Side). AreSidesAlike g cs ds x last) (sym a.0) (subst (AreSidesAlike g cs ds old) (sym d.0) alike),
+    subst (λ (x : World). AreSidesAlike g cs ds x last) (sym a.0) (subst (AreSidesAlike g cs ds old) (sym d.0) alike),
   )
   lines_alike port other old begun new last (line ∷ lines) text more like alike a d =
       let k = old.keeper in
-      let first = subst (λ o. IsLineHeard port cs (side k o) line a.0 a.1.0) alike.known a.1.1.1.0 in
-      let second = subst (λ o. IsLineHeard other ds (side k o) line d.0 d.1.0) alike.other_known (subst (λ (z : State). IsLineHeard other ds (side z begun.behind) line d.0 d.1.0) alike.keeper d.1.1.1.0) in
-      let here = line_alike port other k alike.behind alike.other_behind line a.0 d.0 a.1.0 d.1.0 like alike.tables first second in
+      let second = subst (λ (z : State). IsLineHeard other ds (both z begun.behind) line d.0 d.1.0) alike.keeper d.1.1.1.0 in
+      let here = line_alike port other k old.behind begun.behind line a.0 d.0 a.1.0 d.1.0 like alike.brokers a.1.1.1.0 second in
       let rest = lines_alike port other a.0 d.0 new last lines a.1.1.0 d.1.1.0 here.1.1 here.1.0 a.1.1.1.1.0 d.1.1.1.1.0 in
       (d.1.1.1.1.1 ∙ ap (λ l. l ++ d.1.1.0) here.0 ∙ ap (λ l. a.1.0 ++ l) rest.0 ∙ sym a.1.1.1.1.1, rest.1)
 

@@ -1,15 +1,15 @@
 -- Alike lives: two live runs of inventories that differ in credentials alone, over brokers whose tables do, have one text: from the
 -- lookups on, and behind them line by line.
-use Rattle.std.proofs.Common.{◌≡◌, ◌∙◌, ℕ, List, [], ◌∷◌, ◌++◌, Some, refl, sym, ap, ap₂, subst, arith}
+use Rattle.std.proofs.Common.{◌≡◌, ◌∙◌, ℕ, List, [], ◌∷◌, ◌++◌, Option, sym, ap, ap₂, subst, arith}
 use Rattle.std.specs.List.{AllZip}
 use Rattle.keep_core.specs.LawsOfSteps.{IsShaped}
 use Rattle.keep_core.specs.State.{State, unplanned}
 use Rattle.keep_core.proofs.Shaped.{replanned, same as same_shape}
 use Rattle.keep_inventory.specs.Inventories.{IsInventory, Inventory}
 use Rattle.keep_inventory.specs.declared.terms.Terms.{Terms}
-use Rattle.keep_run.specs.Alike.{AreRowsAlike, AreTablesAlike}
+use Rattle.keep_exchange.specs.Exchanges.{Behind}
+use Rattle.keep_run.specs.Alike.{AreBrokersAlike, AreRowsAlike, AreTablesAlike}
 use Rattle.keep_run.specs.Closed.{World, taken}
-use Rattle.keep_run.specs.Live.{side}
 use Rattle.keep_run.specs.Secrecy.{AlikeRunsLaw, AreSidesAlike, IsToldOf}
 use Rattle.keep_run.proofs.AlikeLines.{alike_answers}
 use Rattle.keep_run.proofs.AlikeLookups.{opened_both, opened_looked}
@@ -32,6 +32,15 @@ module _ (g : Forest) (cs ds : List (List ℕ)) where
 
   tables_over : (h : Forest) → IsToldOf g h → (l m : Table) → AreTablesAlike g cs ds l m → AreTablesAlike h cs ds l m
   tables_over h told l m alike = record { rows = rows_over h told l.rows m.rows alike.rows; faults = alike.faults; count = alike.count }
+
+  brokers_over : (h : Forest) → IsToldOf g h → (o p : Option Behind) → AreBrokersAlike g cs ds o p → AreBrokersAlike h cs ds o p
+  brokers_over h told o p alike = record {
+    behind = alike.behind;
+    known = alike.known;
+    other_behind = alike.other_behind;
+    other_known = alike.other_known;
+    tables = tables_over h told alike.behind.table alike.other_behind.table alike.tables;
+  }
 
   -- what lookups left of the one inventory is an inventory with the credentials of the other too
   with_others : (ts : List Terms) → IsInventory (record { forest = g; credentials = ds; terms = ts }) → (v : Inventory) → IsToldOf g v.forest → IsInventory v → IsInventory (record { forest = v.forest; credentials = ds; terms = v.terms })
@@ -60,13 +69,6 @@ alike_runs read g cs ds ts one two port other start b c lines final last text mo
     let second = with_others g cs ds ts two v looked.told is in
     let keeper : run.opening.keeper ≡ taken a.keeper = ap (λ (w : World). w.keeper) a.is in
     let shaped : IsShaped h run.opening.keeper.forest = subst (λ (k : State). IsShaped h k.forest) (sym keeper) (replanned h (unplanned h) start a.keeper (same_shape h) a.planned) in
-    let sides : AreSidesAlike h cs ds (side run.opening.keeper (Some run.opening.behind)) (side again.opening.keeper (Some again.opening.behind)) = record {
-      keeper = opened.1.0;
-      behind = run.opening.behind;
-      known = refl;
-      other_behind = again.opening.behind;
-      other_known = refl;
-      tables = tables_over g cs ds h looked.told run.opening.behind.table again.opening.behind.table opened.1.1;
-    } in
-    let heard = alike_answers h cs ds v.terms first second port other (side run.opening.keeper (Some run.opening.behind)) (side again.opening.keeper (Some again.opening.behind)) final last lines run.spoken again.spoken shaped sides run.heard again.heard in
+    let sides : AreSidesAlike h cs ds run.opening again.opening = record { keeper = opened.1.keeper; brokers = brokers_over g cs ds h looked.told run.opening.behind again.opening.behind opened.1.brokers } in
+    let heard = alike_answers h cs ds v.terms first second port other run.opening again.opening final last lines run.spoken again.spoken shaped sides run.heard again.heard in
     (again.text_is ∙ ap₂ (λ x y. x ++ y) opened.0 heard.0 ∙ sym run.text_is, heard.1)

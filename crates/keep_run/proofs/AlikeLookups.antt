@@ -1,6 +1,6 @@
 -- Alike lookups: over two brokers whose tables differ in credentials alone, lookups make of two inventories that do the same, and
 -- a run is opened by one text.
-use Rattle.std.proofs.Common.{◌≡◌, ◌∙◌, ◌==◌, ℕ, zero, suc, ◌+◌, ◌<◌, ◌≤◌, ◌^◌, Bool, true, false, cond, is_none, List, [], ◌∷◌, ◌++◌, Option, Some, None, Result, Ok, Err, IsUtf8, bytes_eq, length, nat_le, option_map, set, refl, sym, ap, ap₂, subst, arith, inl, inr}
+use Rattle.std.proofs.Common.{◌≡◌, ◌∙◌, ◌==◌, ℕ, zero, suc, ◌+◌, ◌<◌, ◌≤◌, ◌^◌, Bool, true, false, cond, is_none, List, [], ◌∷◌, ◌++◌, Option, Some, None, IfSome, Result, Ok, Err, IsUtf8, bytes_eq, length, nat_le, option_map, set, refl, sym, ap, ap₂, subst, arith, inl, inr}
 use Rattle.std.proofs.lemmas.Bool.{cases_eq, cond-true}
 use Rattle.std.proofs.lemmas.Bool.Decides.{nat_tests}
 use Rattle.std.proofs.lemmas.List.{length-set}
@@ -12,7 +12,7 @@ use Rattle.keep_core.specs.State.{State, unplanned}
 use Rattle.keep_core.proofs.Orders.{replan_once}
 use Rattle.keep_exchange.specs.declared.fault.ExchangeFault.{ExchangeFault}
 use Rattle.keep_exchange.specs.declared.fault.ExchangeFault.TheVariants.{Http}
-use Rattle.keep_exchange.specs.Exchanges.{Behind, received}
+use Rattle.keep_exchange.specs.Exchanges.{Behind, IsExchanged, received}
 use Rattle.keep_exchange.specs.Lookups.{IsLookedUp, applied, behind_if, looked, lookup_in}
 use Rattle.keep_exchange.specs.Requests.{Fits, lookup_of, looked_as}
 use Rattle.keep_exchange.proofs.Lengths.{looked_lease_short, ok_short, reply_short, status_short}
@@ -36,23 +36,25 @@ use Rattle.mini_broker.specs.declared.row.Row.{Row}
 use Rattle.mini_broker.specs.declared.served.Served.{Served}
 use Rattle.mini_broker.specs.declared.served.Served.TheVariants as served
 use Rattle.mini_broker.specs.Request.{status_of}
+use Rattle.mini_broker.specs.Stream.{sent_of}
+use Rattle.mini_broker.specs.Table.{Table}
 use Rattle.mini_broker.specs.Step.{Answer, IsBody, Says, Tells, drops, refuses, seconds_to, step, tells}
 use Rattle.vault_http.specs.declared.http_fault.HttpFault.TheVariants as https
 use Rattle.vault_http.specs.declared.known.TheConstants.{MOST_MESSAGE}
 use Rattle.vault_http.specs.declared.reply.Reply.{Reply}
 use Rattle.vault_http.specs.declared.request.Request.{Request}
-use Rattle.vault_http.specs.Written.{reply_text}
+use Rattle.vault_http.specs.Written.{reply_text, request_text}
 use Rattle.vault_json.specs.declared.fault.ReplyFault.{ReplyFault}
 use Rattle.vault_json.specs.declared.lookup.Lookup.{Lookup}
 use Rattle.vault_json.specs.declared.lookup.Lookup.TheVariants as lookups
 use Rattle.vault_json.specs.Laws.{LookedLeaseIsRead}
 use Rattle.vault_json.specs.Lookup.{lookup_lease_answer}
 use Rattle.vault_json.specs.Written.{looked_self_text}
-use Rattle.keep_run.specs.Alike.{AreDated, AreTablesAlike}
+use Rattle.keep_run.specs.Alike.{AreBrokersAlike, AreDated, AreTablesAlike}
 use Rattle.keep_run.specs.Closed.{World, taken}
 use Rattle.keep_run.specs.LiveRun.{IsLiveOpening}
 use Rattle.keep_run.specs.Looking.{AreLookedUp, Looked, first, looked_text}
-use Rattle.keep_run.specs.Secrecy.{AlikeLookupsLaw, AlikeOpeningsLaw, AreLookedAlike, IsToldOf}
+use Rattle.keep_run.specs.Secrecy.{AlikeLookupsLaw, AlikeOpeningsLaw, AreLookedAlike, AreSidesAlike, IsToldOf}
 use Rattle.keep_run.specs.Text.{short_lines}
 use Rattle.keep_run.proofs.AlikeLooks.{look_for, looks_both}
 use Rattle.keep_run.proofs.AlikeSteps.{AnswersOf, by_kind}
@@ -271,10 +273,20 @@ module _ (g : Forest) (cs ds : List (List ℕ)) (ts : List Terms) (one : IsInven
   value_same : (x y : Inventory) → Some y ≡ Some (other_of x) → y ≡ other_of x
   value_same x y same = cc
 
-  left_same : (x y : Behind) → Some x ≡ Some y → x ≡ y
-  left_same x y same = cc
+  exchanged_known : (o : Option Behind) (b : Behind) (t : ℕ) (r : Request) (came : Result Reply ExchangeFault) (new : Option Behind) → o ≡ Some b → IfSome o (λ a. IsExchanged a.table t r came new) → IsExchanged b.table t r came new
+  exchanged_known o b t r came new known is = subst (λ (a : Option Behind). IfSome a (λ z. IsExchanged z.table t r came new)) known is
+
+  -- where the table is known, so it is behind a lookup
+  table_behind : (old : Table) (t : ℕ) (r : Request) (came : Result Reply ExchangeFault) (new : Option Behind) → IsExchanged old t r came new → (b : Behind) × ((new ≡ Some b) × (b.table ≡ (step old t r).table))
+  table_behind old t r came new is = (record { table = (step old t r).table; wire = request_text r ++ sent_of is.sent }, (is.is, refl))
 
   module _ (port other t i : ℕ) (old begun : Looked) (within : i < length g.entries) (alike : AreLookedAlike g cs ds old begun) where
+    abbrev l : Table
+    l = alike.brokers.behind.table
+
+    abbrev m : Table
+    m = alike.brokers.other_behind.table
+
     r : Request
     r = lookup_of port cs g i
 
@@ -289,34 +301,51 @@ module _ (g : Forest) (cs ds : List (List ℕ)) (ts : List Terms) (one : IsInven
     unfolding q
     asked_too = ap (λ (v : Inventory). lookup_of other v.credentials v.forest i) alike.inventory ∙ lookup_same g other ds old.inventory.forest i alike.told
 
-    results : (x y : Bool) (after behind : Inventory) (new last : Option Behind) → IsLookedUp port old.behind.table t old.inventory i x after new → IsLookedUp other begun.behind.table t begun.inventory i y behind last →
+    results : (x y : Bool) (after behind : Inventory) (new last : Option Behind) → IsLookedUp port old.behind t old.inventory i x after new → IsLookedUp other begun.behind t begun.inventory i y behind last →
         behind_if y behind ≡ option_map other_of (behind_if x after)
     unfolding r q
     results x y after behind new last a b =
-        let outcome = looks_both g cs ds ts ts one two port other t i old.behind.table begun.behind.table within alike.tables in
-        let speaks = (step_dated old.behind.table alike.dated t r).0 in
-        let says = subst (λ z. Says t (step old.behind.table t z).answer a.sent) asked a.says in
-        let says_too = subst (λ z. Says t (step begun.behind.table t z).answer b.sent) asked_too b.says in
-        let same = looked_alike old.inventory i t within alike.credentials alike.told (step old.behind.table t r).answer (step begun.behind.table t q).answer outcome.0 speaks a.sent b.sent says says_too in
-        sym b.applied_is ∙ ap (λ (v : Inventory). looked v i t (received b.sent)) alike.inventory ∙ same ∙ ap (option_map other_of) a.applied_is
+        let outcome = looks_both g cs ds ts ts one two port other t i l m within alike.brokers.tables in
+        let speaks = (step_dated l alike.dated t r).0 in
+        let first = exchanged_known old.behind alike.brokers.behind t (lookup_of port old.inventory.credentials old.inventory.forest i) a.came new alike.brokers.known a.exchanged in
+        let second = exchanged_known begun.behind alike.brokers.other_behind t (lookup_of other begun.inventory.credentials begun.inventory.forest i) b.came last alike.brokers.other_known b.exchanged in
+        let says = subst (λ z. Says t (step l t z).answer first.sent) asked first.says in
+        let says_too = subst (λ z. Says t (step m t z).answer second.sent) asked_too second.says in
+        let same = looked_alike old.inventory i t within alike.credentials alike.told (step l t r).answer (step m t q).answer outcome.0 speaks first.sent second.sent says says_too in
+        sym b.applied_is
+        ∙ ap (λ (v : Inventory). looked v i t b.came) alike.inventory
+        ∙ ap (looked (other_of old.inventory) i t) second.received_as
+        ∙ same
+        ∙ ap (λ z. option_map other_of (looked old.inventory i t z)) (sym first.received_as)
+        ∙ ap (option_map other_of) a.applied_is
 
-    pub flags : (x y : Bool) (after behind : Inventory) (new last : Option Behind) → IsLookedUp port old.behind.table t old.inventory i x after new → IsLookedUp other begun.behind.table t begun.inventory i y behind last → y ≡ x
+    pub flags : (x y : Bool) (after behind : Inventory) (new last : Option Behind) → IsLookedUp port old.behind t old.inventory i x after new → IsLookedUp other begun.behind t begun.inventory i y behind last → y ≡ x
     flags x y after behind new last a b = flag_same x y after behind (results x y after behind new last a b)
 
-    pub one_both : (mid after : Looked) → IsLookedUp port old.behind.table t old.inventory i true mid.inventory (Some mid.behind) → IsLookedUp other begun.behind.table t begun.inventory i true after.inventory (Some after.behind) → AreLookedAlike g cs ds mid after
+    pub one_both : (mid after : Looked) → IsLookedUp port old.behind t old.inventory i true mid.inventory mid.behind → IsLookedUp other begun.behind t begun.inventory i true after.inventory after.behind → AreLookedAlike g cs ds mid after
     unfolding r q
     one_both mid after a b =
-        let outcome = looks_both g cs ds ts ts one two port other t i old.behind.table begun.behind.table within alike.tables in
-        let left = step_dated old.behind.table alike.dated t r in
+        let outcome = looks_both g cs ds ts ts one two port other t i l m within alike.brokers.tables in
+        let left = step_dated l alike.dated t r in
         let n = alike.told.count in
-        let leaves = of_reply old.inventory i t (Leaves g old.inventory) (told_leaves g old.inventory i t (omega (arith, within, n)) alike.told) (received a.sent) mid.inventory a.applied_is in
-        let first : mid.behind.table ≡ (step old.behind.table t r).table = ap (λ (z : Behind). z.table) (left_same mid.behind _ a.is) ∙ ap (λ z. (step old.behind.table t z).table) asked in
-        let second : after.behind.table ≡ (step begun.behind.table t q).table = ap (λ (z : Behind). z.table) (left_same after.behind _ b.is) ∙ ap (λ z. (step begun.behind.table t z).table) asked_too in
+        let leaves = of_reply old.inventory i t (Leaves g old.inventory) (told_leaves g old.inventory i t (omega (arith, within, n)) alike.told) a.came mid.inventory a.applied_is in
+        let gone = table_behind l t (lookup_of port old.inventory.credentials old.inventory.forest i) a.came mid.behind
+        (exchanged_known old.behind alike.brokers.behind t (lookup_of port old.inventory.credentials old.inventory.forest i) a.came mid.behind alike.brokers.known a.exchanged) in
+        let gone_too = table_behind m t (lookup_of other begun.inventory.credentials begun.inventory.forest i) b.came after.behind
+        (exchanged_known begun.behind alike.brokers.other_behind t (lookup_of other begun.inventory.credentials begun.inventory.forest i) b.came after.behind alike.brokers.other_known b.exchanged) in
+        let first : gone.0.table ≡ (step l t r).table = gone.1.1 ∙ ap (λ z. (step l t z).table) asked in
+        let second : gone_too.0.table ≡ (step m t q).table = gone_too.1.1 ∙ ap (λ z. (step m t z).table) asked_too in
         record {
           credentials = leaves.1 ∙ alike.credentials;
-          inventory = value_same mid.inventory after.inventory (results true true mid.inventory after.inventory (Some mid.behind) (Some after.behind) a b);
+          inventory = value_same mid.inventory after.inventory (results true true mid.inventory after.inventory mid.behind after.behind a b);
           told = leaves.0;
-          tables = subst (λ l. AreTablesAlike g cs ds l after.behind.table) (sym first) (subst (AreTablesAlike g cs ds (step old.behind.table t r).table) (sym second) outcome.1);
+          brokers = record {
+            behind = gone.0;
+            known = gone.1.0;
+            other_behind = gone_too.0;
+            other_known = gone_too.1.0;
+            tables = subst (λ z. AreTablesAlike g cs ds z gone_too.0.table) (sym first) (subst (AreTablesAlike g cs ds (step l t r).table) (sym second) outcome.1);
+          };
           dated = subst AreDated (sym first) left.1;
         }
 
@@ -335,10 +364,10 @@ module _ (g : Forest) (cs ds : List (List ℕ)) (ts : List Terms) (one : IsInven
   all_first m (suc n) a h = All-cons (λ i. i < m) a (range_with_len (a + 1) n) (omega arith) (all_first m n (a + 1) (omega arith))
 
   abbrev pub started : Inventory → Behind → Looked
-  started v b = record { inventory = v; behind = b }
+  started v b = record { inventory = v; behind = Some b }
 
   fresh_both : (b c : Behind) → AreTablesAlike g cs ds b.table c.table → AreDated b.table → AreLookedAlike g cs ds (started s b) (started u c)
-  fresh_both b c tables dated = record { credentials = refl; inventory = refl; told = told_itself g; tables = tables; dated = dated }
+  fresh_both b c tables dated = record { credentials = refl; inventory = refl; told = told_itself g; brokers = record { behind = b; known = refl; other_behind = c; other_known = refl; tables = tables }; dated = dated }
 
   pub opened_looked : (port other start : ℕ) (b c : Behind) (opening last : World) (text more : List ℕ) → AreTablesAlike g cs ds b.table c.table → AreDated b.table →
       (a : IsLiveOpening port start (started s b) opening text) (d : IsLiveOpening other start (started u c) last more) → AreLookedAlike g cs ds a.looked d.looked
@@ -347,7 +376,7 @@ module _ (g : Forest) (cs ds : List (List ℕ)) (ts : List Terms) (one : IsInven
       all_both port other start (first n) (started s b) (started u c) a.looked d.looked (all_first n n 0 (omega arith)) (fresh_both b c tables dated) a.all d.all
 
   pub opened_both : (port other start : ℕ) (b c : Behind) (opening last : World) (text more : List ℕ) → AreTablesAlike g cs ds b.table c.table → AreDated b.table →
-      IsLiveOpening port start (started s b) opening text → IsLiveOpening other start (started u c) last more → (more ≡ text) × ((last.keeper ≡ opening.keeper) × AreTablesAlike g cs ds opening.behind.table last.behind.table)
+      IsLiveOpening port start (started s b) opening text → IsLiveOpening other start (started u c) last more → (more ≡ text) × AreSidesAlike g cs ds opening last
   unfolding looked_text
   opened_both port other start b c opening last text more tables dated a d =
       let n = length g.entries in
@@ -359,10 +388,10 @@ module _ (g : Forest) (cs ds : List (List ℕ)) (ts : List Terms) (one : IsInven
             ∙ ap (λ (v : Inventory). looked_text v (first n) ++ short_lines v.forest d.keeper.shortened) alike.inventory
             ∙ ap (λ (k : State). looked_text a.looked.inventory (first n) ++ short_lines a.looked.inventory.forest k.shortened) keeper
             ∙ sym a.text_is,
-        (
-          ap (λ (w : World). w.keeper) d.is ∙ ap taken keeper ∙ sym opened,
-          subst (λ (w : World). AreTablesAlike g cs ds w.behind.table last.behind.table) (sym a.is) (subst (λ (w : World). AreTablesAlike g cs ds a.looked.behind.table w.behind.table) (sym d.is) alike.tables),
-        ),
+        record {
+          keeper = ap (λ (w : World). w.keeper) d.is ∙ ap taken keeper ∙ sym opened;
+          brokers = subst (λ (w : World). AreBrokersAlike g cs ds w.behind last.behind) (sym a.is) (subst (λ (w : World). AreBrokersAlike g cs ds a.looked.behind w.behind) (sym d.is) alike.brokers);
+        },
       )
 
 pub alike_openings : LookedLeaseIsRead → AlikeOpeningsLaw

@@ -16,7 +16,7 @@ use Rattle.keep_core.specs.State.{State}
 use Rattle.keep_core.proofs.Once.{once}
 use Rattle.keep_core.proofs.Shaped.{both_shaped, shape}
 use Rattle.keep_exchange.specs.Exchanges.{Behind}
-use Rattle.keep_run.specs.Alike.{AreTablesAlike}
+use Rattle.keep_run.specs.Alike.{AreBrokersAlike}
 use Rattle.keep_run.specs.Closed.{AreAnswered, Beat, Exchanged, IsBeat, Played, World, asked_in, asks_some, closing, next_by, next_tick, requests_of, rounds, taken}
 use Rattle.keep_run.specs.Stops.{both}
 use Rattle.keep_run.specs.Text.{answer_text, beat_text, short_lines, wake_line}
@@ -36,7 +36,7 @@ module _ (g : Forest) (cs ds : List (List ℕ)) (ts : List Terms) (one : IsInven
     pub count : length y.answers ≡ length x.answers
     pub next : next_tick y ≡ next_tick x
     pub keeper : last.keeper ≡ new.keeper
-    pub tables : AreTablesAlike g cs ds new.behind.table last.behind.table
+    pub brokers : AreBrokersAlike g cs ds new.behind last.behind
     pub text : beat_text u y ≡ beat_text s x
     pub shaped : IsShaped g new.keeper.forest
 
@@ -48,7 +48,7 @@ module _ (g : Forest) (cs ds : List (List ℕ)) (ts : List Terms) (one : IsInven
   next_same (out.Round next) xs ys same = refl
   next_same out.Planned xs ys same = refl
 
-  pub beats_both : (port other : ℕ) (k : State) (b c : Behind) (x y : Beat) (new last : World) → IsShaped g k.forest → y.at ≡ x.at → AreTablesAlike g cs ds b.table c.table → IsBeat port cs (both k b) x new → IsBeat other ds (both k c) y last →
+  pub beats_both : (port other : ℕ) (k : State) (b c : Option Behind) (x y : Beat) (new last : World) → IsShaped g k.forest → y.at ≡ x.at → AreBrokersAlike g cs ds b c → IsBeat port cs (both k b) x new → IsBeat other ds (both k c) y last →
       AreBeatsAlike x y new last
   unfolding beat_text
   beats_both port other k b c x y new last like at alike a d =
@@ -66,7 +66,7 @@ module _ (g : Forest) (cs ds : List (List ℕ)) (ts : List Terms) (one : IsInven
         count = rest.count;
         next = ap (λ (o : Output). next_by o y.answers) output ∙ next_same x.output x.answers y.answers (rest.closes None);
         keeper = rest.keeper;
-        tables = rest.tables;
+        brokers = rest.brokers;
         text = ap (λ ps. short_lines g ps ++ (wake_line g y.at y.output ++ flat_map (answer_text u) y.answers)) short
             ∙ ap (λ t. short_lines g x.short ++ (wake_line g t y.output ++ flat_map (answer_text u) y.answers)) at
             ∙ ap (λ (o : Output). short_lines g x.short ++ (wake_line g x.at o ++ flat_map (answer_text u) y.answers)) output
@@ -83,7 +83,7 @@ module _ (g : Forest) (cs ds : List (List ℕ)) (ts : List Terms) (one : IsInven
     pub text : flat_map (beat_text u) ys ≡ flat_map (beat_text s) xs
     pub next_is : then' ≡ next
     pub keeper : last.keeper ≡ new.keeper
-    pub tables : AreTablesAlike g cs ds new.behind.table last.behind.table
+    pub brokers : AreBrokersAlike g cs ds new.behind last.behind
     pub shaped : IsShaped g new.keeper.forest
 
   -- the run by ys goes as that by xs, and on
@@ -108,9 +108,9 @@ module _ (g : Forest) (cs ds : List (List ℕ)) (ts : List Terms) (one : IsInven
     pub goes_on : Played port cs mid at more new next
     pub alike : AreRunsAlike front ys mid last at then'
 
-  none_yet : (k : State) (b c : Behind) (due : Option ℕ) → IsShaped g k.forest → AreTablesAlike g cs ds b.table c.table → AreRunsAlike [] [] (both k b) (both k c) due due
+  none_yet : (k : State) (b c : Option Behind) (due : Option ℕ) → IsShaped g k.forest → AreBrokersAlike g cs ds b c → AreRunsAlike [] [] (both k b) (both k c) due due
   unfolding rounds requests_of
-  none_yet k b c due like alike = record { wakes = refl; asked = refl; text = refl; next_is = refl; keeper = refl; tables = alike; shaped = like }
+  none_yet k b c due like alike = record { wakes = refl; asked = refl; text = refl; next_is = refl; keeper = refl; brokers = alike; shaped = like }
 
   count_more : (o p : Output) (x y : Beat) (xs ys : List Beat) → p ≡ o → length ys ≡ length xs → length (cond (asks_some p) (y ∷ ys) ys) ≡ length (cond (asks_some o) (x ∷ xs) xs)
   count_more (out.Ask asked) p x y xs ys same rest = ap (λ (q : Output). length (cond (asks_some q) (y ∷ ys) ys)) same ∙ ap (λ n. suc n) rest
@@ -135,7 +135,7 @@ module _ (g : Forest) (cs ds : List (List ℕ)) (ts : List Terms) (one : IsInven
         text = ap (λ l. l ++ flat_map (beat_text u) ys) first.text ∙ ap (λ l. beat_text s x ++ l) rest.text;
         next_is = rest.next_is;
         keeper = rest.keeper;
-        tables = rest.tables;
+        brokers = rest.brokers;
         shaped = rest.shaped;
       }
 
@@ -143,7 +143,7 @@ module _ (g : Forest) (cs ds : List (List ℕ)) (ts : List Terms) (one : IsInven
   Compared port other old begun due xs ys new last next then' = GoesFurther other begun due xs ys new last next then' ⊎ GoneFurther port old due xs ys new last next then'
 
   -- one of two such runs goes as the other, and on
-  pub compare : (port other : ℕ) (k : State) (b c : Behind) (due : Option ℕ) (xs ys : List Beat) (new last : World) (next then' : Option ℕ) → IsShaped g k.forest → AreTablesAlike g cs ds b.table c.table →
+  pub compare : (port other : ℕ) (k : State) (b c : Option Behind) (due : Option ℕ) (xs ys : List Beat) (new last : World) (next then' : Option ℕ) → IsShaped g k.forest → AreBrokersAlike g cs ds b c →
       Played port cs (both k b) due xs new next → Played other ds (both k c) due ys last then' → Compared port other (both k b) (both k c) due xs ys new last next then'
   compare port other k b c due [] ys new last next then' like alike a d =
       inl (record {
@@ -173,7 +173,7 @@ module _ (g : Forest) (cs ds : List (List ℕ)) (ts : List Terms) (one : IsInven
       let mid' = d.1.0 in
       let first = beats_both port other k b c x y mid mid' like (d.0 ∙ sym a.0) alike a.1.1.0 d.1.1.0 in
       let rest = subst (λ (z : State). Played other ds (both z mid'.behind) (next_tick x) ys last then') first.keeper (subst (λ o. Played other ds mid' o ys last then') first.next d.1.1.1) in
-      elim (compare port other mid.keeper mid.behind mid'.behind (next_tick x) xs ys new last next then' first.shaped first.tables a.1.1.1 rest) [
+      elim (compare port other mid.keeper mid.behind mid'.behind (next_tick x) xs ys new last next then' first.shaped first.brokers a.1.1.1 rest) [
         | inl g' ↦ inl (record {
           front = y ∷ g'.front;
           more = g'.more;

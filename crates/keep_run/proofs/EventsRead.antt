@@ -17,8 +17,7 @@ use Rattle.keep_run.specs.declared.event_line.TheConstants.{MOST_LINE}
 use Rattle.keep_run.specs.declared.listening.TheConstants.{EVENT_ROOM, MOST_EVENTS, MOST_EVENT_READS}
 use Rattle.keep_run.specs.LineByLine.{HaltsWithin, HearsUpTo, IsListening, IsSent}
 use Rattle.keep_run.specs.Listening.{Fed, Halts, HaveEnded, IsHeardFirst, IsPrompt, Listens, ListensTo, MakesAtLeast}
-use Rattle.keep_run.specs.Live.{Side}
-use Rattle.keep_run.specs.LiveRun.{IsListenStop}
+use Rattle.keep_run.specs.Closed.{World}
 use Rattle.keep_run.proofs.Cut.{pieces_more}
 use Rattle.keep_run.proofs.LineByLine.{halts_behind, halts_where, joined, up_to_first, up_to_then}
 
@@ -63,7 +62,7 @@ nothing_cut : pieces 10 [] ≡ [] ∷ []
 unfolding pieces
 nothing_cut = refl
 
-pub listening_first : (port : ℕ) (cs : List (List ℕ)) (old : Side) (fed : Fed) (a : Sent) → fed.new ≡ fed.old → fed.reads_after ≡ fed.reads_before → fed.failed_after ≡ fed.failed_before → IsSent [] a → IsListening port cs old 0 [] MOST_EVENTS old 0 fed a
+pub listening_first : (port : ℕ) (cs : List (List ℕ)) (old : World) (fed : Fed) (a : Sent) → fed.new ≡ fed.old → fed.reads_after ≡ fed.reads_before → fed.failed_after ≡ fed.failed_before → IsSent [] a → IsListening port cs old 0 [] MOST_EVENTS old 0 fed a
 listening_first port cs old fed a same reads failed sent = record {
   read = [];
   consumed = subst (λ o. Consumes fed.old o []) (sym same) (Consumes-nil fed.old);
@@ -77,7 +76,7 @@ listening_first port cs old fed a same reads failed sent = record {
 }
 
 ends_at :
-    (port : ℕ) (cs : List (List ℕ)) (read : List ℕ) (number : ℕ) (old : Side) (behind : List (List ℕ)) (text : List ℕ) (stop : Stop) (new : Side) (fed : Fed) (out : Sent) → fed.failed_after ≡ fed.failed_before →
+    (port : ℕ) (cs : List (List ℕ)) (read : List ℕ) (number : ℕ) (old : World) (behind : List (List ℕ)) (text : List ℕ) (stop : Stop) (new : World) (fed : Fed) (out : Sent) → fed.failed_after ≡ fed.failed_before →
     Halts port cs number old behind text stop new ⊥ out → ListensTo port cs read number old behind text (Err stop) new fed out
 ends_at port cs read number old behind text (stops.Inventory fault) new fed out failed h = absurd h
 ends_at port cs read number old behind text (stops.Moments fault) new fed out failed h = absurd h
@@ -90,7 +89,7 @@ ends_at port cs read number old behind text (stops.Line n) new fed out failed h 
 ends_at port cs read number old behind text stops.Memory new fed out failed h = (failed, h)
 
 -- nothing is read, since memory was wanting
-pub not_begun : (port : ℕ) (cs : List (List ℕ)) (old : Side) (fed : Fed) (out : Sent) → fed.new ≡ fed.old → fed.reads_after ≡ fed.reads_before → fed.failed_after ≡ fed.failed_before → out.new ≡ out.old → Listens port cs old (Err stops.Memory) old fed out
+pub not_begun : (port : ℕ) (cs : List (List ℕ)) (old : World) (fed : Fed) (out : Sent) → fed.new ≡ fed.old → fed.reads_after ≡ fed.reads_before → fed.failed_after ≡ fed.failed_before → out.new ≡ out.old → Listens port cs old (Err stops.Memory) old fed out
 not_begun port cs old fed out same reads failed none = record {
   read = [];
   consumed = subst (λ o. Consumes fed.old o []) (sym same) (Consumes-nil fed.old);
@@ -103,18 +102,6 @@ not_begun port cs old fed out same reads failed none = record {
   prompt = record { before = []; last = []; parts = refl; room = omega arith; few = omega arith; first = []; later = []; heard = refl; rest = []; cut = nothing_cut; short = omega arith };
   ends = (failed, inl (subst (λ o. Appends out.old o []) (sym none) (Appends-nil out.old)));
 }
-
--- why listening stops
-pub listening_stops : (port : ℕ) (cs : List (List ℕ)) (old : Side) (stop : Stop) (new : Side) (fed : Fed) (out : Sent) → Listens port cs old (Err stop) new fed out → IsListenStop stop
-listening_stops port cs old (stops.Inventory fault) new fed out h = absurd h.ends.1
-listening_stops port cs old (stops.Moments fault) new fed out h = absurd h.ends.1
-listening_stops port cs old (stops.FaultWord n) new fed out h = absurd h.ends.1
-listening_stops port cs old stops.TooLong new fed out h = tt
-listening_stops port cs old stops.Read new fed out h = tt
-listening_stops port cs old stops.Write new fed out h = tt
-listening_stops port cs old (stops.Broker name) new fed out h = tt
-listening_stops port cs old (stops.Line n) new fed out h = tt
-listening_stops port cs old stops.Memory new fed out h = tt
 
 -- a front of a piece that was read, as far as more may be read
 front_of : (room : List ℕ) (n left : ℕ) → n ≤ length room → take left (take n room) ≡ take (min n left) room
@@ -131,7 +118,7 @@ front_of room n left within =
           take_all left (take n room) (omega (arith, long, more)) ∙ ap (λ m. take m room) (sym least)
     ]
 
-module _ (port : ℕ) (cs : List (List ℕ)) (old : Side) (k : ℕ) (pending : List ℕ) (left : ℕ) (now : Side) (last : ℕ) (fed : Fed) (a : Sent) (h : IsListening port cs old k pending left now last fed a) where
+module _ (port : ℕ) (cs : List (List ℕ)) (old : World) (k : ℕ) (pending : List ℕ) (left : ℕ) (now : World) (last : ℕ) (fed : Fed) (a : Sent) (h : IsListening port cs old k pending left now last fed a) where
   few_read : length h.read ≤ MOST_EVENTS
   few_read = let w = h.within in omega (arith, w)
 
@@ -276,7 +263,7 @@ module _ (port : ℕ) (cs : List (List ℕ)) (old : Side) (k : ℕ) (pending : L
     }
 
     listens_more :
-        (result : Result (Unit {0}) Stop) (later : List (List ℕ)) (behind : List (List ℕ)) (mid : Side) (text : List ℕ) (new : Side) (out : Sent) → IsHeardFirst port cs old (h.read ++ took) (h.up_to.lines ++ later) behind mid text →
+        (result : Result (Unit {0}) Stop) (later : List (List ℕ)) (behind : List (List ℕ)) (mid : World) (text : List ℕ) (new : World) (out : Sent) → IsHeardFirst port cs old (h.read ++ took) (h.up_to.lines ++ later) behind mid text →
         ListensTo port cs now_read (length (h.up_to.lines ++ later) + 1) mid behind text result new after out → Listens port cs old result new after out
     listens_more result later behind mid text new out heard ends = record {
       read = now_read;
@@ -292,7 +279,7 @@ module _ (port : ℕ) (cs : List (List ℕ)) (old : Side) (k : ℕ) (pending : L
     }
 
     -- memory for them was wanting
-    pub no_memory : (new : Side) → Listens port cs old (Err stops.Memory) new after a
+    pub no_memory : (new : World) → Listens port cs old (Err stops.Memory) new after a
     no_memory new =
         listens_more (Err stops.Memory) [] (pieces 10 (pending ++ took)) now h.up_to.text new a
         (subst (λ ls. IsHeardFirst port cs old (h.read ++ took) ls (pieces 10 (pending ++ took)) now h.up_to.text) (sym (append-nil h.up_to.lines)) behind_read.heard)
@@ -300,7 +287,7 @@ module _ (port : ℕ) (cs : List (List ℕ)) (old : Side) (k : ℕ) (pending : L
 
     module _ (b : Sent) (same : a.new ≡ b.old) (failures' : a.failed_after ≡ b.failed_before) where
       -- a line stops the run
-      pub halted : (stop : Stop) (new : Side) → HaltsWithin port cs last now (pending ++ took) stop new b → Listens port cs old (Err stop) new after (joined a b)
+      pub halted : (stop : Stop) (new : World) → HaltsWithin port cs last now (pending ++ took) stop new b → Listens port cs old (Err stop) new after (joined a b)
       halted stop new w =
           let all = halts_behind port cs 0 old (h.read ++ took) (pending ++ took) now last a b stop new same failures' behind_read w in
           let none_before : 0 + length (h.up_to.lines ++ w.lines) + 1 ≡ length (h.up_to.lines ++ w.lines) + 1 = omega arith in
@@ -310,7 +297,7 @@ module _ (port : ℕ) (cs : List (List ℕ)) (old : Side) (k : ℕ) (pending : L
 
       -- there is more than may be
       pub too_many :
-          (behind : List ℕ) (new : Side) (count : ℕ) → left < n → length behind < MOST_LINE → HearsUpTo port cs last now (pending ++ took) (behind ∷ []) new count b → Listens port cs old (Err stops.Read) new after (joined a b)
+          (behind : List ℕ) (new : World) (count : ℕ) → left < n → length behind < MOST_LINE → HearsUpTo port cs last now (pending ++ took) (behind ∷ []) new count b → Listens port cs old (Err stops.Read) new after (joined a b)
       too_many behind new count over short u =
           let all = up_to_then port cs 0 old (h.read ++ took) (pending ++ took) (behind ∷ []) now last a b new count same failures' behind_read u in
           let w = h.within in
@@ -321,7 +308,7 @@ module _ (port : ℕ) (cs : List (List ℕ)) (old : Side) (k : ℕ) (pending : L
 
       -- and on
       pub listening_more :
-          (behind : List ℕ) (new : Side) (count : ℕ) → n ≤ left → length behind < MOST_LINE → count + length behind ≤ last + length (pending ++ took) → HearsUpTo port cs last now (pending ++ took) (behind ∷ []) new count b →
+          (behind : List ℕ) (new : World) (count : ℕ) → n ≤ left → length behind < MOST_LINE → count + length behind ≤ last + length (pending ++ took) → HearsUpTo port cs last now (pending ++ took) (behind ∷ []) new count b →
           IsListening port cs old (k + 1) behind (left - min n left) new count after (joined a b)
       listening_more behind new count within' short fewer u =
           let all = up_to_then port cs 0 old (h.read ++ took) (pending ++ took) (behind ∷ []) now last a b new count same failures' behind_read u in

@@ -62,7 +62,7 @@ goes_as s u old new due next w a x like credentials g = record {
 
 -- ---- to the end without a round
 
-pub ends_go : (cs : List (List ℕ)) (behind : Behind) (old new : State) (due : ℕ) (before after : List ℕ) → Ends cs behind old due new before after →
+pub ends_go : (cs : List (List ℕ)) (behind : Option Behind) (old new : State) (due : ℕ) (before after : List ℕ) → Ends cs behind old due new before after →
     (text : List ℕ) × (Goes (inventory_with cs old.forest) (both old behind) (Some due) (both new behind) None 0 0 text × (after ≡ before ++ text))
 ends_go cs behind old new due before after e = (
   flat_map (beat_text (inventory_with cs old.forest)) e.beats,
@@ -74,7 +74,7 @@ ends_go cs behind old new due before after e = (
 
 -- ---- to the end of the first round
 
-module _ (cs : List (List ℕ)) (behind : Behind) (old k : State) (new : World) (due t : ℕ) (asked before mid after : List ℕ) (next : Option ℕ) (like : IsShaped old.forest k.forest)
+module _ (cs : List (List ℕ)) (behind : Option Behind) (old k : State) (new : World) (due t : ℕ) (asked before mid after : List ℕ) (next : Option ℕ) (like : IsShaped old.forest k.forest)
     (o : Opens cs behind old due t asked k before mid) (a : AnswersAll 8200 cs t (both k behind) asked next new mid after) where
   s : Inventory
   s = inventory_with cs old.forest
@@ -143,7 +143,7 @@ module _ (cs : List (List ℕ)) (behind : Behind) (old k : State) (new : World) 
     (record { beats = all_beats; played = played; wakes_are = one_wake; asked_are = all_requests; text_is = refl }, texts),
   )
 
-pub due_of : (cs : List (List ℕ)) (behind : Behind) (old k : State) (due t : ℕ) (asked before after : List ℕ) → Opens cs behind old due t asked k before after → IsDue cs (both old behind) due
+pub due_of : (cs : List (List ℕ)) (behind : Option Behind) (old k : State) (due t : ℕ) (asked before after : List ℕ) → Opens cs behind old due t asked k before after → IsDue cs (both old behind) due
 due_of cs behind old k due t asked before after o = record {
   beats = o.beats;
   mid = both o.mid behind;

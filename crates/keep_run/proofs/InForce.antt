@@ -1,5 +1,5 @@
 -- In force: the run of an inventory is that of the one whose needs the opening leaves in force, for `least_law`.
-use Rattle.std.proofs.Common.{◌≡◌, ◌∙◌, ℕ, ◌<◌, ◌≤◌, List, [], ◌++◌, None, ap, append-nil, arith, inl, inr, length, map, refl, subst, sym}
+use Rattle.std.proofs.Common.{◌≡◌, ◌∙◌, ℕ, ◌<◌, ◌≤◌, List, [], ◌++◌, None, Some, ap, append-nil, arith, inl, inr, length, map, refl, subst, sym}
 use Rattle.std.proofs.lemmas.Bool.{cases_lt}
 use Rattle.std.proofs.lemmas.List.{length-map}
 use Rattle.std.proofs.Math.Path.{fun_ext}
@@ -94,9 +94,9 @@ module _ (s : Inventory) (start : ℕ) (short : List ShortNeed) (w : World) (o :
     planned = planned;
     short_is = sym same.1;
     is = o.is
-        ∙ ap (λ (k : State). record { keeper = taken k; behind = record { table = record { rows = rows_of s; faults = []; count = 0 }; wire = [] } }) o.planned.is
-        ∙ ap (λ (g : Forest). record { keeper = record { forest = g; last = start; to_come = o.planned.moments; round = None; shortened = [] }; behind = record { table = record { rows = rows_of s; faults = []; count = 0 }; wire = [] } }) (sym same.0)
-        ∙ ap (λ (rows : List Row). record { keeper = taken keeper; behind = record { table = record { rows = rows; faults = []; count = 0 }; wire = [] } }) (sym (rows_same s start));
+        ∙ ap (λ (k : State). record { keeper = taken k; behind = Some (record { table = record { rows = rows_of s; faults = []; count = 0 }; wire = [] }) }) o.planned.is
+        ∙ ap (λ (g : Forest). record { keeper = record { forest = g; last = start; to_come = o.planned.moments; round = None; shortened = [] }; behind = Some (record { table = record { rows = rows_of s; faults = []; count = 0 }; wire = [] }) }) (sym same.0)
+        ∙ ap (λ (rows : List Row). record { keeper = taken keeper; behind = Some (record { table = record { rows = rows; faults = []; count = 0 }; wire = [] }) }) (sym (rows_same s start));
   }
 
 pub least : LeastLaw

@@ -23,7 +23,6 @@ pub mod FaultWord
 pub mod PlannedRun
 pub mod LiveTicks
 pub mod SentTicks
-pub mod LiveEnding
 pub mod LookedUp
 pub mod LiveOpening
 pub mod Cut

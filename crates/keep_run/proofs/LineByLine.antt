@@ -13,10 +13,12 @@ use Rattle.keep_report.specs.declared.stop.Stop.TheVariants as stops
 use Rattle.keep_report.specs.Sent.{IsAll, Sent}
 use Rattle.keep_run.specs.LineByLine.{HaltsWithin, HearsLine, HearsUpTo, IsSent}
 use Rattle.keep_run.specs.Listening.{AreHeard, Halts, IsCutShort, IsLineHeard, IsNoEvent}
-use Rattle.keep_run.specs.Live.{HearsTo, IsBrokenOff, IsCutOff, Side}
+use Rattle.keep_run.specs.Live.{HearsTo, IsBrokenOff, IsCutOff}
 use Rattle.keep_run.specs.EventLines.{heard_in}
 use Rattle.keep_run.specs.declared.event_line.Heard.{Heard}
 use Rattle.keep_run.specs.declared.event_line.TheConstants.{MOST_LINE}
+use Rattle.keep_run.specs.Stops.{both}
+use Rattle.keep_run.specs.Closed.{World}
 use Rattle.keep_run.proofs.Cut.{cut_back, first_piece}
 use Rattle.keep_run.proofs.Written.{keeps_appends}
 
@@ -44,7 +46,7 @@ module _ (a b : Sent) (same : a.new ≡ b.old) (failures : a.failed_after ≡ b.
   all_then t u first second = (appends t u first.0.0 second.0, second.1)
 
   cut_then :
-      (port : ℕ) (cs : List (List ℕ)) (old new : Side) (heard : Heard) (t u : List ℕ) → IsSent t a → IsCutOff port cs old heard new u b → IsCutOff port cs old heard new (t ++ u) (joined a b)
+      (port : ℕ) (cs : List (List ℕ)) (old new : World) (heard : Heard) (t u : List ℕ) → IsSent t a → IsCutOff port cs old heard new u b → IsCutOff port cs old heard new (t ++ u) (joined a b)
   cut_then port cs old new heard t u first second =
       let rest = second.told ++ take second.n second.own in
       record {
@@ -55,7 +57,7 @@ module _ (a b : Sent) (same : a.new ≡ b.old) (failures : a.failed_after ≡ b.
         front = subst (Appends a.old b.new) (sym (append_assoc t u rest)) (appends t (u ++ rest) first.0.0 second.front);
       }
 
-  broken_then : (port : ℕ) (cs : List (List ℕ)) (old : Side) (heard : Heard) (t u : List ℕ) → IsSent t a → IsBrokenOff port cs old heard u b → IsBrokenOff port cs old heard (t ++ u) (joined a b)
+  broken_then : (port : ℕ) (cs : List (List ℕ)) (old : World) (heard : Heard) (t u : List ℕ) → IsSent t a → IsBrokenOff port cs old heard u b → IsBrokenOff port cs old heard (t ++ u) (joined a b)
   broken_then port cs old heard t u first second = record {
     t = second.t;
     is = second.is;
@@ -66,12 +68,12 @@ module _ (a b : Sent) (same : a.new ≡ b.old) (failures : a.failed_after ≡ b.
   }
 
   short_then :
-      (port : ℕ) (cs : List (List ℕ)) (old new : Side) (line t u : List ℕ) → IsSent t a → IsCutShort port cs old line new u b → IsCutShort port cs old line new (t ++ u) (joined a b)
+      (port : ℕ) (cs : List (List ℕ)) (old new : World) (line t u : List ℕ) → IsSent t a → IsCutShort port cs old line new u b → IsCutShort port cs old line new (t ++ u) (joined a b)
   short_then port cs old new line t u first second = (second.0, (second.1.0, cut_then port cs old new second.0 t u first second.1.1))
 
   -- a stop behind a text that was sent before
   pub halts_then :
-      (port : ℕ) (cs : List (List ℕ)) (number : ℕ) (old : Side) (behind : List (List ℕ)) (t u : List ℕ) (stop : Stop) (new : Side) (P : Type 0) → IsSent t a → Halts port cs number old behind u stop new P b →
+      (port : ℕ) (cs : List (List ℕ)) (number : ℕ) (old : World) (behind : List (List ℕ)) (t u : List ℕ) (stop : Stop) (new : World) (P : Type 0) → IsSent t a → Halts port cs number old behind u stop new P b →
       Halts port cs number old behind (t ++ u) stop new P (joined a b)
   halts_then port cs number old behind t u (stops.Inventory fault) new P first h = absurd h
   halts_then port cs number old behind t u (stops.Moments fault) new P first h = absurd h
@@ -114,7 +116,7 @@ no_event_where g (rest ∷ []) P Q f h = elim h [ inl long ↦ inl long | inr cu
 no_event_where g (line ∷ next ∷ more) P Q f h = h
 
 pub halts_where :
-    (port : ℕ) (cs : List (List ℕ)) (number : ℕ) (old : Side) (behind : List (List ℕ)) (text : List ℕ) (stop : Stop) (new : Side) (P Q : Type 0) (out : Sent) → (P → Q) →
+    (port : ℕ) (cs : List (List ℕ)) (number : ℕ) (old : World) (behind : List (List ℕ)) (text : List ℕ) (stop : Stop) (new : World) (P Q : Type 0) (out : Sent) → (P → Q) →
     Halts port cs number old behind text stop new P out → Halts port cs number old behind text stop new Q out
 halts_where port cs number old behind text (stops.Inventory fault) new P Q out f h = h
 halts_where port cs number old behind text (stops.Moments fault) new P Q out f h = h
@@ -130,7 +132,7 @@ halts_where port cs number old behind text stops.Memory new P Q out f h = h
 
 -- its event is heard, or stops short
 pub line_hears :
-    (port : ℕ) (cs : List (List ℕ)) (number : ℕ) (old : Side) (line : List ℕ) (says : Heard) (new : Side) (result : Result (Unit {0}) Stop) (out : Sent) → heard_in old.keeper.forest line ≡ Some says → IsTrue out.flushed_before →
+    (port : ℕ) (cs : List (List ℕ)) (number : ℕ) (old : World) (line : List ℕ) (says : Heard) (new : World) (result : Result (Unit {0}) Stop) (out : Sent) → heard_in old.keeper.forest line ≡ Some says → IsTrue out.flushed_before →
     HearsTo port cs old says result new out → OnOk result (out.failed_after ≡ out.failed_before) → HearsLine port cs number old line result new out
 line_hears port cs number old line says new (Ok u) out is flushed h count = (h.0, (record { says = says; is = is; heard = h.1.0 }, (h.1.1, count)))
 line_hears port cs number old line says new (Err stops.TooLong) out is flushed h count = λ next more.
@@ -151,14 +153,14 @@ line_hears port cs number old line says new (Err (stops.Line n)) out is flushed 
 -- ---- lines
 
 pub heard_then :
-    (port : ℕ) (cs : List (List ℕ)) (old mid new : Side) (lines more : List (List ℕ)) (t u : List ℕ) → AreHeard port cs old lines mid t → AreHeard port cs mid more new u → AreHeard port cs old (lines ++ more) new (t ++ u)
+    (port : ℕ) (cs : List (List ℕ)) (old mid new : World) (lines more : List (List ℕ)) (t u : List ℕ) → AreHeard port cs old lines mid t → AreHeard port cs mid more new u → AreHeard port cs old (lines ++ more) new (t ++ u)
 heard_then port cs old mid new [] more t u first second =
-    subst (λ (s : Side). AreHeard port cs s more new (t ++ u)) first.0 (subst (λ x. AreHeard port cs mid more new (x ++ u)) (sym first.1) second)
+    subst (λ (s : World). AreHeard port cs s more new (t ++ u)) first.0 (subst (λ x. AreHeard port cs mid more new (x ++ u)) (sym first.1) second)
 heard_then port cs old mid new (line ∷ lines) more t u first second =
     let rest = heard_then port cs first.0 mid new lines more first.1.1.0 u first.1.1.1.1.0 second in
     (first.0, (first.1.0, (first.1.1.0 ++ u, (first.1.1.1.0, (rest, ap (λ x. x ++ u) first.1.1.1.1.1 ∙ append_assoc first.1.0 first.1.1.0 u)))))
 
-pub heard_one : (port : ℕ) (cs : List (List ℕ)) (old new : Side) (line text : List ℕ) → IsLineHeard port cs old line new text → AreHeard port cs old (line ∷ []) new text
+pub heard_one : (port : ℕ) (cs : List (List ℕ)) (old new : World) (line text : List ℕ) → IsLineHeard port cs old line new text → AreHeard port cs old (line ∷ []) new text
 heard_one port cs old new line text h = (new, (text, ([], (h, ((refl, refl), sym (append-nil text))))))
 
 -- ---- bytes
@@ -185,12 +187,12 @@ behind_line bytes rest line behind e before within =
 module _ (port : ℕ) (cs : List (List ℕ)) where
   -- none
   pub up_to_first :
-      (first : ℕ) (old : Side) (bytes : List ℕ) (out : Sent) → IsSent [] out → HearsUpTo port cs first old bytes (pieces 10 bytes) old first out
+      (first : ℕ) (old : World) (bytes : List ℕ) (out : Sent) → IsSent [] out → HearsUpTo port cs first old bytes (pieces 10 bytes) old first out
   up_to_first first old bytes out sent = record { lines = []; text = []; heard = record { cut = refl; heard = (refl, refl) }; count = omega arith; sent = sent }
 
   -- one more
   pub up_to_line :
-      (first : ℕ) (old : Side) (bytes line : List ℕ) (behind : List (List ℕ)) (mid : Side) (last : ℕ) (a b : Sent) (new : Side) (text : List ℕ) → a.new ≡ b.old → a.failed_after ≡ b.failed_before →
+      (first : ℕ) (old : World) (bytes line : List ℕ) (behind : List (List ℕ)) (mid : World) (last : ℕ) (a b : Sent) (new : World) (text : List ℕ) → a.new ≡ b.old → a.failed_after ≡ b.failed_before →
       HearsUpTo port cs first old bytes (line ∷ behind) mid last a → IsLineHeard port cs mid line new text → IsSent text b → HearsUpTo port cs first old bytes behind new (last + 1) (joined a b)
   up_to_line first old bytes line behind mid last a b new text same failures h one sent =
       let count = h.count in
@@ -208,7 +210,7 @@ module _ (port : ℕ) (cs : List (List ℕ)) where
 
   -- those of what stands behind
   abbrev pub up_to_then :
-      (first : ℕ) (old : Side) (bytes rest : List ℕ) (behind : List (List ℕ)) (mid : Side) (middle : ℕ) (a b : Sent) (new : Side) (last : ℕ) → a.new ≡ b.old → a.failed_after ≡ b.failed_before →
+      (first : ℕ) (old : World) (bytes rest : List ℕ) (behind : List (List ℕ)) (mid : World) (middle : ℕ) (a b : Sent) (new : World) (last : ℕ) → a.new ≡ b.old → a.failed_after ≡ b.failed_before →
       HearsUpTo port cs first old bytes (pieces 10 rest) mid middle a → HearsUpTo port cs middle mid rest behind new last b → HearsUpTo port cs first old bytes behind new last (joined a b)
   up_to_then first old bytes rest behind mid middle a b new last same failures h k =
       let before = h.count in
@@ -227,7 +229,7 @@ module _ (port : ℕ) (cs : List (List ℕ)) where
 
   -- a stop at the next line
   pub halts_at :
-      (first : ℕ) (old : Side) (bytes : List ℕ) (behind : List (List ℕ)) (mid : Side) (last : ℕ) (a b : Sent) (stop : Stop) (new : Side) → a.new ≡ b.old → a.failed_after ≡ b.failed_before →
+      (first : ℕ) (old : World) (bytes : List ℕ) (behind : List (List ℕ)) (mid : World) (last : ℕ) (a b : Sent) (stop : Stop) (new : World) → a.new ≡ b.old → a.failed_after ≡ b.failed_before →
       HearsUpTo port cs first old bytes behind mid last a → Halts port cs (last + 1) mid behind [] stop new ⊥ b → HaltsWithin port cs first old bytes stop new (joined a b)
   halts_at first old bytes behind mid last a b stop new same failures h halts = record {
     lines = h.lines;
@@ -243,7 +245,7 @@ module _ (port : ℕ) (cs : List (List ℕ)) where
 
   -- a stop within what stands behind
   abbrev pub halts_behind :
-      (first : ℕ) (old : Side) (bytes rest : List ℕ) (mid : Side) (middle : ℕ) (a b : Sent) (stop : Stop) (new : Side) → a.new ≡ b.old → a.failed_after ≡ b.failed_before →
+      (first : ℕ) (old : World) (bytes rest : List ℕ) (mid : World) (middle : ℕ) (a b : Sent) (stop : Stop) (new : World) → a.new ≡ b.old → a.failed_after ≡ b.failed_before →
       HearsUpTo port cs first old bytes (pieces 10 rest) mid middle a → HaltsWithin port cs middle mid rest stop new b → HaltsWithin port cs first old bytes stop new (joined a b)
   halts_behind first old bytes rest mid middle a b stop new same failures h k =
       let count = h.count in
@@ -265,14 +267,14 @@ module _ (port : ℕ) (cs : List (List ℕ)) where
 
   -- by the names that the loop over lines has
   pub heard_on :
-      (first : ℕ) (old : Side) (bytes rest line behind : List ℕ) (mid : Side) (last : ℕ) (a b : Sent) (new : Side) → a.new ≡ b.old → a.failed_after ≡ b.failed_before →
+      (first : ℕ) (old : World) (bytes rest line behind : List ℕ) (mid : World) (last : ℕ) (a b : Sent) (new : World) → a.new ≡ b.old → a.failed_after ≡ b.failed_before →
       HearsUpTo port cs first old bytes (pieces 10 rest) mid last a → pieces 10 rest ≡ line ∷ pieces 10 behind → HearsLine port cs (last + 1) mid line (Ok tt) new b →
       HearsUpTo port cs first old bytes (pieces 10 behind) new (last + 1) (joined a b)
   heard_on first old bytes rest line behind mid last a b new same failures h e one =
       up_to_line first old bytes line (pieces 10 behind) mid last a b new one.0 same failures (subst (λ ps. HearsUpTo port cs first old bytes ps mid last a) e h) one.1.0 one.1.1
 
   pub stopped_on :
-      (first : ℕ) (old : Side) (bytes rest line behind : List ℕ) (mid : Side) (last : ℕ) (a b : Sent) (stop : Stop) (new : Side) → a.new ≡ b.old → a.failed_after ≡ b.failed_before →
+      (first : ℕ) (old : World) (bytes rest line behind : List ℕ) (mid : World) (last : ℕ) (a b : Sent) (stop : Stop) (new : World) → a.new ≡ b.old → a.failed_after ≡ b.failed_before →
       HearsUpTo port cs first old bytes (pieces 10 rest) mid last a → pieces 10 rest ≡ line ∷ pieces 10 behind → HearsLine port cs (last + 1) mid line (Err stop) new b →
       HaltsWithin port cs first old bytes stop new (joined a b)
   stopped_on first old bytes rest line behind mid last a b stop new same failures h e one =
@@ -282,7 +284,7 @@ module _ (port : ℕ) (cs : List (List ℕ)) where
 
   -- what stands behind the last line is as long as an event line may be
   pub long_rest :
-      (first : ℕ) (old : Side) (bytes rest : List ℕ) (mid : Side) (last : ℕ) (a : Sent) → HearsUpTo port cs first old bytes (rest ∷ []) mid last a → MOST_LINE ≤ length rest →
+      (first : ℕ) (old : World) (bytes rest : List ℕ) (mid : World) (last : ℕ) (a : Sent) → HearsUpTo port cs first old bytes (rest ∷ []) mid last a → MOST_LINE ≤ length rest →
       HaltsWithin port cs first old bytes (stops.Line (last + 1)) mid a
   long_rest first old bytes rest mid last a h long =
       let count = h.count in

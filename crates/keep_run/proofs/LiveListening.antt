@@ -1,5 +1,5 @@
 -- LiveListening: a live run that was opened and then listened, and what it tells of its end: for `live` and `run_live`.
-use Rattle.std.proofs.Common.{◌≡◌, ℕ, inl, inr, Bool, List, ◌++◌, Option, Some, None, IfSome, Result, Ok, Err, ◌+◌, codes, length, refl, sym, subst, take}
+use Rattle.std.proofs.Common.{◌≡◌, ℕ, inl, inr, Bool, List, ◌++◌, Option, Result, Ok, Err, ◌+◌, codes, length, refl, sym, subst, take}
 use Rattle.std.specs.Io.KnownBytes.{Appends}
 use Rattle.std.specs.Result.{IsErr, IsErrAnd}
 use Rattle.std.proofs.KnownBytes.{Keeps-refl}
@@ -21,17 +21,17 @@ use Rattle.keep_report.specs.FaultLine.{fault_line}
 use Rattle.keep_report.specs.Sent.{IsAll, Sent}
 use Rattle.keep_report.specs.Told.{Reports}
 use Rattle.keep_run.specs.Listening.{Fed, Halts, HaveEnded, IsBrokenShort, IsCutShort, Listens, ListensTo}
-use Rattle.keep_run.specs.Live.{Side, side}
 use Rattle.keep_run.specs.LiveRun.{EndsEarly, HasListened, IsOpened, IsUnread, LiveRun, LivesTo}
 use Rattle.keep_run.specs.Stops.{both}
+use Rattle.keep_run.specs.Closed.{World}
 use Rattle.keep_run.proofs.LookedUp.{sent_by, untouched}
 use Rattle.keep_run.proofs.Written.{appends_then}
 
 -- ---- what listening comes to, behind the lines of the opening
 
-module _ (port : ℕ) (cs : List (List ℕ)) (read : List ℕ) (number : ℕ) (mid : Side) (behind : List (List ℕ)) (before text : List ℕ) (new : Side) (fed : Fed) (a b c : Option (List ℕ)) (n m l : ℕ) (p q r k : Bool)
+module _ (port : ℕ) (cs : List (List ℕ)) (read : List ℕ) (number : ℕ) (mid : World) (behind : List (List ℕ)) (before text : List ℕ) (new : World) (fed : Fed) (a b c : Option (List ℕ)) (n m l : ℕ) (p q r k : Bool)
     (first : Appends a b before) (kept : m ≡ n) where
-  cut_short : (line : List ℕ) (old : Side) → IsCutShort port cs old line new text (sent_by b c m l q r k) → IsCutShort port cs old line new (before ++ text) (sent_by a c n l p r k)
+  cut_short : (line : List ℕ) (old : World) → IsCutShort port cs old line new text (sent_by b c m l q r k) → IsCutShort port cs old line new (before ++ text) (sent_by a c n l p r k)
   cut_short line old h =
       let cut = h.1.1 in
       let rest = cut.told ++ take cut.n cut.own in (
@@ -48,7 +48,7 @@ module _ (port : ℕ) (cs : List (List ℕ)) (read : List ℕ) (number : ℕ) (m
         ),
       )
 
-  broken_short : (line : List ℕ) (old : Side) → IsBrokenShort port cs old line text (sent_by b c m l q r k) → IsBrokenShort port cs old line (before ++ text) (sent_by a c n l p r k)
+  broken_short : (line : List ℕ) (old : World) → IsBrokenShort port cs old line text (sent_by b c m l q r k) → IsBrokenShort port cs old line (before ++ text) (sent_by a c n l p r k)
   broken_short line old h =
       let broken = h.1.1 in (
         h.0,
@@ -69,7 +69,7 @@ module _ (port : ℕ) (cs : List (List ℕ)) (read : List ℕ) (number : ℕ) (m
   whole all = (appends_then a b c before text first all.0, all.1)
 
   halts :
-      (old : Side) (stop : Stop) (HasEnded : Type 0) → Halts port cs number old behind text stop new HasEnded (sent_by b c m l q r k) →
+      (old : World) (stop : Stop) (HasEnded : Type 0) → Halts port cs number old behind text stop new HasEnded (sent_by b c m l q r k) →
       Halts port cs number old behind (before ++ text) stop new HasEnded (sent_by a c n l p r k)
   halts old (stops.Line x) HasEnded h = (h.0, (h.1.0, (h.1.1.0, whole h.1.1.1)))
   halts old stops.TooLong HasEnded h = (h.0, (h.1.0, (h.1.1.0, whole h.1.1.1)))
@@ -105,62 +105,46 @@ unread : (x : Option (List ℕ)) (r f : ℕ) → IsUnread (fed_by x x r r f f)
 unread x r f = (Keeps-refl x, refl, refl)
 
 module _ (port : ℕ) (bytes : List ℕ) (start : ℕ) (before : Option Behind) where
-  abbrev Lives : Result (Unit {0}) Stop → Fed → Sent → Option Behind → Type 0
-  Lives result fed out new = IfSome before (λ b. LivesTo port bytes start b result fed out new)
-
-  some_lives : {P : Behind → Type 0} {Q : Behind → Type 0} → ((b : Behind) → P b → Q b) → IfSome before P → IfSome before Q
-  some_lives {P = P} {Q = Q} f h = by_case before h where
-    by_case : (o : Option Behind) → IfSome o P → IfSome o Q
-    by_case None u = tt
-    by_case (Some b) u = f b u
-
   -- the bytes are no inventory, or memory was wanting
   pub read_lives :
       (result : Result (Unit {0}) Stop) (fault : InvFault) (x : Option (List ℕ)) (r f : ℕ) (a : Option (List ℕ)) (n : ℕ) (p k : Bool) → IsErr result × IsErrAnd result (λ (q : Stop). q ≡ stop_of_inventory fault) → Fails fault (read_inventory bytes) →
-      IfSome before (λ b. LivesTo port bytes start b result (fed_by x x r r f f) (sent_by a a n n p p k) before)
+      LivesTo port bytes start before result (fed_by x x r r f f) (sent_by a a n n p p k) before
   read_lives (Ok u) fault x r f a n p k is fails = absurd (let no = is.0 in cc)
-  read_lives (Err stop) fault x r f a n p k is fails = by_before before where
-    by_fault : (b : Behind) (e : InvFault) → Fails e (read_inventory bytes) → LivesTo port bytes start b (Err (stop_of_inventory e)) (fed_by x x r r f f) (sent_by a a n n p p k) (Some b)
-    by_fault b faults.OutOfMemory h = inl (unread x r f, untouched a n p k, refl)
-    by_fault b faults.NotToml h = (h, unread x r f, untouched a n p k, refl)
-    by_fault b (faults.MissingKey i key) h = (h, unread x r f, untouched a n p k, refl)
-    by_fault b (faults.UnknownKey i) h = (h, unread x r f, untouched a n p k, refl)
-    by_fault b (faults.BadValue i key) h = (h, unread x r f, untouched a n p k, refl)
-    by_fault b (faults.Tree i t) h = (h, unread x r f, untouched a n p k, refl)
-
-    by_before : (o : Option Behind) → IfSome o (λ b. LivesTo port bytes start b (Err stop) (fed_by x x r r f f) (sent_by a a n n p p k) o)
-    by_before None = tt
-    by_before (Some b) = subst (λ (q : Stop). LivesTo port bytes start b (Err q) (fed_by x x r r f f) (sent_by a a n n p p k) (Some b)) (sym is.1) (by_fault b fault fails)
+  read_lives (Err stop) fault x r f a n p k is fails = subst (λ (q : Stop). LivesTo port bytes start before (Err q) (fed_by x x r r f f) (sent_by a a n n p p k) before) (sym is.1) (by_fault fault fails) where
+    by_fault : (e : InvFault) → Fails e (read_inventory bytes) → LivesTo port bytes start before (Err (stop_of_inventory e)) (fed_by x x r r f f) (sent_by a a n n p p k) before
+    by_fault faults.OutOfMemory h = inl (unread x r f, untouched a n p k, refl)
+    by_fault faults.NotToml h = (h, unread x r f, untouched a n p k, refl)
+    by_fault (faults.MissingKey i key) h = (h, unread x r f, untouched a n p k, refl)
+    by_fault (faults.UnknownKey i) h = (h, unread x r f, untouched a n p k, refl)
+    by_fault (faults.BadValue i key) h = (h, unread x r f, untouched a n p k, refl)
+    by_fault (faults.Tree i t) h = (h, unread x r f, untouched a n p k, refl)
 
   -- it ended before it listened
   pub early_lives :
       (result : Result (Unit {0}) Stop) (stop : Stop) (inventory : Inventory) (x : Option (List ℕ)) (r f : ℕ) (out : Sent) (new : Option Behind) → read_inventory bytes ≡ Ok inventory → IsErr result × IsErrAnd result (λ (q : Stop). q ≡ stop) →
-      IfSome before (λ b. EndsEarly port start (record { inventory = inventory; behind = b }) stop out new) → Lives result (fed_by x x r r f f) out new
+      EndsEarly port start (record { inventory = inventory; behind = before }) stop out new → LivesTo port bytes start before result (fed_by x x r r f f) out new
   early_lives (Ok u) stop inventory x r f out new read is early = absurd (let no = is.0 in cc)
-  early_lives (Err q) stop inventory x r f out new read is early =
-      some_lives (λ b h. subst (λ (u : Stop). LivesTo port bytes start b (Err u) (fed_by x x r r f f) out new) (sym is.1) (by_stop b stop h)) early where
-        by_stop : (b : Behind) (u : Stop) → EndsEarly port start (record { inventory = inventory; behind = b }) u out new → LivesTo port bytes start b (Err u) (fed_by x x r r f f) out new
-        by_stop b stops.Memory h = inr (inventory, read, inl (h, unread x r f))
-        by_stop b stops.Write h = (inventory, read, inl (h, unread x r f))
-        by_stop b stops.TooLong h = (inventory, read, inl (h, unread x r f))
-        by_stop b (stops.Broker name) h = (inventory, read, inl (h, unread x r f))
-        by_stop b stops.Read h = absurd h
-        by_stop b (stops.Inventory fault) h = absurd h
-        by_stop b (stops.Moments fault) h = absurd h
-        by_stop b (stops.FaultWord i) h = absurd h
-        by_stop b (stops.Line i) h = absurd h
+  early_lives (Err q) stop inventory x r f out new read is early = subst (λ (u : Stop). LivesTo port bytes start before (Err u) (fed_by x x r r f f) out new) (sym is.1) (by_stop stop early) where
+    by_stop : (u : Stop) → EndsEarly port start (record { inventory = inventory; behind = before }) u out new → LivesTo port bytes start before (Err u) (fed_by x x r r f f) out new
+    by_stop stops.Memory h = inr (inventory, read, inl (h, unread x r f))
+    by_stop stops.Write h = (inventory, read, inl (h, unread x r f))
+    by_stop stops.TooLong h = (inventory, read, inl (h, unread x r f))
+    by_stop (stops.Broker name) h = (inventory, read, inl (h, unread x r f))
+    by_stop stops.Read h = absurd h
+    by_stop (stops.Inventory fault) h = absurd h
+    by_stop (stops.Moments fault) h = absurd h
+    by_stop (stops.FaultWord i) h = absurd h
+    by_stop (stops.Line i) h = absurd h
 
   -- it listened
   pub listened_lives :
-      (inventory : Inventory) (cs : List (List ℕ)) (keeper : State) (middle : Option Behind) (a b c : Option (List ℕ)) (n m l : ℕ) (p q r k : Bool) (result : Result (Unit {0}) Stop) (final : Side) (fed : Fed) → read_inventory bytes ≡ Ok inventory →
-      IfSome before (λ x. IsOpened port start (record { inventory = inventory; behind = x }) cs keeper middle (sent_by a b n m p q k)) → Listens port cs (side keeper middle) result final fed (sent_by b c m l q r k) →
-      Lives result fed (sent_by a c n l p r k) final.behind
-  listened_lives inventory cs keeper middle a b c n m l p q r k result final fed read opened listens = some_lives (λ x o. by_result x result (has x o)) opened where
-    has : (x : Behind) → IsOpened port start (record { inventory = inventory; behind = x }) cs keeper middle (sent_by a b n m p q k) → HasListened port start (record { inventory = inventory; behind = x }) result final fed (sent_by a c n l p r k)
-    has x o =
-        let h : Listens port inventory.credentials (side keeper (Some o.behind)) result final fed (sent_by b c m l q r k) =
-        subst (λ d. Listens port d (side keeper (Some o.behind)) result final fed (sent_by b c m l q r k)) o.same
-        (subst (λ e. Listens port cs (side keeper e) result final fed (sent_by b c m l q r k)) o.is listens) in
+      (inventory : Inventory) (cs : List (List ℕ)) (keeper : State) (middle : Option Behind) (a b c : Option (List ℕ)) (n m l : ℕ) (p q r k : Bool) (result : Result (Unit {0}) Stop) (final : World) (fed : Fed) → read_inventory bytes ≡ Ok inventory →
+      IsOpened port start (record { inventory = inventory; behind = before }) cs keeper middle (sent_by a b n m p q k) → Listens port cs (both keeper middle) result final fed (sent_by b c m l q r k) →
+      LivesTo port bytes start before result fed (sent_by a c n l p r k) final.behind
+  listened_lives inventory cs keeper middle a b c n m l p q r k result final fed read o listens = by_result result has where
+    has : HasListened port start (record { inventory = inventory; behind = before }) result final fed (sent_by a c n l p r k)
+    has =
+        let h : Listens port inventory.credentials (both keeper middle) result final fed (sent_by b c m l q r k) = subst (λ d. Listens port d (both keeper middle) result final fed (sent_by b c m l q r k)) o.same listens in
         record {
           read = h.read;
           consumed = h.consumed;
@@ -171,43 +155,42 @@ module _ (port : ℕ) (bytes : List ℕ) (start : ℕ) (before : Option Behind) 
           prompt = h.prompt;
           mid = h.mid;
           text = o.text ++ h.text;
-          run = record { opening = both keeper o.behind; before = o.text; opened = o.opened; spoken = h.text; heard = h.heard.heard; text_is = refl };
+          run = record { opening = both keeper middle; before = o.text; opened = o.opened; spoken = h.text; heard = h.heard.heard; text_is = refl };
           ends = listens_to port inventory.credentials h.read (length h.lines + 1) h.mid h.behind o.text h.text final fed a b c n m l p q r k o.sent.0 o.kept result h.ends;
         }
 
-    by_result : (x : Behind) (u : Result (Unit {0}) Stop) → HasListened port start (record { inventory = inventory; behind = x }) u final fed (sent_by a c n l p r k) → LivesTo port bytes start x u fed (sent_by a c n l p r k) final.behind
-    by_result x (Ok u) h = (inventory, read, (final, h, refl))
-    by_result x (Err stops.Memory) h = inr (inventory, read, inr (final, h, refl))
-    by_result x (Err stops.Write) h = (inventory, read, inr (final, h, refl))
-    by_result x (Err stops.TooLong) h = (inventory, read, inr (final, h, refl))
-    by_result x (Err stops.Read) h = (inventory, read, inr (final, h, refl))
-    by_result x (Err (stops.Line i)) h = (inventory, read, inr (final, h, refl))
-    by_result x (Err (stops.Broker name)) h = (inventory, read, inr (final, h, refl))
-    by_result x (Err (stops.Moments fault)) h = (inventory, read, inr (final, h, refl))
-    by_result x (Err (stops.FaultWord i)) h = (inventory, read, inr (final, h, refl))
-    by_result x (Err (stops.Inventory fault)) h = absurd h.ends.1
+    by_result : (u : Result (Unit {0}) Stop) → HasListened port start (record { inventory = inventory; behind = before }) u final fed (sent_by a c n l p r k) → LivesTo port bytes start before u fed (sent_by a c n l p r k) final.behind
+    by_result (Ok u) h = (inventory, read, (final, h, refl))
+    by_result (Err stops.Memory) h = inr (inventory, read, inr (final, h, refl))
+    by_result (Err stops.Write) h = (inventory, read, inr (final, h, refl))
+    by_result (Err stops.TooLong) h = (inventory, read, inr (final, h, refl))
+    by_result (Err stops.Read) h = (inventory, read, inr (final, h, refl))
+    by_result (Err (stops.Line i)) h = (inventory, read, inr (final, h, refl))
+    by_result (Err (stops.Broker name)) h = (inventory, read, inr (final, h, refl))
+    by_result (Err (stops.Moments fault)) h = (inventory, read, inr (final, h, refl))
+    by_result (Err (stops.FaultWord i)) h = (inventory, read, inr (final, h, refl))
+    by_result (Err (stops.Inventory fault)) h = absurd h.ends.1
 
   -- by another name of the port
-  pub at_port : (result : Result (Unit {0}) Stop) (fed : Fed) (out : Sent) (new : Option Behind) (n : ℕ) → port ≡ n → Lives result fed out new → IfSome before (λ b. LivesTo n bytes start b result fed out new)
-  at_port result fed out new n is lives = subst (λ m. IfSome before (λ b. LivesTo m bytes start b result fed out new)) is lives
+  pub at_port : (result : Result (Unit {0}) Stop) (fed : Fed) (out : Sent) (new : Option Behind) (n : ℕ) → port ≡ n → LivesTo port bytes start before result fed out new → LivesTo n bytes start before result fed out new
+  at_port result fed out new n is lives = subst (λ m. LivesTo m bytes start before result fed out new) is lives
 
   -- ---- by exit
 
-  pub done_runs : (fed : Fed) (out : Sent) (new : Option Behind) (e : Option (List ℕ)) (n : ℕ) (p k : Bool) → Lives (Ok tt) fed out new → IfSome before (λ b. LiveRun port bytes start b exits.Done fed out (sent_by e e n n p p k) new)
-  done_runs fed out new e n p k lives = some_lives (λ b h. (h, untouched e n p k)) lives
+  pub done_runs : (fed : Fed) (out : Sent) (new : Option Behind) (e : Option (List ℕ)) (n : ℕ) (p k : Bool) → LivesTo port bytes start before (Ok tt) fed out new → LiveRun port bytes start before exits.Done fed out (sent_by e e n n p p k) new
+  done_runs fed out new e n p k lives = (lives, untouched e n p k)
 
   pub stopped_runs :
-      (stop : Stop) (exit : Exit) (fed : Fed) (out errors : Sent) (new : Option Behind) → exit ≡ exit_of stop → Lives (Err stop) fed out new → Reports (fault_line (codes "leasekeep") stop) errors →
-      IfSome before (λ b. LiveRun port bytes start b exit fed out errors new)
-  stopped_runs stop exit fed out errors new is lives told =
-      subst (λ (e : Exit). IfSome before (λ b. LiveRun port bytes start b e fed out errors new)) (sym is) (some_lives (λ b h. by_stop b stop h told) lives) where
-        by_stop : (b : Behind) (u : Stop) → LivesTo port bytes start b (Err u) fed out new → Reports (fault_line (codes "leasekeep") u) errors → LiveRun port bytes start b (exit_of u) fed out errors new
-        by_stop b stops.Memory h t = (stops.Memory, refl, h, t)
-        by_stop b stops.Write h t = (stops.Write, refl, h, t)
-        by_stop b stops.TooLong h t = (stops.TooLong, refl, h, t)
-        by_stop b stops.Read h t = (stops.Read, refl, h, t)
-        by_stop b (stops.Line i) h t = (stops.Line i, refl, h, t)
-        by_stop b (stops.Broker name) h t = (stops.Broker name, refl, h, t)
-        by_stop b (stops.Moments fault) h t = (stops.Moments fault, refl, h, t)
-        by_stop b (stops.FaultWord i) h t = (stops.FaultWord i, refl, h, t)
-        by_stop b (stops.Inventory fault) h t = (stops.Inventory fault, refl, h, t)
+      (stop : Stop) (exit : Exit) (fed : Fed) (out errors : Sent) (new : Option Behind) → exit ≡ exit_of stop → LivesTo port bytes start before (Err stop) fed out new → Reports (fault_line (codes "leasekeep") stop) errors →
+      LiveRun port bytes start before exit fed out errors new
+  stopped_runs stop exit fed out errors new is lives told = subst (λ (e : Exit). LiveRun port bytes start before e fed out errors new) (sym is) (by_stop stop lives told) where
+    by_stop : (u : Stop) → LivesTo port bytes start before (Err u) fed out new → Reports (fault_line (codes "leasekeep") u) errors → LiveRun port bytes start before (exit_of u) fed out errors new
+    by_stop stops.Memory h t = (stops.Memory, refl, h, t)
+    by_stop stops.Write h t = (stops.Write, refl, h, t)
+    by_stop stops.TooLong h t = (stops.TooLong, refl, h, t)
+    by_stop stops.Read h t = (stops.Read, refl, h, t)
+    by_stop (stops.Line i) h t = (stops.Line i, refl, h, t)
+    by_stop (stops.Broker name) h t = (stops.Broker name, refl, h, t)
+    by_stop (stops.Moments fault) h t = (stops.Moments fault, refl, h, t)
+    by_stop (stops.FaultWord i) h t = (stops.FaultWord i, refl, h, t)
+    by_stop (stops.Inventory fault) h t = (stops.Inventory fault, refl, h, t)

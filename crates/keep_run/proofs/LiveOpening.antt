@@ -1,5 +1,5 @@
 -- LiveOpening: the opening of a live run, and how it ends early: for `begin`.
-use Rattle.std.proofs.Common.{◌≡◌, ℕ, ◌⊎◌, inl, inr, Bool, List, [], ◌++◌, Option, Some, None, IfSome, Result, Ok, Err, arith, length, refl, sym, ap, ◌∙◌, subst}
+use Rattle.std.proofs.Common.{◌≡◌, ℕ, ◌⊎◌, inl, inr, Bool, List, [], ◌++◌, Option, Result, Ok, Err, arith, length, refl, sym, ap, ◌∙◌, subst}
 use Rattle.std.specs.Io.KnownBytes.{Appends}
 use Rattle.std.specs.Result.{IfErr, IsErr, IsErrAnd}
 use Rattle.std.proofs.lemmas.List.{append-nil}
@@ -18,29 +18,23 @@ use Rattle.keep_run.specs.LiveRun.{EndsEarly, IsLiveOpening, IsOpened}
 use Rattle.keep_run.specs.Looking.{Looked, LooksAll, LooksAllUp, first, looked_text}
 use Rattle.keep_run.specs.Stops.{both}
 use Rattle.keep_run.specs.Text.{short_lines}
-use Rattle.keep_run.proofs.LookedUp.{said_appends, same_credentials, sent_by}
+use Rattle.keep_run.proofs.LookedUp.{left_alone, said_appends, same_credentials, sent_by}
 use Rattle.keep_run.proofs.Texts.{same_shorts}
 use Rattle.keep_run.proofs.Written.{appends_then, front_then, whole_front}
 use Rattle.keep_tree.specs.Forest.{Forest}
 
 -- ---- a lookup that stops it
 
-by_stop : (port t : ℕ) (old : Looked) (stop : Stop) (out : Sent) (inventory : Inventory) (new : Option Behind) → LooksAllUp port t old (Err stop) out inventory new → EndsEarly port t old stop out new
-by_stop port t old (stops.Broker name) out inventory new h = h
-by_stop port t old stops.Write out inventory new h = (h.4, inl (h.0, h.1, h.2, h.3))
-by_stop port t old stops.Memory out inventory new h = inl h
-by_stop port t old stops.TooLong out inventory new h = absurd h
-by_stop port t old stops.Read out inventory new h = absurd h
-by_stop port t old (stops.Inventory fault) out inventory new h = absurd h
-by_stop port t old (stops.Moments fault) out inventory new h = absurd h
-by_stop port t old (stops.FaultWord n) out inventory new h = absurd h
-by_stop port t old (stops.Line n) out inventory new h = absurd h
-
-pub looking_early :
-    (port t : ℕ) (before : Option Behind) (s : Inventory) (stop : Stop) (out : Sent) (inventory : Inventory) (new : Option Behind) → IfSome before (λ b. LooksAllUp port t (record { inventory = s; behind = b }) (Err stop) out inventory new) →
-    IfSome before (λ b. EndsEarly port t (record { inventory = s; behind = b }) stop out new)
-looking_early port t None s stop out inventory new h = tt
-looking_early port t (Some b) s stop out inventory new h = by_stop port t (record { inventory = s; behind = b }) stop out inventory new h
+pub looking_early : (port t : ℕ) (old : Looked) (stop : Stop) (out : Sent) (inventory : Inventory) (new : Option Behind) → LooksAllUp port t old (Err stop) out inventory new → EndsEarly port t old stop out new
+looking_early port t old (stops.Broker name) out inventory new h = h
+looking_early port t old stops.Write out inventory new h = (h.4, inl (h.0, h.1, h.2, h.3))
+looking_early port t old stops.Memory out inventory new h = inl h
+looking_early port t old stops.TooLong out inventory new h = absurd h
+looking_early port t old stops.Read out inventory new h = absurd h
+looking_early port t old (stops.Inventory fault) out inventory new h = absurd h
+looking_early port t old (stops.Moments fault) out inventory new h = absurd h
+looking_early port t old (stops.FaultWord n) out inventory new h = absurd h
+looking_early port t old (stops.Line n) out inventory new h = absurd h
 
 -- ---- behind all lookups
 
@@ -55,17 +49,17 @@ module _ (port t : ℕ) (old : Looked) (inventory : Inventory) (middle : Option 
   pub memory_early : EndsEarly port t old stops.Memory (sent_by a b n m p q k) middle
   memory_early = inl (
     length old.inventory.forest.entries,
-    record { inventory = inventory; behind = all.behind },
+    record { inventory = inventory; behind = middle },
     record { within = omega arith; looked = all.looked; front = subst (AppendsFront a b) (append-nil lines) (whole_front a b lines [] written) },
-    inl all.is,
+    left_alone port middle t inventory (length old.inventory.forest.entries) middle refl,
   )
 
   pub long_early : ReplanTooLong inventory.forest t → EndsEarly port t old stops.TooLong (sent_by a b n m p q k) middle
-  long_early long = record { looked = record { inventory = inventory; behind = all.behind }; all = all.looked; long = long; said = all.said; left = all.is }
+  long_early long = record { looked = record { inventory = inventory; behind = middle }; all = all.looked; long = long; said = all.said; left = refl }
 
-  opening : (keeper : State) (shorts : List ℕ) → Replan (unplanned inventory.forest) t keeper → shorts ≡ short_lines keeper.forest keeper.shortened → IsLiveOpening port t old (both (taken keeper) all.behind) (lines ++ shorts)
+  opening : (keeper : State) (shorts : List ℕ) → Replan (unplanned inventory.forest) t keeper → shorts ≡ short_lines keeper.forest keeper.shortened → IsLiveOpening port t old (both (taken keeper) middle) (lines ++ shorts)
   opening keeper shorts planned is = record {
-    looked = record { inventory = inventory; behind = all.behind };
+    looked = record { inventory = inventory; behind = middle };
     all = all.looked;
     keeper = keeper;
     planned = planned;
@@ -77,9 +71,9 @@ module _ (port t : ℕ) (old : Looked) (inventory : Inventory) (middle : Option 
       (keeper : State) (shorts : List ℕ) (stop : Stop) → Replan (unplanned inventory.forest) t keeper → shorts ≡ short_lines keeper.forest keeper.shortened → Sends (Err stop) shorts (sent_by b c m l q r k) →
       EndsEarly port t old stop (sent_by a c n l p r k) middle
   unsent_early keeper shorts stops.Write planned is sends =
-      (subst (λ x. HasFailed x l) all.kept sends.0, inr (both (taken keeper) all.behind, lines ++ shorts, opening keeper shorts planned is, front_then a b c lines shorts written sends.1, all.is))
+      (subst (λ x. HasFailed x l) all.kept sends.0, inr (both (taken keeper) middle, lines ++ shorts, opening keeper shorts planned is, front_then a b c lines shorts written sends.1, refl))
   unsent_early keeper shorts stops.Memory planned is sends =
-      inr (both (taken keeper) all.behind, lines ++ shorts, opening keeper shorts planned is, front_then a b c lines shorts written sends.1, all.is)
+      inr (both (taken keeper) middle, lines ++ shorts, opening keeper shorts planned is, front_then a b c lines shorts written sends.1, refl)
   unsent_early keeper shorts stops.TooLong planned is sends = absurd sends
   unsent_early keeper shorts stops.Read planned is sends = absurd sends
   unsent_early keeper shorts (stops.Inventory fault) planned is sends = absurd sends
@@ -92,50 +86,36 @@ module _ (port t : ℕ) (old : Looked) (inventory : Inventory) (middle : Option 
       (keeper : State) (shorts : List ℕ) → Replan (unplanned inventory.forest) t keeper → shorts ≡ short_lines keeper.forest keeper.shortened → IsAll shorts (sent_by b c m l q r k) → l ≡ m →
       IsOpened port t old inventory.credentials (taken keeper) middle (sent_by a c n l p r k)
   opened keeper shorts planned is sends more = record {
-    same = same_credentials port t old (first (length old.inventory.forest.entries)) (record { inventory = inventory; behind = all.behind }) all.looked;
-    behind = all.behind;
-    is = all.is;
+    same = same_credentials port t old (first (length old.inventory.forest.entries)) (record { inventory = inventory; behind = middle }) all.looked;
     text = lines ++ shorts;
     opened = opening keeper shorts planned is;
     sent = (appends_then a b c lines shorts written sends.0, sends.1);
     kept = more ∙ all.kept;
   }
 
--- ---- where it is known what stands behind the exchange
+-- ---- by the names that the code has
 
-module _ (port t : ℕ) (before : Option Behind) (s inventory : Inventory) (middle : Option Behind) (a b c : Option (List ℕ)) (n m l : ℕ) (p q r k : Bool)
-    (all : IfSome before (λ x. LooksAll port t (record { inventory = s; behind = x }) (sent_by a b n m p q k) inventory middle)) where
-  ends_early : (P : Looked → Type 0) → ((x : Behind) → LooksAll port t (record { inventory = s; behind = x }) (sent_by a b n m p q k) inventory middle → P (record { inventory = s; behind = x })) → IfSome before (λ x. P (record { inventory = s; behind = x }))
-  ends_early P f = by_case before all where
-    by_case : (o : Option Behind) → IfSome o (λ x. LooksAll port t (record { inventory = s; behind = x }) (sent_by a b n m p q k) inventory middle) → IfSome o (λ x. P (record { inventory = s; behind = x }))
-    by_case None h = tt
-    by_case (Some x) h = f x h
+module _ (port t : ℕ) (old : Looked) (inventory : Inventory) (middle : Option Behind) (a b c : Option (List ℕ)) (n m l : ℕ) (p q r k : Bool) (all : LooksAll port t old (sent_by a b n m p q k) inventory middle) where
+  pub memory_ends : (stop : Stop) → stop ≡ stops.Memory → EndsEarly port t old stop (sent_by a b n m p q k) middle
+  memory_ends stop is = subst (λ (u : Stop). EndsEarly port t old u (sent_by a b n m p q k) middle) (sym is) (memory_early port t old inventory middle a b b n m m p q q k all)
 
-  pub memory_ends : (stop : Stop) → stop ≡ stops.Memory → IfSome before (λ x. EndsEarly port t (record { inventory = s; behind = x }) stop (sent_by a b n m p q k) middle)
-  memory_ends stop is = ends_early (λ old. EndsEarly port t old stop (sent_by a b n m p q k) middle) (λ x h.
-      subst (λ (u : Stop). EndsEarly port t (record { inventory = s; behind = x }) u (sent_by a b n m p q k) middle) (sym is)
-      (memory_early port t (record { inventory = s; behind = x }) inventory middle a b b n m m p q q k h))
-
-  pub planning_ends :
-      (g : Forest) (stop : Stop) → g ≡ inventory.forest → (stop ≡ stops.Memory) ⊎ ((stop ≡ stops.TooLong) × ReplanTooLong g t) → IfSome before (λ x. EndsEarly port t (record { inventory = s; behind = x }) stop (sent_by a b n m p q k) middle)
+  pub planning_ends : (g : Forest) (stop : Stop) → g ≡ inventory.forest → (stop ≡ stops.Memory) ⊎ ((stop ≡ stops.TooLong) × ReplanTooLong g t) → EndsEarly port t old stop (sent_by a b n m p q k) middle
   planning_ends g stop is (inl memory) = memory_ends stop memory
-  planning_ends g stop is (inr long) = ends_early (λ old. EndsEarly port t old stop (sent_by a b n m p q k) middle) (λ x h.
-      subst (λ (u : Stop). EndsEarly port t (record { inventory = s; behind = x }) u (sent_by a b n m p q k) middle) (sym long.0)
-      (long_early port t (record { inventory = s; behind = x }) inventory middle a b b n m m p q q k h (subst (λ h'. ReplanTooLong h' t) is long.1)))
+  planning_ends g stop is (inr long) =
+      subst (λ (u : Stop). EndsEarly port t old u (sent_by a b n m p q k) middle) (sym long.0) (long_early port t old inventory middle a b b n m m p q q k all (subst (λ h. ReplanTooLong h t) is long.1))
 
   pub sending_ends :
       (g : Forest) (keeper : State) (shorts : List ℕ) (stop : Stop) → g ≡ inventory.forest → Replan (unplanned g) t keeper → shorts ≡ short_lines keeper.forest keeper.shortened → Sends (Err stop) shorts (sent_by b c m l q r k) →
-      IfSome before (λ x. EndsEarly port t (record { inventory = s; behind = x }) stop (sent_by a c n l p r k) middle)
-  sending_ends g keeper shorts stop is planned are sends = ends_early (λ old. EndsEarly port t old stop (sent_by a c n l p r k) middle) (λ x h.
-      unsent_early port t (record { inventory = s; behind = x }) inventory middle a b c n m l p q r k h keeper shorts stop (subst (λ h'. Replan (unplanned h') t keeper) is planned) are sends)
+      EndsEarly port t old stop (sent_by a c n l p r k) middle
+  sending_ends g keeper shorts stop is planned are sends = unsent_early port t old inventory middle a b c n m l p q r k all keeper shorts stop (subst (λ h. Replan (unplanned h) t keeper) is planned) are sends
 
   pub opens :
       (g : Forest) (cs : List (List ℕ)) (keeper now : State) (shorts : List ℕ) → g ≡ inventory.forest → cs ≡ inventory.credentials → Replan (unplanned g) t keeper → now ≡ taken keeper → shorts ≡ short_lines keeper.forest keeper.shortened →
-      IsAll shorts (sent_by b c m l q r k) → l ≡ m → IfSome before (λ x. IsOpened port t (record { inventory = s; behind = x }) cs now middle (sent_by a c n l p r k))
-  opens g cs keeper now shorts is_g is_cs planned is_now are sends more = ends_early (λ old. IsOpened port t old cs now middle (sent_by a c n l p r k)) (λ x h.
-      subst (λ u. IsOpened port t (record { inventory = s; behind = x }) u now middle (sent_by a c n l p r k)) (sym is_cs)
-      (subst (λ (v : State). IsOpened port t (record { inventory = s; behind = x }) inventory.credentials v middle (sent_by a c n l p r k)) (sym is_now)
-      (opened port t (record { inventory = s; behind = x }) inventory middle a b c n m l p q r k h keeper shorts (subst (λ h'. Replan (unplanned h') t keeper) is_g planned) are sends more)))
+      IsAll shorts (sent_by b c m l q r k) → l ≡ m → IsOpened port t old cs now middle (sent_by a c n l p r k)
+  opens g cs keeper now shorts is_g is_cs planned is_now are sends more =
+      subst (λ u. IsOpened port t old u now middle (sent_by a c n l p r k)) (sym is_cs)
+      (subst (λ (v : State). IsOpened port t old inventory.credentials v middle (sent_by a c n l p r k)) (sym is_now)
+      (opened port t old inventory middle a b c n m l p q r k all keeper shorts (subst (λ h. Replan (unplanned h) t keeper) is_g planned) are sends more))
 
 -- ---- what a call gives that stops it
 

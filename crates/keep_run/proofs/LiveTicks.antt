@@ -17,7 +17,7 @@ use Rattle.keep_inventory.specs.Inventories.{Inventory}
 use Rattle.keep_report.specs.declared.stop.Stop.{Stop}
 use Rattle.keep_report.specs.Sent.{Sent}
 use Rattle.keep_run.specs.Closed.{AreAnswered, Beat, Exchanged, IsBeat, World, asked_in, asks_some, closing, taken}
-use Rattle.keep_run.specs.Live.{IsReady, IsUnderWay, Side, TicksLive, TicksSoFar, TicksUpTo, last_line, next_line, side, tick_text}
+use Rattle.keep_run.specs.Live.{IsReady, IsUnderWay, TicksLive, TicksSoFar, TicksUpTo, last_line, next_line, tick_text}
 use Rattle.keep_run.specs.declared.event_line.Heard.TheVariants.{Need}
 use Rattle.keep_run.specs.Telling.{IsRoundSoFar, IsRoundUpTo, StopsNeed, TellsRound}
 use Rattle.keep_run.specs.Playing.{AnswersAll, IsPlanFault, Ticks, inventory_with, stop_of}
@@ -57,7 +57,7 @@ module _ (port : ℕ) (cs : List (List ℕ)) (t : ℕ) (old : State) where
 
   -- that asks nobody
   pub quiet_heard :
-      (b : Behind) (new : State) (output : Output) (mid after : List ℕ) → Ticks t old output new [] mid → asked_in output ≡ [] → asks_some output ≡ false → after ≡ mid ++ last_line output [] →
+      (b : Option Behind) (new : State) (output : Output) (mid after : List ℕ) → Ticks t old output new [] mid → asked_in output ≡ [] → asks_some output ≡ false → after ≡ mid ++ last_line output [] →
       TicksLive port cs t (both old b) (both new b) after × TicksUpTo port cs t (both old b) (both new b) [] after
   unfolding s beat_text
   quiet_heard b new output mid after ticks none nobody last =
@@ -100,7 +100,7 @@ module _ (port : ℕ) (cs : List (List ℕ)) (t : ℕ) (old : State) where
         ∙ ap (λ l. shorts ++ l) (same_wake old.forest k.forest like t (out.Ask asked)))
         ∙ append_assoc shorts wake answers
 
-    under_way : (b : Behind) (xs : List Exchanged) (others : List ℕ) (new : World) → map (λ (x : Exchanged). x.entry) xs ++ others ≡ asked → AreAnswered port cs t (both k b) xs new → IsUnderWay port cs (both old b) (beat xs) others new
+    under_way : (b : Option Behind) (xs : List Exchanged) (others : List ℕ) (new : World) → map (λ (x : Exchanged). x.entry) xs ++ others ≡ asked → AreAnswered port cs t (both k b) xs new → IsUnderWay port cs (both old b) (beat xs) others new
     under_way b xs others new who answered = record {
       keeper = ticks.keeper;
       turn = ticks.turn;
@@ -110,17 +110,17 @@ module _ (port : ℕ) (cs : List (List ℕ)) (t : ℕ) (old : State) where
     }
 
     -- nobody is asked yet
-    pub none_asked : (b : Behind) → TicksUpTo port cs t (both old b) (both k b) [] mid
+    pub none_asked : (b : Option Behind) → TicksUpTo port cs t (both old b) (both k b) [] mid
     unfolding s
     none_asked b = (beat [], (asked, (refl, (under_way b [] asked (both k b) refl refl, inl (refl, (refl, sym (append-nil mid) ∙ told_text []))))))
 
     -- some are answered
-    pub some_answered : (b : Behind) (new : World) (told : List ℕ) → IsRoundSoFar port cs t (both k b) asked new told → TicksSoFar port cs t (both old b) new (mid ++ told)
+    pub some_answered : (b : Option Behind) (new : World) (told : List ℕ) → IsRoundSoFar port cs t (both k b) asked new told → TicksSoFar port cs t (both old b) new (mid ++ told)
     unfolding s
     some_answered b new told r = (beat r.xs, (r.others, (refl, (under_way b r.xs r.others new r.who r.answered, ap (λ l. mid ++ l) r.told_is ∙ told_text r.xs))))
 
     -- and the lines of the last answer are under way
-    pub one_more : (b : Behind) (new : World) (told own : List ℕ) → IsRoundUpTo port cs t (both k b) asked new told own → TicksUpTo port cs t (both old b) new (mid ++ told) own
+    pub one_more : (b : Option Behind) (new : World) (told own : List ℕ) → IsRoundUpTo port cs t (both k b) asked new told own → TicksUpTo port cs t (both old b) new (mid ++ told) own
     unfolding s
     one_more b new told own r = (
       beat (r.before ++ r.x ∷ []),
@@ -136,7 +136,7 @@ module _ (port : ℕ) (cs : List (List ℕ)) (t : ℕ) (old : State) where
       ),
     )
 
-    module _ (b : Behind) (new : World) (next : Option ℕ) (told : List ℕ) (a : AnswersAll port cs t (both k b) asked next new [] told) where
+    module _ (b : Option Behind) (new : World) (next : Option ℕ) (told : List ℕ) (a : AnswersAll port cs t (both k b) asked next new [] told) where
       -- all are answered, and the last line is under way
       pub last_under_way : TicksUpTo port cs t (both old b) new (mid ++ told) (next_line next)
       unfolding s
@@ -180,18 +180,18 @@ on_ok (Ok x) p = p
 on_ok (Err e) p = tt
 
 pub round_as :
-    (port : ℕ) (cs : List (List ℕ)) (t : ℕ) (old new : Side) (lent asked : List ℕ) (result : Result (Option ℕ) Stop) (out : Sent) → lent ≡ asked → TellsRound port cs t old lent result new out → TellsRound port cs t old asked result new out
+    (port : ℕ) (cs : List (List ℕ)) (t : ℕ) (old new : World) (lent asked : List ℕ) (result : Result (Option ℕ) Stop) (out : Sent) → lent ≡ asked → TellsRound port cs t old lent result new out → TellsRound port cs t old asked result new out
 round_as port cs t old new lent asked result out same h = subst (λ (is : List ℕ). TellsRound port cs t old is result new out) same h
 
 -- why the keeper refuses a need, as the stop of a run
 pub need_stops :
     (old new : State) (i at until : ℕ) (fault : StepFault) (stop : Stop) (behind : Option Behind) → at ≡ until → IsPlanFault fault → Turn old (events.Need i at) (Err fault) new → stop ≡ stop_of fault →
-    StopsNeed (side old behind) (Need i until) stop (side new behind)
+    StopsNeed (both old behind) (Need i until) stop (both new behind)
 need_stops old new i at until steps.ClockBack stop behind same is turn e = absurd is
 need_stops old new i at until steps.RoundOpen stop behind same is turn e = absurd is
 need_stops old new i at until steps.NotAsked stop behind same is turn e = absurd is
 need_stops old new i at until steps.BadIndex stop behind same is turn e = absurd is
 need_stops old new i at until steps.OutOfRange stop behind same is turn e = absurd is
 need_stops old new i at until steps.TooLong stop behind same is turn e =
-    subst (λ (q : Stop). StopsNeed (side old behind) (Need i until) q (side new behind)) (sym e) (subst (λ n. Turn old (events.Need i n) (Err steps.TooLong) new) same turn, refl)
-need_stops old new i at until steps.OutOfMemory stop behind same is turn e = subst (λ (q : Stop). StopsNeed (side old behind) (Need i until) q (side new behind)) (sym e) tt
+    subst (λ (q : Stop). StopsNeed (both old behind) (Need i until) q (both new behind)) (sym e) (subst (λ n. Turn old (events.Need i n) (Err steps.TooLong) new) same turn, refl)
+need_stops old new i at until steps.OutOfMemory stop behind same is turn e = subst (λ (q : Stop). StopsNeed (both old behind) (Need i until) q (both new behind)) (sym e) tt

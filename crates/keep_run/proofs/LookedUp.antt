@@ -1,7 +1,7 @@
 -- LookedUp: looking the entries of an inventory up, one after another: for `look_all_up` and `look_one_up`.
 use Rattle.std.specs.Prelude.{◌≢◌, OnOk, is_none}
 use Rattle.std.specs.Result.{IsErr, IsErrAnd}
-use Rattle.std.proofs.Common.{◌≡◌, ℕ, zero, suc, ◌+◌, ◌<◌, ◌≤◌, ◌==◌, inl, inr, Bool, true, false, cond, IsTrue, List, [], ◌∷◌, ◌++◌, Option, Some, None, IfSome, Result, Ok, Err, arith, flat_map, length, refl, sym, ap, ◌∙◌, subst}
+use Rattle.std.proofs.Common.{◌≡◌, ℕ, zero, suc, ◌+◌, ◌<◌, ◌≤◌, ◌==◌, inl, inr, Bool, true, false, cond, IsTrue, List, [], ◌∷◌, ◌++◌, Option, Some, None, Result, Ok, Err, arith, flat_map, length, refl, sym, ap, ◌∙◌, subst}
 use Rattle.std.specs.List.{range_with_len}
 use Rattle.std.specs.Io.KnownBytes.{Appends}
 use Rattle.std.proofs.KnownBytes.{Appends-kept, Keeps-refl, Keeps-trans}
@@ -9,9 +9,8 @@ use Rattle.std.proofs.lemmas.List.{append-nil, length-set}
 use Rattle.std.proofs.lemmas.Grind.{flat_map-append}
 use Rattle.keep_device.specs.Failures.{HasFailed}
 use Rattle.keep_device.specs.Front.{AppendsFront}
-use Rattle.keep_exchange.specs.Exchanges.{Behind, received}
-use Rattle.keep_exchange.specs.Lookups.{IsLookedUp, applied, looked, lookup_in}
-use Rattle.keep_exchange.specs.Requests.{lookup_of}
+use Rattle.keep_exchange.specs.Exchanges.{Behind}
+use Rattle.keep_exchange.specs.Lookups.{IsLookedUp, IsLookupLeft, applied, looked, lookup_in}
 use Rattle.keep_inventory.specs.Lookup.{lookup_fault, told}
 use Rattle.keep_inventory.specs.Inventories.{Inventory}
 use Rattle.keep_report.specs.declared.stop.Stop.{Stop}
@@ -25,11 +24,7 @@ use Rattle.keep_run.proofs.Written.{appends_then, front_then, keeps_appends, who
 use Rattle.keep_tree.specs.declared.entry.Entry.{Entry}
 use Rattle.keep_tree.specs.Forest.{entry_at}
 use Rattle.keep_tree.proofs.Entries.{entry_at_set_other}
-use Rattle.mini_broker.specs.Table.{Table}
-use Rattle.mini_broker.specs.Step.{step}
-use Rattle.mini_broker.specs.Stream.{sent_of}
 use Rattle.vault_http.specs.declared.reply.Reply.{Reply}
-use Rattle.vault_http.specs.Written.{request_text}
 use Rattle.vault_json.specs.declared.fault.ReplyFault.{ReplyFault}
 use Rattle.vault_json.specs.declared.lookup.Lookup.{Lookup}
 use Rattle.keep_exchange.specs.declared.fault.ExchangeFault.{ExchangeFault}
@@ -37,8 +32,8 @@ use Rattle.keep_exchange.specs.declared.fault.ExchangeFault.{ExchangeFault}
 -- ---- one lookup more
 
 looked_more :
-    (port t : ℕ) (old mid new : Looked) (is : List ℕ) (i : ℕ) → AreLookedUp port t old is mid → IsLookedUp port mid.behind.table t mid.inventory i true new.inventory (Some new.behind) → AreLookedUp port t old (is ++ i ∷ []) new
-looked_more port t old mid new [] i all one = (new, (subst (λ (m : Looked). IsLookedUp port m.behind.table t m.inventory i true new.inventory (Some new.behind)) all one, refl))
+    (port t : ℕ) (old mid new : Looked) (is : List ℕ) (i : ℕ) → AreLookedUp port t old is mid → IsLookedUp port mid.behind t mid.inventory i true new.inventory new.behind → AreLookedUp port t old (is ++ i ∷ []) new
+looked_more port t old mid new [] i all one = (new, (subst (λ (m : Looked). IsLookedUp port m.behind t m.inventory i true new.inventory new.behind) all one, refl))
 looked_more port t old mid new (j ∷ is) i all one = (all.0, (all.1.0, looked_more port t all.0 mid new is i all.1.1 one))
 
 range_more : (a n : ℕ) → range_with_len a (suc n) ≡ range_with_len a n ++ (a + n) ∷ []
@@ -84,12 +79,12 @@ of_reply s i t P holds (Ok r) new e = by_flag (r.status == 200) e where
   by_flag false h = absurd (let bad : None ≡ Some new = h in cc)
 
 told_by : (port t : ℕ) (old : Looked) (i : ℕ) (inventory : Inventory) (new : Option Behind) → Applies port t old i inventory new → IsToldOne old.inventory i inventory
-told_by port t old i inventory new a = of_reply old.inventory i t (IsToldOne old.inventory i) (told_one old.inventory i t) (received a.1.1.sent) inventory a.1.1.applied_is
+told_by port t old i inventory new a = of_reply old.inventory i t (IsToldOne old.inventory i) (told_one old.inventory i t) a.came inventory a.applied_is
 
 pub same_credentials : (port t : ℕ) (old : Looked) (is : List ℕ) (new : Looked) → AreLookedUp port t old is new → new.inventory.credentials ≡ old.inventory.credentials
 same_credentials port t old [] new all = ap (λ (u : Looked). u.inventory.credentials) all
 same_credentials port t old (i ∷ is) new all =
-    same_credentials port t all.0 is new all.1.1 ∙ (told_by port t old i all.0.inventory (Some all.0.behind) (all.0.behind, (refl, all.1.0))).credentials
+    same_credentials port t all.0 is new all.1.1 ∙ (told_by port t old i all.0.inventory all.0.behind all.1.0).credentials
 
 -- ---- the lines
 
@@ -132,44 +127,37 @@ said_still a b c n m l p q r k x (inr first) none = inr (first.0, (Keeps-trans a
 
 -- ---- one entry
 
-left_by : (port : ℕ) (old : Table) (t : ℕ) (s : Inventory) (i : ℕ) (is : Bool) (inventory : Inventory) (new : Option Behind) → IsLookedUp port old t s i is inventory new → (b : Behind) × ((new ≡ Some b) × IsLookedUp port old t s i is inventory (Some b))
-left_by port old t s i is inventory new l = (
-  record { table = (step old t (lookup_of port s.credentials s.forest i)).table; wire = request_text (lookup_of port s.credentials s.forest i) ++ sent_of l.sent },
-  (l.is, record { sent = l.sent; says = l.says; applied_is = l.applied_is; is = refl }),
-)
+pub left_alone : (port : ℕ) (o : Option Behind) (t : ℕ) (s : Inventory) (i : ℕ) (new : Option Behind) → new ≡ o → IsLookupLeft port o t s i new
+left_alone port None t s i new same = tt
+left_alone port (Some b) t s i new same = inl same
 
 -- memory was wanting before the line was made
 pub one_memory :
-    (port t : ℕ) (before : Option Behind) (s : Inventory) (i : ℕ) (result : Result (Unit {0}) Stop) (inventory : Inventory) (after : Option Behind) (a : Option (List ℕ)) (n : ℕ) (p k : Bool) → IsErr result × IsErrAnd result (λ (q : Stop). q ≡ stops.Memory) →
-    IfSome before (λ b. IsLeft port t (record { inventory = s; behind = b }) i after) →
-    IfSome before (λ b. LooksOneUp port t (record { inventory = s; behind = b }) i result (sent_by a a n n p p k) inventory after)
-one_memory port t None s i result inventory after a n p k is left = tt
-one_memory port t (Some b) s i (Ok u) inventory after a n p k is left = absurd (let no = is.0 in cc)
-one_memory port t (Some b) s i (Err stop) inventory after a n p k is left =
-    subst (λ (q : Stop). LooksOneUp port t (record { inventory = s; behind = b }) i (Err q) (sent_by a a n n p p k) inventory after) (sym is.1) (inl (untouched a n p k, left))
+    (port t : ℕ) (old : Looked) (i : ℕ) (result : Result (Unit {0}) Stop) (inventory : Inventory) (after : Option Behind) (a : Option (List ℕ)) (n : ℕ) (p k : Bool) → IsErr result × IsErrAnd result (λ (q : Stop). q ≡ stops.Memory) →
+    IsLeft port t old i after → LooksOneUp port t old i result (sent_by a a n n p p k) inventory after
+one_memory port t old i (Ok u) inventory after a n p k is left = absurd (let no = is.0 in cc)
+one_memory port t old i (Err stop) inventory after a n p k is left =
+    subst (λ (q : Stop). LooksOneUp port t old i (Err q) (sent_by a a n n p p k) inventory after) (sym is.1) (inl (untouched a n p k, left))
 
 pub one_refused :
-    (port t : ℕ) (before : Option Behind) (s : Inventory) (i : ℕ) (name : List ℕ) (inventory : Inventory) (after : Option Behind) (a : Option (List ℕ)) (n : ℕ) (p k : Bool) → name ≡ name_of s.forest i → inventory ≡ s →
-    IfSome before (λ b. IsLookedUp port b.table t s i false inventory after) →
-    IfSome before (λ b. LooksOneUp port t (record { inventory = s; behind = b }) i (Err (stops.Broker name)) (sent_by a a n n p p k) inventory after)
-one_refused port t None s i name inventory after a n p k named same looked_up = tt
-one_refused port t (Some b) s i name inventory after a n p k named same looked_up =
-    (named, subst (λ (u : Inventory). IsLookedUp port b.table t s i false u after) same looked_up, untouched a n p k)
+    (port t : ℕ) (old : Looked) (i : ℕ) (name : List ℕ) (inventory : Inventory) (after : Option Behind) (a : Option (List ℕ)) (n : ℕ) (p k : Bool) → name ≡ name_of old.inventory.forest i → inventory ≡ old.inventory →
+    IsLookedUp port old.behind t old.inventory i false inventory after → LooksOneUp port t old i (Err (stops.Broker name)) (sent_by a a n n p p k) inventory after
+one_refused port t old i name inventory after a n p k named same looked_up =
+    (named, subst (λ (u : Inventory). IsLookedUp port old.behind t old.inventory i false u after) same looked_up, untouched a n p k)
 
 pub one_written :
-    (port t : ℕ) (before : Option Behind) (s : Inventory) (i : ℕ) (result : Result (Unit {0}) Stop) (inventory : Inventory) (after : Option Behind) (out : Sent) → IfSome before (λ b. IsLookedUp port b.table t s i true inventory after) →
-    Finishes (looked_line inventory i) result out → OnOk result (out.failed_after ≡ out.failed_before) → IfSome before (λ b. LooksOneUp port t (record { inventory = s; behind = b }) i result out inventory after)
-one_written port t None s i result inventory after out looked_up ends kept = tt
-one_written port t (Some b) s i (Ok u) inventory after out looked_up ends kept = (left_by port b.table t s i true inventory after looked_up, ends, kept)
-one_written port t (Some b) s i (Err stops.Write) inventory after out looked_up ends kept = (left_by port b.table t s i true inventory after looked_up, ends.0, ends.1)
-one_written port t (Some b) s i (Err stops.Memory) inventory after out looked_up ends kept = inr (left_by port b.table t s i true inventory after looked_up, ends)
-one_written port t (Some b) s i (Err stops.TooLong) inventory after out looked_up ends kept = absurd ends
-one_written port t (Some b) s i (Err stops.Read) inventory after out looked_up ends kept = absurd ends
-one_written port t (Some b) s i (Err (stops.Inventory fault)) inventory after out looked_up ends kept = absurd ends
-one_written port t (Some b) s i (Err (stops.Moments fault)) inventory after out looked_up ends kept = absurd ends
-one_written port t (Some b) s i (Err (stops.FaultWord n)) inventory after out looked_up ends kept = absurd ends
-one_written port t (Some b) s i (Err (stops.Broker name)) inventory after out looked_up ends kept = absurd ends
-one_written port t (Some b) s i (Err (stops.Line n)) inventory after out looked_up ends kept = absurd ends
+    (port t : ℕ) (old : Looked) (i : ℕ) (result : Result (Unit {0}) Stop) (inventory : Inventory) (after : Option Behind) (out : Sent) → IsLookedUp port old.behind t old.inventory i true inventory after →
+    Finishes (looked_line inventory i) result out → OnOk result (out.failed_after ≡ out.failed_before) → LooksOneUp port t old i result out inventory after
+one_written port t old i (Ok u) inventory after out looked_up ends kept = (looked_up, ends, kept)
+one_written port t old i (Err stops.Write) inventory after out looked_up ends kept = (looked_up, ends.0, ends.1)
+one_written port t old i (Err stops.Memory) inventory after out looked_up ends kept = inr (looked_up, ends)
+one_written port t old i (Err stops.TooLong) inventory after out looked_up ends kept = absurd ends
+one_written port t old i (Err stops.Read) inventory after out looked_up ends kept = absurd ends
+one_written port t old i (Err (stops.Inventory fault)) inventory after out looked_up ends kept = absurd ends
+one_written port t old i (Err (stops.Moments fault)) inventory after out looked_up ends kept = absurd ends
+one_written port t old i (Err (stops.FaultWord n)) inventory after out looked_up ends kept = absurd ends
+one_written port t old i (Err (stops.Broker name)) inventory after out looked_up ends kept = absurd ends
+one_written port t old i (Err (stops.Line n)) inventory after out looked_up ends kept = absurd ends
 
 -- ---- the loop
 
@@ -177,40 +165,31 @@ one_written port t (Some b) s i (Err (stops.Line n)) inventory after out looked_
 pub record Looking (port t : ℕ) (old : Looked) (n : ℕ) (now : Inventory) (behind : Option Behind) (out : Sent) : Type 0 where
   pub within : n ≤ length old.inventory.forest.entries
   pub count : length now.forest.entries ≡ length old.inventory.forest.entries
-  pub left : Behind
-  pub is : behind ≡ Some left
-  pub looked : AreLookedUp port t old (first n) (record { inventory = now; behind = left })
+  pub looked : AreLookedUp port t old (first n) (record { inventory = now; behind = behind })
   pub said : IsSaid (looked_text now (first n)) out
   pub kept : out.failed_after ≡ out.failed_before
 
-abbrev pub IsLooking : ℕ → ℕ → Option Behind → Inventory → ℕ → Inventory → Option Behind → Sent → Type 0
-IsLooking port t before s n now behind out = IfSome before (λ b. Looking port t (record { inventory = s; behind = b }) n now behind out)
-
-pub looking_first : (port t : ℕ) (before : Option Behind) (s : Inventory) (a : Option (List ℕ)) (n : ℕ) (p k : Bool) → IsLooking port t before s 0 s before (sent_by a a n n p p k)
-looking_first port t None s a n p k = tt
-looking_first port t (Some b) s a n p k =
-    record { within = omega arith; count = refl; left = b; is = refl; looked = refl; said = inr (no_text s, untouched a n p k); kept = refl }
+pub looking_first : (port t : ℕ) (old : Looked) (a : Option (List ℕ)) (n : ℕ) (p k : Bool) → Looking port t old 0 old.inventory old.behind (sent_by a a n n p p k)
+looking_first port t old a n p k = record { within = omega arith; count = refl; looked = refl; said = inr (no_text old.inventory, untouched a n p k); kept = refl }
 
 module _ (port t : ℕ) (old : Looked) (i : ℕ) (mid : Inventory) (middle : Option Behind) (a b c : Option (List ℕ)) (n m l : ℕ) (p q r k : Bool) (g : Looking port t old i mid middle (sent_by a b n m p q k))
     (below : i < length mid.forest.entries) where
   abbrev now : Looked
-  now = record { inventory = mid; behind = g.left }
+  now = record { inventory = mid; behind = middle }
 
-  looked_on : (new : Inventory) (after : Option Behind) → (one : Applies port t now i new after) → AreLookedUp port t old (first (i + 1)) (record { inventory = new; behind = one.0 })
+  looked_on : (new : Inventory) (after : Option Behind) → Applies port t now i new after → AreLookedUp port t old (first (i + 1)) (record { inventory = new; behind = after })
   looked_on new after one =
-      let all : Looked = record { inventory = new; behind = one.0 } in
-      subst (λ is. AreLookedUp port t old is all) (sym (first_more i)) (looked_more port t old now all (first i) i g.looked one.1.1)
+      let all : Looked = record { inventory = new; behind = after } in
+      subst (λ is. AreLookedUp port t old is all) (sym (first_more i)) (looked_more port t old now all (first i) i g.looked one)
 
   text_on : (new : Inventory) (after : Option Behind) → Applies port t now i new after → looked_text new (first (i + 1)) ≡ looked_text mid (first i) ++ looked_line new i
   text_on new after one = text_more new i ∙ ap (λ x. x ++ looked_line new i) (stays_text mid i new (told_by port t now i new after one))
 
   pub more :
-      (new : Inventory) (after : Option Behind) → LooksOneUp port t (record { inventory = mid; behind = g.left }) i (Ok tt) (sent_by b c m l q r k) new after → Looking port t old (i + 1) new after (sent_by a c n l p r k)
+      (new : Inventory) (after : Option Behind) → LooksOneUp port t now i (Ok tt) (sent_by b c m l q r k) new after → Looking port t old (i + 1) new after (sent_by a c n l p r k)
   more new after one = record {
     within = (let e = g.count in omega arith);
     count = (told_by port t now i new after one.0).count ∙ g.count;
-    left = one.0.0;
-    is = one.0.1.0;
     looked = looked_on new after one.0;
     said = inl (
       subst (Appends a c) (sym (text_on new after one.0)) (appends_then a b c (looked_text mid (first i)) (looked_line new i) (said_appends (looked_text mid (first i)) (sent_by a b n m p q k) g.said) one.1.0),
@@ -229,7 +208,7 @@ module _ (port t : ℕ) (old : Looked) (i : ℕ) (mid : Inventory) (middle : Opt
     front = subst (AppendsFront a c) (append-nil (looked_text mid (first i))) (whole_front a c (looked_text mid (first i)) [] (subst (Appends a c) (append-nil (looked_text mid (first i))) (appends_then a b c (looked_text mid (first i)) [] all_said none)));
   }
 
-  cut_next : (new : Inventory) (after : Option Behind) → (one : Applies port t now i new after) → AppendsFront b c (looked_line new i) → IsCut port t old (record { inventory = new; behind = one.0 }) (i + 1) (sent_by a c n l p r k)
+  cut_next : (new : Inventory) (after : Option Behind) → Applies port t now i new after → AppendsFront b c (looked_line new i) → IsCut port t old (record { inventory = new; behind = after }) (i + 1) (sent_by a c n l p r k)
   cut_next new after one front = record {
     within = (let e = g.count in omega arith);
     looked = looked_on new after one;
@@ -237,7 +216,7 @@ module _ (port t : ℕ) (old : Looked) (i : ℕ) (mid : Inventory) (middle : Opt
   }
 
   pub ends :
-      (stop : Stop) (new : Inventory) (after : Option Behind) → LooksOneUp port t (record { inventory = mid; behind = g.left }) i (Err stop) (sent_by b c m l q r k) new after → LooksAllUp port t old (Err stop) (sent_by a c n l p r k) new after
+      (stop : Stop) (new : Inventory) (after : Option Behind) → LooksOneUp port t now i (Err stop) (sent_by b c m l q r k) new after → LooksAllUp port t old (Err stop) (sent_by a c n l p r k) new after
   ends (stops.Broker name) new after one = record {
     n = i;
     within = (let e = g.count in omega arith);
@@ -247,9 +226,9 @@ module _ (port t : ℕ) (old : Looked) (i : ℕ) (mid : Inventory) (middle : Opt
     name_is = one.0;
     unapplied = one.1;
   }
-  ends stops.Write new after one = (i + 1, record { inventory = new; behind = one.0.0 }, cut_next new after one.0 one.2, one.0.1.0, subst (λ x. HasFailed x l) g.kept one.1)
+  ends stops.Write new after one = (i + 1, record { inventory = new; behind = after }, cut_next new after one.0 one.2, refl, subst (λ x. HasFailed x l) g.kept one.1)
   ends stops.Memory new after (inl one) = (i, now, cut_here (keeps_appends b c one.0.0), one.1)
-  ends stops.Memory new after (inr one) = (i + 1, record { inventory = new; behind = one.0.0 }, cut_next new after one.0 one.1, inl one.0.1.0)
+  ends stops.Memory new after (inr one) = (i + 1, record { inventory = new; behind = after }, cut_next new after one.0 one.1, left_alone port after t new (i + 1) after refl)
   ends stops.TooLong new after one = absurd one
   ends stops.Read new after one = absurd one
   ends (stops.Inventory fault) new after one = absurd one
@@ -257,37 +236,20 @@ module _ (port t : ℕ) (old : Looked) (i : ℕ) (mid : Inventory) (middle : Opt
   ends (stops.FaultWord x) new after one = absurd one
   ends (stops.Line x) new after one = absurd one
 
-pub looking_more :
-    (port t : ℕ) (before : Option Behind) (s : Inventory) (i : ℕ) (mid : Inventory) (middle : Option Behind) (a b c : Option (List ℕ)) (n m l : ℕ) (p q r k : Bool) (new : Inventory) (after : Option Behind) →
-    IsLooking port t before s i mid middle (sent_by a b n m p q k) → i < length mid.forest.entries →
-    IfSome middle (λ x. LooksOneUp port t (record { inventory = mid; behind = x }) i (Ok tt) (sent_by b c m l q r k) new after) → IsLooking port t before s (i + 1) new after (sent_by a c n l p r k)
-looking_more port t None s i mid middle a b c n m l p q r k new after g below one = tt
-looking_more port t (Some x) s i mid middle a b c n m l p q r k new after g below one =
-    more port t (record { inventory = s; behind = x }) i mid middle a b c n m l p q r k g below new after
-    (subst (λ o. IfSome o (λ y. LooksOneUp port t (record { inventory = mid; behind = y }) i (Ok tt) (sent_by b c m l q r k) new after)) g.is one)
-
 pub looking_stops :
-    (port t : ℕ) (before : Option Behind) (s : Inventory) (i : ℕ) (mid : Inventory) (middle : Option Behind) (a b c : Option (List ℕ)) (n m l : ℕ) (p q r k : Bool) (new : Inventory) (after : Option Behind) (result : Result (Unit {0}) Stop) (stop : Stop) →
-    IsErr result × IsErrAnd result (λ (u : Stop). u ≡ stop) → IsLooking port t before s i mid middle (sent_by a b n m p q k) → i < length mid.forest.entries →
-    IfSome middle (λ x. LooksOneUp port t (record { inventory = mid; behind = x }) i (Err stop) (sent_by b c m l q r k) new after) →
-    IfSome before (λ x. LooksAllUp port t (record { inventory = s; behind = x }) result (sent_by a c n l p r k) new after)
-looking_stops port t None s i mid middle a b c n m l p q r k new after result stop is g below one = tt
-looking_stops port t (Some x) s i mid middle a b c n m l p q r k new after (Ok u) stop is g below one = absurd (let no = is.0 in cc)
-looking_stops port t (Some x) s i mid middle a b c n m l p q r k new after (Err u) stop is g below one =
-    subst (λ (v : Stop). LooksAllUp port t (record { inventory = s; behind = x }) (Err v) (sent_by a c n l p r k) new after) (sym is.1)
-    (ends port t (record { inventory = s; behind = x }) i mid middle a b c n m l p q r k g below stop new after
-    (subst (λ o. IfSome o (λ y. LooksOneUp port t (record { inventory = mid; behind = y }) i (Err stop) (sent_by b c m l q r k) new after)) g.is one))
+    (port t : ℕ) (old : Looked) (i : ℕ) (mid : Inventory) (middle : Option Behind) (a b c : Option (List ℕ)) (n m l : ℕ) (p q r k : Bool) (new : Inventory) (after : Option Behind) (result : Result (Unit {0}) Stop) (stop : Stop) →
+    IsErr result × IsErrAnd result (λ (u : Stop). u ≡ stop) → Looking port t old i mid middle (sent_by a b n m p q k) → i < length mid.forest.entries →
+    LooksOneUp port t (record { inventory = mid; behind = middle }) i (Err stop) (sent_by b c m l q r k) new after → LooksAllUp port t old result (sent_by a c n l p r k) new after
+looking_stops port t old i mid middle a b c n m l p q r k new after (Ok u) stop is g below one = absurd (let no = is.0 in cc)
+looking_stops port t old i mid middle a b c n m l p q r k new after (Err u) stop is g below one =
+    subst (λ (v : Stop). LooksAllUp port t old (Err v) (sent_by a c n l p r k) new after) (sym is.1) (ends port t old i mid middle a b c n m l p q r k g below stop new after one)
 
 pub looking_done :
-    (port t : ℕ) (before : Option Behind) (s : Inventory) (i : ℕ) (now : Inventory) (behind : Option Behind) (out : Sent) → IsLooking port t before s i now behind out → length now.forest.entries ≤ i →
-    IfSome before (λ b. LooksAllUp port t (record { inventory = s; behind = b }) (Ok tt) out now behind)
-looking_done port t None s i now behind out g past = tt
-looking_done port t (Some b) s i now behind out g past =
-    let all : i ≡ length s.forest.entries = (let e = g.count in let w = g.within in omega arith) in
+    (port t : ℕ) (old : Looked) (i : ℕ) (now : Inventory) (behind : Option Behind) (out : Sent) → Looking port t old i now behind out → length now.forest.entries ≤ i → LooksAllUp port t old (Ok tt) out now behind
+looking_done port t old i now behind out g past =
+    let all : i ≡ length old.inventory.forest.entries = (let e = g.count in let w = g.within in omega arith) in
     record {
-      behind = g.left;
-      is = g.is;
-      looked = subst (λ x. AreLookedUp port t (record { inventory = s; behind = b }) (first x) (record { inventory = now; behind = g.left })) all g.looked;
+      looked = subst (λ x. AreLookedUp port t old (first x) (record { inventory = now; behind = behind })) all g.looked;
       said = subst (λ x. IsSaid (looked_text now (first x)) out) all g.said;
       kept = g.kept;
     }

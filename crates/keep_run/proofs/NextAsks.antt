@@ -14,7 +14,6 @@ use Rattle.keep_core.specs.State.{Round, State}
 use Rattle.keep_core.specs.Step.{StepAnswer, heard}
 use Rattle.keep_core.proofs.Once.{next_asks}
 use Rattle.keep_core.proofs.Turns.{replan_force}
-use Rattle.keep_exchange.specs.Requests.{reply_in}
 use Rattle.keep_run.specs.Closed.{AreAnswered, Beat, Exchanged, IsAnswered, IsBeat, Played, World, asks_some, asked_in, closing, event_in, next_by, next_tick, rounds, taken, told_next}
 use Rattle.keep_run.proofs.Goes.{wakes_join}
 use Rattle.keep_run.proofs.OneAnswer.{answers_for}
@@ -66,9 +65,9 @@ one_closes : (port : ℕ) (cs : List (List ℕ)) (t : ℕ) (old new : World) (x 
 unfolding event_in
 one_closes port cs t old new x before closes one =
     let e = entry_at old.keeper.forest.entries x.entry in
-    let of = answers_for e.kind (credential_at cs x.entry) x.entry (reply_in x.sent) in
+    let of = answers_for e.kind (credential_at cs x.entry) x.entry x.reply in
     let step = answer_steps old.keeper one.keeper (event_in cs old.keeper.forest x) x.output of.0 one.turn in
-    subst (λ (w : World). Closes w.keeper (told_next before x.output)) (sym one.is)
+    subst (λ (k : State). Closes k (told_next before x.output)) (sym one.taken_is)
     (taken_closes one.keeper (told_next before x.output) (answer_closes old.keeper one.keeper (event_in cs old.keeper.forest x) x.output before closes step))
 
 all_close : (port : ℕ) (cs : List (List ℕ)) (t : ℕ) (xs : List Exchanged) (old new : World) (before : Option ℕ) → Closes old.keeper before → AreAnswered port cs t old xs new → Closes new.keeper (closing before xs)

@@ -10,12 +10,11 @@ use Rattle.vault_json.specs.Renewed.{renew_lease_answer, renew_self_answer}
 use Rattle.vault_http.specs.declared.reply.Reply.{Reply}
 use Rattle.vault_http.specs.declared.request.Request.{Request}
 use Rattle.vault_http.specs.Written.{request_text}
-use Rattle.mini_broker.specs.declared.served.Served.{Served}
+use Rattle.mini_broker.specs.Step.{step}
 use Rattle.mini_broker.specs.Stream.{sent_of}
-use Rattle.keep_exchange.specs.Exchanges.{Behind}
-use Rattle.keep_exchange.specs.Requests.{IsAsked, reply_in, request_of}
 use Rattle.mini_broker.specs.Table.{Table}
-use Rattle.mini_broker.specs.Step.{Says, step}
+use Rattle.keep_exchange.specs.Exchanges.{Behind}
+use Rattle.keep_exchange.specs.Requests.{IsAsked, request_of}
 use Rattle.keep_core.specs.LawsOfSteps.{IsShaped}
 use Rattle.keep_core.specs.declared.event.Event.{Event}
 use Rattle.keep_core.specs.declared.event.Event.TheVariants.{Told, Refused, Lost}
@@ -23,8 +22,7 @@ use Rattle.keep_core.specs.declared.event.Output.{Output}
 use Rattle.keep_core.specs.History.{Turn}
 use Rattle.keep_core.specs.State.{State}
 use Rattle.keep_core.proofs.Shaped.{shape}
-use Rattle.keep_run.specs.Closed.{World, event_in, taken}
-use Rattle.keep_run.specs.Live.{Between}
+use Rattle.keep_run.specs.Closed.{event_in, taken}
 use Rattle.keep_run.specs.Playing.{Answers}
 use Rattle.keep_run.specs.Renewing.{IsAnswerOf, event_for, event_of, of_lease, of_token, told_by}
 use Rattle.keep_run.specs.Stops.{both}
@@ -54,72 +52,35 @@ unfolding event_of
 answers_for kind id i None = (tt, refl)
 answers_for kind id i (Some r) = either i (r.status == 200) _ _ (told_for kind id i r.body) (either i _ (Refused i) (Lost i) (tt, refl) (tt, refl))
 
+-- ---- the exchange
+
+-- what came of a request, where the broker's table is known
+pub asked_known :
+    (o : Option Behind) (b : Behind) (t : ℕ) (request : Request) (reply : Option Reply) (new : Option Behind) → o ≡ Some b → IfSome o (λ c. IsAsked c.table t request reply new) → IsAsked b.table t request reply new
+asked_known o b t request reply new known asked = subst (λ (q : Option Behind). IfSome q (λ c. IsAsked c.table t request reply new)) known asked
+
+-- and then it is known again
+pub table_after : (old : Table) (t : ℕ) (request : Request) (reply : Option Reply) (new : Option Behind) → IsAsked old t request reply new → (b : Behind) × ((new ≡ Some b) × (b.table ≡ (step old t request).table))
+table_after old t request reply new asked = (record { table = (step old t request).table; wire = request_text request ++ sent_of asked.sent }, (asked.is, refl))
+
 -- ---- the answer
 
-behind_request : Table → ℕ → Served → Request → Behind
-behind_request l t sent r = record { table = (step l t r).table; wire = request_text r ++ sent_of sent }
-
 pub one_answer :
-    (port : ℕ) (cs : List (List ℕ)) (t i : ℕ) (old : World) (sent : Served) (output : Output) (request : Request) (event : Event) (k new : State) (l : Behind) (before mid after : List ℕ) →
-    request ≡ request_of port cs old.keeper.forest i → Says t (step old.behind.table t request).answer sent → l ≡ record { table = (step old.behind.table t request).table; wire = request_text request ++ sent_of sent } →
-    event ≡ event_for cs old.keeper.forest i (reply_in sent) → Turn old.keeper event (Ok output) k → new ≡ taken k →
-    mid ≡ before ++ answer_line old.keeper.forest event (reply_in sent) → after ≡ mid ++ short_lines new.forest k.shortened →
-    Answers port cs t old i output (both new l) before after
-unfolding event_in answer_text behind_request
-one_answer port cs t i old sent output request event k new l before mid after asked says table means turn quiet told short =
-    let like : IsShaped old.keeper.forest new.forest = subst (λ (s : State). IsShaped old.keeper.forest s.forest) (sym quiet) (shape old.keeper k event (Ok output) turn) in
-    let line = answer_line old.keeper.forest event (reply_in sent) in
-    record {
-      x = record { entry = i; sent = sent; output = output; short = k.shortened };
-      entry = refl;
-      output_is = refl;
-      answered = record {
-        says = subst (λ r. Says t (step old.behind.table t r).answer sent) asked says;
-        keeper = k;
-        turn = subst (λ e. Turn old.keeper e (Ok output) k) means turn;
-        short = refl;
-        is = ap (λ s. both s l) quiet ∙ ap (λ m. both (taken k) m) (table ∙ ap (behind_request old.behind.table t sent) asked);
-      };
-      text_is = short
-          ∙ ap (λ xs. mid ++ xs) (same_shorts old.keeper.forest new.forest like k.shortened)
-          ∙ ap (λ xs. xs ++ short_lines old.keeper.forest k.shortened) told
-          ∙ append_assoc before line (short_lines old.keeper.forest k.shortened)
-          ∙ ap (λ e. before ++ (answer_line old.keeper.forest e (reply_in sent) ++ short_lines old.keeper.forest k.shortened)) means;
-    }
-
--- ---- over an exchange
-
-pub between_none : (o : Option Behind) (P : Behind → Behind → Type 0) → ((b : Behind) → P b b) → Between o o P
-between_none None P f = tt
-between_none (Some b) P f = (b, (refl, f b))
-
-pub between_more :
-    (o mid new : Option Behind) (P Q R : Behind → Behind → Type 0) → ((b m a : Behind) → P b m → Q m a → R b a) → Between o mid P → Between mid new Q → Between o new R
-between_more None mid new P Q R f first second = tt
-between_more (Some b) mid new P Q R f first second =
-    let m = first.0 in
-    let rest : Between (Some m) new Q = subst (λ u. Between u new Q) first.1.0 second in
-    (rest.0, (rest.1.0, f b m rest.0 first.1.1 rest.1.1))
-
-pub between_as : (o new : Option Behind) (P Q : Behind → Behind → Type 0) → ((b a : Behind) → P b a → Q b a) → Between o new P → Between o new Q
-between_as None new P Q f is = tt
-between_as (Some b) new P Q f is = (is.0, (is.1.0, f b is.0 is.1.1))
-
-pub between_some : (b a : Behind) (P : Behind → Behind → Type 0) → Between (Some b) (Some a) P → P b a
-between_some b a P is = subst (P b) (let same : is.0 ≡ a = (let e = is.1.0 in cc) in same) is.1.1
-
-pub answer_between :
     (o new : Option Behind) (port : ℕ) (cs : List (List ℕ)) (t i : ℕ) (old : State) (reply : Option Reply) (event : Event) (output : Output) (k after' : State) (before mid after : List ℕ) →
     IfSome o (λ b. IsAsked b.table t (request_of port cs old.forest i) reply new) → event ≡ event_for cs old.forest i reply → Turn old event (Ok output) k → after' ≡ taken k →
-    mid ≡ before ++ answer_line old.forest event reply → after ≡ mid ++ short_lines after'.forest k.shortened → Between o new (λ b a. Answers port cs t (both old b) i output (both after' a) before after)
-answer_between None new port cs t i old reply event output k after' before mid after asks means turn quiet told short = tt
-answer_between (Some b) new port cs t i old reply event output k after' before mid after asks means turn quiet told short =
-    let request = request_of port cs old.forest i in
-    let a : Behind = record { table = (step b.table t request).table; wire = request_text request ++ sent_of asks.sent } in (
-      a,
-      (
-        asks.is,
-        one_answer port cs t i (both old b) asks.sent output request event k after' a before mid after refl asks.says refl
-            (means ∙ ap (event_for cs old.forest i) asks.reply_is) turn quiet (told ∙ ap (λ r. before ++ answer_line old.forest event r) asks.reply_is) short,
-      ),
-    )
+    mid ≡ before ++ answer_line old.forest event reply → after ≡ mid ++ short_lines after'.forest k.shortened → Answers port cs t (both old o) i output (both after' new) before after
+unfolding event_in answer_text
+one_answer o new port cs t i old reply event output k after' before mid after asked means turn quiet told short =
+    let like : IsShaped old.forest after'.forest = subst (λ (s : State). IsShaped old.forest s.forest) (sym quiet) (shape old k event (Ok output) turn) in
+    let line = answer_line old.forest event reply in
+    record {
+      x = record { entry = i; reply = reply; output = output; short = k.shortened };
+      entry = refl;
+      output_is = refl;
+      answered = record { asked = asked; keeper = k; turn = subst (λ e. Turn old e (Ok output) k) means turn; short = refl; taken_is = quiet };
+      text_is = short
+          ∙ ap (λ xs. mid ++ xs) (same_shorts old.forest after'.forest like k.shortened)
+          ∙ ap (λ xs. xs ++ short_lines old.forest k.shortened) told
+          ∙ append_assoc before line (short_lines old.forest k.shortened)
+          ∙ ap (λ e. before ++ (answer_line old.forest e reply ++ short_lines old.forest k.shortened)) means;
+    }

@@ -27,7 +27,7 @@ silent : (t : ℕ) (old new : State) (output : Output) (before after : List ℕ)
 silent t old new output before after ticks = record { at = t; output = output; short = ticks.keeper.shortened; answers = [] }
 
 is_beat :
-    (cs : List (List ℕ)) (behind : Behind) (t : ℕ) (old new : State) (output : Output) (before after : List ℕ) → (ticks : Ticks t old output new before after) → asked_in output ≡ [] →
+    (cs : List (List ℕ)) (behind : Option Behind) (t : ℕ) (old new : State) (output : Output) (before after : List ℕ) → (ticks : Ticks t old output new before after) → asked_in output ≡ [] →
     IsBeat 8200 cs (both old behind) (silent t old new output before after ticks) (both new behind)
 unfolding silent
 is_beat cs behind t old new output before after ticks none = record {
@@ -52,7 +52,7 @@ silent_text cs t old new output before after ticks =
     ∙ ap (λ l. before ++ l) (sym (append-nil (shorts ++ (wake ++ []))))
 
 quiet_to :
-    (cs : List (List ℕ)) (behind : Behind) (t : ℕ) (old new : State) (output : Output) (before after : List ℕ) (next : Option ℕ) → (ticks : Ticks t old output new before after) → asked_in output ≡ [] →
+    (cs : List (List ℕ)) (behind : Option Behind) (t : ℕ) (old new : State) (output : Output) (before after : List ℕ) (next : Option ℕ) → (ticks : Ticks t old output new before after) → asked_in output ≡ [] →
     asks_some output ≡ false → next ≡ next_by output [] → IsQuietTo cs (both old behind) (Some t) (both new behind) next (silent t old new output before after ticks ∷ [])
 unfolding rounds requests_of silent
 quiet_to cs behind t old new output before after next ticks none not_some leads = record {
@@ -61,7 +61,7 @@ quiet_to cs behind t old new output before after next ticks none not_some leads 
   none_sent = refl;
 }
 
-pub at_once : (cs : List (List ℕ)) (behind : Behind) (due : ℕ) (old new : State) (asked before after : List ℕ) → Ticks due old (out.Ask asked) new before after → Opens cs behind old due due asked new before after
+pub at_once : (cs : List (List ℕ)) (behind : Option Behind) (due : ℕ) (old new : State) (asked before after : List ℕ) → Ticks due old (out.Ask asked) new before after → Opens cs behind old due due asked new before after
 unfolding rounds requests_of
 at_once cs behind due old new asked before after ticks = record {
   beats = [];
@@ -73,7 +73,7 @@ at_once cs behind due old new asked before after ticks = record {
 }
 
 pub after_sleep :
-    (cs : List (List ℕ)) (behind : Behind) (due w : ℕ) (old mid new : State) (asked before middle after : List ℕ) → Ticks due old (out.Sleep w) mid before middle → Ticks w mid (out.Ask asked) new middle after →
+    (cs : List (List ℕ)) (behind : Option Behind) (due w : ℕ) (old mid new : State) (asked before middle after : List ℕ) → Ticks due old (out.Sleep w) mid before middle → Ticks w mid (out.Ask asked) new middle after →
     Opens cs behind old due w asked new before after
 after_sleep cs behind due w old mid new asked before middle after sleeps ticks = record {
   beats = silent due old mid (out.Sleep w) before middle sleeps ∷ [];
@@ -85,7 +85,7 @@ after_sleep cs behind due w old mid new asked before middle after sleeps ticks =
 }
 
 at_end :
-    (cs : List (List ℕ)) (behind : Behind) (due : ℕ) (old new : State) (output : Output) (before after : List ℕ) → (ticks : Ticks due old output new before after) → asked_in output ≡ [] →
+    (cs : List (List ℕ)) (behind : Option Behind) (due : ℕ) (old new : State) (output : Output) (before after : List ℕ) → (ticks : Ticks due old output new before after) → asked_in output ≡ [] →
     asks_some output ≡ false → None ≡ next_by output [] → Ends cs behind old due new before after
 at_end cs behind due old new output before after ticks none not_some leads = record {
   beats = silent due old new output before after ticks ∷ [];
@@ -94,7 +94,7 @@ at_end cs behind due old new output before after ticks none not_some leads = rec
 }
 
 pub ends :
-    (cs : List (List ℕ)) (behind : Behind) (due : ℕ) (old new : State) (output : Output) (before after : List ℕ) → Ticks due old output new before after → ((w : ℕ) → output ≡ out.Sleep w → ⊥) →
+    (cs : List (List ℕ)) (behind : Option Behind) (due : ℕ) (old new : State) (output : Output) (before after : List ℕ) → Ticks due old output new before after → ((w : ℕ) → output ≡ out.Sleep w → ⊥) →
     ((asked : List ℕ) → output ≡ out.Ask asked → ⊥) → Ends cs behind old due new before after
 ends cs behind due old new out.Idle before after ticks not_sleep not_ask = at_end cs behind due old new out.Idle before after ticks refl refl refl
 ends cs behind due old new out.Waiting before after ticks not_sleep not_ask = at_end cs behind due old new out.Waiting before after ticks refl refl refl

@@ -41,7 +41,7 @@ no_round n m less most is = omega (arith, less, most, is)
 -- the run as it is done
 done_as_planned :
     (bytes : List ℕ) (inventory : Inventory) (start : ℕ) (p : Planned) (course : Course) (final : World) (out : Sent) (new : Behind) → read_inventory bytes ≡ Ok inventory → start ≤ LAST → Decides inventory.forest start (Keep p) → length (to_come p) ≤ 100000 →
-    IsClosedRun inventory [] start course final → IsAll (course_text inventory course) out → new ≡ final.behind → IsPlannedRun inventory start p out new
+    IsClosedRun inventory [] start course final → IsAll (course_text inventory course) out → final.behind ≡ Some new → IsPlannedRun inventory start p out new
 done_as_planned bytes inventory start p course final out new read late decides few run sent left =
     let ts = moments_of (to_come p) in
     let plan : IsPlanOf inventory.forest start ts = decides.best.least in

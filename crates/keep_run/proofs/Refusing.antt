@@ -29,7 +29,6 @@ use Rattle.keep_core.specs.State.{Round, State}
 use Rattle.keep_core.specs.States.{IsState}
 use Rattle.keep_core.specs.Step.{StepAnswer, StepTooLong, answered, change, heard, needed, of_entry, without}
 use Rattle.keep_core.proofs.Standing.{best_first}
-use Rattle.keep_exchange.specs.Requests.{reply_in}
 use Rattle.keep_report.specs.declared.stop.Stop.TheVariants as stops
 use Rattle.keep_run.specs.Closed.{AreAnswered, Beat, Exchanged, IsAnswered, Played, World, asked_in, closing, event_in, next_by, next_tick, taken, told_next}
 use Rattle.keep_run.specs.Playing.{Comes, Hears, IsPlanFault, Leaves, Waits, stop_of}
@@ -266,9 +265,9 @@ one_leads :
 unfolding event_in
 one_leads port cs t old new x todo before a one =
     let e = entry_at old.keeper.forest.entries x.entry in
-    let of = answers_for e.kind (credential_at cs x.entry) x.entry (reply_in x.sent) in
+    let of = answers_for e.kind (credential_at cs x.entry) x.entry x.reply in
     hears_leads old.keeper new.keeper t x.entry todo x.output before a
-    (record { event = event_for cs old.keeper.forest x.entry (reply_in x.sent); of = of; keeper = one.keeper; turn = one.turn; is = ap (λ (w : World). w.keeper) one.is })
+    (record { event = event_for cs old.keeper.forest x.entry x.reply; of = of; keeper = one.keeper; turn = one.turn; is = one.taken_is })
 
 all_lead : (port : ℕ) (cs : List (List ℕ)) (t : ℕ) (x : Exchanged) (xs : List Exchanged) (old new : World) (before : Option ℕ) → Waits old.keeper t (map (λ (y : Exchanged). y.entry) (x ∷ xs)) → AreAnswered port cs t old (x ∷ xs) new → Rests new.keeper (closing before (x ∷ xs))
 all_lead port cs t x [] old new before a answers =

@@ -39,9 +39,9 @@ module _ (inventory : Inventory) (faults : List NumberedFault) (start : ℕ) (k 
   like = replanned inventory.forest (unplanned inventory.forest) start k (same inventory.forest) r
 
   opening : World
-  opening = both (taken k) (fresh inventory faults)
+  opening = both (taken k) (Some (fresh inventory faults))
 
-  opens : IsOpening inventory faults start k.shortened (both (taken k) (fresh inventory faults))
+  opens : IsOpening inventory faults start k.shortened (both (taken k) (Some (fresh inventory faults)))
   opens = record { keeper = k; planned = r; short_is = refl; is = refl }
 
   shorts : List ℕ
@@ -51,11 +51,11 @@ module _ (inventory : Inventory) (faults : List NumberedFault) (start : ℕ) (k 
   shorts_are lines is = is ∙ same_shorts inventory.forest k.forest like k.shortened
 
   pub so_far_of :
-      (final : World) (next : Option ℕ) (w a : ℕ) (lines : List ℕ) → Goes (inventory_with inventory.credentials k.forest) (both (taken k) (fresh inventory faults)) (Some start) final next w a lines →
+      (final : World) (next : Option ℕ) (w a : ℕ) (lines : List ℕ) → Goes (inventory_with inventory.credentials k.forest) (both (taken k) (Some (fresh inventory faults))) (Some start) final next w a lines →
       SoFar inventory faults start final next w a (short_lines inventory.forest k.shortened ++ lines)
   so_far_of final next w a lines goes = record {
     short = k.shortened;
-    opening = both (taken k) (fresh inventory faults);
+    opening = both (taken k) (Some (fresh inventory faults));
     opened = opens;
     beats = goes.beats;
     played = goes.played;
@@ -65,7 +65,7 @@ module _ (inventory : Inventory) (faults : List NumberedFault) (start : ℕ) (k 
   }
 
   pub is_run_text :
-      (text : List ℕ) → IsText (inventory_with inventory.credentials k.forest) (both (taken k) (fresh inventory faults)) start text → IsRunText inventory faults start (short_lines inventory.forest k.shortened ++ text)
+      (text : List ℕ) → IsText (inventory_with inventory.credentials k.forest) (both (taken k) (Some (fresh inventory faults))) start text → IsRunText inventory faults start (short_lines inventory.forest k.shortened ++ text)
   is_run_text text t = record {
     final = t.new;
     next = t.next;
@@ -85,7 +85,7 @@ module _ (inventory : Inventory) (faults : List NumberedFault) (start : ℕ) (k 
 
 front_written :
     (bytes : List ℕ) (words : List (List ℕ)) (inventory : Inventory) (faults : List NumberedFault) (start : ℕ) (k : State) (lines : List ℕ) (out : Sent) → IsCalled bytes words inventory faults → (r : Replan (unplanned inventory.forest) start k) →
-    lines ≡ short_lines k.forest k.shortened → PlaysFront (inventory_with inventory.credentials k.forest) (both (taken k) (fresh inventory faults)) start lines out → WritesFront bytes start words out
+    lines ≡ short_lines k.forest k.shortened → PlaysFront (inventory_with inventory.credentials k.forest) (both (taken k) (Some (fresh inventory faults))) start lines out → WritesFront bytes start words out
 front_written bytes words inventory faults start k lines out called r lines_are front = (
   inventory,
   faults,
@@ -96,17 +96,17 @@ front_written bytes words inventory faults start k lines out called r lines_are 
 )
 
 pub rehearsed :
-    (bytes : List ℕ) (words : List (List ℕ)) (inventory : Inventory) (faults : List NumberedFault) (start : ℕ) (k : State) (lines : List ℕ) (result : Result (Unit {0}) Stop) (new : World) (out : Sent) (old : Behind) →
+    (bytes : List ℕ) (words : List (List ℕ)) (inventory : Inventory) (faults : List NumberedFault) (start : ℕ) (k : State) (lines : List ℕ) (result : Result (Unit {0}) Stop) (new : World) (left : Behind) (out : Sent) (old : Behind) →
     IsCalled bytes words inventory faults → (r : Replan (unplanned inventory.forest) start k) → lines ≡ short_lines k.forest k.shortened →
-    Plays inventory.credentials (both (taken k) (fresh inventory faults)) start lines result new out → Rehearses bytes start words result out old new.behind
-rehearsed bytes words inventory faults start k lines (Ok u) new out old called r lines_are p =
+    Plays inventory.credentials (both (taken k) (Some (fresh inventory faults))) start lines result new out → new.behind ≡ Some left → Rehearses bytes start words result out old left
+rehearsed bytes words inventory faults start k lines (Ok u) new left out old called r lines_are p is =
     let so_far = so_far_of inventory faults start k r new None p.wakes p.asked p.lines p.goes in
     let whole = at_end inventory faults start new p.wakes p.asked (short_lines inventory.forest k.shortened ++ p.lines) so_far p.few in
     let text = ap (λ l. l ++ (p.lines ++ done_text p.wakes p.asked)) (shorts_are inventory faults start k r lines lines_are)
     ∙ sym (append_assoc (short_lines inventory.forest k.shortened) p.lines (done_text p.wakes p.asked))
     ∙ whole.1.1 in
-    (inventory, faults, called, whole.0, new, whole.1.0, (subst (Appends out.old out.new) text p.sent.0, p.sent.1), refl)
-rehearsed bytes words inventory faults start k lines (Err stops.TooLong) new out old called r lines_are p =
+    (inventory, faults, called, whole.0, new, whole.1.0, (subst (Appends out.old out.new) text p.sent.0, p.sent.1), is)
+rehearsed bytes words inventory faults start k lines (Err stops.TooLong) new left out old called r lines_are p is =
     let final = both p.keeper new.behind in
     let text = short_lines inventory.forest k.shortened ++ p.lines in (
       inventory,
@@ -117,17 +117,17 @@ rehearsed bytes words inventory faults start k lines (Err stops.TooLong) new out
         text,
         record { due = p.due; asked = p.asked; so_far = so_far_of inventory faults start k r final (Some p.due) 100000 p.asked p.lines p.goes; more = p.more },
         (subst (λ l. Appends out.old out.new (l ++ p.lines)) (shorts_are inventory faults start k r lines lines_are) p.sent.0, p.sent.1),
-        refl,
+        is,
       ),
     )
-rehearsed bytes words inventory faults start k lines (Err stops.Write) new out old called r lines_are p = (p.0, front_written bytes words inventory faults start k lines out called r lines_are p.1)
-rehearsed bytes words inventory faults start k lines (Err stops.Memory) new out old called r lines_are p = inr (front_written bytes words inventory faults start k lines out called r lines_are p)
-rehearsed bytes words inventory faults start k lines (Err stops.Read) new out old called r lines_are p = absurd p
-rehearsed bytes words inventory faults start k lines (Err (stops.Inventory fault)) new out old called r lines_are p = absurd p
-rehearsed bytes words inventory faults start k lines (Err (stops.Moments fault)) new out old called r lines_are p = absurd p
-rehearsed bytes words inventory faults start k lines (Err (stops.FaultWord n)) new out old called r lines_are p = absurd p
-rehearsed bytes words inventory faults start k lines (Err (stops.Broker name)) new out old called r lines_are p = absurd p
-rehearsed bytes words inventory faults start k lines (Err (stops.Line n)) new out old called r lines_are p = absurd p
+rehearsed bytes words inventory faults start k lines (Err stops.Write) new left out old called r lines_are p is = (p.0, front_written bytes words inventory faults start k lines out called r lines_are p.1)
+rehearsed bytes words inventory faults start k lines (Err stops.Memory) new left out old called r lines_are p is = inr (front_written bytes words inventory faults start k lines out called r lines_are p)
+rehearsed bytes words inventory faults start k lines (Err stops.Read) new left out old called r lines_are p is = absurd p
+rehearsed bytes words inventory faults start k lines (Err (stops.Inventory fault)) new left out old called r lines_are p is = absurd p
+rehearsed bytes words inventory faults start k lines (Err (stops.Moments fault)) new left out old called r lines_are p is = absurd p
+rehearsed bytes words inventory faults start k lines (Err (stops.FaultWord n)) new left out old called r lines_are p is = absurd p
+rehearsed bytes words inventory faults start k lines (Err (stops.Broker name)) new left out old called r lines_are p is = absurd p
+rehearsed bytes words inventory faults start k lines (Err (stops.Line n)) new left out old called r lines_are p is = absurd p
 
 -- ---- by exit
 
@@ -201,15 +201,15 @@ opening_stopped bytes start words inventory faults g (Err q) stop a n b m old ne
 
 -- the run is played
 pub plays_on :
-    (bytes : List ℕ) (words : List (List ℕ)) (inventory : Inventory) (faults : List NumberedFault) (start at : ℕ) (g : Forest) (cs : List (List ℕ)) (k now : State) (behind : Behind) (lines : List ℕ) (result : Result (Unit {0}) Stop) (new : World) (out : Sent) (old : Behind) →
+    (bytes : List ℕ) (words : List (List ℕ)) (inventory : Inventory) (faults : List NumberedFault) (start at : ℕ) (g : Forest) (cs : List (List ℕ)) (k now : State) (behind : Behind) (lines : List ℕ) (result : Result (Unit {0}) Stop) (new : World) (left : Behind) (out : Sent) (old : Behind) →
     read_inventory bytes ≡ Ok inventory → faults_of words ≡ Ok faults → g ≡ inventory.forest → cs ≡ inventory.credentials → behind ≡ fresh inventory faults → Replan (unplanned g) start k → now ≡ taken k → at ≡ start →
-    lines ≡ short_lines k.forest k.shortened → Plays cs (both now behind) at lines result new out → Rehearses bytes start words result out old new.behind
-plays_on bytes words inventory faults start at g cs k now behind lines result new out old read taken' is_g is_cs is_behind r is_now is_at lines_are plays =
-    let p1 = subst (λ c. Plays c (both now behind) at lines result new out) is_cs plays in
-    let p2 = subst (λ e. Plays inventory.credentials (both now e) at lines result new out) is_behind p1 in
-    let p3 = subst (λ s. Plays inventory.credentials (both s (fresh inventory faults)) at lines result new out) is_now p2 in
-    let p4 = subst (λ t. Plays inventory.credentials (both (taken k) (fresh inventory faults)) t lines result new out) is_at p3 in
-    rehearsed bytes words inventory faults start k lines result new out old (record { read = read; faults_are = taken' }) (subst (λ h. Replan (unplanned h) start k) is_g r) lines_are p4
+    lines ≡ short_lines k.forest k.shortened → Plays cs (both now (Some behind)) at lines result new out → new.behind ≡ Some left → Rehearses bytes start words result out old left
+plays_on bytes words inventory faults start at g cs k now behind lines result new left out old read taken' is_g is_cs is_behind r is_now is_at lines_are plays is =
+    let p1 = subst (λ c. Plays c (both now (Some behind)) at lines result new out) is_cs plays in
+    let p2 = subst (λ e. Plays inventory.credentials (both now (Some e)) at lines result new out) is_behind p1 in
+    let p3 = subst (λ s. Plays inventory.credentials (both s (Some (fresh inventory faults))) at lines result new out) is_now p2 in
+    let p4 = subst (λ t. Plays inventory.credentials (both (taken k) (Some (fresh inventory faults))) t lines result new out) is_at p3 in
+    rehearsed bytes words inventory faults start k lines result new left out old (record { read = read; faults_are = taken' }) (subst (λ h. Replan (unplanned h) start k) is_g r) lines_are p4 is
 
 -- the keeper is ready for its first tick
 pub ready_opened : (inventory : Inventory) (g : Forest) (cs : List (List ℕ)) (start : ℕ) (k now : State) → IsInventory inventory → g ≡ inventory.forest → cs ≡ inventory.credentials → Replan (unplanned g) start k → now ≡ taken k → IsReady cs now

@@ -1,5 +1,5 @@
 -- One round: each asked entry is granted the rule's end, and the round closes on the rest of the plan.
-use Rattle.std.proofs.Common.{◌≡◌, ℕ, ◌+◌, ◌-◌, ◌<◌, ◌≤◌, true, List, [], ◌∷◌, ◌++◌, Option, Result, Ok, length, map, refl, sym, ap, ◌∙◌, subst, arith, inl, inr}
+use Rattle.std.proofs.Common.{◌≡◌, ℕ, ◌+◌, ◌-◌, ◌<◌, ◌≤◌, true, List, [], ◌∷◌, ◌++◌, Option, Some, Result, Ok, length, map, refl, sym, ap, ◌∙◌, subst, arith, inl, inr}
 use Rattle.std.proofs.lemmas.Bool.{cases_eq}
 use Rattle.std.proofs.lemmas.List.Elements.{All-cons, All-nil}
 use Rattle.std.specs.List.{All}
@@ -11,11 +11,11 @@ use Rattle.keep_tree.specs.Renewal.{renewal}
 use Rattle.keep_rule.specs.Asks.{first_of}
 use Rattle.keep_rule.specs.declared.limit.TheConstants.{LIMIT}
 use Rattle.keep_inventory.specs.Inventories.{IsInventory, Inventory, credential_at}
-use Rattle.mini_broker.specs.declared.served.Served.{Served}
 use Rattle.mini_broker.specs.Table.{Table}
 use Rattle.mini_broker.specs.Faults.{next_number}
 use Rattle.mini_broker.specs.Renewing.{with_row}
 use Rattle.mini_broker.specs.Step.{Outcome, Says, step, tells}
+use Rattle.vault_http.specs.declared.reply.Reply.{Reply}
 use Rattle.keep_core.specs.declared.event.Event.TheVariants.{Told}
 use Rattle.keep_core.specs.declared.event.Output.{Output}
 use Rattle.keep_core.specs.declared.fault.StepFault.{StepFault}
@@ -30,9 +30,11 @@ use Rattle.keep_run.specs.Laws.{IsToldByRule}
 use Rattle.mini_broker.specs.Listed.{listed}
 use Rattle.keep_run.specs.Listed.{Mirrors, ended, with_forest}
 use Rattle.keep_run.specs.Renewing.{event_for, event_of}
-use Rattle.keep_exchange.specs.Requests.{reply_in, request_of}
+use Rattle.keep_exchange.specs.Exchanges.{Behind}
+use Rattle.keep_exchange.specs.Requests.{IsAsked, request_of}
 use Rattle.keep_run.proofs.Mirroring.{ended_other, ended_same, ended_supplied, mirrors_listed, renewal_within, with_row_listed}
 use Rattle.keep_run.proofs.Midway.{Midway, heard_as, heard_state, here_first, is_due, midway_last, midway_more, settled, told_turn, waiting}
+use Rattle.keep_run.proofs.OneAnswer.{asked_known, table_after}
 use Rattle.keep_run.proofs.Replying.{tells_rule}
 use Rattle.mini_broker.specs.Granted.{call_for}
 use Rattle.keep_run.proofs.Serving.{renewed_row, serves}
@@ -65,8 +67,10 @@ pub record AtRest (inventory : Inventory) (w : World) (t : ℕ) (ts : List ℕ) 
   pub late : t ≤ LAST
   pub same : SameBut inventory.forest g
   pub supplied : IsInventory (with_forest inventory g)
-  pub mirrors : Mirrors (with_forest inventory g) t w.behind.table.rows
-  pub none : w.behind.table.faults ≡ []
+  pub behind : Behind
+  pub known : w.behind ≡ Some behind
+  pub mirrors : Mirrors (with_forest inventory g) t behind.table.rows
+  pub none : behind.table.faults ≡ []
 
 -- a round is open over g, and has led to h
 pub record InRound (inventory : Inventory) (w : World) (g h : Forest) (t : ℕ) (rest todo : List ℕ) : Type 0 where
@@ -78,8 +82,10 @@ pub record InRound (inventory : Inventory) (w : World) (g h : Forest) (t : ℕ) 
   pub late : t ≤ LAST
   pub same : SameBut inventory.forest h
   pub supplied : IsInventory (with_forest inventory h)
-  pub mirrors : Mirrors (with_forest inventory h) t w.behind.table.rows
-  pub none : w.behind.table.faults ≡ []
+  pub behind : Behind
+  pub known : w.behind ≡ Some behind
+  pub mirrors : Mirrors (with_forest inventory h) t behind.table.rows
+  pub none : behind.table.faults ≡ []
 
 -- what one answer leaves
 pub record IsGranted (inventory : Inventory) (h : Forest) (t : ℕ) (rest : List ℕ) (i : ℕ) (todo : List ℕ) (x : Exchanged) (new : World) : Type 0 where
@@ -87,8 +93,10 @@ pub record IsGranted (inventory : Inventory) (h : Forest) (t : ℕ) (rest : List
   pub told : IsToldByRule inventory t x
   pub keeper : new.keeper ≡ heard_state (ended h i (renewal (entry_at h.entries i) t)) t rest todo
   pub supplied : IsInventory (with_forest inventory (ended h i (renewal (entry_at h.entries i) t)))
-  pub mirrors : Mirrors (with_forest inventory (ended h i (renewal (entry_at h.entries i) t))) t new.behind.table.rows
-  pub none : new.behind.table.faults ≡ []
+  pub behind : Behind
+  pub known : new.behind ≡ Some behind
+  pub mirrors : Mirrors (with_forest inventory (ended h i (renewal (entry_at h.entries i) t))) t behind.table.rows
+  pub none : behind.table.faults ≡ []
 
 heard_short : (h : Forest) (t : ℕ) (rest todo : List ℕ) → (heard_state h t rest todo).shortened ≡ []
 heard_short h t rest [] = refl
@@ -98,7 +106,7 @@ heard_taken : (h : Forest) (t : ℕ) (rest todo : List ℕ) → taken (heard_sta
 heard_taken h t rest [] = refl
 heard_taken h t rest (j ∷ more) = refl
 
-event_is : (port : ℕ) (cs : List (List ℕ)) (g : Forest) (x : Exchanged) → event_in cs g x ≡ event_for cs g x.entry (reply_in x.sent)
+event_is : (port : ℕ) (cs : List (List ℕ)) (g : Forest) (x : Exchanged) → event_in cs g x ≡ event_for cs g x.entry x.reply
 unfolding event_in
 event_is port cs g x = refl
 
@@ -121,16 +129,17 @@ grants inventory port w new g h t rest i todo x r a here =
     let sums : t + n ≡ end = omega arith in
     let forest_is : w.keeper.forest ≡ h = ap (λ (q : State). q.forest) r.keeper in
     let request : request_of port cs w.keeper.forest x.entry ≡ request_of port cs h i = ap (λ f. request_of port cs f x.entry) forest_is ∙ ap (request_of port cs h) here in
-    let outcome = ap (step w.behind.table t) request ∙ serves s r.supplied port t i w.behind.table within due.able due.alive r.none (r.mirrors t (omega arith)) in
-    let says : Says t (tells (call_for e.kind) (renewed_row s t i)) x.sent = subst (λ (o : Outcome). Says t o.answer x.sent) outcome a.says in
-    let told : event_for cs h i (reply_in x.sent) ≡ Told i n true = tells_rule s r.supplied t i late within due.able x.sent says in
-    let event : event_in cs w.keeper.forest x ≡ Told i n true =
-    event_is port cs w.keeper.forest x ∙ ap (λ f. event_for cs f x.entry (reply_in x.sent)) forest_is ∙ ap (λ j. event_for cs h j (reply_in x.sent)) here ∙ told in
+    let served = asked_known w.behind r.behind t (request_of port cs w.keeper.forest x.entry) x.reply new.behind r.known a.asked in
+    let left = table_after r.behind.table t (request_of port cs w.keeper.forest x.entry) x.reply new.behind served in
+    let outcome = ap (step r.behind.table t) request ∙ serves s r.supplied port t i r.behind.table within due.able due.alive r.none (r.mirrors t (omega arith)) in
+    let says : Says t (tells (call_for e.kind) (renewed_row s t i)) served.sent = subst (λ (o : Outcome). Says t o.answer served.sent) outcome served.says in
+    let told : event_for cs h i x.reply ≡ Told i n true = ap (event_for cs h i) served.reply_is ∙ tells_rule s r.supplied t i late within due.able served.sent says in
+    let event : event_in cs w.keeper.forest x ≡ Told i n true = event_is port cs w.keeper.forest x ∙ ap (λ f. event_for cs f x.entry x.reply) forest_is ∙ ap (λ j. event_for cs h j x.reply) here ∙ told in
     let turn : Turn (waiting h t rest (i ∷ todo)) (Told i n true) (Ok x.output) a.keeper = subst (λ (q : State). Turn q (Told i n true) (Ok x.output) a.keeper) r.keeper
     (subst (λ v. Turn w.keeper v (Ok x.output) a.keeper) event a.turn) in
     let known = told_turn g r.forest t rest i todo h r.plan r.few r.mid due n (omega arith) sums in
     let one = once (waiting h t rest (i ∷ todo)) a.keeper (heard_state k t rest todo) (Told i n true) (Ok x.output) (Ok (heard_as rest todo)) (λ bad. cc) (λ bad. cc) turn known in
-    let table : new.behind.table ≡ record { rows = with_row (listed s t) (renewed_row s t i); faults = []; count = next_number w.behind.table.count } = ap (λ (v : World). v.behind.table) a.is ∙ ap (λ (o : Outcome). o.table) outcome in
+    let table : left.0.table ≡ record { rows = with_row (listed s t) (renewed_row s t i); faults = []; count = next_number r.behind.table.count } = left.1.1 ∙ ap (λ (o : Outcome). o.table) outcome in
     let supplied = ended_supplied s r.supplied i end within (omega arith) in
     let rows = ap (λ (l : Table). l.rows) table ∙ with_row_listed s r.supplied.forest t i end within later (omega arith) in
     let kind : e.kind ≡ (entry_at inventory.forest.entries i).kind = ap (λ (y : Entry). y.kind) (r.same i) in
@@ -138,13 +147,15 @@ grants inventory port w new g h t rest i todo x r a here =
       output = ok_same x.output (heard_as rest todo) one.0;
       told = record {
         seconds = n;
-        told = event_is port cs inventory.forest x ∙ ap (λ j. event_for cs inventory.forest j (reply_in x.sent)) here
-            ∙ ap (λ q. event_of q (credential_at cs i) i (reply_in x.sent)) (sym kind) ∙ told ∙ ap (λ j. Told j n true) (sym here);
+        told = event_is port cs inventory.forest x ∙ ap (λ j. event_for cs inventory.forest j x.reply) here
+            ∙ ap (λ q. event_of q (credential_at cs i) i x.reply) (sym kind) ∙ told ∙ ap (λ j. Told j n true) (sym here);
         by_rule = sums ∙ same_renewal inventory.forest h r.same i t ∙ ap (λ j. renewal (entry_at inventory.forest.entries j) t) (sym here);
         short = a.short ∙ ap (λ (q : State). q.shortened) one.1 ∙ heard_short k t rest todo;
       };
-      keeper = ap (λ (v : World). v.keeper) a.is ∙ ap taken one.1 ∙ heard_taken k t rest todo;
+      keeper = a.taken_is ∙ ap taken one.1 ∙ heard_taken k t rest todo;
       supplied = supplied;
+      behind = left.0;
+      known = left.1.0;
       mirrors = subst (Mirrors (with_forest inventory k) t) (sym rows) (mirrors_listed (with_forest inventory k) supplied.forest t);
       none = ap (λ (l : Table). l.faults) table;
     } where
@@ -180,8 +191,10 @@ round_goes inventory port g t rest i [] (x ∷ []) w new h before r asked answer
         late = r.late;
         same = same_after inventory.forest h i (renewal (entry_at h.entries i) t) due.within r.same;
         supplied = e.supplied;
-        mirrors = subst (λ (v : World). Mirrors (with_forest inventory k) t v.behind.table.rows) (sym last) e.mirrors;
-        none = ap (λ (v : World). v.behind.table.faults) last ∙ e.none;
+        behind = e.behind;
+        known = ap (λ (v : World). v.behind) last ∙ e.known;
+        mirrors = e.mirrors;
+        none = e.none;
       };
       answered = after;
       told = All-cons (IsToldByRule inventory t) x [] e.told (All-nil (IsToldByRule inventory t));
@@ -204,6 +217,8 @@ round_goes inventory port g t rest i (j ∷ more) (x ∷ xs) w new h before r as
       late = r.late;
       same = same_after inventory.forest h i (renewal (entry_at h.entries i) t) due.within r.same;
       supplied = e.supplied;
+      behind = e.behind;
+      known = e.known;
       mirrors = e.mirrors;
       none = e.none;
     } in
@@ -232,6 +247,8 @@ goes_on inventory port g t rest i j more x w mid h r a here =
       late = r.late;
       same = same_after inventory.forest h i (renewal (entry_at h.entries i) t) due.within r.same;
       supplied = e.supplied;
+      behind = e.behind;
+      known = e.known;
       mirrors = e.mirrors;
       none = e.none;
     }
@@ -248,10 +265,9 @@ part_goes inventory port g t rest (x ∷ y ∷ xs) i others w now h r answers =
 
 -- what the reply to the next of them tells, and the turn that the keeper makes of it
 pub next_turn :
-    (inventory : Inventory) (port : ℕ) (g : Forest) (t : ℕ) (rest : List ℕ) (i : ℕ) (todo : List ℕ) (w : World) (h : Forest) → InRound inventory w g h t rest (i ∷ todo) → (sent : Served) →
-    Says t (step w.behind.table t (request_of port inventory.credentials w.keeper.forest i)).answer sent →
-    (output : Output) × ((new : State) × Turn w.keeper (event_for inventory.credentials w.keeper.forest i (reply_in sent)) (Ok output) new)
-next_turn inventory port g t rest i todo w h r sent said =
+    (inventory : Inventory) (port : ℕ) (g : Forest) (t : ℕ) (rest : List ℕ) (i : ℕ) (todo : List ℕ) (w : World) (h : Forest) (r : InRound inventory w g h t rest (i ∷ todo)) → (reply : Option Reply) (left : Option Behind) → IsAsked r.behind.table t (request_of port inventory.credentials w.keeper.forest i) reply left →
+    (output : Output) × ((new : State) × Turn w.keeper (event_for inventory.credentials w.keeper.forest i reply) (Ok output) new)
+next_turn inventory port g t rest i todo w h r reply left served =
     let s = with_forest inventory h in
     let cs = inventory.credentials in
     let e = entry_at h.entries i in
@@ -264,9 +280,9 @@ next_turn inventory port g t rest i todo w h r sent said =
     let grows : e.end < end = due.grows in
     let later : t < e.end = due.later in
     let forest_is : w.keeper.forest ≡ h = ap (λ (q : State). q.forest) r.keeper in
-    let outcome = ap (step w.behind.table t) (ap (λ f. request_of port cs f i) forest_is) ∙ serves s r.supplied port t i w.behind.table within due.able due.alive r.none (r.mirrors t (omega arith)) in
-    let says : Says t (tells (call_for e.kind) (renewed_row s t i)) sent = subst (λ (o : Outcome). Says t o.answer sent) outcome said in
-    let event : event_for cs w.keeper.forest i (reply_in sent) ≡ Told i n true = ap (λ f. event_for cs f i (reply_in sent)) forest_is ∙ tells_rule s r.supplied t i late within due.able sent says in
+    let outcome = ap (step r.behind.table t) (ap (λ f. request_of port cs f i) forest_is) ∙ serves s r.supplied port t i r.behind.table within due.able due.alive r.none (r.mirrors t (omega arith)) in
+    let says : Says t (tells (call_for e.kind) (renewed_row s t i)) served.sent = subst (λ (o : Outcome). Says t o.answer served.sent) outcome served.says in
+    let event : event_for cs w.keeper.forest i reply ≡ Told i n true = ap (λ f. event_for cs f i reply) forest_is ∙ ap (event_for cs h i) served.reply_is ∙ tells_rule s r.supplied t i late within due.able served.sent says in
     let known = told_turn g r.forest t rest i todo h r.plan r.few r.mid due n (omega arith) (let sums : t + n ≡ end = omega arith in sums) in (
       heard_as rest todo,
       (

@@ -15,7 +15,6 @@ use Rattle.keep_rule.specs.Requests.{requests}
 use Rattle.keep_rule.proofs.LaterStart.{same_requests}
 use Rattle.keep_rule.specs.declared.limit.TheConstants.{LIMIT}
 use Rattle.keep_inventory.specs.Inventories.{Inventory}
-use Rattle.mini_broker.specs.Sweep.{swept}
 use Rattle.keep_core.specs.declared.event.Event.TheVariants.{Tick}
 use Rattle.keep_core.specs.declared.event.Output.{Output}
 use Rattle.keep_core.specs.declared.event.Output.TheVariants as out
@@ -29,7 +28,6 @@ use Rattle.keep_core.proofs.Once.{once}
 use Rattle.keep_core.proofs.Standing.{best_first, best_from, kept_plan, someone, tick}
 use Rattle.keep_run.specs.Closed.{AreAnswered, Beat, Exchanged, IsBeat, Played, World, asked_in, asks_some, next_by, next_tick, requests_of, rounds, taken}
 use Rattle.keep_run.specs.Laws.{IsQuiet, IsToldByRule}
-use Rattle.keep_run.specs.Listed.{Mirrors, with_forest}
 use Rattle.keep_run.proofs.Asking.{asks_on}
 use Rattle.keep_run.proofs.Midway.{midway_first, settled, waiting}
 use Rattle.keep_run.proofs.Round.{AtRest, InRound, round_goes}
@@ -105,8 +103,10 @@ moved inventory w v t ts r same = record {
   late = r.late;
   same = r.same;
   supplied = r.supplied;
-  mirrors = subst (λ (x : World). Mirrors (with_forest inventory r.g) t x.behind.table.rows) (sym same) r.mirrors;
-  none = ap (λ (x : World). x.behind.table.faults) same ∙ r.none;
+  behind = r.behind;
+  known = ap (λ (x : World). x.behind) same ∙ r.known;
+  mirrors = r.mirrors;
+  none = r.none;
 }
 
 nobody_answers : (xs : List Exchanged) → map (λ (x : Exchanged). x.entry) xs ≡ [] → xs ≡ []
@@ -143,8 +143,10 @@ still inventory port w new t ts b r le late all beat nobody quiet is awaits =
         late = late;
         same = r.same;
         supplied = r.supplied;
-        mirrors = λ m from. ap (λ (x : World). swept m x.behind.table.rows) stays ∙ r.mirrors m (omega arith);
-        none = ap (λ (x : World). x.behind.table.faults) stays ∙ r.none;
+        behind = r.behind;
+        known = ap (λ (x : World). x.behind) stays ∙ r.known;
+        mirrors = λ m from. r.mirrors m (omega arith);
+        none = r.none;
       };
       awaits = awaits;
       moments = sym (ap (λ c. map (λ (d : Beat). d.at) (cond c (b ∷ []) []) ++ ts) quiet);
@@ -181,6 +183,8 @@ opens inventory port w new t rest b r le late all beat asks_is is =
       late = late;
       same = r.same;
       supplied = r.supplied;
+      behind = r.behind;
+      known = r.known;
       mirrors = λ m from. r.mirrors m (omega arith);
       none = r.none;
     } in
@@ -212,6 +216,8 @@ at_moment inventory w t v u rest r same = record {
   late = r.late;
   same = r.same;
   supplied = r.supplied;
+  behind = r.behind;
+  known = r.known;
   mirrors = r.mirrors;
   none = r.none;
 }
@@ -300,6 +306,8 @@ asks_open inventory w t (v ∷ rest) u r awaits asked keeper turn =
               late = awaits.1.0;
               same = r.same;
               supplied = r.supplied;
+              behind = r.behind;
+              known = r.known;
               mirrors = λ m from. r.mirrors m (let le : t ≤ u = awaits.0 in omega arith);
               none = r.none;
             }),

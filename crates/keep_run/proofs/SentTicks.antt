@@ -11,17 +11,16 @@ use Rattle.keep_device.specs.Failures.{HasFailed}
 use Rattle.keep_report.specs.declared.stop.Stop.{Stop}
 use Rattle.keep_report.specs.declared.stop.Stop.TheVariants as stops
 use Rattle.keep_report.specs.Sent.{Sends, Sent}
-use Rattle.keep_run.specs.Closed.{asked_in, asks_some}
+use Rattle.keep_run.specs.Closed.{World, asked_in, asks_some}
 use Rattle.keep_run.specs.LineByLine.{IsSent}
-use Rattle.keep_run.specs.Live.{Between, HearsTo, IsBrokenOff, IsCutOff, IsHeard, IsHeardUpTo, IsNeeded, IsOverlong, Side, TicksSoFar, last_line, next_line, side}
+use Rattle.keep_run.specs.Live.{HearsTo, IsBrokenOff, IsCutOff, IsHeard, IsHeardUpTo, IsNeeded, IsOverlong, last_line, next_line}
 use Rattle.keep_run.specs.declared.event_line.Heard.{Heard}
 use Rattle.keep_run.specs.declared.event_line.Heard.TheVariants as heards
 use Rattle.keep_run.specs.declared.event_line.Heard.TheVariants.{Need}
-use Rattle.keep_run.specs.Telling.{IsRoundBroken, IsRoundCut, IsRoundSoFar, IsRoundUpTo, StopsNeed, TellsRound}
-use Rattle.keep_run.specs.Playing.{AnswersAll, Ticks}
+use Rattle.keep_run.specs.Telling.{IsRoundBroken, IsRoundCut, StopsNeed, TellsRound}
+use Rattle.keep_run.specs.Playing.{Ticks}
 use Rattle.keep_run.specs.Stops.{both}
 use Rattle.keep_run.proofs.LineByLine.{all_then, appends, joined, sent_then}
-use Rattle.keep_run.proofs.OneAnswer.{between_as, between_none}
 use Rattle.keep_run.proofs.ToldRounds.{so_far}
 use Rattle.keep_run.proofs.LiveTicks.{last_under_way, none_asked, one_more, quiet_heard, round_heard, some_answered}
 
@@ -30,8 +29,8 @@ use Rattle.keep_run.proofs.LiveTicks.{last_under_way, none_asked, one_more, quie
 module _ (port : ℕ) (cs : List (List ℕ)) where
   -- a write that is cut short, behind what was told
   pub stops_short :
-      (old new : Side) (heard : Heard) (told own : List ℕ) (stop : Stop) (a b : Sent) → a.new ≡ b.old → a.failed_after ≡ b.failed_before → IsSent told a →
-      Between old.behind new.behind (λ x y. IsHeardUpTo port cs (both old.keeper x) heard (both new.keeper y) told own) → Sends (Err stop) own b → HearsTo port cs old heard (Err stop) new (joined a b)
+      (old new : World) (heard : Heard) (told own : List ℕ) (stop : Stop) (a b : Sent) → a.new ≡ b.old → a.failed_after ≡ b.failed_before → IsSent told a →
+      IsHeardUpTo port cs old heard new told own → Sends (Err stop) own b → HearsTo port cs old heard (Err stop) new (joined a b)
   stops_short old new heard told own (stops.Inventory fault) a b same failures before up_to sent = absurd sent
   stops_short old new heard told own (stops.Moments fault) a b same failures before up_to sent = absurd sent
   stops_short old new heard told own (stops.FaultWord n) a b same failures before up_to sent = absurd sent
@@ -48,8 +47,8 @@ module _ (port : ℕ) (cs : List (List ℕ)) where
 
   -- the write of its first lines is
   pub stops_at_once :
-      (old new : Side) (heard : Heard) (own : List ℕ) (stop : Stop) (a : Sent) → IsTrue a.flushed_before →
-      Between old.behind new.behind (λ x y. IsHeardUpTo port cs (both old.keeper x) heard (both new.keeper y) [] own) → Sends (Err stop) own a → HearsTo port cs old heard (Err stop) new a
+      (old new : World) (heard : Heard) (own : List ℕ) (stop : Stop) (a : Sent) → IsTrue a.flushed_before →
+      IsHeardUpTo port cs old heard new [] own → Sends (Err stop) own a → HearsTo port cs old heard (Err stop) new a
   stops_at_once old new heard own stop a flushed up_to sent =
       let none : Sent = record a { new = a.old; failed_after = a.failed_before; flushed = a.flushed_before } in
       stops_short old new heard [] own stop none a refl refl ((Appends-nil a.old, flushed), refl) up_to sent
@@ -57,16 +56,16 @@ module _ (port : ℕ) (cs : List (List ℕ)) where
   -- the write of all of its lines
   pub sent_at_once :
       (o : Option Behind) (old new : State) (heard : Heard) (text : List ℕ) (result : Result (Unit {0}) Stop) (a : Sent) →
-      ((b : Behind) → IsHeard port cs (both old b) heard (both new b) text × IsHeardUpTo port cs (both old b) heard (both new b) [] text) → Sends result text a → IsTrue a.flushed_before →
-      HearsTo port cs (side old o) heard result (side new o) a
-  sent_at_once o old new heard text (Ok u) a is sent flushed = (text, (between_none o (λ x y. IsHeard port cs (both old x) heard (both new y) text) (λ b. (is b).0), sent))
+      IsHeard port cs (both old o) heard (both new o) text × IsHeardUpTo port cs (both old o) heard (both new o) [] text → Sends result text a → IsTrue a.flushed_before →
+      HearsTo port cs (both old o) heard result (both new o) a
+  sent_at_once o old new heard text (Ok u) a is sent flushed = (text, (is.0, sent))
   sent_at_once o old new heard text (Err stop) a is sent flushed =
-      stops_at_once (side old o) (side new o) heard text stop a flushed (between_none o (λ x y. IsHeardUpTo port cs (both old x) heard (both new y) [] text) (λ b. (is b).1)) sent
+      stops_at_once (both old o) (both new o) heard text stop a flushed is.1 sent
 
   -- the last line of a tick, behind those before
   pub sent_last :
-      (old new : Side) (heard : Heard) (told own : List ℕ) (result : Result (Unit {0}) Stop) (a b : Sent) → a.new ≡ b.old → a.failed_after ≡ b.failed_before → IsSent told a →
-      Between old.behind new.behind (λ x y. IsHeard port cs (both old.keeper x) heard (both new.keeper y) (told ++ own)) → Between old.behind new.behind (λ x y. IsHeardUpTo port cs (both old.keeper x) heard (both new.keeper y) told own) →
+      (old new : World) (heard : Heard) (told own : List ℕ) (result : Result (Unit {0}) Stop) (a b : Sent) → a.new ≡ b.old → a.failed_after ≡ b.failed_before → IsSent told a →
+      IsHeard port cs old heard new (told ++ own) → IsHeardUpTo port cs old heard new told own →
       Sends result own b → HearsTo port cs old heard result new (joined a b)
   sent_last old new heard told own (Ok u) a b same failures before is up_to sent = (told ++ own, (is, all_then a b same failures told own before sent))
   sent_last old new heard told own (Err stop) a b same failures before is up_to sent = stops_short old new heard told own stop a b same failures before up_to sent
@@ -74,41 +73,35 @@ module _ (port : ℕ) (cs : List (List ℕ)) where
   -- the lines before the first request are cut short
   pub stops_at_first :
       (t : ℕ) (o : Option Behind) (old k : State) (asked mid : List ℕ) → Ticks t old (out.Ask asked) k [] mid → (stop : Stop) (a : Sent) → IsTrue a.flushed_before → Sends (Err stop) mid a →
-      HearsTo port cs (side old o) (heards.Tick t) (Err stop) (side k o) a
+      HearsTo port cs (both old o) (heards.Tick t) (Err stop) (both k o) a
   stops_at_first t o old k asked mid ticks stop a flushed sent =
-      stops_at_once (side old o) (side k o) (heards.Tick t) mid stop a flushed
-      (between_none o (λ x y. IsHeardUpTo port cs (both old x) (heards.Tick t) (both k y) [] mid) (λ b. inr (none_asked port cs t old k asked mid ticks b))) sent
+      stops_at_once (both old o) (both k o) (heards.Tick t) mid stop a flushed
+      (inr (none_asked port cs t old k asked mid ticks o)) sent
 
   -- a round behind the lines before its first request
   module _ (t : ℕ) (o new : Option Behind) (old k final : State) (asked mid : List ℕ) (ticks : Ticks t old (out.Ask asked) k [] mid) (a b : Sent) (same : a.new ≡ b.old) (failures : a.failed_after ≡ b.failed_before) (before : IsSent mid a) where
-    round_cut : IsRoundCut port cs t (side k o) asked (side final new) b → IsCutOff port cs (side old o) (heards.Tick t) (side final new) [] (joined a b)
+    round_cut : IsRoundCut port cs t (both k o) asked (both final new) b → IsCutOff port cs (both old o) (heards.Tick t) (both final new) [] (joined a b)
     round_cut cut =
         let rest = take cut.n cut.own in
         record {
           told = mid ++ cut.told;
           own = cut.own;
-          up_to = between_as o new
-              (λ x y. IsRoundUpTo port cs t (both k x) asked (both final y) cut.told cut.own)
-              (λ x y. IsHeardUpTo port cs (both old x) (heards.Tick t) (both final y) (mid ++ cut.told) cut.own)
-              (λ x y r. inr (one_more port cs t old k asked mid ticks x (both final y) cut.told cut.own r)) cut.up_to;
+          up_to = inr (one_more port cs t old k asked mid ticks o (both final new) cut.told cut.own cut.up_to);
           n = cut.n;
           front = subst (Appends a.old b.new) (sym (append_assoc mid cut.told rest)) (appends a b same failures mid (cut.told ++ rest) before.0.0 cut.front);
         }
 
-    round_broken : IsRoundBroken port cs t (side k o) asked b → IsBrokenOff port cs (side old o) (heards.Tick t) [] (joined a b)
+    round_broken : IsRoundBroken port cs t (both k o) asked b → IsBrokenOff port cs (both old o) (heards.Tick t) [] (joined a b)
     round_broken broken = record {
       t = t;
       is = refl;
       told = mid ++ broken.told;
       mid = broken.mid;
-      so_far = between_as o broken.mid.behind
-          (λ x y. IsRoundSoFar port cs t (both k x) asked (both broken.mid.keeper y) broken.told)
-          (λ x y. TicksSoFar port cs t (both old x) (both broken.mid.keeper y) (mid ++ broken.told))
-          (λ x y r. some_answered port cs t old k asked mid ticks x (both broken.mid.keeper y) broken.told r) broken.so_far;
+      so_far = some_answered port cs t old k asked mid ticks o broken.mid broken.told broken.so_far;
       written = appends a b same failures mid broken.told before.0.0 broken.written;
     }
 
-    pub round_stops : (stop : Stop) → TellsRound port cs t (side k o) asked (Err stop) (side final new) b → HearsTo port cs (side old o) (heards.Tick t) (Err stop) (side final new) (joined a b)
+    pub round_stops : (stop : Stop) → TellsRound port cs t (both k o) asked (Err stop) (both final new) b → HearsTo port cs (both old o) (heards.Tick t) (Err stop) (both final new) (joined a b)
     round_stops (stops.Inventory fault) h = absurd h
     round_stops (stops.Moments fault) h = absurd h
     round_stops (stops.FaultWord n) h = absurd h
@@ -121,33 +114,22 @@ module _ (port : ℕ) (cs : List (List ℕ)) where
     round_stops stops.Memory (inr h) = inr (inr (h.0, round_cut h.1))
 
     -- memory was wanting behind the round
-    pub round_memory : (next : Option ℕ) → TellsRound port cs t (side k o) asked (Ok next) (side final new) b → HearsTo port cs (side old o) (heards.Tick t) (Err stops.Memory) (side final new) (joined a b)
+    pub round_memory : (next : Option ℕ) → TellsRound port cs t (both k o) asked (Ok next) (both final new) b → HearsTo port cs (both old o) (heards.Tick t) (Err stops.Memory) (both final new) (joined a b)
     round_memory next h = inr (inl (round_broken (record {
       told = h.0;
-      mid = side final new;
-      so_far = between_as o new
-          (λ x y. AnswersAll port cs t (both k x) asked next (both final y) [] h.0)
-          (λ x y. IsRoundSoFar port cs t (both k x) asked (both final y) h.0)
-          (λ x y r. so_far port cs t (both k x) (both final y) asked asked [] next h.0 (append-nil asked) r) h.1.0;
+      mid = both final new;
+      so_far = so_far port cs t (both k o) (both final new) asked asked [] next h.0 (append-nil asked) h.1.0;
       written = h.1.1.0.0;
     })))
 
     -- the last line is sent
     pub round_sent :
-        (next : Option ℕ) (own : List ℕ) (result : Result (Unit {0}) Stop) (d : Sent) → b.new ≡ d.old → b.failed_after ≡ d.failed_before → own ≡ next_line next → TellsRound port cs t (side k o) asked (Ok next) (side final new) b → Sends result own d →
-        HearsTo port cs (side old o) (heards.Tick t) result (side final new) (joined (joined a b) d)
+        (next : Option ℕ) (own : List ℕ) (result : Result (Unit {0}) Stop) (d : Sent) → b.new ≡ d.old → b.failed_after ≡ d.failed_before → own ≡ next_line next → TellsRound port cs t (both k o) asked (Ok next) (both final new) b → Sends result own d →
+        HearsTo port cs (both old o) (heards.Tick t) result (both final new) (joined (joined a b) d)
     round_sent next own result d then' counts is h sent =
         let line = subst (λ l. Sends result l d) is sent in
-        sent_last (side old o) (side final new) (heards.Tick t) (mid ++ h.0) (next_line next) result (joined a b) d then' counts (sent_then a b same failures mid h.0 before h.1.1)
-        (between_as o new
-        (λ x y. AnswersAll port cs t (both k x) asked next (both final y) [] h.0)
-        (λ x y. IsHeard port cs (both old x) (heards.Tick t) (both final y) ((mid ++ h.0) ++ next_line next))
-        (λ x y r. inr (round_heard port cs t old k asked mid ticks x (both final y) next h.0 r)) h.1.0)
-        (between_as o new
-        (λ x y. AnswersAll port cs t (both k x) asked next (both final y) [] h.0)
-        (λ x y. IsHeardUpTo port cs (both old x) (heards.Tick t) (both final y) (mid ++ h.0) (next_line next))
-        (λ x y r. inr (last_under_way port cs t old k asked mid ticks x (both final y) next h.0 r)) h.1.0)
-        line
+        sent_last (both old o) (both final new) (heards.Tick t) (mid ++ h.0) (next_line next) result (joined a b) d then' counts (sent_then a b same failures mid h.0 before h.1.1)
+        (inr (round_heard port cs t old k asked mid ticks o (both final new) next h.0 h.1.0)) (inr (last_under_way port cs t old k asked mid ticks o (both final new) next h.0 h.1.0)) line
 
 -- ---- a line that asks nobody
 
@@ -155,12 +137,12 @@ module _ (port : ℕ) (cs : List (List ℕ)) (o : Option Behind) (old new : Stat
   -- why a need stops, and nothing is sent
   pub need_halts :
       (i until : ℕ) (heard : Heard) (stop : Stop) (out : Sent) → heard ≡ Need i until → out.new ≡ out.old → out.failed_after ≡ out.failed_before → out.flushed ≡ out.flushed_before →
-      StopsNeed (side old o) (Need i until) stop (side new o) → HearsTo port cs (side old o) heard (Err stop) (side new o) out
+      StopsNeed (both old o) (Need i until) stop (both new o) → HearsTo port cs (both old o) heard (Err stop) (both new o) out
   need_halts i until heard (stops.Inventory fault) out is same count flushed h = absurd h
   need_halts i until heard (stops.Moments fault) out is same count flushed h = absurd h
   need_halts i until heard (stops.FaultWord n) out is same count flushed h = absurd h
   need_halts i until heard stops.TooLong out is same count flushed h = (
-    subst (λ (q : Heard). IsOverlong (side old o) q (side new o)) (sym is) h,
+    subst (λ (q : Heard). IsOverlong (both old o) q (both new o)) (sym is) h,
     (subst (Keeps out.old) (sym same) (Keeps-refl out.old), count, flushed),
   )
   need_halts i until heard stops.Read out is same count flushed h = absurd h
@@ -172,37 +154,33 @@ module _ (port : ℕ) (cs : List (List ℕ)) (o : Option Behind) (old new : Stat
   -- the lines of a need are sent
   pub need_sent :
       (i until : ℕ) (heard : Heard) (before after : List ℕ) (result : Result (Unit {0}) Stop) (out : Sent) → heard ≡ Need i until → before ≡ [] →
-      ((b : Behind) → (lines : List ℕ) × (IsNeeded i until (both old b) (both new b) lines × (after ≡ before ++ lines))) → Sends result after out → IsTrue out.flushed_before → HearsTo port cs (side old o) heard result (side new o) out
+      (lines : List ℕ) × (IsNeeded i until (both old o) (both new o) lines × (after ≡ before ++ lines)) → Sends result after out → IsTrue out.flushed_before → HearsTo port cs (both old o) heard result (both new o) out
   need_sent i until heard before after result out is empty needed sent flushed =
+      let text : after ≡ needed.0 = needed.1.1 ∙ ap (λ l. l ++ needed.0) empty in
+      let one = subst (IsNeeded i until (both old o) (both new o)) (sym text) needed.1.0 in
       sent_at_once port cs o old new heard after result out
-      (λ b.
-      let n = needed b in
-      let text : after ≡ n.0 = n.1.1 ∙ ap (λ l. l ++ n.0) empty in
-      let one = subst (IsNeeded i until (both old b) (both new b)) (sym text) n.1.0 in
-      subst (λ (q : Heard). IsHeard port cs (both old b) q (both new b) after × IsHeardUpTo port cs (both old b) q (both new b) [] after) (sym is) (one, (refl, one)))
-      sent flushed
+      (subst (λ (q : Heard). IsHeard port cs (both old o) q (both new o) after × IsHeardUpTo port cs (both old o) q (both new o) [] after) (sym is) (one, (refl, one))) sent flushed
 
 -- the line of an unknown name is sent
 pub unknown_sent :
     (port : ℕ) (cs : List (List ℕ)) (o : Option Behind) (old : State) (heard : Heard) (result : Result (Unit {0}) Stop) (out : Sent) → heard ≡ heards.Unknown → Sends result (codes "fault unknown-name\n") out → IsTrue out.flushed_before →
-    HearsTo port cs (side old o) heard result (side old o) out
+    HearsTo port cs (both old o) heard result (both old o) out
 unknown_sent port cs o old heard result out is sent flushed =
     sent_at_once port cs o old old heard (codes "fault unknown-name\n") result out
-    (λ b.
-    subst (λ (q : Heard). IsHeard port cs (both old b) q (both old b) (codes "fault unknown-name\n") × IsHeardUpTo port cs (both old b) q (both old b) [] (codes "fault unknown-name\n")) (sym is)
+    (subst (λ (q : Heard). IsHeard port cs (both old o) q (both old o) (codes "fault unknown-name\n") × IsHeardUpTo port cs (both old o) q (both old o) [] (codes "fault unknown-name\n")) (sym is)
     ((refl, refl), (refl, (refl, refl))))
     sent flushed
 
 -- the line of a tick before the last moment is sent
 pub late_sent :
     (port : ℕ) (cs : List (List ℕ)) (o : Option Behind) (t : ℕ) (old : State) (result : Result (Unit {0}) Stop) (out : Sent) → t < old.last → Sends result (codes "fault clock-back\n") out → IsTrue out.flushed_before →
-    HearsTo port cs (side old o) (heards.Tick t) result (side old o) out
+    HearsTo port cs (both old o) (heards.Tick t) result (both old o) out
 late_sent port cs o t old result out late sent flushed =
-    sent_at_once port cs o old old (heards.Tick t) (codes "fault clock-back\n") result out (λ b. (inl (late, (refl, refl)), inl (refl, (late, (refl, refl))))) sent flushed
+    sent_at_once port cs o old old (heards.Tick t) (codes "fault clock-back\n") result out (inl (late, (refl, refl)), inl (refl, (late, (refl, refl)))) sent flushed
 
 -- the lines of a tick that asks nobody are sent
 pub quiet_sent :
     (port : ℕ) (cs : List (List ℕ)) (o : Option Behind) (t : ℕ) (old new : State) (output : Output) (mid after : List ℕ) (result : Result (Unit {0}) Stop) (out : Sent) → Ticks t old output new [] mid → asked_in output ≡ [] →
-    asks_some output ≡ false → after ≡ mid ++ last_line output [] → Sends result after out → IsTrue out.flushed_before → HearsTo port cs (side old o) (heards.Tick t) result (side new o) out
+    asks_some output ≡ false → after ≡ mid ++ last_line output [] → Sends result after out → IsTrue out.flushed_before → HearsTo port cs (both old o) (heards.Tick t) result (both new o) out
 quiet_sent port cs o t old new output mid after result out ticks none nobody last sent flushed =
-    sent_at_once port cs o old new (heards.Tick t) after result out (λ b. let h = quiet_heard port cs t old b new output mid after ticks none nobody last in (inr h.0, inr h.1)) sent flushed
+    sent_at_once port cs o old new (heards.Tick t) after result out (let h = quiet_heard port cs t old o new output mid after ticks none nobody last in (inr h.0, inr h.1)) sent flushed

@@ -10,7 +10,6 @@ use Rattle.keep_core.specs.declared.event.Event.TheVariants.{Tick, Told, Refused
 use Rattle.keep_core.specs.declared.event.Output.{Output}
 use Rattle.keep_core.specs.declared.event.Output.TheVariants as out
 use Rattle.keep_core.specs.declared.shortened.ShortNeed.{ShortNeed}
-use Rattle.keep_exchange.specs.Requests.{reply_in}
 use Rattle.keep_run.specs.Closed.{Beat, Exchanged, event_in}
 use Rattle.keep_run.specs.Renewing.{event_of}
 use Rattle.keep_run.specs.Text.{answer_line, answer_text, beat_text, line, name_of, names_of, short_line, short_lines, status_in, wake_line}
@@ -38,7 +37,7 @@ module _ (g h : Forest) (like : IsShaped g h) where
 
   pub same_event : (cs : List (List ℕ)) (x : Exchanged) → event_in cs h x ≡ event_in cs g x
   unfolding event_in
-  same_event cs x = ap (λ (e : Entry). event_of e.kind (credential_at cs x.entry) x.entry (reply_in x.sent)) (like.each x.entry)
+  same_event cs x = ap (λ (e : Entry). event_of e.kind (credential_at cs x.entry) x.entry x.reply) (like.each x.entry)
 
   same_answer : (event : Event) (reply : Option Reply) → answer_line h event reply ≡ answer_line g event reply
   same_answer (Told i seconds renewable) reply = ap (λ n. line (codes "told" ∷ n ∷ decimal seconds ∷ [])) (same_name i)
@@ -53,7 +52,7 @@ module _ (s u : Inventory) (like : IsShaped s.forest u.forest) (credentials : u.
   unfolding answer_text
   same_answer_text x =
       let event : event_in u.credentials u.forest x ≡ event_in s.credentials s.forest x = ap (λ cs. event_in cs u.forest x) credentials ∙ same_event s.forest u.forest like s.credentials x in
-      let reply = reply_in x.sent in
+      let reply = x.reply in
       ap (λ e. answer_line u.forest e reply ++ short_lines u.forest x.short) event
       ∙ ap (λ xs. xs ++ short_lines u.forest x.short) (same_answer s.forest u.forest like (event_in s.credentials s.forest x) reply)
       ∙ ap (λ xs. answer_line s.forest (event_in s.credentials s.forest x) reply ++ xs) (same_shorts s.forest u.forest like x.short)

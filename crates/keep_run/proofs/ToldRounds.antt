@@ -13,13 +13,11 @@ use Rattle.keep_report.specs.declared.stop.Stop.TheVariants as stops
 use Rattle.keep_report.specs.Sent.{Sent}
 use Rattle.keep_run.specs.Closed.{Exchanged, World, told_next}
 use Rattle.keep_run.specs.LineByLine.{IsSent}
-use Rattle.keep_run.specs.Live.{side}
 use Rattle.keep_run.specs.Playing.{Answers, AnswersAll, inventory_with}
 use Rattle.keep_run.specs.Stops.{both}
-use Rattle.keep_run.specs.Telling.{IsOneCut, IsRound, IsRoundBroken, IsRoundCut, IsRoundSoFar, IsRoundUpTo, TellsOne, TellsRound}
+use Rattle.keep_run.specs.Telling.{IsOneCut, IsRoundBroken, IsRoundCut, IsRoundSoFar, IsRoundUpTo, TellsOne, TellsRound}
 use Rattle.keep_run.proofs.LineByLine.{joined, sent_then}
 use Rattle.keep_run.proofs.Loops.{answer_more}
-use Rattle.keep_run.proofs.OneAnswer.{between_as, between_more}
 use Rattle.keep_run.proofs.Rounds.{answers_more}
 use Rattle.keep_run.proofs.Texts.{same_answer_text}
 
@@ -80,58 +78,44 @@ module _ (port : ℕ) (cs : List (List ℕ)) (t : ℕ) (o mid : Option Behind) (
   parts = sym (append_assoc (take k asked) (i ∷ []) (drop (k + 1) asked)) ∙ ap (λ l. l ++ drop (k + 1) asked) (sym (take_more asked k 0 more)) ∙ take-append-drop (k + 1) asked
 
   abbrev pub Before : Type 0
-  Before = (text : List ℕ) × (IsRound port cs t (side start o) (take k asked) next (side now mid) text × IsSent text a)
+  Before = (text : List ℕ) × (AnswersAll port cs t (both start o) (take k asked) next (both now mid) [] text × IsSent text a)
 
   -- the next answer is told
   pub told_more :
-      (new : Option Behind) (after : State) (output : Output) (then' : Option ℕ) → then' ≡ told_next next output → Before → TellsOne port cs t (side now mid) i (Ok output) (side after new) b →
-      (text : List ℕ) × (IsRound port cs t (side start o) (take (k + 1) asked) then' (side after new) text × IsSent text (joined a b))
+      (new : Option Behind) (after : State) (output : Output) (then' : Option ℕ) → then' ≡ told_next next output → Before → TellsOne port cs t (both now mid) i (Ok output) (both after new) b →
+      (text : List ℕ) × (AnswersAll port cs t (both start o) (take (k + 1) asked) then' (both after new) [] text × IsSent text (joined a b))
   told_more new after output then' closes h one = (
     h.0 ++ one.0,
     (
-      between_more o mid new
-          (λ x m. AnswersAll port cs t (both start x) (take k asked) next (both now m) [] h.0)
-          (λ m y. Answers port cs t (both now m) i output (both after y) [] one.0)
-          (λ x y. AnswersAll port cs t (both start x) (take (k + 1) asked) then' (both after y) [] (h.0 ++ one.0))
-          (λ x m y first second.
-          subst (λ is. AnswersAll port cs t (both start x) is then' (both after y) [] (h.0 ++ one.0)) (sym (take_more asked k 0 more))
-          (subst (λ n. AnswersAll port cs t (both start x) (take k asked ++ i ∷ []) n (both after y) [] (h.0 ++ one.0)) (sym closes)
-          (answers_more port cs t (both start x) (both now m) (both after y) (take k asked) i next output [] h.0 (h.0 ++ one.0) like first
-          (answers_told port cs t (both now m) i output (both after y) h.0 one.0 second))))
-          h.1.0 one.1.0,
+      subst (λ is. AnswersAll port cs t (both start o) is then' (both after new) [] (h.0 ++ one.0)) (sym (take_more asked k 0 more))
+          (subst (λ n. AnswersAll port cs t (both start o) (take k asked ++ i ∷ []) n (both after new) [] (h.0 ++ one.0)) (sym closes)
+          (answers_more port cs t (both start o) (both now mid) (both after new) (take k asked) i next output [] h.0 (h.0 ++ one.0) like h.1.0
+          (answers_told port cs t (both now mid) i output (both after new) h.0 one.0 one.1.0))),
       sent_then a b same failures h.0 one.0 h.1.1 one.1.1,
     ),
   )
 
   -- only a front of its lines is
-  cut_on : (new : Option Behind) (after : State) → Before → IsOneCut port cs t (side now mid) i (side after new) b → IsRoundCut port cs t (side start o) asked (side after new) (joined a b)
+  cut_on : (new : Option Behind) (after : State) → Before → IsOneCut port cs t (both now mid) i (both after new) b → IsRoundCut port cs t (both start o) asked (both after new) (joined a b)
   cut_on new after h one = record {
     told = h.0;
     own = one.1.0;
-    up_to = between_more o mid new
-        (λ x m. AnswersAll port cs t (both start x) (take k asked) next (both now m) [] h.0)
-        (λ m y. Answers port cs t (both now m) i one.0 (both after y) [] one.1.0)
-        (λ x y. IsRoundUpTo port cs t (both start x) asked (both after y) h.0 one.1.0)
-        (λ x m y first second. up_to port cs t (both start x) (both now m) (both after y) asked (take k asked) i (drop (k + 1) asked) next one.0 h.0 one.1.0 parts like first second)
-        h.1.0 one.1.1.0;
+    up_to = up_to port cs t (both start o) (both now mid) (both after new) asked (take k asked) i (drop (k + 1) asked) next one.0 h.0 one.1.0 parts like h.1.0 one.1.1.0;
     n = one.1.1.1.0;
     front = Appends-trans a.old a.new b.new h.0 (take one.1.1.1.0 one.1.0) h.1.1.0.0 (subst (λ (w : Option (List ℕ)). Appends w b.new (take one.1.1.1.0 one.1.0)) (sym same) one.1.1.1.1);
   }
 
-  broken_on : Before → Keeps b.old b.new → IsRoundBroken port cs t (side start o) asked (joined a b)
+  broken_on : Before → Keeps b.old b.new → IsRoundBroken port cs t (both start o) asked (joined a b)
   broken_on h none = record {
     told = h.0;
-    mid = side now mid;
-    so_far = between_as o mid
-        (λ x y. AnswersAll port cs t (both start x) (take k asked) next (both now y) [] h.0)
-        (λ x y. IsRoundSoFar port cs t (both start x) asked (both now y) h.0)
-        (λ x y first. so_far port cs t (both start x) (both now y) asked (take k asked) (drop k asked) next h.0 (take-append-drop k asked) first) h.1.0;
+    mid = both now mid;
+    so_far = so_far port cs t (both start o) (both now mid) asked (take k asked) (drop k asked) next h.0 (take-append-drop k asked) h.1.0;
     written = Appends-kept a.old a.new b.new h.0 h.1.1.0.0 (subst (λ (w : Option (List ℕ)). Keeps w b.new) (sym same) none);
   }
 
   -- why the round stops
   pub stopped_on :
-      (stop : Stop) (new : Option Behind) (after : State) → Before → TellsOne port cs t (side now mid) i (Err stop) (side after new) b → TellsRound port cs t (side start o) asked (Err stop) (side after new) (joined a b)
+      (stop : Stop) (new : Option Behind) (after : State) → Before → TellsOne port cs t (both now mid) i (Err stop) (both after new) b → TellsRound port cs t (both start o) asked (Err stop) (both after new) (joined a b)
   stopped_on (stops.Inventory fault) new after h one = absurd one
   stopped_on (stops.Moments fault) new after h one = absurd one
   stopped_on (stops.FaultWord n) new after h one = absurd one

@@ -17,7 +17,7 @@ use Rattle.keep_rule.proofs.Alive.{last_from_alive}
 use Rattle.keep_rule.proofs.Keeping.{one_least}
 use Rattle.keep_rule.specs.declared.limit.TheConstants.{LIMIT}
 use Rattle.keep_inventory.specs.Inventories.{IsInventory, Inventory}
-use Rattle.mini_broker.specs.Rows.{row_named}
+use Rattle.mini_broker.specs.Rows.{row_named, rows_of}
 use Rattle.mini_broker.specs.Sweep.{swept}
 use Rattle.keep_core.specs.declared.event.Event.{Event}
 use Rattle.keep_core.specs.declared.event.Event.TheVariants.{Tick}
@@ -37,7 +37,6 @@ use Rattle.keep_core.proofs.Kept.{keepable}
 use Rattle.keep_core.proofs.Once.{once}
 use Rattle.keep_core.proofs.Shortening.{needed_within}
 use Rattle.keep_core.proofs.Standing.{best_from, best_keepable}
-use Rattle.keep_exchange.specs.Requests.{reply_in}
 use Rattle.keep_run.specs.Closed.{Beat, IsOpening, World, requests_of, rounds, taken, Played}
 use Rattle.keep_run.specs.Renewing.{event_for}
 use Rattle.keep_run.specs.Text.{beat_text, course_text, done_text, short_lines}
@@ -74,8 +73,10 @@ opening_rests inventory start ts short w supplied late plan few o = record {
   late = late;
   same = λ i. refl;
   supplied = supplied;
-  mirrors = λ m from. ap (λ (x : World). swept m x.behind.table.rows) o.is ∙ mirrors_first inventory supplied.forest start m from;
-  none = ap (λ (x : World). x.behind.table.faults) o.is;
+  behind = record { table = record { rows = rows_of inventory; faults = []; count = 0 }; wire = [] };
+  known = ap (λ (x : World). x.behind) o.is;
+  mirrors = λ m from. mirrors_first inventory supplied.forest start m from;
+  none = refl;
 }
 
 -- ---- who stands
@@ -106,8 +107,8 @@ left_later t m rest None none later = subst (λ xs. All (λ u. m < u) xs) (sym n
 left_later t m rest (Some u) awaits later = all_later m u rest later awaits.1.1
 
 stands :
-    (inventory : Inventory) (w : World) (t : ℕ) (rest : List ℕ) (next : Option ℕ) → AtRest inventory w t rest → Awaits t rest next → (m i : ℕ) → t ≤ m → IfSome next (λ u. m < u) →
-    m < (entry_at inventory.forest.entries i).need → is_some (row_named (swept m w.behind.table.rows) (entry_at inventory.forest.entries i).name) ≡ true
+    (inventory : Inventory) (w : World) (t : ℕ) (rest : List ℕ) (next : Option ℕ) → (r : AtRest inventory w t rest) → Awaits t rest next → (m i : ℕ) → t ≤ m → IfSome next (λ u. m < u) →
+    m < (entry_at inventory.forest.entries i).need → is_some (row_named (swept m r.behind.table.rows) (entry_at inventory.forest.entries i).name) ≡ true
 unfolding listed
 stands inventory w t rest next r awaits m i from later needed =
     let g = r.g in
@@ -173,6 +174,8 @@ so_far inventory start ts supplied late plan few short opening final beats next 
         taken = λ t result new is turn.
             not_refused r.g done.last t done.rest r.plan r.few (subst (Awaits done.last done.rest) is done.awaits) result new
             (subst (λ (q : State). Turn q (Tick t) result new) r.keeper turn);
+        behind = r.behind;
+        known = r.known;
         stands = λ m i from all later needed. stands inventory final done.last done.rest next r done.awaits m i (done.bound m from all) later needed;
       },
     )
@@ -187,7 +190,7 @@ rehearsal inventory start ts supplied late plan few course final run =
     )
 
 pub answers_taken : AnswersTakenLaw
-answers_taken inventory start ts supplied late plan few short opening final beats t o played asked keeper ticked xs now i others who answers sent result new says turn =
+answers_taken inventory start ts supplied late plan few short opening final beats t o played asked keeper ticked xs now i others who answers =
     let begins = opening_rests inventory start ts short opening supplied late plan few o in
     let first : Awaits start ts (Some start) = (omega arith, (late, best_from inventory.forest start ts plan)) in
     let done = run_goes inventory 8200 beats opening final start ts begins (Some start) (Some t) first played in
@@ -195,8 +198,15 @@ answers_taken inventory start ts supplied late plan few short opening final beat
     let start' : World = record { keeper = taken keeper; behind = final.behind } in
     let open' = asks_open inventory final done.last done.rest t r done.awaits asked keeper ticked in
     let part = part_goes inventory 8200 r.g t open'.0 xs i others start' now r.g (subst (InRound inventory start' r.g r.g t open'.0) (sym who) open'.1) answers in
-    let next = next_turn inventory 8200 r.g t open'.0 i others now part.0 part.1 sent says in
-    taken_turn now.keeper new next.1.0 (event_for inventory.credentials now.keeper.forest i (reply_in sent)) next.0 next.1.1 result turn
+    let round = part.1 in (
+      round.behind,
+      (
+        round.known,
+        λ reply left result new served turn.
+            let next = next_turn inventory 8200 r.g t open'.0 i others now part.0 round reply left served in
+            taken_turn now.keeper new next.1.0 (event_for inventory.credentials now.keeper.forest i reply) next.0 next.1.1 result turn,
+      ),
+    )
 
 pub planned_run : PlannedRunLaw
 unfolding course_text
@@ -224,7 +234,8 @@ comes_later port cs w v (Some u) (b ∷ bs) m played later =
 
 pub all_stand : StandsLaw
 all_stand inventory start ts supplied late plan few short opening mid final before after due o first then' m i from up later needed =
-    (so_far inventory start ts supplied late plan few short opening mid before due o first).1.stands m i from up (comes_later 8200 inventory.credentials mid final due after m then' later) needed
+    let goes = (so_far inventory start ts supplied late plan few short opening mid before due o first).1 in
+    (goes.behind, (goes.known, goes.stands m i from up (comes_later 8200 inventory.credentials mid final due after m then' later) needed))
 
 -- ---- one wake-up more than the plan has
 

@@ -239,7 +239,7 @@ last_played cs old start before first failed now due asked written failed_now (E
 
 -- what `last` comes to, where the run is at its end
 pub last_ends :
-    (cs : List (List ℕ)) (behind : Behind) (old new : State) (due asked : ℕ) (before text : List ℕ) (result : Result (Unit {0}) Stop) (out : Sent) → before ≡ [] → Ends cs behind old due new before text →
+    (cs : List (List ℕ)) (behind : Option Behind) (old new : State) (due asked : ℕ) (before text : List ℕ) (result : Result (Unit {0}) Stop) (out : Sent) → before ≡ [] → Ends cs behind old due new before text →
     Finishes (text ++ done_text 100000 asked) result out → LastPlays cs behind old due asked result new out
 last_ends cs behind old new due asked before text result out none e ends = by_result result ends where
   goes : (piece : List ℕ) × (Goes (inventory_with cs old.forest) (both old behind) (Some due) (both new behind) None 0 0 piece × (text ≡ before ++ piece))

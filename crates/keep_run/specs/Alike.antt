@@ -1,8 +1,9 @@
 -- Alike: tables of two brokers that differ in credentials alone, where one has the credential of an entry the other has its own
 -- for the same entry.
 -- Source: this project's own.
-use Rattle.std.specs.Prelude.{◌≡◌, ◌↔◌, ℕ, ◌<◌, ◌≤◌, All, List, length}
+use Rattle.std.specs.Prelude.{◌≡◌, ◌↔◌, ℕ, ◌<◌, ◌≤◌, All, List, Option, Some, length}
 use Rattle.std.specs.List.{AllZip}
+use Rattle.keep_exchange.specs.Exchanges.{Behind}
 use Rattle.keep_tree.specs.Forest.{Forest, entry_at}
 use Rattle.keep_inventory.specs.Inventories.{credential_at}
 use Rattle.keep_moment.specs.declared.moment.TheConstants.{LAST}
@@ -20,6 +21,14 @@ pub record AreTablesAlike (g : Forest) (cs ds : List (List ℕ)) (l m : Table) :
   pub rows : AllZip (AreRowsAlike g cs ds) l.rows m.rows
   pub faults : m.faults ≡ l.faults
   pub count : m.count ≡ l.count
+
+-- two exchanges whose tables are known, and are such
+pub record AreBrokersAlike (g : Forest) (cs ds : List (List ℕ)) (old other : Option Behind) : Type 0 where
+  pub behind : Behind
+  pub known : old ≡ Some behind
+  pub other_behind : Behind
+  pub other_known : other ≡ Some other_behind
+  pub tables : AreTablesAlike g cs ds behind.table other_behind.table
 
 -- each row was issued at a moment that a date can tell
 abbrev pub AreDated : Table → Type 0

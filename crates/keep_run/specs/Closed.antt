@@ -1,17 +1,14 @@
--- Closed run: the Keeper step and the Broker step in turn.
+-- Closed run: the Keeper step and the Broker step in turn. Ticks and answers are those of a live run too, over any exchange.
 -- Source: this project's own.
-use Rattle.std.specs.Prelude.{◌≡◌, ℕ, ◌≤◌, Bool, true, false, List, [], ◌∷◌, ◌++◌, Option, Some, None, Ok, length, map}
+use Rattle.std.specs.Prelude.{◌≡◌, ℕ, ◌≤◌, Bool, true, false, List, [], ◌∷◌, Option, Some, None, IfSome, Ok, length, map}
 use Rattle.std.specs.List.{filter, sum_by}
 use Rattle.keep_tree.specs.Forest.{Forest}
 use Rattle.keep_inventory.specs.Inventories.{Inventory}
-use Rattle.vault_http.specs.Written.{request_text}
 use Rattle.keep_exchange.specs.Exchanges.{Behind}
-use Rattle.keep_exchange.specs.Requests.{reply_in, request_of}
+use Rattle.keep_exchange.specs.Requests.{IsAsked, request_of}
+use Rattle.vault_http.specs.declared.reply.Reply.{Reply}
 use Rattle.mini_broker.specs.declared.fault.NumberedFault.{NumberedFault}
-use Rattle.mini_broker.specs.declared.served.Served.{Served}
 use Rattle.mini_broker.specs.Rows.{rows_of}
-use Rattle.mini_broker.specs.Step.{Says, step}
-use Rattle.mini_broker.specs.Stream.{sent_of}
 use Rattle.keep_core.specs.declared.event.Event.{Event}
 use Rattle.keep_core.specs.declared.event.Event.TheVariants.{Tick}
 use Rattle.keep_core.specs.declared.event.Output.{Output}
@@ -23,16 +20,16 @@ use Rattle.keep_core.specs.State.{State, unplanned}
 use Rattle.keep_run.specs.declared.playing.TheConstants.{MOST_WAKES}
 use Rattle.keep_run.specs.Renewing.{event_for}
 
--- both sides: the keeper, whose shortened needs were taken, and what stands behind the exchange: the broker's table, and the
--- bytes of the last request and its reply
+-- both sides: the keeper, whose shortened needs were taken, and what stands behind the exchange, where it is known: the broker's
+-- table, and the bytes of the last request and its reply
 pub record World : Type 0 where
   pub keeper : State
-  pub behind : Behind
+  pub behind : Option Behind
 
--- one asked entry: what the broker sent for it, what the keeper put out, and the needs that it then shortened
+-- one asked entry: the reply to its request, if one came; what the keeper put out, and the needs that it then shortened
 pub record Exchanged : Type 0 where
   pub entry : ℕ
-  pub sent : Served
+  pub reply : Option Reply
   pub output : Output
   pub short : List ShortNeed
 
@@ -51,22 +48,16 @@ taken s = record s { shortened = [] }
 
 -- what the reply of an exchange means
 unfoldable pub event_in : List (List ℕ) → Forest → Exchanged → Event
-event_in cs g x = event_for cs g x.entry (reply_in x.sent)
+event_in cs g x = event_for cs g x.entry x.reply
 
--- the broker's table behind the request, and the bytes of both messages
-abbrev pub carried : ℕ → List (List ℕ) → ℕ → World → Exchanged → Behind
-carried port cs t old x = record {
-  table = (step old.behind.table t (request_of port cs old.keeper.forest x.entry)).table;
-  wire = request_text (request_of port cs old.keeper.forest x.entry) ++ sent_of x.sent;
-}
-
--- the entry sends its request, is served at t, and its reply gives the keeper's event
+-- the entry sends its request at t, and the reply gives the keeper's event. Where the broker's table is known, the reply is that of
+-- its step; else it is whatever came
 pub record IsAnswered (port : ℕ) (cs : List (List ℕ)) (t : ℕ) (old : World) (x : Exchanged) (new : World) : Type 0 where
-  pub says : Says t (step old.behind.table t (request_of port cs old.keeper.forest x.entry)).answer x.sent
+  pub asked : IfSome old.behind (λ b. IsAsked b.table t (request_of port cs old.keeper.forest x.entry) x.reply new.behind)
   pub keeper : State
   pub turn : Turn old.keeper (event_in cs old.keeper.forest x) (Ok x.output) keeper
   pub short : x.short ≡ keeper.shortened
-  pub is : new ≡ record { keeper = taken keeper; behind = carried port cs t old x }
+  pub taken_is : new.keeper ≡ taken keeper
 
 -- one after another
 abbrev pub AreAnswered : ℕ → List (List ℕ) → ℕ → World → List Exchanged → World → Type 0
@@ -119,7 +110,7 @@ pub record IsOpening (inventory : Inventory) (faults : List NumberedFault) (star
   pub keeper : State
   pub planned : Replan (unplanned inventory.forest) start keeper
   pub short_is : short ≡ keeper.shortened
-  pub is : world ≡ record { keeper = taken keeper; behind = record { table = record { rows = rows_of inventory; faults = faults; count = 0 }; wire = [] } }
+  pub is : world ≡ record { keeper = taken keeper; behind = Some (record { table = record { rows = rows_of inventory; faults = faults; count = 0 }; wire = [] }) }
 
 -- whether entries were asked: a wake-up
 abbrev pub asks_some : Output → Bool

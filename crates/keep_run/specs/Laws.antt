@@ -16,8 +16,6 @@ use Rattle.keep_plan.specs.Decides.{Decides}
 use Rattle.keep_plan.specs.Planned.{Planned, to_come}
 use Rattle.keep_inventory.specs.Inventory.{read_inventory}
 use Rattle.keep_inventory.specs.Inventories.{IsInventory, Inventory}
-use Rattle.mini_broker.specs.declared.served.Served.{Served}
-use Rattle.mini_broker.specs.Step.{Says, step}
 use Rattle.mini_broker.specs.Rows.{row_named}
 use Rattle.mini_broker.specs.Sweep.{swept}
 use Rattle.keep_core.specs.declared.event.Event.TheVariants.{Tick, Told}
@@ -32,7 +30,9 @@ use Rattle.keep_core.specs.State.{State}
 use Rattle.keep_run.specs.declared.playing.TheConstants.{MOST_WAKES}
 use Rattle.keep_run.specs.Closed.{AreAnswered, Beat, Course, Exchanged, IsClosedRun, IsOpening, Played, World, event_in, requests_of, rounds, taken}
 use Rattle.keep_run.specs.Renewing.{event_for}
-use Rattle.keep_exchange.specs.Requests.{reply_in, request_of}
+use Rattle.keep_exchange.specs.Exchanges.{Behind}
+use Rattle.keep_exchange.specs.Requests.{IsAsked, request_of}
+use Rattle.vault_http.specs.declared.reply.Reply.{Reply}
 use Rattle.keep_run.specs.Stops.{IsTaken}
 use Rattle.keep_run.specs.Text.{beat_text, course_text, done_text}
 
@@ -58,8 +58,10 @@ pub record GoesAsPlanned (inventory : Inventory) (start : ℕ) (ts : List ℕ) (
   pub asked : next ≡ None → requests_of beats ≡ requests (with_asks inventory.forest.entries inventory.forest.margin start (end_of inventory.forest.entries) ts)
   pub quiet : All (IsQuiet inventory) beats
   pub taken : (t : ℕ) (result : Result Output StepFault) (new : State) → next ≡ Some t → Turn final.keeper (Tick t) result new → IsTaken result
+  pub behind : Behind
+  pub known : final.behind ≡ Some behind
   pub stands : (m i : ℕ) → start ≤ m → All (λ b. b.at ≤ m) beats → IfSome next (λ t. m < t) → m < (entry_at inventory.forest.entries i).need
-      → is_some (row_named (swept m final.behind.table.rows) (entry_at inventory.forest.entries i).name) ≡ true
+      → is_some (row_named (swept m behind.table.rows) (entry_at inventory.forest.entries i).name) ≡ true
 
 -- without faults, a run of an inventory that a plan keeps goes as planned, as far as it went
 abbrev pub SoFarLaw : Type 0
@@ -97,8 +99,9 @@ AnswersTakenLaw =
     (asked : List ℕ) (keeper : State) → Turn final.keeper (Tick t) (Ok (out.Ask asked)) keeper →
     (xs : List Exchanged) (now : World) (i : ℕ) (others : List ℕ) → map (λ x. x.entry) xs ++ (i ∷ others) ≡ asked →
     AreAnswered 8200 inventory.credentials t (record { keeper = taken keeper; behind = final.behind }) xs now →
-    (sent : Served) (result : Result Output StepFault) (new : State) → Says t (step now.behind.table t (request_of 8200 inventory.credentials now.keeper.forest i)).answer sent →
-    Turn now.keeper (event_for inventory.credentials now.keeper.forest i (reply_in sent)) result new → IsTaken result
+    (behind : Behind) × ((now.behind ≡ Some behind)
+    × ((reply : Option Reply) (left : Option Behind) (result : Result Output StepFault) (new : State) → IsAsked behind.table t (request_of 8200 inventory.credentials now.keeper.forest i) reply left →
+    Turn now.keeper (event_for inventory.credentials now.keeper.forest i reply) result new → IsTaken result))
 
 -- over the bytes of an inventory, and for the plan that `plan` gives: the run's text ends in its number of wake-ups and the
 -- sum of the lengths of its Asks
@@ -117,5 +120,5 @@ StandsLaw =
     (inventory : Inventory) (start : ℕ) (ts : List ℕ) → IsInventory inventory → start ≤ LAST → IsPlanOf inventory.forest start ts → length ts ≤ LIMIT →
     (short : List ShortNeed) (opening mid final : World) (before after : List Beat) (due : Option ℕ) → IsOpening inventory [] start short opening →
     Played 8200 inventory.credentials opening (Some start) before mid due → Played 8200 inventory.credentials mid due after final None →
-    (m i : ℕ) → start ≤ m → All (λ b. b.at ≤ m) before → All (λ b. m < b.at) after → m < (entry_at inventory.forest.entries i).need
-    → is_some (row_named (swept m mid.behind.table.rows) (entry_at inventory.forest.entries i).name) ≡ true
+    (m i : ℕ) → start ≤ m → All (λ b. b.at ≤ m) before → All (λ b. m < b.at) after → m < (entry_at inventory.forest.entries i).need →
+    (behind : Behind) × ((mid.behind ≡ Some behind) × (is_some (row_named (swept m behind.table.rows) (entry_at inventory.forest.entries i).name) ≡ true))

@@ -12,27 +12,26 @@ use Rattle.keep_report.specs.Sent.{IsAll, Sent}
 use Rattle.keep_run.specs.declared.event_line.Heard.{Heard}
 use Rattle.keep_run.specs.declared.event_line.TheConstants.{MOST_LINE}
 use Rattle.keep_run.specs.declared.listening.TheConstants.{EVENT_ROOM, MOST_EVENTS, MOST_EVENT_READS}
+use Rattle.keep_run.specs.Closed.{World}
 use Rattle.keep_run.specs.EventLines.{heard_in}
-use Rattle.keep_run.specs.Live.{Between, IsBrokenOff, IsCutOff, IsHeard, IsOverlong, Side}
-use Rattle.keep_run.specs.Stops.{both}
+use Rattle.keep_run.specs.Live.{IsBrokenOff, IsCutOff, IsHeard, IsOverlong}
 
 -- ---- lines
 
--- a line says an event in the forest of its moment; the event is heard, by requests that name this port, and has this text, where
--- what stands behind the exchange is known
-pub record IsLineHeard (port : ℕ) (cs : List (List ℕ)) (old : Side) (line : List ℕ) (new : Side) (text : List ℕ) : Type 0 where
+-- a line says an event in the forest of its moment; the event is heard, by requests that name this port, and has this text
+pub record IsLineHeard (port : ℕ) (cs : List (List ℕ)) (old : World) (line : List ℕ) (new : World) (text : List ℕ) : Type 0 where
   pub says : Heard
   pub is : heard_in old.keeper.forest line ≡ Some says
-  pub heard : Between old.behind new.behind (λ b a. IsHeard port cs (both old.keeper b) says (both new.keeper a) text)
+  pub heard : IsHeard port cs old says new text
 
 -- lines are heard, one after another, and their texts stand one behind another
-abbrev pub AreHeard : ℕ → List (List ℕ) → Side → List (List ℕ) → Side → List ℕ → Type 0
+abbrev pub AreHeard : ℕ → List (List ℕ) → World → List (List ℕ) → World → List ℕ → Type 0
 AreHeard port cs old [] new text = (new ≡ old) × (text ≡ [])
 AreHeard port cs old (line ∷ lines) new text =
-    (mid : Side) × ((first : List ℕ) × ((rest : List ℕ) × (IsLineHeard port cs old line mid first × (AreHeard port cs mid lines new rest × (text ≡ first ++ rest)))))
+    (mid : World) × ((first : List ℕ) × ((rest : List ℕ) × (IsLineHeard port cs old line mid first × (AreHeard port cs mid lines new rest × (text ≡ first ++ rest)))))
 
 -- the pieces of these bytes between line feeds are lines that are heard, and then these, of which the last has no line feed
-pub record IsHeardFirst (port : ℕ) (cs : List (List ℕ)) (old : Side) (bytes : List ℕ) (lines behind : List (List ℕ)) (new : Side) (text : List ℕ) : Type 0 where
+pub record IsHeardFirst (port : ℕ) (cs : List (List ℕ)) (old : World) (bytes : List ℕ) (lines behind : List (List ℕ)) (new : World) (text : List ℕ) : Type 0 where
   pub cut : pieces 10 bytes ≡ lines ++ behind
   pub heard : AreHeard port cs old lines new text
 
@@ -51,19 +50,19 @@ IsNoEvent g (rest ∷ []) HasEnded = (MOST_LINE ≤ length rest) ⊎ (HasEnded �
 IsNoEvent g (line ∷ next ∷ more) HasEnded = heard_in g line ≡ None
 
 -- the line says a new need, with which the plan would be too long; nothing is changed
-abbrev pub IsTooLong : Side → List ℕ → Side → Type 0
+abbrev pub IsTooLong : World → List ℕ → World → Type 0
 IsTooLong old line new = (says : Heard) × ((heard_in old.keeper.forest line ≡ Some says) × IsOverlong old says new)
 
 -- the line is heard up to a write that was cut short
-abbrev pub IsCutShort : ℕ → List (List ℕ) → Side → List ℕ → Side → List ℕ → Sent → Type 0
+abbrev pub IsCutShort : ℕ → List (List ℕ) → World → List ℕ → World → List ℕ → Sent → Type 0
 IsCutShort port cs old line new text out = (says : Heard) × ((heard_in old.keeper.forest line ≡ Some says) × IsCutOff port cs old says new text out)
 
 -- the line is a tick that is heard up to some answer
-abbrev pub IsBrokenShort : ℕ → List (List ℕ) → Side → List ℕ → List ℕ → Sent → Type 0
+abbrev pub IsBrokenShort : ℕ → List (List ℕ) → World → List ℕ → List ℕ → Sent → Type 0
 IsBrokenShort port cs old line text out = (says : Heard) × ((heard_in old.keeper.forest line ≡ Some says) × IsBrokenOff port cs old says text out)
 
 -- why a run stops behind the lines of this text, at the piece that stands first, which would be the line of that number
-abbrev pub Halts : ℕ → List (List ℕ) → ℕ → Side → List (List ℕ) → List ℕ → Stop → Side → Type 0 → Sent → Type 0
+abbrev pub Halts : ℕ → List (List ℕ) → ℕ → World → List (List ℕ) → List ℕ → Stop → World → Type 0 → Sent → Type 0
 Halts port cs number old behind text (stops.Line n) new HasEnded out = (n ≡ number) × (IsNoEvent old.keeper.forest behind HasEnded × ((new ≡ old) × IsAll text out))
 Halts port cs number old behind text stops.TooLong new HasEnded out = (line : List ℕ) × ((whole_line behind ≡ Some line) × (IsTooLong old line new × IsAll text out))
 Halts port cs number old behind text stops.Write new HasEnded out =
@@ -117,7 +116,7 @@ pub record IsPrompt (read : List ℕ) (lines : List (List ℕ)) : Type 0 where
 
 -- how listening ends behind the lines of this text, before these pieces: the events have ended in a line feed, or are cut off;
 -- or a line stops it
-abbrev pub ListensTo : ℕ → List (List ℕ) → List ℕ → ℕ → Side → List (List ℕ) → List ℕ → Result (Unit {0}) Stop → Side → Fed → Sent → Type 0
+abbrev pub ListensTo : ℕ → List (List ℕ) → List ℕ → ℕ → World → List (List ℕ) → List ℕ → Result (Unit {0}) Stop → World → Fed → Sent → Type 0
 ListensTo port cs read number old behind text (Ok u) new fed out =
     (behind ≡ [] ∷ []) × (HaveEnded read fed × ((fed.failed_after ≡ fed.failed_before) × ((new ≡ old) × IsAll text out)))
 ListensTo port cs read number old behind text (Err stops.Read) new fed out =
@@ -126,13 +125,13 @@ ListensTo port cs read number old behind text (Err stop) new fed out = (fed.fail
 
 -- listening to the events: what was read of them, by at most 65,536 reads; the lines of its first 1 MiB that were heard, and
 -- what that came to; and how it ended behind them
-pub record Listens (port : ℕ) (cs : List (List ℕ)) (old : Side) (result : Result (Unit {0}) Stop) (new : Side) (fed : Fed) (out : Sent) : Type 0 where
+pub record Listens (port : ℕ) (cs : List (List ℕ)) (old : World) (result : Result (Unit {0}) Stop) (new : World) (fed : Fed) (out : Sent) : Type 0 where
   pub read : List ℕ
   pub consumed : Consumes fed.old fed.new read
   pub reads : MakesAtMost MOST_EVENT_READS fed.old fed.reads_before fed.reads_after
   pub lines : List (List ℕ)
   pub behind : List (List ℕ)
-  pub mid : Side
+  pub mid : World
   pub text : List ℕ
   pub heard : IsHeardFirst port cs old (take MOST_EVENTS read) lines behind mid text
   pub prompt : IsPrompt read lines

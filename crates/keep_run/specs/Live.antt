@@ -1,6 +1,6 @@
 -- Live: what an event line comes to: what the keeper puts out, whom it asks, and the lines that say so.
 -- Source: this project's own.
-use Rattle.std.specs.Prelude.{◌≡◌, ℕ, ◌<◌, ◌⊎◌, IsTrue, true, List, [], ◌∷◌, ◌++◌, Option, Some, None, Result, Ok, Err, IfSome, codes, decimal, if◌then◌else◌, length, map, take}
+use Rattle.std.specs.Prelude.{◌≡◌, ℕ, ◌<◌, ◌⊎◌, IsTrue, true, List, [], ◌∷◌, ◌++◌, Option, Some, None, Result, Ok, Err, codes, decimal, if◌then◌else◌, length, map, take}
 use Rattle.std.specs.Io.KnownBytes.{Appends}
 use Rattle.keep_core.specs.declared.event.Event.TheVariants as events
 use Rattle.keep_core.specs.declared.event.Output.{Output}
@@ -9,7 +9,6 @@ use Rattle.keep_core.specs.declared.fault.StepFault.TheVariants as steps
 use Rattle.keep_core.specs.History.{Turn}
 use Rattle.keep_core.specs.State.{State}
 use Rattle.keep_device.specs.Failures.{HasFailed}
-use Rattle.keep_exchange.specs.Exchanges.{Behind}
 use Rattle.keep_inventory.specs.Inventories.{Inventory}
 use Rattle.keep_report.specs.declared.stop.Stop.{Stop}
 use Rattle.keep_report.specs.declared.stop.Stop.TheVariants as stops
@@ -69,25 +68,11 @@ IsHeard port cs old (Tick t) new text = IsLate t old new text ⊎ TicksLive port
 IsHeard port cs old (Need i until) new text = IsNeeded i until old new text
 IsHeard port cs old Unknown new text = (new ≡ old) × (text ≡ codes "fault unknown-name\n")
 
--- ---- over an exchange
-
--- what holds of what stands behind an exchange, before and after, where it is known
-abbrev pub Between : Option Behind → Option Behind → (Behind → Behind → Type 0) → Type 0
-Between old new P = IfSome old (λ b. (after : Behind) × ((new ≡ Some after) × P b after))
-
 -- the keeper is of these credentials, its shortened needs are taken, and no round is open
 pub record IsReady (cs : List (List ℕ)) (keeper : State) : Type 0 where
   pub count : length cs ≡ length keeper.forest.entries
   pub quiet : keeper.shortened ≡ []
   pub closed : keeper.round ≡ None
-
--- the keeper, and what stands behind the exchange, where it is known
-pub record Side : Type 0 where
-  pub keeper : State
-  pub behind : Option Behind
-
-abbrev pub side : State → Option Behind → Side
-side keeper behind = record { keeper = keeper; behind = behind }
 
 -- ---- an event that stops short
 
@@ -126,31 +111,31 @@ IsHeardUpTo port cs old heard new told own = (told ≡ []) × IsHeard port cs ol
 
 -- an event is heard up to a write: behind this text what it had told before is written, and no more than a front of the lines of
 -- that write
-pub record IsCutOff (port : ℕ) (cs : List (List ℕ)) (old : Side) (heard : Heard) (new : Side) (text : List ℕ) (out : Sent) : Type 0 where
+pub record IsCutOff (port : ℕ) (cs : List (List ℕ)) (old : World) (heard : Heard) (new : World) (text : List ℕ) (out : Sent) : Type 0 where
   pub told : List ℕ
   pub own : List ℕ
-  pub up_to : Between old.behind new.behind (λ b a. IsHeardUpTo port cs (both old.keeper b) heard (both new.keeper a) told own)
+  pub up_to : IsHeardUpTo port cs old heard new told own
   pub n : ℕ
   pub front : Appends out.old out.new (text ++ (told ++ take n own))
 
 -- a tick is heard up to some answer: behind this text its lines so far are written
-pub record IsBrokenOff (port : ℕ) (cs : List (List ℕ)) (old : Side) (heard : Heard) (text : List ℕ) (out : Sent) : Type 0 where
+pub record IsBrokenOff (port : ℕ) (cs : List (List ℕ)) (old : World) (heard : Heard) (text : List ℕ) (out : Sent) : Type 0 where
   pub t : ℕ
   pub is : heard ≡ Tick t
   pub told : List ℕ
-  pub mid : Side
-  pub so_far : Between old.behind mid.behind (λ b a. TicksSoFar port cs t (both old.keeper b) (both mid.keeper a) told)
+  pub mid : World
+  pub so_far : TicksSoFar port cs t old mid told
   pub written : Appends out.old out.new (text ++ told)
 
 -- the plan with a new need would be too long, and nothing is changed
-abbrev pub IsOverlong : Side → Heard → Side → Type 0
+abbrev pub IsOverlong : World → Heard → World → Type 0
 IsOverlong old (Need i until) new = Turn old.keeper (events.Need i until) (Err steps.TooLong) new.keeper × (new.behind ≡ old.behind)
 IsOverlong old heard new = ⊥
 
 -- what hearing an event comes to: its lines were written and flushed; the plan would be too long, and nothing is written; a write
 -- failed, and nobody was asked behind it; or memory was wanting
-abbrev pub HearsTo : ℕ → List (List ℕ) → Side → Heard → Result (Unit {0}) Stop → Side → Sent → Type 0
-HearsTo port cs old heard (Ok u) new out = (text : List ℕ) × (Between old.behind new.behind (λ b a. IsHeard port cs (both old.keeper b) heard (both new.keeper a) text) × IsAll text out)
+abbrev pub HearsTo : ℕ → List (List ℕ) → World → Heard → Result (Unit {0}) Stop → World → Sent → Type 0
+HearsTo port cs old heard (Ok u) new out = (text : List ℕ) × (IsHeard port cs old heard new text × IsAll text out)
 HearsTo port cs old heard (Err stops.TooLong) new out = IsOverlong old heard new × IsUntouched out
 HearsTo port cs old heard (Err stops.Write) new out = HasFailed out.failed_before out.failed_after × IsCutOff port cs old heard new [] out
 HearsTo port cs old heard (Err stops.Memory) new out =

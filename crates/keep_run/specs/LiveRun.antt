@@ -1,7 +1,7 @@
 -- LiveRun: the live run: each entry is looked up, the keeper is planned from the start, and event lines are heard; and how it
 -- ends.
 -- Source: this project's own.
-use Rattle.std.specs.Prelude.{◌≡◌, ℕ, ◌+◌, ◌⊎◌, List, ◌++◌, Option, Some, Result, Ok, Err, codes, length, take}
+use Rattle.std.specs.Prelude.{◌≡◌, ℕ, ◌+◌, ◌⊎◌, List, ◌++◌, Option, Result, Ok, Err, codes, length, take}
 use Rattle.std.specs.Io.KnownBytes.{Consumes, Keeps}
 use Rattle.keep_core.specs.Replan.{Replan, ReplanTooLong}
 use Rattle.keep_core.specs.State.{State, unplanned}
@@ -22,7 +22,6 @@ use Rattle.keep_report.specs.Told.{Reports}
 use Rattle.keep_run.specs.Closed.{World, taken}
 use Rattle.keep_run.specs.declared.listening.TheConstants.{MOST_EVENTS, MOST_EVENT_READS}
 use Rattle.keep_run.specs.Listening.{AreHeard, Fed, IsPrompt, ListensTo}
-use Rattle.keep_run.specs.Live.{Side, side}
 use Rattle.keep_run.specs.Looking.{AreLookedUp, IsCut, IsLeft, IsSaid, IsUnlooked, Looked, first, looked_text}
 use Rattle.keep_run.specs.Stops.{both}
 use Rattle.keep_run.specs.Text.{short_lines}
@@ -43,10 +42,8 @@ pub record IsLiveOpening (port start : ℕ) (old : Looked) (opening : World) (te
 -- a run that was opened, with these credentials: its lines were written and flushed, and no write failed
 pub record IsOpened (port start : ℕ) (old : Looked) (credentials : List (List ℕ)) (keeper : State) (new : Option Behind) (out : Sent) : Type 0 where
   pub same : credentials ≡ old.inventory.credentials
-  pub behind : Behind
-  pub is : new ≡ Some behind
   pub text : List ℕ
-  pub opened : IsLiveOpening port start old (both keeper behind) text
+  pub opened : IsLiveOpening port start old (both keeper new) text
   pub sent : IsAll text out
   pub kept : out.failed_after ≡ out.failed_before
 
@@ -56,11 +53,11 @@ pub record IsUnplanned (port start : ℕ) (old : Looked) (out : Sent) (new : Opt
   pub all : AreLookedUp port start old (first (length old.inventory.forest.entries)) looked
   pub long : ReplanTooLong looked.inventory.forest start
   pub said : IsSaid (looked_text looked.inventory (first (length old.inventory.forest.entries))) out
-  pub left : new ≡ Some looked.behind
+  pub left : new ≡ looked.behind
 
 -- no more than a front of the lines of the opening was written
 abbrev pub WritesOpening : ℕ → ℕ → Looked → Sent → Option Behind → Type 0
-WritesOpening port start old out new = (opening : World) × (text : List ℕ) × IsLiveOpening port start old opening text × AppendsFront out.old out.new text × (new ≡ Some opening.behind)
+WritesOpening port start old out new = (opening : World) × (text : List ℕ) × IsLiveOpening port start old opening text × AppendsFront out.old out.new text × (new ≡ opening.behind)
 
 -- why a run ends before it listens: a lookup is not applied; the plan is too long; or, behind some lookups or at the opening,
 -- the writer failed or memory was wanting
@@ -69,7 +66,7 @@ EndsEarly port start old (stops.Broker name) out new = IsUnlooked port start old
 EndsEarly port start old stops.TooLong out new = IsUnplanned port start old out new
 EndsEarly port start old stops.Write out new =
     HasFailed out.failed_before out.failed_after
-    × (((n : ℕ) × (now : Looked) × IsCut port start old now n out × (new ≡ Some now.behind)) ⊎ WritesOpening port start old out new)
+    × (((n : ℕ) × (now : Looked) × IsCut port start old now n out × (new ≡ now.behind)) ⊎ WritesOpening port start old out new)
 EndsEarly port start old stops.Memory out new =
     ((n : ℕ) × (now : Looked) × IsCut port start old now n out × IsLeft port start now n new) ⊎ WritesOpening port start old out new
 EndsEarly port start old stop out new = ⊥
@@ -77,17 +74,17 @@ EndsEarly port start old stop out new = ⊥
 -- ---- the run
 
 -- the live run: the opening, and then these event lines are heard, one after another
-pub record IsLiveRun (port start : ℕ) (old : Looked) (lines : List (List ℕ)) (final : Side) (text : List ℕ) : Type 0 where
+pub record IsLiveRun (port start : ℕ) (old : Looked) (lines : List (List ℕ)) (final : World) (text : List ℕ) : Type 0 where
   pub opening : World
   pub before : List ℕ
   pub opened : IsLiveOpening port start old opening before
   pub spoken : List ℕ
-  pub heard : AreHeard port old.inventory.credentials (side opening.keeper (Some opening.behind)) lines final spoken
+  pub heard : AreHeard port old.inventory.credentials opening lines final spoken
   pub text_is : text ≡ before ++ spoken
 
 -- a run that listened: what was read of the events, by at most 65,536 reads; the lines of its first 1 MiB that were heard, with the
 -- text of the run so far; and how it ended behind them
-pub record HasListened (port start : ℕ) (old : Looked) (result : Result (Unit {0}) Stop) (new : Side) (fed : Fed) (out : Sent) : Type 0 where
+pub record HasListened (port start : ℕ) (old : Looked) (result : Result (Unit {0}) Stop) (new : World) (fed : Fed) (out : Sent) : Type 0 where
   pub read : List ℕ
   pub consumed : Consumes fed.old fed.new read
   pub reads : MakesAtMost MOST_EVENT_READS fed.old fed.reads_before fed.reads_after
@@ -95,7 +92,7 @@ pub record HasListened (port start : ℕ) (old : Looked) (result : Result (Unit 
   pub behind : List (List ℕ)
   pub cut : pieces 10 (take MOST_EVENTS read) ≡ lines ++ behind
   pub prompt : IsPrompt read lines
-  pub mid : Side
+  pub mid : World
   pub text : List ℕ
   pub run : IsLiveRun port start old lines mid text
   pub ends : ListensTo port old.inventory.credentials read (length lines + 1) mid behind text result new fed out
@@ -108,42 +105,20 @@ IsUnread fed = Keeps fed.old fed.new × (fed.reads_after ≡ fed.reads_before) �
 
 -- how the run of an inventory ends: before it listens, or behind some lines
 abbrev pub RunsTo : ℕ → ℕ → Looked → Result (Unit {0}) Stop → Fed → Sent → Option Behind → Type 0
-RunsTo port start old (Ok u) fed out new = (final : Side) × HasListened port start old (Ok u) final fed out × (new ≡ final.behind)
+RunsTo port start old (Ok u) fed out new = (final : World) × HasListened port start old (Ok u) final fed out × (new ≡ final.behind)
 RunsTo port start old (Err stop) fed out new =
-    (EndsEarly port start old stop out new × IsUnread fed) ⊎ ((final : Side) × HasListened port start old (Err stop) final fed out × (new ≡ final.behind))
+    (EndsEarly port start old stop out new × IsUnread fed) ⊎ ((final : World) × HasListened port start old (Err stop) final fed out × (new ≡ final.behind))
 
 -- how the run over the bytes of an inventory ends
-abbrev pub LivesTo : ℕ → List ℕ → ℕ → Behind → Result (Unit {0}) Stop → Fed → Sent → Option Behind → Type 0
-LivesTo port bytes start old (Err (stops.Inventory fault)) fed out new = (read_inventory bytes ≡ Err fault) × IsUnread fed × IsUntouched out × (new ≡ Some old)
+abbrev pub LivesTo : ℕ → List ℕ → ℕ → Option Behind → Result (Unit {0}) Stop → Fed → Sent → Option Behind → Type 0
+LivesTo port bytes start old (Err (stops.Inventory fault)) fed out new = (read_inventory bytes ≡ Err fault) × IsUnread fed × IsUntouched out × (new ≡ old)
 LivesTo port bytes start old (Err stops.Memory) fed out new =
-    (IsUnread fed × IsUntouched out × (new ≡ Some old))
+    (IsUnread fed × IsUntouched out × (new ≡ old))
     ⊎ ((inventory : Inventory) × (read_inventory bytes ≡ Ok inventory) × RunsTo port start (record { inventory = inventory; behind = old }) (Err stops.Memory) fed out new)
 LivesTo port bytes start old result fed out new = (inventory : Inventory) × (read_inventory bytes ≡ Ok inventory) × RunsTo port start (record { inventory = inventory; behind = old }) result fed out new
 
--- `run` over the bytes of an inventory and a start, by exit: how the run ends, and what it tells of that
-abbrev pub LiveRun : ℕ → List ℕ → ℕ → Behind → Exit → Fed → Sent → Sent → Option Behind → Type 0
+-- `run` over the bytes of an inventory and a start, and over any exchange, by exit: how the run ends, and what it tells of that
+abbrev pub LiveRun : ℕ → List ℕ → ℕ → Option Behind → Exit → Fed → Sent → Sent → Option Behind → Type 0
 LiveRun port bytes start old exits.Done fed out errors new = LivesTo port bytes start old (Ok tt) fed out new × IsUntouched errors
 LiveRun port bytes start old exit fed out errors new =
     (stop : Stop) × (exit ≡ exit_of stop) × LivesTo port bytes start old (Err stop) fed out new × Reports (fault_line (codes "leasekeep") stop) errors
-
--- ---- whatever the exchange
-
--- why a run stops behind its inventory
-abbrev pub IsListenStop : Stop → Type 0
-IsListenStop stops.TooLong = Unit {0}
-IsListenStop stops.Read = Unit {0}
-IsListenStop stops.Write = Unit {0}
-IsListenStop (stops.Broker name) = Unit {0}
-IsListenStop (stops.Line number) = Unit {0}
-IsListenStop stops.Memory = Unit {0}
-IsListenStop stop = ⊥
-
--- why a run over these bytes stops
-abbrev pub IsLiveStop : List ℕ → Stop → Type 0
-IsLiveStop bytes (stops.Inventory fault) = read_inventory bytes ≡ Err fault
-IsLiveStop bytes stop = IsListenStop stop
-
--- what a run tells of its end: nothing where it is done, else the line of why it stopped, with the exit of that
-abbrev pub LiveEnds : List ℕ → Exit → Sent → Type 0
-LiveEnds bytes exits.Done errors = IsUntouched errors
-LiveEnds bytes exit errors = (stop : Stop) × ((exit ≡ exit_of stop) × (IsLiveStop bytes stop × Reports (fault_line (codes "leasekeep") stop) errors))

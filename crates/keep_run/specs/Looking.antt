@@ -1,12 +1,11 @@
 -- Looking: the lookups at the start of a live run: each entry by index, one after another.
 -- Source: this project's own; what one lookup comes to is keep_exchange's `Lookups`.
-use Rattle.std.specs.Prelude.{◌≡◌, ℕ, ◌<◌, ◌≤◌, ◌⊎◌, true, false, List, [], ◌∷◌, Option, Some, Result, Ok, Err, length}
+use Rattle.std.specs.Prelude.{◌≡◌, ℕ, ◌<◌, ◌≤◌, ◌⊎◌, true, false, List, [], ◌∷◌, Option, Result, Ok, Err, length}
 use Rattle.std.specs.List.{flat_map, range_with_len}
 use Rattle.keep_device.specs.Failures.{HasFailed}
 use Rattle.keep_device.specs.Front.{AppendsFront}
-use Rattle.keep_exchange.specs.Exchanges.{Behind, IsGivenUp}
-use Rattle.keep_exchange.specs.Lookups.{IsLookedUp, IsServed}
-use Rattle.keep_exchange.specs.Requests.{lookup_of}
+use Rattle.keep_exchange.specs.Exchanges.{Behind}
+use Rattle.keep_exchange.specs.Lookups.{IsLookedUp, IsLookupLeft}
 use Rattle.keep_inventory.specs.Inventories.{Inventory}
 use Rattle.keep_report.specs.declared.stop.Stop.{Stop}
 use Rattle.keep_report.specs.declared.stop.Stop.TheVariants as stops
@@ -15,15 +14,15 @@ use Rattle.keep_run.specs.Live.{entry_line}
 use Rattle.keep_run.specs.Text.{name_of}
 use Rattle.keep_tree.specs.Forest.{entry_at}
 
--- an inventory, and what stands behind the exchange over which it is looked up
+-- an inventory, and what stands behind the exchange over which it is looked up, where that is known
 pub record Looked : Type 0 where
   pub inventory : Inventory
-  pub behind : Behind
+  pub behind : Option Behind
 
--- these entries are looked up at t, one after another, and each lookup is applied
+-- these entries are looked up at t, one after another, and what came of each is applied
 abbrev pub AreLookedUp : ℕ → ℕ → Looked → List ℕ → Looked → Type 0
 AreLookedUp port t old [] new = new ≡ old
-AreLookedUp port t old (i ∷ is) new = (mid : Looked) × (IsLookedUp port old.behind.table t old.inventory i true mid.inventory (Some mid.behind) × AreLookedUp port t mid is new)
+AreLookedUp port t old (i ∷ is) new = (mid : Looked) × (IsLookedUp port old.behind t old.inventory i true mid.inventory mid.behind × AreLookedUp port t mid is new)
 
 -- the first n entries, by index
 abbrev pub first : ℕ → List ℕ
@@ -44,9 +43,7 @@ IsSaid text out = IsAll text out ⊎ ((text ≡ []) × IsUntouched out)
 
 -- all entries were looked up, and their lines written and flushed; no write failed
 pub record LooksAll (port t : ℕ) (old : Looked) (out : Sent) (inventory : Inventory) (new : Option Behind) : Type 0 where
-  pub behind : Behind
-  pub is : new ≡ Some behind
-  pub looked : AreLookedUp port t old (first (length old.inventory.forest.entries)) (record { inventory = inventory; behind = behind })
+  pub looked : AreLookedUp port t old (first (length old.inventory.forest.entries)) (record { inventory = inventory; behind = new })
   pub said : IsSaid (looked_text inventory (first (length old.inventory.forest.entries))) out
   pub kept : out.failed_after ≡ out.failed_before
 
@@ -58,7 +55,7 @@ pub record IsUnlooked (port t : ℕ) (old : Looked) (name : List ℕ) (out : Sen
   pub looked : AreLookedUp port t old (first n) now
   pub said : IsSaid (looked_text now.inventory (first n)) out
   pub name_is : name ≡ name_of now.inventory.forest n
-  pub unapplied : IsLookedUp port now.behind.table t now.inventory n false now.inventory new
+  pub unapplied : IsLookedUp port now.behind t now.inventory n false now.inventory new
 
 -- the first n entries were looked up, and no more than a front of their lines was written
 pub record IsCut (port t : ℕ) (old now : Looked) (n : ℕ) (out : Sent) : Type 0 where
@@ -66,31 +63,30 @@ pub record IsCut (port t : ℕ) (old now : Looked) (n : ℕ) (out : Sent) : Type
   pub looked : AreLookedUp port t old (first n) now
   pub front : AppendsFront out.old out.new (looked_text now.inventory (first n))
 
--- where memory was wanting, the exchange is as the lookups left it, or as the one under way did
+-- where memory was wanting, and the table is known, the exchange is as the lookups left it, or as the one under way did
 abbrev pub IsLeft : ℕ → ℕ → Looked → ℕ → Option Behind → Type 0
-IsLeft port t now n new =
-    (new ≡ Some now.behind) ⊎ (IsGivenUp now.behind.table t (lookup_of port now.inventory.credentials now.inventory.forest n) new ⊎ IsServed now.behind.table t (lookup_of port now.inventory.credentials now.inventory.forest n) new)
+IsLeft port t now n new = IsLookupLeft port now.behind t now.inventory n new
 
 -- what looking all entries up comes to: with the inventory as it then is, and what then stands behind the exchange
 abbrev pub LooksAllUp : ℕ → ℕ → Looked → Result (Unit {0}) Stop → Sent → Inventory → Option Behind → Type 0
 LooksAllUp port t old (Ok u) out inventory new = LooksAll port t old out inventory new
 LooksAllUp port t old (Err (stops.Broker name)) out inventory new = IsUnlooked port t old name out new
 LooksAllUp port t old (Err stops.Write) out inventory new =
-    (n : ℕ) × (now : Looked) × IsCut port t old now n out × (new ≡ Some now.behind) × HasFailed out.failed_before out.failed_after
+    (n : ℕ) × (now : Looked) × IsCut port t old now n out × (new ≡ now.behind) × HasFailed out.failed_before out.failed_after
 LooksAllUp port t old (Err stops.Memory) out inventory new = (n : ℕ) × (now : Looked) × IsCut port t old now n out × IsLeft port t now n new
 LooksAllUp port t old (Err stop) out inventory new = ⊥
 
 -- ---- words for one lookup. No public clause cites them
 
--- the lookup is applied, and what then stands behind the exchange
+-- the lookup is applied
 abbrev pub Applies : ℕ → ℕ → Looked → ℕ → Inventory → Option Behind → Type 0
-Applies port t old i inventory new = (behind : Behind) × ((new ≡ Some behind) × IsLookedUp port old.behind.table t old.inventory i true inventory (Some behind))
+Applies port t old i inventory new = IsLookedUp port old.behind t old.inventory i true inventory new
 
 -- what looking one entry up comes to
 abbrev pub LooksOneUp : ℕ → ℕ → Looked → ℕ → Result (Unit {0}) Stop → Sent → Inventory → Option Behind → Type 0
 LooksOneUp port t old i (Ok u) out inventory new = Applies port t old i inventory new × IsAll (looked_line inventory i) out × (out.failed_after ≡ out.failed_before)
 LooksOneUp port t old i (Err (stops.Broker name)) out inventory new =
-    (name ≡ name_of old.inventory.forest i) × IsLookedUp port old.behind.table t old.inventory i false old.inventory new × IsUntouched out
+    (name ≡ name_of old.inventory.forest i) × IsLookedUp port old.behind t old.inventory i false old.inventory new × IsUntouched out
 LooksOneUp port t old i (Err stops.Write) out inventory new =
     Applies port t old i inventory new × HasFailed out.failed_before out.failed_after × AppendsFront out.old out.new (looked_line inventory i)
 LooksOneUp port t old i (Err stops.Memory) out inventory new =

@@ -1,5 +1,5 @@
 -- The rehearsal of an inventory that a plan keeps, without FAULT words. The contract of a public function without a body.
-use Rattle.std.specs.Prelude.{◌≡◌, ℕ, ◌≤◌, ◌++◌, List, [], Ok, length, map}
+use Rattle.std.specs.Prelude.{◌≡◌, ℕ, ◌≤◌, ◌++◌, List, [], Some, Ok, length, map}
 use Rattle.std.specs.List.{All, flat_map}
 use Rattle.keep_moment.specs.declared.moment.TheConstants.{LAST}
 use Rattle.keep_tree.specs.Forest.{end_of}
@@ -31,7 +31,7 @@ pub record IsPlannedRun (inventory : Inventory) (start : ℕ) (p : Planned) (out
   pub quiet : All (IsQuiet inventory) course.beats
   pub sent : IsAll (flat_map (beat_text inventory) course.beats
       ++ done_text (length (to_come p)) (requests (with_asks inventory.forest.entries inventory.forest.margin start (end_of inventory.forest.entries) (moments_of (to_come p))))) out
-  pub left : new ≡ final.behind
+  pub left : final.behind ≡ Some new
 
 -- it comes to its end, unless the writer fails or memory is wanting
 abbrev pub EndsAsPlanned : Inventory → ℕ → Planned → Exit → Sent → Behind → Type 0

@@ -104,7 +104,7 @@ pub record IsQuietTo (cs : List (List ℕ)) (old : World) (due : Option ℕ) (ne
   pub none_sent : requests_of beats ≡ 0
 
 -- ticks from due on, until one asks these, or none is next
-pub record Opens (cs : List (List ℕ)) (behind : Behind) (old : State) (due : ℕ) (t : ℕ) (asked : List ℕ) (new : State) (before after : List ℕ) : Type 0 where
+pub record Opens (cs : List (List ℕ)) (behind : Option Behind) (old : State) (due : ℕ) (t : ℕ) (asked : List ℕ) (new : State) (before after : List ℕ) : Type 0 where
   pub beats : List Beat
   pub mid : State
   pub quiet : IsQuietTo cs (both old behind) (Some due) (both mid behind) (Some t) beats
@@ -112,13 +112,13 @@ pub record Opens (cs : List (List ℕ)) (behind : Behind) (old : State) (due : �
   pub quiet_text : middle ≡ before ++ flat_map (beat_text (inventory_with cs old.forest)) beats
   pub ticks : Ticks t mid (out.Ask asked) new middle after
 
-pub record Ends (cs : List (List ℕ)) (behind : Behind) (old : State) (due : ℕ) (new : State) (before after : List ℕ) : Type 0 where
+pub record Ends (cs : List (List ℕ)) (behind : Option Behind) (old : State) (due : ℕ) (new : State) (before after : List ℕ) : Type 0 where
   pub beats : List Beat
   pub quiet : IsQuietTo cs (both old behind) (Some due) (both new behind) None beats
   pub text_is : after ≡ before ++ flat_map (beat_text (inventory_with cs old.forest)) beats
 
 -- what opening a wake-up gave: the moment and who is asked, or that none is next
-abbrev pub OpensOrEnds : List (List ℕ) → Behind → State → ℕ → Option Opened → State → List ℕ → List ℕ → Type 0
+abbrev pub OpensOrEnds : List (List ℕ) → Option Behind → State → ℕ → Option Opened → State → List ℕ → List ℕ → Type 0
 OpensOrEnds cs behind old due None new before after = Ends cs behind old due new before after
 OpensOrEnds cs behind old due (Some o) new before after = Opens cs behind old due o.at o.asked new before after
 
@@ -163,11 +163,11 @@ Finishes text (Err stops.Memory) out = AppendsFront out.old out.new text
 Finishes text (Err stop) out = ⊥
 
 -- behind 100,000 wake-ups: no more than a front of the last lines was written
-abbrev pub LastFront : List (List ℕ) → Behind → State → ℕ → ℕ → Sent → Type 0
+abbrev pub LastFront : List (List ℕ) → Option Behind → State → ℕ → ℕ → Sent → Type 0
 LastFront cs behind old due asked out =
     Keeps out.old out.new ⊎ ((new : World) × (text : List ℕ) × Goes (inventory_with cs old.forest) (both old behind) (Some due) new None 0 0 text × AppendsFront out.old out.new (text ++ done_text MOST_WAKES asked))
 
-abbrev pub LastPlays : List (List ℕ) → Behind → State → ℕ → ℕ → Result (Unit {0}) Stop → State → Sent → Type 0
+abbrev pub LastPlays : List (List ℕ) → Option Behind → State → ℕ → ℕ → Result (Unit {0}) Stop → State → Sent → Type 0
 LastPlays cs behind old due asked (Ok u) new out = (text : List ℕ) × Goes (inventory_with cs old.forest) (both old behind) (Some due) (both new behind) None 0 0 text × IsAll (text ++ done_text MOST_WAKES asked) out
 LastPlays cs behind old due asked (Err stops.TooLong) new out = IsDue cs (both old behind) due × IsAll [] out
 LastPlays cs behind old due asked (Err stops.Write) new out = HasFailed out.failed_before out.failed_after × LastFront cs behind old due asked out
@@ -192,7 +192,7 @@ pub record PlaysWhole (s : Inventory) (old : World) (start : ℕ) (before : List
   pub few : wakes ≤ MOST_WAKES
   pub sent : IsAll (before ++ (lines ++ done_text wakes asked)) out
 
-pub record PlaysLong (s : Inventory) (old : World) (start : ℕ) (before : List ℕ) (behind : Behind) (out : Sent) : Type 0 where
+pub record PlaysLong (s : Inventory) (old : World) (start : ℕ) (before : List ℕ) (behind : Option Behind) (out : Sent) : Type 0 where
   pub keeper : State
   pub due : ℕ
   pub asked : ℕ

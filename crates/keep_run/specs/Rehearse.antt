@@ -1,6 +1,6 @@
 -- The run `rehearse`: what it has written, the table and the wire that it leaves, and when it gives which exit.
 -- Source: this project's own.
-use Rattle.std.specs.Prelude.{◌≡◌, ℕ, ◌⊎◌, List, [], ◌++◌, Option, None, Result, Ok, Err, codes}
+use Rattle.std.specs.Prelude.{◌≡◌, ℕ, ◌⊎◌, List, [], ◌++◌, Option, Some, None, Result, Ok, Err, codes}
 use Rattle.keep_device.specs.Failures.{HasFailed}
 use Rattle.keep_device.specs.Front.{AppendsFront}
 use Rattle.keep_inventory.specs.declared.fault.InvFault.{InvFault}
@@ -50,13 +50,13 @@ fresh inventory faults = record { table = record { rows = rows_of inventory; fau
 abbrev pub RunsLong : Inventory → List NumberedFault → ℕ → Sent → Behind → Type 0
 RunsLong inventory faults start out behind =
     (ReplanTooLong inventory.forest start × IsUntouched out × (behind ≡ fresh inventory faults))
-    ⊎ ((final : World) × (text : List ℕ) × IsStopped inventory faults start final text × IsAll text out × (behind ≡ final.behind))
+    ⊎ ((final : World) × (text : List ℕ) × IsStopped inventory faults start final text × IsAll text out × (final.behind ≡ Some behind))
 
 -- `rehearse` over the bytes of an inventory, a start and FAULT words, by exit
 abbrev pub RehearseRun : List ℕ → ℕ → List (List ℕ) → Exit → Sent → Behind → Behind → Type 0
 RehearseRun bytes start words exits.Done out old new =
     (inventory : Inventory) × (faults : List NumberedFault) × IsCalled bytes words inventory faults
-    × (course : Course) × (final : World) × IsClosedRun inventory faults start course final × IsAll (course_text inventory course) out × (new ≡ final.behind)
+    × (course : Course) × (final : World) × IsClosedRun inventory faults start course final × IsAll (course_text inventory course) out × (final.behind ≡ Some new)
 RehearseRun bytes start words exits.Inventory out old new = (fault : InvFault) × (read_inventory bytes ≡ Err fault) × IsUntouched out × (new ≡ old)
 RehearseRun bytes start words exits.CommandLine out old new =
     (inventory : Inventory) × (read_inventory bytes ≡ Ok inventory) × (position : ℕ) × (faults_of words ≡ Err position) × IsUntouched out × (new ≡ old)

@@ -7,21 +7,16 @@ use Rattle.keep_inventory.specs.declared.terms.Terms.{Terms}
 use Rattle.keep_core.specs.LawsOfSteps.{IsShaped}
 use Rattle.keep_exchange.specs.Exchanges.{Behind}
 use Rattle.keep_exchange.specs.Lookups.{IsLookedUp}
-use Rattle.keep_run.specs.Alike.{AreDated, AreTablesAlike}
+use Rattle.keep_run.specs.Alike.{AreBrokersAlike, AreDated, AreTablesAlike}
 use Rattle.keep_run.specs.Closed.{World}
 use Rattle.keep_run.specs.Listening.{AreHeard}
-use Rattle.keep_run.specs.Live.{Side}
 use Rattle.keep_run.specs.LiveRun.{IsLiveOpening, IsLiveRun}
 use Rattle.keep_run.specs.Looking.{AreLookedUp, Looked}
 
 -- two sides with one keeper, over brokers that differ in credentials alone
-pub record AreSidesAlike (g : Forest) (cs ds : List (List ℕ)) (old other : Side) : Type 0 where
+pub record AreSidesAlike (g : Forest) (cs ds : List (List ℕ)) (old other : World) : Type 0 where
   pub keeper : other.keeper ≡ old.keeper
-  pub behind : Behind
-  pub known : old.behind ≡ Some behind
-  pub other_behind : Behind
-  pub other_known : other.behind ≡ Some other_behind
-  pub tables : AreTablesAlike g cs ds behind.table other_behind.table
+  pub brokers : AreBrokersAlike g cs ds old.behind other.behind
 
 -- of two inventories with one forest, which differ in their credentials: a keeper of that forest, with ends, needs and
 -- renewability as told, hears the same lines with the one and with the other, over two such brokers, at whatever ports. Then the
@@ -29,7 +24,7 @@ pub record AreSidesAlike (g : Forest) (cs ds : List (List ℕ)) (old other : Sid
 abbrev pub AlikeAnswersLaw : Type 0
 AlikeAnswersLaw =
     (g : Forest) (cs ds : List (List ℕ)) (ts : List Terms) → IsInventory (record { forest = g; credentials = cs; terms = ts }) → IsInventory (record { forest = g; credentials = ds; terms = ts }) →
-    (port other_port : ℕ) (old other new last : Side) (lines : List (List ℕ)) (text more : List ℕ) → IsShaped g old.keeper.forest → AreSidesAlike g cs ds old other →
+    (port other_port : ℕ) (old other new last : World) (lines : List (List ℕ)) (text more : List ℕ) → IsShaped g old.keeper.forest → AreSidesAlike g cs ds old other →
     AreHeard port cs old lines new text → AreHeard other_port ds other lines last more → (more ≡ text) × AreSidesAlike g cs ds new last
 
 -- ---- the lookups before
@@ -45,8 +40,8 @@ pub record AreLookedAlike (g : Forest) (cs ds : List (List ℕ)) (old other : Lo
   pub credentials : old.inventory.credentials ≡ cs
   pub inventory : other.inventory ≡ record old.inventory { credentials = ds }
   pub told : IsToldOf g old.inventory.forest
-  pub tables : AreTablesAlike g cs ds old.behind.table other.behind.table
-  pub dated : AreDated old.behind.table
+  pub brokers : AreBrokersAlike g cs ds old.behind other.behind
+  pub dated : AreDated brokers.behind.table
 
 -- behind the same lookups they are alike again, and the next is applied to both, or to neither
 abbrev pub AlikeLookupsLaw : Type 0
@@ -55,7 +50,7 @@ AlikeLookupsLaw =
     (port other_port t : ℕ) (old other new last : Looked) (is : List ℕ) → All (λ i. i < length g.entries) is → AreLookedAlike g cs ds old other → AreLookedUp port t old is new → AreLookedUp other_port t other is last →
     AreLookedAlike g cs ds new last
     × ((i : ℕ) (x y : Bool) (after behind : Inventory) (left gone : Option Behind) → i < length g.entries →
-    IsLookedUp port new.behind.table t new.inventory i x after left → IsLookedUp other_port last.behind.table t last.inventory i y behind gone → y ≡ x)
+    IsLookedUp port new.behind t new.inventory i x after left → IsLookedUp other_port last.behind t last.inventory i y behind gone → y ≡ x)
 
 -- so two runs of such inventories, over such brokers, that are opened are opened by one text, with one keeper, and leave brokers that
 -- differ in credentials alone
@@ -63,16 +58,16 @@ abbrev pub AlikeOpeningsLaw : Type 0
 AlikeOpeningsLaw =
     (g : Forest) (cs ds : List (List ℕ)) (ts : List Terms) → IsInventory (record { forest = g; credentials = cs; terms = ts }) → IsInventory (record { forest = g; credentials = ds; terms = ts }) →
     (port other_port start : ℕ) (b c : Behind) (opening last : World) (text more : List ℕ) → AreTablesAlike g cs ds b.table c.table → AreDated b.table →
-    IsLiveOpening port start (record { inventory = record { forest = g; credentials = cs; terms = ts }; behind = b }) opening text →
-    IsLiveOpening other_port start (record { inventory = record { forest = g; credentials = ds; terms = ts }; behind = c }) last more →
-    (more ≡ text) × ((last.keeper ≡ opening.keeper) × AreTablesAlike g cs ds opening.behind.table last.behind.table)
+    IsLiveOpening port start (record { inventory = record { forest = g; credentials = cs; terms = ts }; behind = Some b }) opening text →
+    IsLiveOpening other_port start (record { inventory = record { forest = g; credentials = ds; terms = ts }; behind = Some c }) last more →
+    (more ≡ text) × AreSidesAlike g cs ds opening last
 
 -- and where what the lookups leave is an inventory, as each is that a run holds, the same event lines are answered by the same lines:
 -- one text for the whole run
 abbrev pub AlikeRunsLaw : Type 0
 AlikeRunsLaw =
     (g : Forest) (cs ds : List (List ℕ)) (ts : List Terms) → IsInventory (record { forest = g; credentials = cs; terms = ts }) → IsInventory (record { forest = g; credentials = ds; terms = ts }) →
-    (port other_port start : ℕ) (b c : Behind) (lines : List (List ℕ)) (final last : Side) (text more : List ℕ) → AreTablesAlike g cs ds b.table c.table → AreDated b.table →
-    (run : IsLiveRun port start (record { inventory = record { forest = g; credentials = cs; terms = ts }; behind = b }) lines final text) → IsInventory run.opened.looked.inventory →
-    IsLiveRun other_port start (record { inventory = record { forest = g; credentials = ds; terms = ts }; behind = c }) lines last more →
+    (port other_port start : ℕ) (b c : Behind) (lines : List (List ℕ)) (final last : World) (text more : List ℕ) → AreTablesAlike g cs ds b.table c.table → AreDated b.table →
+    (run : IsLiveRun port start (record { inventory = record { forest = g; credentials = cs; terms = ts }; behind = Some b }) lines final text) → IsInventory run.opened.looked.inventory →
+    IsLiveRun other_port start (record { inventory = record { forest = g; credentials = ds; terms = ts }; behind = Some c }) lines last more →
     (more ≡ text) × AreSidesAlike run.opened.looked.inventory.forest cs ds final last

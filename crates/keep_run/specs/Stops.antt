@@ -95,7 +95,8 @@ NeverRefusedLaw =
 
 -- ---- the code of one answer
 
-abbrev pub both : State → Behind → World
+-- a keeper, and what stands behind the exchange that it asks over, where that is known
+abbrev pub both : State → Option Behind → World
 both keeper behind = record { keeper = keeper; behind = behind }
 
 -- a run is cut anywhere

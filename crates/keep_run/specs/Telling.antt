@@ -11,25 +11,20 @@ use Rattle.keep_report.specs.declared.stop.Stop.TheVariants as stops
 use Rattle.keep_report.specs.Sent.{Sent}
 use Rattle.keep_run.specs.Closed.{AreAnswered, Exchanged, World}
 use Rattle.keep_run.specs.LineByLine.{IsSent}
-use Rattle.keep_run.specs.Live.{Between, IsOverlong, Side}
+use Rattle.keep_run.specs.Live.{IsOverlong}
 use Rattle.keep_run.specs.declared.event_line.Heard.{Heard}
 use Rattle.keep_run.specs.Playing.{Answers, AnswersAll, inventory_with}
-use Rattle.keep_run.specs.Stops.{both}
 use Rattle.keep_run.specs.Text.{answer_text}
 
 -- ---- one answer
 
--- one answer over an exchange, and its lines
-abbrev pub IsOneAnswer : ℕ → List (List ℕ) → ℕ → Side → ℕ → Output → Side → List ℕ → Type 0
-IsOneAnswer port cs t old i output new text = Between old.behind new.behind (λ b a. Answers port cs t (both old.keeper b) i output (both new.keeper a) [] text)
-
--- no more than a front of its lines was written
-abbrev pub IsOneCut : ℕ → List (List ℕ) → ℕ → Side → ℕ → Side → Sent → Type 0
-IsOneCut port cs t old i new out = (output : Output) × ((text : List ℕ) × (IsOneAnswer port cs t old i output new text × AppendsFront out.old out.new text))
+-- one was asked and answered, and no more than a front of its lines was written
+abbrev pub IsOneCut : ℕ → List (List ℕ) → ℕ → World → ℕ → World → Sent → Type 0
+IsOneCut port cs t old i new out = (output : Output) × ((text : List ℕ) × (Answers port cs t old i output new [] text × AppendsFront out.old out.new text))
 
 -- what asking one comes to: its lines were written and flushed, or why not
-abbrev pub TellsOne : ℕ → List (List ℕ) → ℕ → Side → ℕ → Result Output Stop → Side → Sent → Type 0
-TellsOne port cs t old i (Ok output) new out = (text : List ℕ) × (IsOneAnswer port cs t old i output new text × IsSent text out)
+abbrev pub TellsOne : ℕ → List (List ℕ) → ℕ → World → ℕ → Result Output Stop → World → Sent → Type 0
+TellsOne port cs t old i (Ok output) new out = (text : List ℕ) × (Answers port cs t old i output new [] text × IsSent text out)
 TellsOne port cs t old i (Err stops.Write) new out = HasFailed out.failed_before out.failed_after × IsOneCut port cs t old i new out
 TellsOne port cs t old i (Err stops.Memory) new out = Keeps out.old out.new ⊎ (IsTrue out.is_in_memory × IsOneCut port cs t old i new out)
 TellsOne port cs t old i (Err stop) new out = ⊥
@@ -54,28 +49,24 @@ pub record IsRoundUpTo (port : ℕ) (cs : List (List ℕ)) (t : ℕ) (old : Worl
   pub told_is : told ≡ flat_map (answer_text (inventory_with cs old.keeper.forest)) before
   pub own_is : own ≡ answer_text (inventory_with cs old.keeper.forest) x
 
--- the whole round over an exchange
-abbrev pub IsRound : ℕ → List (List ℕ) → ℕ → Side → List ℕ → Option ℕ → Side → List ℕ → Type 0
-IsRound port cs t old asked next new text = Between old.behind new.behind (λ b a. AnswersAll port cs t (both old.keeper b) asked next (both new.keeper a) [] text)
-
 -- no more than a front of the lines of an answer was written, behind those of the answers before
-pub record IsRoundCut (port : ℕ) (cs : List (List ℕ)) (t : ℕ) (old : Side) (asked : List ℕ) (new : Side) (out : Sent) : Type 0 where
+pub record IsRoundCut (port : ℕ) (cs : List (List ℕ)) (t : ℕ) (old : World) (asked : List ℕ) (new : World) (out : Sent) : Type 0 where
   pub told : List ℕ
   pub own : List ℕ
-  pub up_to : Between old.behind new.behind (λ b a. IsRoundUpTo port cs t (both old.keeper b) asked (both new.keeper a) told own)
+  pub up_to : IsRoundUpTo port cs t old asked new told own
   pub n : ℕ
   pub front : Appends out.old out.new (told ++ take n own)
 
 -- the lines of some answers were written
-pub record IsRoundBroken (port : ℕ) (cs : List (List ℕ)) (t : ℕ) (old : Side) (asked : List ℕ) (out : Sent) : Type 0 where
+pub record IsRoundBroken (port : ℕ) (cs : List (List ℕ)) (t : ℕ) (old : World) (asked : List ℕ) (out : Sent) : Type 0 where
   pub told : List ℕ
-  pub mid : Side
-  pub so_far : Between old.behind mid.behind (λ b a. IsRoundSoFar port cs t (both old.keeper b) asked (both mid.keeper a) told)
+  pub mid : World
+  pub so_far : IsRoundSoFar port cs t old asked mid told
   pub written : Appends out.old out.new told
 
 -- what a round comes to: the lines of each answer were written and flushed before the next was asked, or why not
-abbrev pub TellsRound : ℕ → List (List ℕ) → ℕ → Side → List ℕ → Result (Option ℕ) Stop → Side → Sent → Type 0
-TellsRound port cs t old asked (Ok next) new out = (text : List ℕ) × (IsRound port cs t old asked next new text × IsSent text out)
+abbrev pub TellsRound : ℕ → List (List ℕ) → ℕ → World → List ℕ → Result (Option ℕ) Stop → World → Sent → Type 0
+TellsRound port cs t old asked (Ok next) new out = (text : List ℕ) × (AnswersAll port cs t old asked next new [] text × IsSent text out)
 TellsRound port cs t old asked (Err stops.Write) new out = HasFailed out.failed_before out.failed_after × IsRoundCut port cs t old asked new out
 TellsRound port cs t old asked (Err stops.Memory) new out = IsRoundBroken port cs t old asked out ⊎ (IsTrue out.is_in_memory × IsRoundCut port cs t old asked new out)
 TellsRound port cs t old asked (Err stop) new out = ⊥
@@ -83,7 +74,7 @@ TellsRound port cs t old asked (Err stop) new out = ⊥
 -- ---- a need
 
 -- why hearing a need stops
-abbrev pub StopsNeed : Side → Heard → Stop → Side → Type 0
+abbrev pub StopsNeed : World → Heard → Stop → World → Type 0
 StopsNeed old heard stops.TooLong new = IsOverlong old heard new
 StopsNeed old heard stops.Memory new = Unit {0}
 StopsNeed old heard stop new = ⊥

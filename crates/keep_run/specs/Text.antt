@@ -10,7 +10,6 @@ use Rattle.keep_core.specs.declared.event.Event.TheVariants.{Tick, Told, Refused
 use Rattle.keep_core.specs.declared.event.Output.{Output}
 use Rattle.keep_core.specs.declared.event.Output.TheVariants as out
 use Rattle.keep_core.specs.declared.shortened.ShortNeed.{ShortNeed}
-use Rattle.keep_exchange.specs.Requests.{reply_in}
 use Rattle.keep_run.specs.Closed.{Beat, Course, Exchanged, event_in, requests_of, rounds}
 
 -- words parted by one space, and a line feed behind the last
@@ -46,7 +45,7 @@ answer_line g (Tick t) reply = []
 answer_line g (Need i until) reply = []
 
 unfoldable pub answer_text : Inventory → Exchanged → List ℕ
-answer_text s x = answer_line s.forest (event_in s.credentials s.forest x) (reply_in x.sent) ++ short_lines s.forest x.short
+answer_text s x = answer_line s.forest (event_in s.credentials s.forest x) x.reply ++ short_lines s.forest x.short
 
 -- a round opens
 abbrev pub wake_line : Forest → ℕ → Output → List ℕ

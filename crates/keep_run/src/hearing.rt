@@ -3,7 +3,7 @@ ghost use Rattle.std.specs.Prelude.{◌≡◌, ◌++◌, ◌<◌, List, Option, 
 ghost use Rattle.std.specs.Result.{IfErr};
 ghost use Rattle.keep_exchange.specs.Exchanges.{Behind};
 ghost use Rattle.keep_run.specs.EventLines.{IsWithin};
-ghost use Rattle.keep_run.specs.Live.{HearsTo, IsNeeded, IsReady, side};
+ghost use Rattle.keep_run.specs.Live.{HearsTo, IsNeeded, IsReady};
 ghost use Rattle.keep_run.specs.declared.event_line.Heard.TheVariants as heards;
 ghost use Rattle.keep_run.specs.Stops.{both};
 ghost use Rattle.keep_run.specs.Telling.{StopsNeed};
@@ -28,7 +28,8 @@ use std::alloc::Global;
 /// `TooLong`, the plan with a new need would have more than 10,000,000 wake-ups; `Write`, `out` failed, and nobody was asked
 /// behind that; `Memory`.
 ///
-/// The line has begun at the exchange: the first request may take as long as any.
+/// What the keeper makes of a reply is said of any exchange. Where the broker's table is known, the reply is that of the Broker
+/// step. The line has begun at the exchange: the first request may take as long as any.
 pub fn hear<E: Exchange, W: Sink>(
     alloc: Global,
     keeper: &mut Keeper,
@@ -42,7 +43,7 @@ pub fn hear<E: Exchange, W: Sink>(
     requires within { IsWithin (length keeper.old.forest.entries) heard }
     requires flushed { IsTrue (W.is_flushed out.old) }
     requires begun { E.limit exchange.old ≡ E.longest exchange.old }
-    ensures hears { HearsTo port credentials.now (side keeper.old (E.behind exchange.old)) heard result (side keeper.new (E.behind exchange.new)) (⟦<W as Watched>⟧.sent out.old out.new) }
+    ensures hears { HearsTo port credentials.now (both keeper.old (E.behind exchange.old)) heard result (both keeper.new (E.behind exchange.new)) (⟦<W as Watched>⟧.sent out.old out.new) }
     ensures count { OnOk result (W.failed_calls out.new ≡ W.failed_calls out.old) }
     ensures ready { OnOk result (IsReady credentials.now keeper.new) }
 {
@@ -68,8 +69,8 @@ fn hear_need(
 ) -> Result<(), Stop>
     requires ready { IsReady credentials.now keeper.old }
     requires within { i < length keeper.old.forest.entries }
-    ensures stops { IfErr result (λ stop. (behind : Option Behind) → StopsNeed (side keeper.old behind) (heards.Need i until) stop (side keeper.new behind)) }
-    ensures needed { OnOk result ((b : Behind) → (lines : List ℕ) × (IsNeeded i until (both keeper.old b) (both keeper.new b) lines × (text.new.items ≡ text.old.items ++ lines))) }
+    ensures stops { IfErr result (λ stop. (behind : Option Behind) → StopsNeed (both keeper.old behind) (heards.Need i until) stop (both keeper.new behind)) }
+    ensures needed { OnOk result ((b : Option Behind) → (lines : List ℕ) × (IsNeeded i until (both keeper.old b) (both keeper.new b) lines × (text.new.items ≡ text.old.items ++ lines))) }
     ensures ready { OnOk result (IsReady credentials.now keeper.new) }
 {
     let _credentials = credentials;
@@ -99,7 +100,7 @@ fn hear_tick<E: Exchange, W: Sink>(
 ) -> Result<(), Stop>
     requires ready { IsReady credentials.now keeper.old }
     requires flushed { IsTrue (W.is_flushed out.old) }
-    ensures hears { HearsTo port credentials.now (side keeper.old (E.behind exchange.old)) (heards.Tick t) result (side keeper.new (E.behind exchange.new)) (⟦<W as Watched>⟧.sent out.old out.new) }
+    ensures hears { HearsTo port credentials.now (both keeper.old (E.behind exchange.old)) (heards.Tick t) result (both keeper.new (E.behind exchange.new)) (⟦<W as Watched>⟧.sent out.old out.new) }
     ensures count { OnOk result (W.failed_calls out.new ≡ W.failed_calls out.old) }
     ensures ready { OnOk result (IsReady credentials.now keeper.new) }
 {

@@ -1,9 +1,10 @@
 //! Runs of the executor: the keeper against a broker that renews what it asks for. Here is the rehearsal, in which the broker
 //! is a table in memory behind an exchange that passes real messages, and the live run, in which event lines hand in the time.
 //!
-//! The contracts for the program above are those of [`run_rehearse`] and [`run_live`]; the laws say what a rehearsal is where
-//! the broker has no faults. Begin with `specs/Closed.antt` and `specs/Text.antt`, then `rehearsal`, `playing` and `waking`. Of
-//! the live run `specs/LiveRun.antt` says the whole, over its lookups (`specs/Looking.antt`), its event lines one after another
+//! The contracts for the program above are those of [`run_rehearse`], over a table in memory, and [`run_live`], over any
+//! exchange; both are made of one definition of an answer. The laws say what a rehearsal is where the broker has no faults.
+//! Begin with `specs/Closed.antt` and `specs/Text.antt`, then `rehearsal`, `playing` and `waking`. Of the live run
+//! `specs/LiveRun.antt` says the whole, over its lookups (`specs/Looking.antt`), its event lines one after another
 //! (`specs/Listening.antt`) and what one of them comes to (`specs/Live.antt`, [`hear`]).
 #![tactic(auto)]
 

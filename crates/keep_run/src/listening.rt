@@ -6,8 +6,8 @@ ghost use Rattle.keep_report.specs.declared.stop.Stop.TheVariants as stops;
 ghost use Rattle.keep_run.specs.declared.event_line.TheConstants.{MOST_LINE};
 ghost use Rattle.keep_run.specs.LineByLine.{HaltsWithin, HearsLine, HearsUpTo};
 ghost use Rattle.keep_run.specs.Listening.{Listens};
-ghost use Rattle.keep_run.specs.Live.{IsReady, side};
-ghost use Rattle.keep_run.specs.LiveRun.{IsListenStop};
+ghost use Rattle.keep_run.specs.Live.{IsReady};
+ghost use Rattle.keep_run.specs.Stops.{both};
 
 use crate::event_line::{MOST_LINE, heard_in};
 use crate::feeding::Feeding;
@@ -47,9 +47,8 @@ pub(crate) fn listen<R: Source, E: Exchange, W: Sink>(
 ) -> Result<(), Stop>
     requires ready { IsReady credentials.now keeper.old }
     requires flushed { IsTrue (W.is_flushed out.old) }
-    ensures listens { Listens port credentials.now (side keeper.old (E.behind exchange.old)) result (side keeper.new (E.behind exchange.new)) (⟦<R as Feeding>⟧.fed events.old events.new) (⟦<W as Watched>⟧.sent out.old out.new) }
+    ensures listens { Listens port credentials.now (both keeper.old (E.behind exchange.old)) result (both keeper.new (E.behind exchange.new)) (⟦<R as Feeding>⟧.fed events.old events.new) (⟦<W as Watched>⟧.sent out.old out.new) }
     ensures written { Keeps (R.written events.old) (R.written events.new) }
-    ensures stops { IfErr result IsListenStop }
 {
     let mut room = zeros(alloc, EVENT_ROOM)?;
     let mut pending = Vec::new(alloc);
@@ -82,7 +81,7 @@ fn listen_to<R: Source, E: Exchange, W: Sink>(
     requires flushed { IsTrue (W.is_flushed out.old) }
     requires room { length room.old ≡ EVENT_ROOM }
     requires none { pending.old.items ≡ [] }
-    ensures listens { Listens port credentials.now (side keeper.old (E.behind exchange.old)) result (side keeper.new (E.behind exchange.new)) (⟦<R as Feeding>⟧.fed events.old events.new) (⟦<W as Watched>⟧.sent out.old out.new) }
+    ensures listens { Listens port credentials.now (both keeper.old (E.behind exchange.old)) result (both keeper.new (E.behind exchange.new)) (⟦<R as Feeding>⟧.fed events.old events.new) (⟦<W as Watched>⟧.sent out.old out.new) }
     ensures written { Keeps (R.written events.old) (R.written events.new) }
 {
     let mut left = MOST_EVENTS;
@@ -142,11 +141,11 @@ fn hear_pending<E: Exchange, W: Sink>(
     requires ready { IsReady credentials.now keeper.old }
     requires flushed { IsTrue (W.is_flushed out.old) }
     requires few { lines.old + length pending.old.items ≤ MOST_EVENTS }
-    ensures heard { OnOk result (HearsUpTo port credentials.now lines.old (side keeper.old (E.behind exchange.old)) pending.old.items (pending.new.items ∷ []) (side keeper.new (E.behind exchange.new)) lines.new (⟦<W as Watched>⟧.sent out.old out.new)) }
+    ensures heard { OnOk result (HearsUpTo port credentials.now lines.old (both keeper.old (E.behind exchange.old)) pending.old.items (pending.new.items ∷ []) (both keeper.new (E.behind exchange.new)) lines.new (⟦<W as Watched>⟧.sent out.old out.new)) }
     ensures short { OnOk result (length pending.new.items < MOST_LINE) }
     ensures fewer { OnOk result (lines.new + length pending.new.items ≤ lines.old + length pending.old.items) }
     ensures ready { OnOk result (IsReady credentials.now keeper.new) }
-    ensures halts { IfErr result (λ stop. HaltsWithin port credentials.now lines.old (side keeper.old (E.behind exchange.old)) pending.old.items stop (side keeper.new (E.behind exchange.new)) (⟦<W as Watched>⟧.sent out.old out.new)) }
+    ensures halts { IfErr result (λ stop. HaltsWithin port credentials.now lines.old (both keeper.old (E.behind exchange.old)) pending.old.items stop (both keeper.new (E.behind exchange.new)) (⟦<W as Watched>⟧.sent out.old out.new)) }
 {
     let heard = hear_whole(
         alloc,
@@ -180,11 +179,11 @@ fn hear_whole<E: Exchange, W: Sink>(
     requires ready { IsReady credentials.now keeper.old }
     requires flushed { IsTrue (W.is_flushed out.old) }
     requires few { lines.old + length bytes.now ≤ MOST_EVENTS }
-    ensures heard { IfOk result (λ n. HearsUpTo port credentials.now lines.old (side keeper.old (E.behind exchange.old)) bytes.now (drop n bytes.now ∷ []) (side keeper.new (E.behind exchange.new)) lines.new (⟦<W as Watched>⟧.sent out.old out.new)) }
+    ensures heard { IfOk result (λ n. HearsUpTo port credentials.now lines.old (both keeper.old (E.behind exchange.old)) bytes.now (drop n bytes.now ∷ []) (both keeper.new (E.behind exchange.new)) lines.new (⟦<W as Watched>⟧.sent out.old out.new)) }
     ensures within { IfOk result (λ n. n ≤ length bytes.now) }
     ensures fewer { IfOk result (λ n. lines.new ≤ lines.old + n) }
     ensures ready { IfOk result (λ _. IsReady credentials.now keeper.new) }
-    ensures halts { IfErr result (λ stop. HaltsWithin port credentials.now lines.old (side keeper.old (E.behind exchange.old)) bytes.now stop (side keeper.new (E.behind exchange.new)) (⟦<W as Watched>⟧.sent out.old out.new)) }
+    ensures halts { IfErr result (λ stop. HaltsWithin port credentials.now lines.old (both keeper.old (E.behind exchange.old)) bytes.now stop (both keeper.new (E.behind exchange.new)) (⟦<W as Watched>⟧.sent out.old out.new)) }
 {
     let mut rest = bytes;
     while let Some((line, behind)) = cut(rest, b'\n') {
@@ -218,7 +217,7 @@ fn hear_line<E: Exchange, W: Sink>(
 ) -> Result<(), Stop>
     requires ready { IsReady credentials.now keeper.old }
     requires flushed { IsTrue (W.is_flushed out.old) }
-    ensures hears { HearsLine port credentials.now number (side keeper.old (E.behind exchange.old)) line.now result (side keeper.new (E.behind exchange.new)) (⟦<W as Watched>⟧.sent out.old out.new) }
+    ensures hears { HearsLine port credentials.now number (both keeper.old (E.behind exchange.old)) line.now result (both keeper.new (E.behind exchange.new)) (⟦<W as Watched>⟧.sent out.old out.new) }
     ensures ready { OnOk result (IsReady credentials.now keeper.new) }
 {
     let Some(heard) = heard_in(keeper.forest(), line) else {

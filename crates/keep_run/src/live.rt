@@ -1,8 +1,8 @@
 //! The live run: lookups, and then event lines as they come.
-ghost use Rattle.std.specs.Prelude.{IfOk, IfSome, IsTrue, OnOk};
+ghost use Rattle.std.specs.Prelude.{IfOk, IsTrue, OnOk};
 ghost use Rattle.std.specs.Result.{IfErr};
 ghost use Rattle.keep_run.specs.Live.{IsReady};
-ghost use Rattle.keep_run.specs.LiveRun.{EndsEarly, IsListenStop, IsLiveStop, IsOpened, LiveEnds, LiveRun, LivesTo};
+ghost use Rattle.keep_run.specs.LiveRun.{EndsEarly, IsOpened, LiveRun, LivesTo};
 
 use crate::feeding::Feeding;
 use crate::lines::push_short_lines;
@@ -20,11 +20,13 @@ use std::alloc::Global;
 /// Keeps the entries of an inventory alive: looks each of them up at `start`, takes event lines from `events`, and renews over
 /// the exchange. `docs/running.md` says what each line means.
 ///
+/// What is written is the keeper's, whatever the exchange: the lines of the replies that came, one after another. Where the
+/// broker's table is known, these are the replies of the Broker step.
+///
 /// An event line is answered, and its lines written and flushed as they come, before `events` is read again. The exits: `Done`, the
 /// events have ended; `Inventory`, the bytes are no inventory; `TooLong`, a plan would have more than 10,000,000 wake-ups;
 /// `Device`, a lookup got no answer that can be applied, a line is no event line or has no line feed, `events` failed or
 /// passed a limit, or the writer failed; `Memory`. Each but `Done` has its line on `errors`.
-#[tactic(auto, using(crate::proofs::LiveEnding::ended))]
 pub fn run_live<R: Source, E: Exchange, W: Sink, F: Sink>(
     alloc: Global,
     inventory: &[u8],
@@ -34,8 +36,7 @@ pub fn run_live<R: Source, E: Exchange, W: Sink, F: Sink>(
     out: &mut W,
     errors: &mut F,
 ) -> Exit
-    ensures ends { LiveEnds inventory.now result (⟦<F as Watched>⟧.sent errors.old errors.new) }
-    ensures run { IfSome (E.behind exchange.old) (λ b. LiveRun (E.host_port exchange.old) inventory.now start b result (⟦<R as Feeding>⟧.fed events.old events.new) (⟦<W as Watched>⟧.sent out.old out.new) (⟦<F as Watched>⟧.sent errors.old errors.new) (E.behind exchange.new)) }
+    ensures { LiveRun (E.host_port exchange.old) inventory.now start (E.behind exchange.old) result (⟦<R as Feeding>⟧.fed events.old events.new) (⟦<W as Watched>⟧.sent out.old out.new) (⟦<F as Watched>⟧.sent errors.old errors.new) (E.behind exchange.new) }
 {
     match live(alloc, inventory, start, events, exchange, out) {
         Ok(()) => Exit::Done,
@@ -52,8 +53,7 @@ fn live<R: Source, E: Exchange, W: Sink>(
     exchange: &mut E,
     out: &mut W,
 ) -> Result<(), Stop>
-    ensures stops { IfErr result (IsLiveStop bytes.now) }
-    ensures run { IfSome (E.behind exchange.old) (λ b. LivesTo (E.host_port exchange.old) bytes.now start b result (⟦<R as Feeding>⟧.fed events.old events.new) (⟦<W as Watched>⟧.sent out.old out.new) (E.behind exchange.new)) }
+    ensures { LivesTo (E.host_port exchange.old) bytes.now start (E.behind exchange.old) result (⟦<R as Feeding>⟧.fed events.old events.new) (⟦<W as Watched>⟧.sent out.old out.new) (E.behind exchange.new) }
 {
     let inventory = read(alloc, bytes)?;
     let port = exchange.port();
@@ -79,9 +79,8 @@ fn begin<E: Exchange, W: Sink>(
     exchange: &mut E,
     out: &mut W,
 ) -> Result<(Keeper, Credentials), Stop>
-    ensures stops { IfErr result IsListenStop }
-    ensures early { IfErr result (λ stop. IfSome (E.behind exchange.old) (λ b. EndsEarly port start (record { inventory = inventory; behind = b }) stop (⟦<W as Watched>⟧.sent out.old out.new) (E.behind exchange.new))) }
-    ensures opened { IfOk result (λ begun. IfSome (E.behind exchange.old) (λ b. IsOpened port start (record { inventory = inventory; behind = b }) begun.1 begun.0 (E.behind exchange.new) (⟦<W as Watched>⟧.sent out.old out.new))) }
+    ensures early { IfErr result (λ stop. EndsEarly port start (record { inventory = inventory; behind = E.behind exchange.old }) stop (⟦<W as Watched>⟧.sent out.old out.new) (E.behind exchange.new)) }
+    ensures opened { IfOk result (λ begun. IsOpened port start (record { inventory = inventory; behind = E.behind exchange.old }) begun.1 begun.0 (E.behind exchange.new) (⟦<W as Watched>⟧.sent out.old out.new)) }
     ensures ready { IfOk result (λ begun. IsReady begun.1 begun.0) }
     ensures flushed { OnOk result (IsTrue (W.is_flushed out.new)) }
 {

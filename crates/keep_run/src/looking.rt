@@ -1,7 +1,5 @@
 //! Looking the entries of an inventory up, one after another.
-ghost use Rattle.std.specs.Prelude.{◌≡◌, ◌<◌, IfSome, OnOk, length};
-ghost use Rattle.std.specs.Result.{IfErr};
-ghost use Rattle.keep_run.specs.LiveRun.{IsListenStop};
+ghost use Rattle.std.specs.Prelude.{◌≡◌, ◌<◌, OnOk, length};
 ghost use Rattle.keep_run.specs.Looking.{LooksAllUp, LooksOneUp, looked_line};
 ghost use Rattle.keep_run.specs.Playing.{Finishes};
 
@@ -24,8 +22,7 @@ pub(crate) fn look_all_up<E: Exchange, W: Sink>(
     exchange: &mut E,
     out: &mut W,
 ) -> Result<(), Stop>
-    ensures stops { IfErr result IsListenStop }
-    ensures looked { IfSome (E.behind exchange.old) (λ b. LooksAllUp port start (record { inventory = inventory.old; behind = b }) result (⟦<W as Watched>⟧.sent out.old out.new) inventory.new (E.behind exchange.new)) }
+    ensures { LooksAllUp port start (record { inventory = inventory.old; behind = E.behind exchange.old }) result (⟦<W as Watched>⟧.sent out.old out.new) inventory.new (E.behind exchange.new) }
 {
     let mut i = 0;
     while i < inventory.forest().len() {
@@ -46,8 +43,7 @@ fn look_one_up<E: Exchange, W: Sink>(
     out: &mut W,
 ) -> Result<(), Stop>
     requires { i < length inventory.old.forest.entries }
-    ensures stops { IfErr result IsListenStop }
-    ensures looked { IfSome (E.behind exchange.old) (λ b. LooksOneUp port start (record { inventory = inventory.old; behind = b }) i result (⟦<W as Watched>⟧.sent out.old out.new) inventory.new (E.behind exchange.new)) }
+    ensures { LooksOneUp port start (record { inventory = inventory.old; behind = E.behind exchange.old }) i result (⟦<W as Watched>⟧.sent out.old out.new) inventory.new (E.behind exchange.new) }
 {
     let name = Text::of(alloc, inventory.forest().get(i).name.list())?;
     if !look_up(alloc, exchange, start, port, inventory, i)? {
@@ -64,7 +60,6 @@ fn write_entry<W: Sink>(
     out: &mut W,
 ) -> Result<(), Stop>
     requires { i < length inventory.now.forest.entries }
-    ensures stops { IfErr result IsListenStop }
     ensures written { Finishes (looked_line inventory.now i) result (⟦<W as Watched>⟧.sent out.old out.new) }
     ensures kept { OnOk result (W.failed_calls out.new ≡ W.failed_calls out.old) }
 {

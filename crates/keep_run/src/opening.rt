@@ -1,5 +1,5 @@
 //! Ticks, until one asks.
-ghost use Rattle.std.specs.Prelude.{◌≡◌, ◌≤◌, [], IfOk, List, None, Some, ℕ, length};
+ghost use Rattle.std.specs.Prelude.{◌≡◌, ◌≤◌, [], IfOk, List, None, Option, Some, ℕ, length};
 ghost use Rattle.std.specs.Result.{IfErr};
 ghost use Rattle.keep_report.specs.declared.stop.Stop.TheVariants as stops;
 ghost use Rattle.keep_core.specs.LawsOfSteps.{IsShaped};
@@ -61,7 +61,7 @@ pub(crate) fn open(
     requires closed { keeper.old.round ≡ None }
     requires comes { Comes keeper.old.last (Some t) }
     ensures memory { IfErr result (λ stop. stop ≡ stops.Memory) }
-    ensures opens { IfOk result (λ opened. (cs : List (List ℕ)) (behind : Behind) → OpensOrEnds cs behind keeper.old t opened keeper.new text.old.items text.new.items) }
+    ensures opens { IfOk result (λ opened. (cs : List (List ℕ)) (behind : Option Behind) → OpensOrEnds cs behind keeper.old t opened keeper.new text.old.items text.new.items) }
     ensures leaves { IfOk result (λ opened. LeavesOpen opened keeper.new) }
     ensures few { IfOk result (λ opened. length (asked_of opened) ≤ 4096) }
     ensures taken { IfOk result (λ _. keeper.new.shortened ≡ []) }

@@ -1,5 +1,5 @@
 //! The wake-ups of a run, one after another, with their lines.
-ghost use Rattle.std.specs.Prelude.{◌≡◌, ◌++◌, [], List, None, Some, ℕ};
+ghost use Rattle.std.specs.Prelude.{◌≡◌, ◌++◌, [], List, None, Option, Some, ℕ};
 ghost use Rattle.keep_exchange.specs.Exchanges.{Behind};
 ghost use Rattle.keep_run.specs.Text.{done_text};
 ghost use Rattle.keep_run.specs.Live.{IsReady};
@@ -32,7 +32,7 @@ pub(crate) fn play<W: Sink>(
 ) -> Result<(), Stop>
     requires ready { IsReady credentials.now keeper.old }
     requires comes { Comes keeper.old.last (Some start) }
-    ensures { Plays credentials.now (both keeper.old exchange.old) start lines.now result (both keeper.new exchange.new) (⟦<W as Watched>⟧.sent out.old out.new) }
+    ensures { Plays credentials.now (both keeper.old (Some exchange.old)) start lines.now result (both keeper.new (Some exchange.new)) (⟦<W as Watched>⟧.sent out.old out.new) }
 {
     write_all(out, lines)?;
     let mut due = start;
@@ -63,7 +63,7 @@ fn last<W: Sink>(
     requires quiet { keeper.old.shortened ≡ [] }
     requires closed { keeper.old.round ≡ None }
     requires comes { Comes keeper.old.last (Some due) }
-    ensures { (cs : List (List ℕ)) (behind : Behind) → LastPlays cs behind keeper.old due requests result keeper.new (⟦<W as Watched>⟧.sent out.old out.new) }
+    ensures { (cs : List (List ℕ)) (behind : Option Behind) → LastPlays cs behind keeper.old due requests result keeper.new (⟦<W as Watched>⟧.sent out.old out.new) }
 {
     let mut text = Vec::new(alloc);
     match open(alloc, keeper, due, &mut text)? {

@@ -3,7 +3,6 @@ ghost use Rattle.std.specs.Prelude.{◌≡◌, ◌<◌, [], IfOk, length, true};
 ghost use Rattle.std.specs.Result.{IfErr};
 ghost use Rattle.keep_core.specs.Refusal.{waits_for};
 ghost use Rattle.keep_report.specs.declared.stop.Stop.TheVariants as stops;
-ghost use Rattle.keep_run.specs.Live.{Between};
 ghost use Rattle.keep_run.specs.Playing.{Answers, Hears};
 ghost use Rattle.keep_run.specs.Stops.{both};
 
@@ -34,7 +33,7 @@ pub(crate) fn answer<E: Exchange>(
     requires quiet { keeper.old.shortened ≡ [] }
     ensures memory { IfErr result (λ stop. stop ≡ stops.Memory) }
     ensures hears { IfOk result (λ output. Hears i keeper.old output keeper.new) }
-    ensures answers { IfOk result (λ output. Between (E.behind exchange.old) (E.behind exchange.new) (λ b a. Answers port credentials.now t (both keeper.old b) i output (both keeper.new a) text.old.items text.new.items)) }
+    ensures answers { IfOk result (λ output. Answers port credentials.now t (both keeper.old (E.behind exchange.old)) i output (both keeper.new (E.behind exchange.new)) text.old.items text.new.items) }
 {
     let kind = keeper.forest().get(i).kind;
     let reply = ask(alloc, exchange, t, port, credentials, keeper.forest(), i)?;

@@ -2,8 +2,9 @@
 ghost use Rattle.std.specs.Prelude.{◌≡◌, ◌≢◌, ◌<◌, [], IfOk, IsTrue, OnOk, length, true};
 ghost use Rattle.keep_core.specs.LawsOfSteps.{IsShaped};
 ghost use Rattle.keep_core.specs.Refusal.{waits_for};
-ghost use Rattle.keep_run.specs.Live.{IsReady, side};
+ghost use Rattle.keep_run.specs.Live.{IsReady};
 ghost use Rattle.keep_run.specs.Playing.{Hears, Waits};
+ghost use Rattle.keep_run.specs.Stops.{both};
 ghost use Rattle.keep_run.specs.Telling.{TellsOne, TellsRound};
 
 use crate::served_entry::answer;
@@ -33,7 +34,7 @@ pub(crate) fn tell_round<E: Exchange, W: Sink>(
     requires count { length credentials.now ≡ length keeper.old.forest.entries }
     requires quiet { keeper.old.shortened ≡ [] }
     requires flushed { IsTrue (W.is_flushed out.old) }
-    ensures tells { TellsRound port credentials.now t (side keeper.old (E.behind exchange.old)) asked.now result (side keeper.new (E.behind exchange.new)) (⟦<W as Watched>⟧.sent out.old out.new) }
+    ensures tells { TellsRound port credentials.now t (both keeper.old (E.behind exchange.old)) asked.now result (both keeper.new (E.behind exchange.new)) (⟦<W as Watched>⟧.sent out.old out.new) }
     ensures ready { IfOk result (λ _. IsReady credentials.now keeper.new) }
 {
     let mut next = None;
@@ -61,7 +62,7 @@ fn tell_answer<E: Exchange, W: Sink>(
     requires count { length credentials.now ≡ length keeper.old.forest.entries }
     requires quiet { keeper.old.shortened ≡ [] }
     requires flushed { IsTrue (W.is_flushed out.old) }
-    ensures tells { TellsOne port credentials.now t (side keeper.old (E.behind exchange.old)) i result (side keeper.new (E.behind exchange.new)) (⟦<W as Watched>⟧.sent out.old out.new) }
+    ensures tells { TellsOne port credentials.now t (both keeper.old (E.behind exchange.old)) i result (both keeper.new (E.behind exchange.new)) (⟦<W as Watched>⟧.sent out.old out.new) }
     ensures hears { IfOk result (λ output. Hears i keeper.old output keeper.new) }
 {
     let mut text = Vec::new(alloc);

@@ -3,7 +3,7 @@ ghost use Rattle.std.specs.Prelude.{◌≡◌, ◌≢◌, ◌≤◌, [], IfOk, S
 ghost use Rattle.std.specs.Result.{IfErr};
 ghost use Rattle.keep_report.specs.declared.stop.Stop.TheVariants as stops;
 ghost use Rattle.keep_core.specs.LawsOfSteps.{IsShaped};
-ghost use Rattle.keep_run.specs.Live.{Between, IsReady};
+ghost use Rattle.keep_run.specs.Live.{IsReady};
 ghost use Rattle.keep_run.specs.Playing.{AnswersAll, Comes, Waits, Wakes, next_in, requests_in};
 ghost use Rattle.keep_run.specs.Closed.{told_next};
 ghost use Rattle.keep_run.specs.Stops.{both};
@@ -36,7 +36,7 @@ pub(crate) fn wake(
     requires ready { IsReady credentials.now keeper.old }
     requires comes { Comes keeper.old.last (Some due) }
     ensures memory { IfErr result (λ stop. stop ≡ stops.Memory) }
-    ensures wakes { IfOk result (λ woken. Wakes credentials.now (both keeper.old exchange.old) due woken (both keeper.new exchange.new) text.old.items text.new.items) }
+    ensures wakes { IfOk result (λ woken. Wakes credentials.now (both keeper.old (Some exchange.old)) due woken (both keeper.new (Some exchange.new)) text.old.items text.new.items) }
     ensures few { IfOk result (λ woken. requests_in woken ≤ 4096) }
     ensures shaped { IfOk result (λ _. IsShaped keeper.old.forest keeper.new.forest) }
     ensures ready { IfOk result (λ _. IsReady credentials.now keeper.new) }
@@ -81,7 +81,7 @@ pub(crate) fn round<E: Exchange>(
     requires count { length credentials.now ≡ length keeper.old.forest.entries }
     requires quiet { keeper.old.shortened ≡ [] }
     ensures memory { IfErr result (λ stop. stop ≡ stops.Memory) }
-    ensures answers { IfOk result (λ next. Between (E.behind exchange.old) (E.behind exchange.new) (λ b a. AnswersAll port credentials.now t (both keeper.old b) asked.now next (both keeper.new a) text.old.items text.new.items)) }
+    ensures answers { IfOk result (λ next. AnswersAll port credentials.now t (both keeper.old (E.behind exchange.old)) asked.now next (both keeper.new (E.behind exchange.new)) text.old.items text.new.items) }
     ensures shaped { IfOk result (λ _. IsShaped keeper.old.forest keeper.new.forest) }
     ensures ready { IfOk result (λ _. IsReady credentials.now keeper.new) }
     ensures comes { IfOk result (λ next. Comes keeper.new.last next) }

@@ -1,7 +1,8 @@
 -- The lines of a need, or of an unknown name, are sent at once.
 use Rattle.std.proofs.Common.{refl, subst}
 use Rattle.keep_report.specs.Sent.{Sends, Sent}
-use Rattle.keep_run.specs.Live.{HearsTo, side}
+use Rattle.keep_run.specs.Live.{HearsTo}
+use Rattle.keep_run.specs.Stops.{both}
 use Rattle.keep_run.proofs.LineByLine.{handed_on}
 use Rattle.keep_run.proofs.SentTicks.{need_halts, need_sent, unknown_sent}
 use Rattle.keep_run.proofs.hearing.hear.Goals as goal
@@ -18,7 +19,7 @@ returns-in_err-hear_need-in-Need-clause-hears g c =
       flushed = g.W.Device.is_flushed c.args.out.now;
       is_in_memory = g.W.Device.is_in_memory;
     } in
-    handed_on c.from_residual.result c.in_err-hear_need-in-Need.field-0.0 (λ r. HearsTo c.args.port c.args.credentials.now (side c.args.keeper.now o) c.args.heard r (side c.hear_need.new.keeper o) out) c.from_residual.ensures
+    handed_on c.from_residual.result c.in_err-hear_need-in-Need.field-0.0 (λ r. HearsTo c.args.port c.args.credentials.now (both c.args.keeper.now o) c.args.heard r (both c.hear_need.new.keeper o) out) c.from_residual.ensures
     (need_halts c.args.port c.args.credentials.now o c.args.keeper.now c.hear_need.new.keeper c.in-Need.i c.in-Need.until c.args.heard c.in_err-hear_need-in-Need.field-0.0 out c.in-Need.is refl refl refl (c.in_err-hear_need-in-Need.ensures.stops o))
 
 pub returns-in_ok-hear_need-in-Need-clause-hears : goal.returns-in_ok-hear_need-in-Need-clause-hears
@@ -33,7 +34,7 @@ returns-in_ok-hear_need-in-Need-clause-hears g c =
       is_in_memory = g.W.Device.is_in_memory;
     } in
     need_sent c.args.port c.args.credentials.now (g.E.Exchange.behind c.args.exchange.now) c.args.keeper.now c.hear_need.new.keeper c.in-Need.i c.in-Need.until c.args.heard c.new-text.result.items c.hear_need.new.text.items
-    c.send.result out c.in-Need.is c.new-text.ensures.items c.in_ok-hear_need-in-Need.ensures.needed (subst (λ l. Sends c.send.result l out) c.deref.ensures.value c.send.ensures.sent) c.requires.flushed
+    c.send.result out c.in-Need.is c.new-text.ensures.items (c.in_ok-hear_need-in-Need.ensures.needed (g.E.Exchange.behind c.args.exchange.now)) (subst (λ l. Sends c.send.result l out) c.deref.ensures.value c.send.ensures.sent) c.requires.flushed
 
 pub returns-in-Unknown-clause-hears : goal.returns-in-Unknown-clause-hears
 returns-in-Unknown-clause-hears g c =

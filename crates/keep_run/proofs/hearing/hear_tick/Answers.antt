@@ -4,8 +4,9 @@ use Rattle.keep_core.specs.declared.event.Output.TheVariants as out
 use Rattle.keep_report.specs.declared.stop.Stop.TheVariants as stops
 use Rattle.keep_report.specs.Sent.{IsAll, Sends, Sent}
 use Rattle.keep_run.specs.LineByLine.{IsSent}
-use Rattle.keep_run.specs.Live.{HearsTo, next_line, side}
+use Rattle.keep_run.specs.Live.{HearsTo, next_line}
 use Rattle.keep_run.specs.declared.event_line.Heard.TheVariants as heards
+use Rattle.keep_run.specs.Stops.{both}
 use Rattle.keep_run.proofs.LineByLine.{handed_on, joined}
 use Rattle.keep_run.proofs.LiveTicks.{on_ok, only_idle, round_as, ticks_as, ticks_ready}
 use Rattle.keep_run.proofs.Opens.{ticks_shaped}
@@ -35,7 +36,7 @@ returns-in_err-send-in-Ask-clause-hears g c =
     } in
     let ticks = ticks_as c.get-3.result c.args.t c.args.keeper.now c.tick.new.keeper c.in_ok-asked.field-0 (out.Ask c.in-Ask.asked) c.new-text.result.items c.tick.new.text.items c.get-3.ensures.value c.in-Ask.is
     c.new-text.ensures.items c.in_ok-asked.ensures.ticks in
-    handed_on c.from_residual-in_err-send-in-Ask.result c.in_err-send-in-Ask.field-0.0 (λ r. HearsTo port cs (side c.args.keeper.now o) (heards.Tick c.args.t) r (side c.tick.new.keeper o) w) c.from_residual-in_err-send-in-Ask.ensures
+    handed_on c.from_residual-in_err-send-in-Ask.result c.in_err-send-in-Ask.field-0.0 (λ r. HearsTo port cs (both c.args.keeper.now o) (heards.Tick c.args.t) r (both c.tick.new.keeper o) w) c.from_residual-in_err-send-in-Ask.ensures
     (stops_at_first port cs c.args.t o c.args.keeper.now c.tick.new.keeper c.in-Ask.asked c.tick.new.text.items ticks c.in_err-send-in-Ask.field-0.0 w c.requires.flushed
     (subst (λ l. Sends (Err c.in_err-send-in-Ask.field-0.0) l w) c.deref.ensures.value c.in_err-send-in-Ask.ensures.sent))
 
@@ -71,9 +72,9 @@ returns-in_err-next-in-Ask-clause-hears g c =
     let ticks = ticks_as c.get-3.result c.args.t c.args.keeper.now c.tick.new.keeper c.in_ok-asked.field-0 (out.Ask c.in-Ask.asked) c.new-text.result.items c.tick.new.text.items c.get-3.ensures.value c.in-Ask.is
     c.new-text.ensures.items c.in_ok-asked.ensures.ticks in
     let before : IsSent c.tick.new.text.items w = (subst (λ l. IsAll l w) c.deref.ensures.value c.in_ok-send-in-Ask.ensures.sent, c.in_ok-send-in-Ask.ensures.count) in
-    handed_on c.from_residual-in_err-next-in-Ask.result c.in_err-next-in-Ask.field-0.0 (λ q. HearsTo port cs (side c.args.keeper.now o) (heards.Tick c.args.t) q (side c.tell_round.new.keeper n) (joined w r)) c.from_residual-in_err-next-in-Ask.ensures
+    handed_on c.from_residual-in_err-next-in-Ask.result c.in_err-next-in-Ask.field-0.0 (λ q. HearsTo port cs (both c.args.keeper.now o) (heards.Tick c.args.t) q (both c.tell_round.new.keeper n) (joined w r)) c.from_residual-in_err-next-in-Ask.ensures
     (round_stops port cs c.args.t o n c.args.keeper.now c.tick.new.keeper c.tell_round.new.keeper c.in-Ask.asked c.tick.new.text.items ticks w r refl refl before c.in_err-next-in-Ask.field-0.0
-    (round_as port cs c.args.t (side c.tick.new.keeper o) (side c.tell_round.new.keeper n) c.list-asked.result.now c.in-Ask.asked (Err c.in_err-next-in-Ask.field-0.0) r c.list-asked.ensures c.in_err-next-in-Ask.ensures.tells))
+    (round_as port cs c.args.t (both c.tick.new.keeper o) (both c.tell_round.new.keeper n) c.list-asked.result.now c.in-Ask.asked (Err c.in_err-next-in-Ask.field-0.0) r c.list-asked.ensures c.in_err-next-in-Ask.ensures.tells))
 
 pub returns-in_err-push_next-in-Ask-clause-hears : goal.returns-in_err-push_next-in-Ask-clause-hears
 returns-in_err-push_next-in-Ask-clause-hears g c =
@@ -102,9 +103,9 @@ returns-in_err-push_next-in-Ask-clause-hears g c =
     let ticks = ticks_as c.get-3.result c.args.t c.args.keeper.now c.tick.new.keeper c.in_ok-asked.field-0 (out.Ask c.in-Ask.asked) c.new-text.result.items c.tick.new.text.items c.get-3.ensures.value c.in-Ask.is
     c.new-text.ensures.items c.in_ok-asked.ensures.ticks in
     let before : IsSent c.tick.new.text.items w = (subst (λ l. IsAll l w) c.deref.ensures.value c.in_ok-send-in-Ask.ensures.sent, c.in_ok-send-in-Ask.ensures.count) in
-    handed_on c.from_residual-in_err-push_next-in-Ask.result stops.Memory (λ q. HearsTo port cs (side c.args.keeper.now o) (heards.Tick c.args.t) q (side c.tell_round.new.keeper n) (joined w r)) c.from_residual-in_err-push_next-in-Ask.ensures
+    handed_on c.from_residual-in_err-push_next-in-Ask.result stops.Memory (λ q. HearsTo port cs (both c.args.keeper.now o) (heards.Tick c.args.t) q (both c.tell_round.new.keeper n) (joined w r)) c.from_residual-in_err-push_next-in-Ask.ensures
     (round_memory port cs c.args.t o n c.args.keeper.now c.tick.new.keeper c.tell_round.new.keeper c.in-Ask.asked c.tick.new.text.items ticks w r refl refl before c.in_ok-next-in-Ask.next
-    (round_as port cs c.args.t (side c.tick.new.keeper o) (side c.tell_round.new.keeper n) c.list-asked.result.now c.in-Ask.asked (Ok c.in_ok-next-in-Ask.next) r c.list-asked.ensures c.in_ok-next-in-Ask.ensures.tells))
+    (round_as port cs c.args.t (both c.tick.new.keeper o) (both c.tell_round.new.keeper n) c.list-asked.result.now c.in-Ask.asked (Ok c.in_ok-next-in-Ask.next) r c.list-asked.ensures c.in_ok-next-in-Ask.ensures.tells))
 
 pub returns-in-Ask-clause-hears : goal.returns-in-Ask-clause-hears
 returns-in-Ask-clause-hears g c =
@@ -144,7 +145,7 @@ returns-in-Ask-clause-hears g c =
     let before : IsSent c.tick.new.text.items w = (subst (λ l. IsAll l w) c.deref.ensures.value c.in_ok-send-in-Ask.ensures.sent, c.in_ok-send-in-Ask.ensures.count) in
     let last : c.push_next.new.text.items ≡ next_line c.in_ok-next-in-Ask.next = c.in_ok-push_next-in-Ask.ensures ∙ ap (λ x. x ++ next_line c.in_ok-next-in-Ask.next) c.new-last.ensures.items in
     round_sent port cs c.args.t o n c.args.keeper.now c.tick.new.keeper c.tell_round.new.keeper c.in-Ask.asked c.tick.new.text.items ticks w r refl refl before c.in_ok-next-in-Ask.next c.push_next.new.text.items c.send-in-Ask-2.result l refl
-    refl last (round_as port cs c.args.t (side c.tick.new.keeper o) (side c.tell_round.new.keeper n) c.list-asked.result.now c.in-Ask.asked (Ok c.in_ok-next-in-Ask.next) r c.list-asked.ensures c.in_ok-next-in-Ask.ensures.tells)
+    refl last (round_as port cs c.args.t (both c.tick.new.keeper o) (both c.tell_round.new.keeper n) c.list-asked.result.now c.in-Ask.asked (Ok c.in_ok-next-in-Ask.next) r c.list-asked.ensures c.in_ok-next-in-Ask.ensures.tells)
     (subst (λ x. Sends c.send-in-Ask-2.result x l) c.deref-in-Ask.ensures.value c.send-in-Ask-2.ensures.sent)
 
 pub returns-in-Sleep-clause-hears : goal.returns-in-Sleep-clause-hears

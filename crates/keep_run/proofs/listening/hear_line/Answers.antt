@@ -3,7 +3,8 @@ use Rattle.std.proofs.Common.{ap, sym, subst, ◌∙◌}
 use Rattle.keep_report.specs.Sent.{Sent}
 use Rattle.keep_tree.specs.Forest.{Forest}
 use Rattle.keep_run.specs.EventLines.{heard_in}
-use Rattle.keep_run.specs.Live.{HearsTo, side}
+use Rattle.keep_run.specs.Live.{HearsTo}
+use Rattle.keep_run.specs.Stops.{both}
 use Rattle.keep_run.proofs.LineByLine.{line_hears}
 use Rattle.keep_run.proofs.listening.hear_line.Goals as goal
 
@@ -21,6 +22,6 @@ returns-clause-hears g c =
       flushed = g.W.Device.is_flushed c.hear.new.out;
       is_in_memory = g.W.Device.is_in_memory;
     } in
-    line_hears c.args.port c.args.credentials.now c.args.number (side c.args.keeper.now before) line c.in-Some.heard (side c.hear.new.keeper after) c.hear.result out
+    line_hears c.args.port c.args.credentials.now c.args.number (both c.args.keeper.now before) line c.in-Some.heard (both c.hear.new.keeper after) c.hear.result out
     (sym (c.in-Some.ensures.heard ∙ ap (λ (h : Forest). heard_in h line) c.forest.ensures)) c.requires.flushed
-    (subst (λ o. HearsTo c.args.port c.args.credentials.now (side c.args.keeper.now o) c.in-Some.heard c.hear.result (side c.hear.new.keeper after) out) c.begin_line.ensures.behind c.hear.ensures.hears) c.hear.ensures.count
+    (subst (λ o. HearsTo c.args.port c.args.credentials.now (both c.args.keeper.now o) c.in-Some.heard c.hear.result (both c.hear.new.keeper after) out) c.begin_line.ensures.behind c.hear.ensures.hears) c.hear.ensures.count

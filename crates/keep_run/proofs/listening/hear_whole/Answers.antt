@@ -4,7 +4,8 @@ use Rattle.std.specs.Result.{IfErr}
 use Rattle.keep_report.specs.declared.stop.Stop.{Stop}
 use Rattle.keep_report.specs.Sent.{Sent}
 use Rattle.keep_run.specs.LineByLine.{HaltsWithin}
-use Rattle.keep_run.specs.Live.{Side, side}
+use Rattle.keep_run.specs.Stops.{both}
+use Rattle.keep_run.specs.Closed.{World}
 use Rattle.keep_run.proofs.LineByLine.{behind_line, handed_on, heard_on, joined, stopped_on}
 use Rattle.keep_run.proofs.listening.hear_whole.Goals as goal
 
@@ -12,9 +13,9 @@ pub returns-in_err-hear_line-clause-halts : goal.returns-in_err-hear_line-clause
 returns-in_err-hear_line-clause-halts g c =
     let port = c.args.port in
     let cs = c.args.credentials.now in
-    let old : Side = side c.args.keeper.now (g.E.Exchange.behind c.args.exchange.now) in
-    let mid : Side = side c.loop-line.keeper (g.E.Exchange.behind c.loop-line.exchange) in
-    let new : Side = side c.hear_line.new.keeper (g.E.Exchange.behind c.hear_line.new.exchange) in
+    let old : World = both c.args.keeper.now (g.E.Exchange.behind c.args.exchange.now) in
+    let mid : World = both c.loop-line.keeper (g.E.Exchange.behind c.loop-line.exchange) in
+    let new : World = both c.hear_line.new.keeper (g.E.Exchange.behind c.hear_line.new.exchange) in
     let a : Sent = record {
       old = g.W.Device.written c.args.out.now;
       new = g.W.Device.written c.loop-line.out;
@@ -41,9 +42,9 @@ pub loop-line-preserved : goal.loop-line-preserved
 loop-line-preserved g c =
     let port = c.args.port in
     let cs = c.args.credentials.now in
-    let old : Side = side c.args.keeper.now (g.E.Exchange.behind c.args.exchange.now) in
-    let mid : Side = side c.loop-line.keeper (g.E.Exchange.behind c.loop-line.exchange) in
-    let new : Side = side c.hear_line.new.keeper (g.E.Exchange.behind c.hear_line.new.exchange) in
+    let old : World = both c.args.keeper.now (g.E.Exchange.behind c.args.exchange.now) in
+    let mid : World = both c.loop-line.keeper (g.E.Exchange.behind c.loop-line.exchange) in
+    let new : World = both c.hear_line.new.keeper (g.E.Exchange.behind c.hear_line.new.exchange) in
     let bytes = c.args.bytes.now in
     let rest = c.loop-line.rest.now in
     let behind = c.in-Some.behind.now in

@@ -2,12 +2,13 @@
 use Rattle.std.proofs.Common.{◌≡◌, ◌+◌, ◌-◌, ◌≤◌, drop, length}
 use Rattle.keep_words.specs.Pieces.{pieces}
 use Rattle.keep_run.specs.LineByLine.{HearsUpTo}
-use Rattle.keep_run.specs.Live.{IsReady, side}
+use Rattle.keep_run.specs.Live.{IsReady}
+use Rattle.keep_run.specs.Stops.{both}
 use Rattle.keep_run.proofs.listening.hear_whole.Given as goal
 
 abbrev pub invariant-loop-line : goal.invariant-loop-line
 invariant-loop-line g l = record {
-  up_to : HearsUpTo l.port l.credentials l.fn.lines (side l.fn.keeper (g.E.Exchange.behind l.fn.exchange)) l.bytes (pieces 10 l.rest) (side l.keeper (g.E.Exchange.behind l.exchange)) l.lines
+  up_to : HearsUpTo l.port l.credentials l.fn.lines (both l.fn.keeper (g.E.Exchange.behind l.fn.exchange)) l.bytes (pieces 10 l.rest) (both l.keeper (g.E.Exchange.behind l.exchange)) l.lines
       (record {
         old = g.W.Device.written l.fn.out;
         new = g.W.Device.written l.out;

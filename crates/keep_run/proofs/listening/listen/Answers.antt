@@ -4,7 +4,8 @@ use Rattle.keep_report.specs.declared.stop.Stop.{Stop}
 use Rattle.keep_report.specs.declared.stop.Stop.TheVariants as stops
 use Rattle.keep_report.specs.Sent.{Sent}
 use Rattle.keep_run.specs.Listening.{Fed, Listens}
-use Rattle.keep_run.specs.Live.{Side, side}
+use Rattle.keep_run.specs.Stops.{both}
+use Rattle.keep_run.specs.Closed.{World}
 use Rattle.keep_run.proofs.EventsRead.{not_begun}
 use Rattle.keep_run.proofs.LineByLine.{handed_on}
 use Rattle.keep_run.proofs.listening.listen.Goals as goal
@@ -13,7 +14,7 @@ pub returns-in_err-room-clause-listens : goal.returns-in_err-room-clause-listens
 returns-in_err-room-clause-listens g c =
     let port = c.args.port in
     let cs = c.args.credentials.now in
-    let old : Side = side c.args.keeper.now (g.E.Exchange.behind c.args.exchange.now) in
+    let old : World = both c.args.keeper.now (g.E.Exchange.behind c.args.exchange.now) in
     let fed : Fed = record {
       old = g.R.Device.remaining c.args.events.now;
       new = g.R.Device.remaining c.args.events.now;

@@ -7,7 +7,8 @@ use Rattle.keep_report.specs.declared.stop.Stop.TheVariants as stops
 use Rattle.keep_report.specs.Sent.{Sent}
 use Rattle.keep_run.specs.LineByLine.{HaltsWithin, HearsUpTo, IsListening}
 use Rattle.keep_run.specs.Listening.{Fed, Listens}
-use Rattle.keep_run.specs.Live.{Side, side}
+use Rattle.keep_run.specs.Stops.{both}
+use Rattle.keep_run.specs.Closed.{World}
 use Rattle.keep_run.proofs.EventsRead.{ended_as, halted, listening_first, listening_more, no_memory, no_more, read_failed, too_many}
 use Rattle.keep_run.proofs.LineByLine.{handed_on, joined}
 use Rattle.keep_run.proofs.listening.listen_to.Goals as goal
@@ -16,7 +17,7 @@ pub loop-init : goal.loop-init
 loop-init g c =
     let port = c.args.port in
     let cs = c.args.credentials.now in
-    let old : Side = side c.args.keeper.now (g.E.Exchange.behind c.args.exchange.now) in
+    let old : World = both c.args.keeper.now (g.E.Exchange.behind c.args.exchange.now) in
     let fed : Fed = record {
       old = g.R.Device.remaining c.args.events.now;
       new = g.R.Device.remaining c.args.events.now;
@@ -44,8 +45,8 @@ pub returns-in_default-clause-listens : goal.returns-in_default-clause-listens
 returns-in_default-clause-listens g c =
     let port = c.args.port in
     let cs = c.args.credentials.now in
-    let old : Side = side c.args.keeper.now (g.E.Exchange.behind c.args.exchange.now) in
-    let now : Side = side c.loop.keeper (g.E.Exchange.behind c.loop.exchange) in
+    let old : World = both c.args.keeper.now (g.E.Exchange.behind c.args.exchange.now) in
+    let now : World = both c.loop.keeper (g.E.Exchange.behind c.loop.exchange) in
     let fed : Fed = record {
       old = g.R.Device.remaining c.args.events.now;
       new = g.R.Device.remaining c.loop.events;
@@ -73,8 +74,8 @@ pub returns-then-n-eq0-clause-listens : goal.returns-then-n-eq0-clause-listens
 returns-then-n-eq0-clause-listens g c =
     let port = c.args.port in
     let cs = c.args.credentials.now in
-    let old : Side = side c.args.keeper.now (g.E.Exchange.behind c.args.exchange.now) in
-    let now : Side = side c.loop.keeper (g.E.Exchange.behind c.loop.exchange) in
+    let old : World = both c.args.keeper.now (g.E.Exchange.behind c.args.exchange.now) in
+    let now : World = both c.loop.keeper (g.E.Exchange.behind c.loop.exchange) in
     let fed : Fed = record {
       old = g.R.Device.remaining c.args.events.now;
       new = g.R.Device.remaining c.loop.events;
@@ -110,8 +111,8 @@ pub returns-in_err-extend_from_slice-clause-listens : goal.returns-in_err-extend
 returns-in_err-extend_from_slice-clause-listens g c =
     let port = c.args.port in
     let cs = c.args.credentials.now in
-    let old : Side = side c.args.keeper.now (g.E.Exchange.behind c.args.exchange.now) in
-    let now : Side = side c.loop.keeper (g.E.Exchange.behind c.loop.exchange) in
+    let old : World = both c.args.keeper.now (g.E.Exchange.behind c.args.exchange.now) in
+    let now : World = both c.loop.keeper (g.E.Exchange.behind c.loop.exchange) in
     let fed : Fed = record {
       old = g.R.Device.remaining c.args.events.now;
       new = g.R.Device.remaining c.loop.events;
@@ -152,8 +153,8 @@ pub returns-in_err-hear_pending-clause-listens : goal.returns-in_err-hear_pendin
 returns-in_err-hear_pending-clause-listens g c =
     let port = c.args.port in
     let cs = c.args.credentials.now in
-    let old : Side = side c.args.keeper.now (g.E.Exchange.behind c.args.exchange.now) in
-    let now : Side = side c.loop.keeper (g.E.Exchange.behind c.loop.exchange) in
+    let old : World = both c.args.keeper.now (g.E.Exchange.behind c.args.exchange.now) in
+    let now : World = both c.loop.keeper (g.E.Exchange.behind c.loop.exchange) in
     let fed : Fed = record {
       old = g.R.Device.remaining c.args.events.now;
       new = g.R.Device.remaining c.loop.events;
@@ -191,7 +192,7 @@ returns-in_err-hear_pending-clause-listens g c =
     let taken : c.min-taken.result ≡ min c.in-Ok.n c.loop.left = omega arith in
     let items : c.extend_from_slice.new.self.items ≡ c.loop.pending.items ++ take (min c.in-Ok.n c.loop.left) c.read_some.new.buf =
     c.in_ok-extend_from_slice.ensures.items ∙ ap (λ m. c.loop.pending.items ++ take m c.read_some.new.buf) taken in
-    let new : Side = side c.hear_pending.new.keeper (g.E.Exchange.behind c.hear_pending.new.exchange) in
+    let new : World = both c.hear_pending.new.keeper (g.E.Exchange.behind c.hear_pending.new.exchange) in
     let b : Sent = record {
       old = g.W.Device.written c.loop.out;
       new = g.W.Device.written c.hear_pending.new.out;
@@ -210,8 +211,8 @@ pub returns-then-taken-n-clause-listens : goal.returns-then-taken-n-clause-liste
 returns-then-taken-n-clause-listens g c =
     let port = c.args.port in
     let cs = c.args.credentials.now in
-    let old : Side = side c.args.keeper.now (g.E.Exchange.behind c.args.exchange.now) in
-    let now : Side = side c.loop.keeper (g.E.Exchange.behind c.loop.exchange) in
+    let old : World = both c.args.keeper.now (g.E.Exchange.behind c.args.exchange.now) in
+    let now : World = both c.loop.keeper (g.E.Exchange.behind c.loop.exchange) in
     let fed : Fed = record {
       old = g.R.Device.remaining c.args.events.now;
       new = g.R.Device.remaining c.loop.events;
@@ -241,7 +242,7 @@ returns-then-taken-n-clause-listens g c =
     let taken : c.min-taken.result ≡ min c.in-Ok.n c.loop.left = omega arith in
     let items : c.extend_from_slice.new.self.items ≡ c.loop.pending.items ++ take (min c.in-Ok.n c.loop.left) c.read_some.new.buf =
     c.in_ok-extend_from_slice.ensures.items ∙ ap (λ m. c.loop.pending.items ++ take m c.read_some.new.buf) taken in
-    let new : Side = side c.hear_pending.new.keeper (g.E.Exchange.behind c.hear_pending.new.exchange) in
+    let new : World = both c.hear_pending.new.keeper (g.E.Exchange.behind c.hear_pending.new.exchange) in
     let b : Sent = record {
       old = g.W.Device.written c.loop.out;
       new = g.W.Device.written c.hear_pending.new.out;
@@ -260,8 +261,8 @@ pub loop-preserved : goal.loop-preserved
 loop-preserved g c =
     let port = c.args.port in
     let cs = c.args.credentials.now in
-    let old : Side = side c.args.keeper.now (g.E.Exchange.behind c.args.exchange.now) in
-    let now : Side = side c.loop.keeper (g.E.Exchange.behind c.loop.exchange) in
+    let old : World = both c.args.keeper.now (g.E.Exchange.behind c.args.exchange.now) in
+    let now : World = both c.loop.keeper (g.E.Exchange.behind c.loop.exchange) in
     let fed : Fed = record {
       old = g.R.Device.remaining c.args.events.now;
       new = g.R.Device.remaining c.loop.events;
@@ -299,7 +300,7 @@ loop-preserved g c =
     let taken : c.min-taken.result ≡ min c.in-Ok.n c.loop.left = omega arith in
     let items : c.extend_from_slice.new.self.items ≡ c.loop.pending.items ++ take (min c.in-Ok.n c.loop.left) c.read_some.new.buf =
     c.in_ok-extend_from_slice.ensures.items ∙ ap (λ m. c.loop.pending.items ++ take m c.read_some.new.buf) taken in
-    let new : Side = side c.hear_pending.new.keeper (g.E.Exchange.behind c.hear_pending.new.exchange) in
+    let new : World = both c.hear_pending.new.keeper (g.E.Exchange.behind c.hear_pending.new.exchange) in
     let b : Sent = record {
       old = g.W.Device.written c.loop.out;
       new = g.W.Device.written c.hear_pending.new.out;
@@ -324,8 +325,8 @@ pub returns-clause-listens : goal.returns-clause-listens
 returns-clause-listens g c =
     let port = c.args.port in
     let cs = c.args.credentials.now in
-    let old : Side = side c.args.keeper.now (g.E.Exchange.behind c.args.exchange.now) in
-    let now : Side = side c.loop.keeper (g.E.Exchange.behind c.loop.exchange) in
+    let old : World = both c.args.keeper.now (g.E.Exchange.behind c.args.exchange.now) in
+    let now : World = both c.loop.keeper (g.E.Exchange.behind c.loop.exchange) in
     let fed : Fed = record {
       old = g.R.Device.remaining c.args.events.now;
       new = g.R.Device.remaining c.loop.events;

@@ -1,12 +1,13 @@
 -- What was read so far is heard line by line.
 use Rattle.std.specs.Io.KnownBytes.{Keeps}
 use Rattle.keep_run.specs.LineByLine.{IsListening}
-use Rattle.keep_run.specs.Live.{IsReady, side}
+use Rattle.keep_run.specs.Live.{IsReady}
+use Rattle.keep_run.specs.Stops.{both}
 use Rattle.keep_run.proofs.listening.listen_to.Given as goal
 
 abbrev pub invariant-loop : goal.invariant-loop
 invariant-loop g l = record {
-  listening : IsListening l.port l.credentials (side l.fn.keeper (g.E.Exchange.behind l.fn.exchange)) l.counter l.pending.items l.left (side l.keeper (g.E.Exchange.behind l.exchange)) l.lines
+  listening : IsListening l.port l.credentials (both l.fn.keeper (g.E.Exchange.behind l.fn.exchange)) l.counter l.pending.items l.left (both l.keeper (g.E.Exchange.behind l.exchange)) l.lines
       (record {
         old = g.R.Device.remaining l.fn.events;
         new = g.R.Device.remaining l.events;

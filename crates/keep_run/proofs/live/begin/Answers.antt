@@ -25,17 +25,17 @@ returns-clause-ready g c =
 pub returns-in_err-keeper-clause-early : goal.returns-in_err-keeper-clause-early
 returns-in_err-keeper-clause-early g c =
     for_err c.from_residual-in_err-keeper.result c.in_err-keeper.field-0.0 _ c.from_residual-in_err-keeper.ensures
-    (planning_ends c.args.port c.args.start (g.E.Exchange.behind c.args.exchange.now) c.args.inventory c.look_all_up.new.inventory (g.E.Exchange.behind c.look_all_up.new.exchange)
+    (planning_ends c.args.port c.args.start (record { inventory = c.args.inventory; behind = g.E.Exchange.behind c.args.exchange.now }) c.look_all_up.new.inventory (g.E.Exchange.behind c.look_all_up.new.exchange)
     (g.W.Device.written c.args.out.now) (g.W.Device.written c.look_all_up.new.out) (g.W.Device.written c.look_all_up.new.out) (g.W.Device.failed_calls c.args.out.now) (g.W.Device.failed_calls c.look_all_up.new.out) (g.W.Device.failed_calls c.look_all_up.new.out)
-    (g.W.Device.is_flushed c.args.out.now) (g.W.Device.is_flushed c.look_all_up.new.out) (g.W.Device.is_flushed c.look_all_up.new.out) g.W.Device.is_in_memory c.in_ok-look_all_up.ensures.looked
+    (g.W.Device.is_flushed c.args.out.now) (g.W.Device.is_flushed c.look_all_up.new.out) (g.W.Device.is_flushed c.look_all_up.new.out) g.W.Device.is_in_memory c.in_ok-look_all_up.ensures
     c.into_parts-forest.result.0 c.in_err-keeper.field-0.0 c.into_parts-forest.ensures.forest (stopped_as c.into_parts-forest.result.0 c.args.start c.new-made.result c.in_err-keeper.field-0.0 c.new-made.ensures.refused c.in_err-keeper.ensures.keeper c.in_err-keeper.ensures.stop))
 
 pub returns-in_err-push_short_lines-clause-early : goal.returns-in_err-push_short_lines-clause-early
 returns-in_err-push_short_lines-clause-early g c =
     for_err c.from_residual-in_err-push_short_lines.result stops.Memory _ c.from_residual-in_err-push_short_lines.ensures
-    (memory_ends c.args.port c.args.start (g.E.Exchange.behind c.args.exchange.now) c.args.inventory c.look_all_up.new.inventory (g.E.Exchange.behind c.look_all_up.new.exchange)
+    (memory_ends c.args.port c.args.start (record { inventory = c.args.inventory; behind = g.E.Exchange.behind c.args.exchange.now }) c.look_all_up.new.inventory (g.E.Exchange.behind c.look_all_up.new.exchange)
     (g.W.Device.written c.args.out.now) (g.W.Device.written c.look_all_up.new.out) (g.W.Device.written c.look_all_up.new.out) (g.W.Device.failed_calls c.args.out.now) (g.W.Device.failed_calls c.look_all_up.new.out) (g.W.Device.failed_calls c.look_all_up.new.out)
-    (g.W.Device.is_flushed c.args.out.now) (g.W.Device.is_flushed c.look_all_up.new.out) (g.W.Device.is_flushed c.look_all_up.new.out) g.W.Device.is_in_memory c.in_ok-look_all_up.ensures.looked stops.Memory refl)
+    (g.W.Device.is_flushed c.args.out.now) (g.W.Device.is_flushed c.look_all_up.new.out) (g.W.Device.is_flushed c.look_all_up.new.out) g.W.Device.is_in_memory c.in_ok-look_all_up.ensures stops.Memory refl)
 
 pub returns-in_err-send-clause-early : goal.returns-in_err-send-clause-early
 returns-in_err-send-clause-early g c =
@@ -46,9 +46,9 @@ returns-in_err-send-clause-early g c =
     ∙ ap (λ h. short_lines h c.list.result.now) (c.forest.ensures ∙ ap (λ (s : State). s.forest) c.take_shortened-short.ensures.after)
     ∙ ap (short_lines k.forest) (c.list.ensures ∙ c.take_shortened-short.ensures.value) in
     for_err c.from_residual-in_err-send.result c.in_err-send.field-0.0 _ c.from_residual-in_err-send.ensures
-    (sending_ends c.args.port c.args.start (g.E.Exchange.behind c.args.exchange.now) c.args.inventory c.look_all_up.new.inventory (g.E.Exchange.behind c.look_all_up.new.exchange)
+    (sending_ends c.args.port c.args.start (record { inventory = c.args.inventory; behind = g.E.Exchange.behind c.args.exchange.now }) c.look_all_up.new.inventory (g.E.Exchange.behind c.look_all_up.new.exchange)
     (g.W.Device.written c.args.out.now) (g.W.Device.written c.look_all_up.new.out) (g.W.Device.written c.send.new.out) (g.W.Device.failed_calls c.args.out.now) (g.W.Device.failed_calls c.look_all_up.new.out) (g.W.Device.failed_calls c.send.new.out)
-    (g.W.Device.is_flushed c.args.out.now) (g.W.Device.is_flushed c.look_all_up.new.out) (g.W.Device.is_flushed c.send.new.out) g.W.Device.is_in_memory c.in_ok-look_all_up.ensures.looked
+    (g.W.Device.is_flushed c.args.out.now) (g.W.Device.is_flushed c.look_all_up.new.out) (g.W.Device.is_flushed c.send.new.out) g.W.Device.is_in_memory c.in_ok-look_all_up.ensures
     c.into_parts-forest.result.0 k c.deref.result.now c.in_err-send.field-0.0 c.into_parts-forest.ensures.forest (planned_as c.into_parts-forest.result.0 c.args.start c.new-made.result c.in_ok-keeper.keeper c.new-made.ensures.opened c.in_ok-keeper.ensures.keeper c.in_ok-keeper.ensures.stop) lines c.in_err-send.ensures.sent)
 
 pub returns-clause-opened : goal.returns-clause-opened
@@ -59,9 +59,9 @@ returns-clause-opened g c =
     ∙ ap (λ l. l ++ short_lines c.forest.result.now c.list.result.now) c.new-text.ensures.items
     ∙ ap (λ h. short_lines h c.list.result.now) (c.forest.ensures ∙ ap (λ (s : State). s.forest) c.take_shortened-short.ensures.after)
     ∙ ap (short_lines k.forest) (c.list.ensures ∙ c.take_shortened-short.ensures.value) in
-    opens c.args.port c.args.start (g.E.Exchange.behind c.args.exchange.now) c.args.inventory c.look_all_up.new.inventory (g.E.Exchange.behind c.look_all_up.new.exchange)
+    opens c.args.port c.args.start (record { inventory = c.args.inventory; behind = g.E.Exchange.behind c.args.exchange.now }) c.look_all_up.new.inventory (g.E.Exchange.behind c.look_all_up.new.exchange)
     (g.W.Device.written c.args.out.now) (g.W.Device.written c.look_all_up.new.out) (g.W.Device.written c.send.new.out) (g.W.Device.failed_calls c.args.out.now) (g.W.Device.failed_calls c.look_all_up.new.out) (g.W.Device.failed_calls c.send.new.out)
-    (g.W.Device.is_flushed c.args.out.now) (g.W.Device.is_flushed c.look_all_up.new.out) (g.W.Device.is_flushed c.send.new.out) g.W.Device.is_in_memory c.in_ok-look_all_up.ensures.looked
+    (g.W.Device.is_flushed c.args.out.now) (g.W.Device.is_flushed c.look_all_up.new.out) (g.W.Device.is_flushed c.send.new.out) g.W.Device.is_in_memory c.in_ok-look_all_up.ensures
     c.into_parts-forest.result.0 c.into_parts-forest.result.1 k c.take_shortened-short.new.self c.deref.result.now c.into_parts-forest.ensures.forest c.into_parts-forest.ensures.credentials (planned_as c.into_parts-forest.result.0 c.args.start c.new-made.result c.in_ok-keeper.keeper c.new-made.ensures.opened c.in_ok-keeper.ensures.keeper c.in_ok-keeper.ensures.stop)
     c.take_shortened-short.ensures.after lines c.in_ok-send.ensures.sent c.in_ok-send.ensures.count
 

@@ -1,5 +1,5 @@
 -- A rehearsal stops at its words or its opening, or else plays from the keeper that it opened.
-use Rattle.std.proofs.Common.{◌≡◌, ◌∙◌, ◌++◌, ◌≤◌, [], ap, length, refl, sym, subst}
+use Rattle.std.proofs.Common.{◌≡◌, ◌∙◌, ◌++◌, ◌≤◌, Some, [], ap, length, refl, sym, subst}
 use Rattle.keep_moment.specs.declared.moment.TheConstants.{LAST}
 use Rattle.keep_tree.specs.Forest.{Forest}
 use Rattle.keep_core.specs.State.{State}
@@ -57,8 +57,8 @@ returns g c =
     ∙ ap (λ h. short_lines h c.list.result.now) (c.forest.ensures ∙ ap (λ (s : State). s.forest) c.take_shortened-short.ensures.after)
     ∙ ap (short_lines k.forest) (c.list.ensures ∙ c.take_shortened-short.ensures.value) in
     plays_on c.args.inventory.now c.args.words.now c.in_ok-inventory.inventory sets.0 c.args.start c.get.result c.into_parts-forest.result.0 c.into_parts-forest.result.1 k now c.give.new.self c.deref.result.now c.play.result
-    (both c.play.new.keeper c.play.new.exchange) _ c.args.exchange.now c.in_ok-inventory.ensures sets.1 c.into_parts-forest.ensures.forest c.into_parts-forest.ensures.credentials behind (planned_as c.into_parts-forest.result.0 c.args.start c.new-made.result c.in_ok-keeper.keeper c.new-made.ensures.opened c.in_ok-keeper.ensures.keeper c.in_ok-keeper.ensures.stop)
-    c.take_shortened-short.ensures.after c.get.ensures.value lines c.play.ensures
+    (both c.play.new.keeper (Some c.play.new.exchange)) c.play.new.exchange _ c.args.exchange.now c.in_ok-inventory.ensures sets.1 c.into_parts-forest.ensures.forest c.into_parts-forest.ensures.credentials behind (planned_as c.into_parts-forest.result.0 c.args.start c.new-made.result c.in_ok-keeper.keeper c.new-made.ensures.opened c.in_ok-keeper.ensures.keeper c.in_ok-keeper.ensures.stop)
+    c.take_shortened-short.ensures.after c.get.ensures.value lines c.play.ensures refl
 
 pub opened-requires : goal.opened-requires
 opened-requires g c = refused_as c.into_parts-forest.result.0 c.args.start c.new-made.result c.new-made.ensures.refused

@@ -6,7 +6,7 @@ use Rattle.keep_core.specs.State.{State}
 use Rattle.keep_exchange.specs.Requests.{IsAsked, request_of}
 use Rattle.keep_run.specs.Renewing.{IsAnswerOf, event_for, event_of}
 use Rattle.keep_run.specs.Text.{answer_line, short_lines}
-use Rattle.keep_run.proofs.OneAnswer.{answer_between, answers_for}
+use Rattle.keep_run.proofs.OneAnswer.{answers_for, one_answer}
 use Rattle.keep_run.proofs.Refusing.{answer_taken, taken_stop}
 use Rattle.keep_run.proofs.Within.{AreOf, short_within}
 use Rattle.keep_run.proofs.served_entry.answer.Goals as goal
@@ -53,7 +53,7 @@ returns-clause-answers g c =
     c.in_ok-event.ensures.is
     ∙ ap (λ (q : Entry). event_of q.kind c.get-2.result.now i reply) (c.get.ensures.value ∙ ap (λ (h : Forest). entry_at h.entries i) c.forest.ensures)
     ∙ ap (λ id. event_of (entry_at old.forest.entries i).kind id i reply) c.get-2.ensures.value in
-    answer_between (g.E.Exchange.behind c.args.exchange.now) (g.E.Exchange.behind c.ask.new.exchange) c.args.port cs c.args.t i old reply event c.in-Ok.output c.step.new.self c.take_shortened-short.new.self
+    one_answer (g.E.Exchange.behind c.args.exchange.now) (g.E.Exchange.behind c.ask.new.exchange) c.args.port cs c.args.t i old reply event c.in-Ok.output c.step.new.self c.take_shortened-short.new.self
     c.args.text.now.items c.push_answer_line.new.text.items c.push_short_lines.new.text.items asks means c.in-Ok.ensures c.take_shortened-short.ensures.after
     (c.in_ok-push_answer_line.ensures ∙ ap (λ (h : Forest). c.args.text.now.items ++ answer_line h event reply) c.forest-3.ensures)
     (c.in_ok-push_short_lines.ensures

@@ -3,11 +3,9 @@ use Rattle.std.proofs.Common.{[], ◌+◌, ◌∙◌, ap, drop, get_or, refl, sy
 use Rattle.std.proofs.KnownBytes.{Appends-nil}
 use Rattle.keep_core.proofs.Shaped.{both_shaped, same}
 use Rattle.keep_report.specs.Sent.{Sent}
-use Rattle.keep_run.specs.Live.{side}
 use Rattle.keep_run.specs.Stops.{both}
 use Rattle.keep_run.specs.Telling.{TellsRound}
 use Rattle.keep_run.proofs.LineByLine.{handed_on, joined}
-use Rattle.keep_run.proofs.OneAnswer.{between_none}
 use Rattle.keep_run.proofs.Refusing.{Stands, hears_leads, hears_shaped, stands_first, stands_now}
 use Rattle.keep_run.proofs.Rounds.{none_answered}
 use Rattle.keep_run.proofs.ToldRounds.{stopped_on, told_more}
@@ -18,7 +16,7 @@ loop-i-init g c = record {
   told = (
     [],
     (
-      between_none (g.E.Exchange.behind c.args.exchange.now) _ (λ b. none_answered c.args.port c.args.credentials.now c.args.t (both c.args.keeper.now b) []),
+      none_answered c.args.port c.args.credentials.now c.args.t (both c.args.keeper.now (g.E.Exchange.behind c.args.exchange.now)) [],
       ((Appends-nil (g.W.Device.written c.args.out.now), c.requires.flushed), refl),
     ),
   );
@@ -53,7 +51,7 @@ returns-in_err-output-clause-tells g c =
       flushed = g.W.Device.is_flushed c.tell_answer.new.out;
       is_in_memory = g.W.Device.is_in_memory;
     } in
-    handed_on c.from_residual.result c.in_err-output.field-0.0 (λ r. TellsRound port cs c.args.t (side c.args.keeper.now o) c.args.asked.now r (side c.tell_answer.new.keeper new) (joined a b)) c.from_residual.ensures
+    handed_on c.from_residual.result c.in_err-output.field-0.0 (λ r. TellsRound port cs c.args.t (both c.args.keeper.now o) c.args.asked.now r (both c.tell_answer.new.keeper new) (joined a b)) c.from_residual.ensures
     (stopped_on port cs c.args.t o mid c.args.keeper.now c.loop-i.keeper c.args.asked.now c.loop-i.i-index c.loop-i.next a b refl refl c.loop-i-test.true c.loop-i.invariant.shaped c.in_err-output.field-0.0 new
     c.tell_answer.new.keeper c.loop-i.invariant.told c.in_err-output.ensures.tells)
 

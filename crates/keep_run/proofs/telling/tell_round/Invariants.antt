@@ -2,14 +2,14 @@
 use Rattle.std.proofs.Common.{◌≡◌, List, [], ℕ, drop, length, take}
 use Rattle.keep_core.specs.LawsOfSteps.{IsShaped}
 use Rattle.keep_run.specs.LineByLine.{IsSent}
-use Rattle.keep_run.specs.Live.{side}
-use Rattle.keep_run.specs.Telling.{IsRound}
+use Rattle.keep_run.specs.Playing.{AnswersAll}
+use Rattle.keep_run.specs.Stops.{both}
 use Rattle.keep_run.proofs.Refusing.{Stands}
 use Rattle.keep_run.proofs.telling.tell_round.Given as goal
 
 abbrev pub invariant-loop-i : goal.invariant-loop-i
 invariant-loop-i g l = record {
-  told : (text : List ℕ) × (IsRound l.port l.credentials l.t (side l.fn.keeper (g.E.Exchange.behind l.fn.exchange)) (take l.i-index l.asked) l.next (side l.keeper (g.E.Exchange.behind l.exchange)) text
+  told : (text : List ℕ) × (AnswersAll l.port l.credentials l.t (both l.fn.keeper (g.E.Exchange.behind l.fn.exchange)) (take l.i-index l.asked) l.next (both l.keeper (g.E.Exchange.behind l.exchange)) [] text
       × IsSent text (record {
         old = g.W.Device.written l.fn.out;
         new = g.W.Device.written l.out;

@@ -2,17 +2,15 @@
 use Rattle.std.proofs.Common.{ap, ◌∙◌, ◌+◌, ◌++◌, ◌∷◌, [], drop, sym, subst, take, get_or, arith}
 use Rattle.std.proofs.lemmas.List.{take_all, take_more}
 use Rattle.keep_core.proofs.Shaped.{both_shaped, same}
-use Rattle.keep_run.specs.Live.{Between}
-use Rattle.keep_run.specs.Playing.{Answers, AnswersAll}
+use Rattle.keep_run.specs.Playing.{AnswersAll}
 use Rattle.keep_run.specs.Stops.{both}
-use Rattle.keep_run.proofs.OneAnswer.{between_more, between_none}
 use Rattle.keep_run.proofs.Refusing.{Stands, first_waits, first_within, hears_leads, hears_shaped, stands_first, stands_last, stands_now}
 use Rattle.keep_run.proofs.Rounds.{answers_more, none_answered}
 use Rattle.keep_run.proofs.waking.round.Goals as goal
 
 pub loop-i-init : goal.loop-i-init
 loop-i-init g c = record {
-  answers = between_none (g.E.Exchange.behind c.args.exchange.now) _ (λ b. none_answered c.args.port c.args.credentials.now c.args.t (both c.args.keeper.now b) c.args.text.now.items);
+  answers = none_answered c.args.port c.args.credentials.now c.args.t (both c.args.keeper.now (g.E.Exchange.behind c.args.exchange.now)) c.args.text.now.items;
   shaped = same c.args.keeper.now.forest;
   count = c.requires.count;
   quiet = c.requires.quiet;
@@ -26,6 +24,9 @@ loop-i-preserved g c =
     let asked = c.args.asked.now in
     let k = c.loop-i.i-index in
     let start = c.args.keeper.now in
+    let first = both start (g.E.Exchange.behind c.args.exchange.now) in
+    let now = both c.loop-i.keeper (g.E.Exchange.behind c.loop-i.exchange) in
+    let next = both c.answer.new.keeper (g.E.Exchange.behind c.answer.new.exchange) in
     let before = c.args.text.now.items in
     let middle = c.loop-i.text.items in
     let after = c.answer.new.text.items in
@@ -33,15 +34,9 @@ loop-i-preserved g c =
     let waits = stands_now c.args.t k asked c.loop-i.next c.loop-i.keeper c.loop-i-test.true c.loop-i.invariant.stands in
     let like = hears_shaped c.loop-i.keeper c.answer.new.keeper (get_or asked k 0) c.in_ok-output.output hears in
     record {
-      answers = between_more (g.E.Exchange.behind c.args.exchange.now) (g.E.Exchange.behind c.loop-i.exchange) (g.E.Exchange.behind c.answer.new.exchange)
-          (λ b m. AnswersAll port cs c.args.t (both start b) (take k asked) c.loop-i.next (both c.loop-i.keeper m) before middle)
-          (λ m a. Answers port cs c.args.t (both c.loop-i.keeper m) (get_or asked k 0) c.in_ok-output.output (both c.answer.new.keeper a) middle after)
-          _
-          (λ b m a first second.
-          subst (λ is. AnswersAll port cs c.args.t (both start b) is c.told_next-next.result (both c.answer.new.keeper a) before after) (sym (take_more asked k 0 c.loop-i-test.true))
-          (subst (λ n. AnswersAll port cs c.args.t (both start b) (take k asked ++ get_or asked k 0 ∷ []) n (both c.answer.new.keeper a) before after) (sym c.told_next-next.ensures)
-          (answers_more port cs c.args.t (both start b) (both c.loop-i.keeper m) (both c.answer.new.keeper a) (take k asked) (get_or asked k 0) c.loop-i.next c.in_ok-output.output before middle after c.loop-i.invariant.shaped first second)))
-          c.loop-i.invariant.answers c.in_ok-output.ensures.answers;
+      answers = subst (λ is. AnswersAll port cs c.args.t first is c.told_next-next.result next before after) (sym (take_more asked k 0 c.loop-i-test.true))
+          (subst (λ n. AnswersAll port cs c.args.t first (take k asked ++ get_or asked k 0 ∷ []) n next before after) (sym c.told_next-next.ensures)
+          (answers_more port cs c.args.t first now next (take k asked) (get_or asked k 0) c.loop-i.next c.in_ok-output.output before middle after c.loop-i.invariant.shaped c.loop-i.invariant.answers c.in_ok-output.ensures.answers));
       shaped = both_shaped start.forest c.loop-i.keeper.forest c.answer.new.keeper.forest c.loop-i.invariant.shaped like;
       count = c.loop-i.invariant.count ∙ sym like.count;
       quiet = ap (λ s. s.shortened) hears.is;
@@ -61,8 +56,7 @@ answer-requires-clause-waits g c =
 
 pub returns-clause-answers : goal.returns-clause-answers
 returns-clause-answers g c =
-    subst (λ is. Between (g.E.Exchange.behind c.args.exchange.now) (g.E.Exchange.behind c.loop-i.exchange)
-    (λ b a. AnswersAll c.args.port c.args.credentials.now c.args.t (both c.args.keeper.now b) is c.loop-i.next (both c.loop-i.keeper a) c.args.text.now.items c.loop-i.text.items))
+    subst (λ is. AnswersAll c.args.port c.args.credentials.now c.args.t (both c.args.keeper.now (g.E.Exchange.behind c.args.exchange.now)) is c.loop-i.next (both c.loop-i.keeper (g.E.Exchange.behind c.loop-i.exchange)) c.args.text.now.items c.loop-i.text.items)
     (take_all c.loop-i.i-index c.args.asked.now (let past = c.loop-i-test.false in omega arith)) c.loop-i.invariant.answers
 
 pub returns-clause-ready : goal.returns-clause-ready
