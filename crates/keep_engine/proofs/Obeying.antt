@@ -6,7 +6,8 @@ use Rattle.keep_cert.specs.declared.cert.TheConstants.{MOST_CERTIFICATE}
 use Rattle.keep_report.specs.declared.exit.Exit.{Exit}
 use Rattle.keep_report.specs.Sent.{Sent}
 use Rattle.keep_engine.specs.CheckRun.{CheckRun}
-use Rattle.keep_engine.specs.From.{Files, IsRead, RunFrom}
+use Rattle.keep_engine.specs.From.{RunFrom}
+use Rattle.keep_files.specs.Files.{Files, IsRead}
 use Rattle.keep_engine.specs.Obeys.{ObeysOver}
 
 pub run_read : (known : Option (List ℕ)) (max : ℕ) (Over : List ℕ → Exit → Sent → Sent → Type 0) (exit : Exit) (out errors : Sent) (read bytes : List ℕ) → IsRead known max (Ok read) → bytes ≡ read → Over bytes exit out errors → RunFrom known max Over exit out errors

@@ -10,7 +10,7 @@ use Rattle.keep_report.specs.Sent.{IsUntouched, Sent}
 use Rattle.keep_report.specs.Told.{Reports}
 use Rattle.keep_run.specs.Listening.{Fed}
 use Rattle.keep_run.specs.LiveRun.{IsUnread, LiveRun}
-use Rattle.keep_engine.specs.From.{IsRead}
+use Rattle.keep_files.specs.Files.{IsRead}
 use Rattle.keep_engine.specs.Running.{line_of}
 
 -- the live run over the bytes of the file at a path, by what is known of it, whatever exchange names this port; or the file was not

@@ -9,7 +9,8 @@ use Rattle.keep_inventory.specs.declared.limits.TheConstants.{MOST_INVENTORY}
 use Rattle.keep_cert.specs.declared.cert.TheConstants.{MOST_CERTIFICATE}
 use Rattle.keep_engine.specs.CheckRun.{CheckRun}
 use Rattle.keep_engine.specs.EndsRun.{EndsRun}
-use Rattle.keep_engine.specs.From.{Files, RunFrom}
+use Rattle.keep_engine.specs.From.{RunFrom}
+use Rattle.keep_files.specs.Files.{Files}
 use Rattle.keep_engine.specs.MarginRun.{MarginRun}
 use Rattle.keep_engine.specs.PlanRun.{PlanRun}
 use Rattle.keep_engine.specs.ReachRun.{ReachRun}

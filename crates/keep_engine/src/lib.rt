@@ -14,7 +14,6 @@ mod command;
 mod deliver;
 mod ends;
 mod ends_text;
-mod inputs;
 mod laws;
 mod live;
 mod margin;
@@ -32,7 +31,6 @@ pub use check::run_check;
 pub use command::{Command, obey};
 pub use deliver::PROGRAM;
 pub use ends::run_ends;
-pub use inputs::Inputs;
 pub use keep_exchange::{
     Exchange, ExchangeFault, MemoryExchange, SelfServed, TcpExchange, UnixExchange,
 };

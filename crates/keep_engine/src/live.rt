@@ -1,9 +1,9 @@
 ghost use Rattle.keep_engine.specs.LiveFrom.{LiveFrom};
 
 use crate::command::tell_unread;
-use crate::inputs::Inputs;
 use keep_device::{Sink, Source};
 use keep_exchange::Exchange;
+use keep_files::Inputs;
 use keep_inventory::MOST_INVENTORY;
 use keep_moment::Moment;
 use keep_report::{Exit, Watched};

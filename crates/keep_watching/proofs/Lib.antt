@@ -16,3 +16,4 @@ pub mod AlikeReplies
 pub mod AlikeTaken
 pub mod AlikeWatches
 pub mod Secrets
+pub mod FromFile

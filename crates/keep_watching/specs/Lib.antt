@@ -7,6 +7,7 @@ pub mod Slices
 pub mod Clocked
 pub mod Hears
 pub mod WatchRun
+pub mod WatchFrom
 pub mod code
 pub mod Listening
 pub mod LawsOfWatching

@@ -2,12 +2,14 @@
 //! line by line. Lines of an input hand in the time and changes; each is answered by lines before the next is read.
 //!
 //! Begin with `line`, what a line says, and `watching`, what answers it; then `clocked` and `slice`, in which the requests go
-//! out, `answers`, in which their replies are taken, and `running`, the whole.
+//! out, `answers`, in which their replies are taken, `running`, the whole, and `from_file`, the same over the
+//! file of an inventory.
 #![tactic(auto)]
 
 mod answers;
 mod asking;
 mod clocked;
+mod from_file;
 mod laws;
 mod line;
 mod listening;
@@ -18,6 +20,7 @@ mod texts;
 mod told;
 mod watching;
 
+pub use from_file::watch_file;
 pub use laws::{run_of_machine_law, secrets_change_no_watch};
 pub use line::{Line, line_in};
 pub use running::run_watch;

@@ -1,6 +1,7 @@
-use crate::files::Disk;
+use keep_command::Place;
 use keep_device::{Counted, Sink};
 use keep_engine::{Exchange, Exit, TcpExchange, UnixExchange, keep_alive};
+use keep_files::Disk;
 use keep_moment::Moment;
 use std::io;
 use std::io::Read;
@@ -10,37 +11,28 @@ use std::time::Duration;
 
 /// What the words of `run` ask.
 #[derive(Debug, Drop)]
-pub struct Live {
+pub struct Live<'a> {
     /// The path of the inventory.
-    pub file: String,
+    pub file: &'a str,
     /// Where the broker listens.
-    pub place: Place,
+    pub place: Place<'a>,
     /// The moment from which entries are kept.
     pub start: Moment,
     /// How long one connect, read or write may take, in seconds.
     pub patience: u64,
 }
 
-/// Where a broker listens.
-#[derive(Debug, Drop)]
-pub enum Place {
-    /// At this port of 127.0.0.1.
-    Port(u16),
-    /// At the UNIX socket of this path.
-    Path(String),
-}
-
 /// Runs the agent: event lines come from `input`, and their lines go to standard output.
 pub fn keep<R: Files + AllocGlobal + Print + Net, I: Read + Drop, E: Sink>(
     rt: &R,
-    live: &Live,
+    live: &Live<'_>,
     input: I,
     errors: &mut E,
 ) -> Exit {
     let longest = Duration::from_secs(live.patience);
-    match &live.place {
+    match live.place {
         Place::Port(port) => {
-            let mut exchange = TcpExchange::patient(rt, *port, longest);
+            let mut exchange = TcpExchange::patient(rt, port, longest);
             keep_over(rt, live, input, &mut exchange, errors)
         }
         Place::Path(path) => {
@@ -52,14 +44,14 @@ pub fn keep<R: Files + AllocGlobal + Print + Net, I: Read + Drop, E: Sink>(
 
 fn keep_over<R: Files + AllocGlobal + Print + Net, I: Read + Drop, X: Exchange, E: Sink>(
     rt: &R,
-    live: &Live,
+    live: &Live<'_>,
     input: I,
     exchange: &mut X,
     errors: &mut E,
 ) -> Exit {
     keep_alive(
         rt.alloc(),
-        &live.file,
+        live.file,
         live.start,
         &mut Disk { rt },
         &mut Counted::new(input),

@@ -1,10 +1,9 @@
-//! `leasekeep`: keeps Vault tokens and leases alive with the fewest wake-ups. The program over `keep_engine`: words,
-//! files, standard streams and the exit status.
+//! `leasekeep`: keeps Vault tokens and leases alive with the fewest wake-ups. The program over `keep_engine` and
+//! `keep_watching`: words, files, standard streams and the exit status.
 #![tactic(auto)]
 
 use std::process::ExitCode;
 
-mod files;
 mod live;
 mod parser;
 mod run;

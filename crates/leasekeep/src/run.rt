@@ -1,9 +1,10 @@
-use crate::files::Disk;
 use crate::live::keep;
 use crate::watch::watch;
 use crate::words::{Job, read_command};
+use keep_command::words;
 use keep_device::Counted;
-use keep_engine::{Exit, obey};
+use keep_engine::{Exit, PROGRAM, obey};
+use keep_files::Disk;
 use std::io;
 use std::io::{Read, Write};
 use std::net::Net;
@@ -16,7 +17,11 @@ pub fn run<R: Env + Files + AllocGlobal + Print + Eprint + Net, I: Read + Drop, 
     errors: E,
 ) -> Exit {
     let mut errors = Counted::new(errors);
-    match read_command(rt, &mut errors) {
+    let words = match words(rt, PROGRAM, &mut errors) {
+        Ok(words) => words,
+        Err(exit) => return exit,
+    };
+    match read_command(rt, &words, &mut errors) {
         Ok(Job::Live(live)) => keep(rt, &live, input, &mut errors),
         Ok(Job::Watch(watched)) => watch(rt, &watched, input, &mut errors),
         Ok(Job::Offline(command)) => {

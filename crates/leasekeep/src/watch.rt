@@ -1,10 +1,10 @@
-use crate::live::Place;
-use keep_device::{Counted, Sink, read_file};
-use keep_engine::{Exit, PROGRAM, Stop};
+use keep_command::Place;
+use keep_device::{Counted, Sink};
+use keep_engine::Exit;
 use keep_exchange::{Abreast, SocketSlices};
-use keep_inventory::MOST_INVENTORY;
+use keep_files::Disk;
 use keep_watch::WIDTH_MAX;
-use keep_watching::run_watch;
+use keep_watching::watch_file;
 use std::io;
 use std::io::Read;
 use std::net::Net;
@@ -12,11 +12,11 @@ use std::rt::Files;
 
 /// What the words of `watch` ask.
 #[derive(Debug, Drop)]
-pub struct Watched {
+pub struct Watched<'a> {
     /// The path of the inventory.
-    pub file: String,
+    pub file: &'a str,
     /// Where the broker listens.
-    pub place: Place,
+    pub place: Place<'a>,
     /// How long the connects, writes and first reads of a slice may take, in seconds.
     pub patience: u64,
     /// How many requests go out side by side at most.
@@ -26,40 +26,35 @@ pub struct Watched {
 /// Runs the watch: lines come from `input`, and what answers them goes to standard output.
 pub fn watch<R: Files + AllocGlobal + Print + Net, I: Read + Drop, E: Sink>(
     rt: &R,
-    watched: &Watched,
+    watched: &Watched<'_>,
     input: I,
     errors: &mut E,
 ) -> Exit {
-    let text = match read_file(rt, &watched.file, MOST_INVENTORY) {
-        Ok(text) => text,
-        Err(fault) => return Stop::from(fault).report(PROGRAM, errors),
-    };
     let seconds = watched.patience.min(60) as u32;
-    match &watched.place {
+    match watched.place {
         Place::Port(port) => {
-            let mut exchange = SocketSlices::at_port(rt, *port, seconds);
-            watch_over(rt, watched, text.list(), input, &mut exchange, errors)
+            let mut exchange = SocketSlices::at_port(rt, port, seconds);
+            watch_over(rt, watched, input, &mut exchange, errors)
         }
         Place::Path(path) => {
             let mut exchange = SocketSlices::at_path(rt, path, seconds);
-            watch_over(rt, watched, text.list(), input, &mut exchange, errors)
+            watch_over(rt, watched, input, &mut exchange, errors)
         }
     }
 }
 
-fn watch_over<R: AllocGlobal + Print, I: Read + Drop, X: Abreast, E: Sink>(
+fn watch_over<R: Files + AllocGlobal + Print, I: Read + Drop, X: Abreast, E: Sink>(
     rt: &R,
-    watched: &Watched,
-    inventory: &[u8],
+    watched: &Watched<'_>,
     input: I,
     exchange: &mut X,
     errors: &mut E,
 ) -> Exit {
-    let width = watched.width.min(WIDTH_MAX as u64) as u32;
-    run_watch(
+    watch_file(
         rt.alloc(),
-        inventory,
-        width,
+        watched.file,
+        watched.width.min(WIDTH_MAX as u64) as u32,
+        &mut Disk { rt },
         &mut Counted::new(input),
         exchange,
         &mut Counted::new(io::writer(rt)),

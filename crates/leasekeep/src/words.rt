@@ -1,18 +1,15 @@
-use crate::live::{Live, Place};
+use crate::live::Live;
 use crate::parser::{mistake, parse};
 use crate::watch::Watched;
 use clap::error::ErrorKind;
 use clap::{ArgMatches, Error};
+use keep_command::{Place, number_or, show};
 use keep_device::Sink;
 use keep_engine::{Command, Exit, MarginQuery, PROGRAM, Stop, tell};
 use keep_exchange::PATIENCE;
 use keep_moment::{Moment, Text};
 use keep_watch::WIDTH;
 use std::alloc::{AllocError, AllocFailed, Global};
-use std::rt::Env;
-use std::{env, io};
-
-const NOT_UTF8: &[u8] = b"error: a word of the command line is not UTF-8\n";
 
 const PORT_MISTAKE: &str =
     "invalid value for '<PORT>': a port is 1 to 65535, and the path of a UNIX socket has a `/` in it";
@@ -25,13 +22,13 @@ const UNREADABLE: &[u8] = b"error: a value of the command line is unreadable\n";
 
 /// What the words of the command line ask.
 #[derive(Debug, Drop)]
-pub enum Job {
+pub enum Job<'a> {
     /// A command over files alone.
     Offline(Command),
     /// `run`, the agent.
-    Live(Live),
+    Live(Live<'a>),
     /// `watch`, the agent in real time.
-    Watch(Watched),
+    Watch(Watched<'a>),
 }
 
 /// Why the matches of a command line give no command.
@@ -58,60 +55,41 @@ impl<T: Drop> From<AllocFailed<T>> for Unread {
 }
 
 /// What the words of the command line ask; or the exit, once it was told or shown why they ask nothing.
-pub fn read_command<R: Env + AllocGlobal + Print + Eprint, E: Sink>(
+pub fn read_command<'a, R: AllocGlobal + Print + Eprint, E: Sink>(
     rt: &R,
+    words: &'a [String],
     errors: &mut E,
-) -> Result<Job, Exit> {
+) -> Result<Job<'a>, Exit> {
     let alloc = rt.alloc();
-    let words = match words(rt) {
-        Ok(words) => words,
-        Err(error) if error.kind() == io::ErrorKind::OutOfMemory => {
-            return Err(Stop::Memory.report(PROGRAM, errors));
-        }
-        Err(_) => return Err(refuse(NOT_UTF8, errors)),
-    };
-    let matches = match parse(alloc, &words) {
+    let matches = match parse(alloc, words) {
         Ok(matches) => matches,
-        Err(error) => return Err(show(rt, &error, errors)),
+        Err(error) => return Err(show_with_tip(rt, &error, errors)),
     };
     match job_of(alloc, &matches) {
         Ok(job) => Ok(job),
         Err(Unread::Port) => match mistake(alloc, PORT_MISTAKE) {
-            Ok(error) => Err(show(rt, &error, errors)),
+            Ok(error) => Err(show_with_tip(rt, &error, errors)),
             Err(_) => Err(Stop::Memory.report(PROGRAM, errors)),
         },
-        Err(Unread::Value) => Err(refuse(UNREADABLE, errors)),
+        Err(Unread::Value) => {
+            tell(errors, UNREADABLE);
+            Err(Exit::CommandLine)
+        }
         Err(Unread::Memory) => Err(Stop::Memory.report(PROGRAM, errors)),
     }
 }
 
-/// The words of the command line, the program's name first. A word that is not UTF-8 is an error.
-fn words<R: Env + AllocGlobal>(rt: &R) -> io::Result<Vec<String>> {
-    Ok(env::args(rt)?.collect(rt.alloc())?)
-}
-
-fn refuse<E: Sink>(line: &[u8], errors: &mut E) -> Exit {
-    tell(errors, line);
-    Exit::CommandLine
-}
-
-/// Shows the text of a command line that asks nothing: a mistake's on standard error, help and the version on standard
-/// output, which is exit 0 unless it could not be written.
-fn show<R: AllocGlobal + Print + Eprint, E: Sink>(rt: &R, error: &Error, errors: &mut E) -> Exit {
-    if error.kind() == ErrorKind::OutOfMemory {
-        return Stop::Memory.report(PROGRAM, errors);
-    }
-    let shown = error.print(rt);
+/// Shows the text of a command line that asks nothing, and tells behind a mistake of a moment what a moment is.
+fn show_with_tip<R: AllocGlobal + Print + Eprint, E: Sink>(
+    rt: &R,
+    error: &Error,
+    errors: &mut E,
+) -> Exit {
+    let exit = show(rt, PROGRAM, error, errors);
     if is_of_a_moment(rt.alloc(), error) {
         tell(errors, MOMENT_TIP);
     }
-    if error.exit_code() != 0 {
-        Exit::CommandLine
-    } else if shown.is_ok() {
-        Exit::Done
-    } else {
-        Stop::Write.report(PROGRAM, errors)
-    }
+    exit
 }
 
 /// Whether the mistake is a moment that cannot be read. If memory for its text is refused, the answer is no.
@@ -130,53 +108,27 @@ fn is_of_a_moment(alloc: Global, error: &Error) -> bool {
 }
 
 /// What is asked, with all its values.
-fn job_of(alloc: Global, matches: &ArgMatches<'_>) -> Result<Job, Unread> {
+fn job_of<'a>(alloc: Global, matches: &ArgMatches<'a>) -> Result<Job<'a>, Unread> {
     match matches.subcommand() {
         Some(("run", matches)) => Ok(Job::Live(Live {
-            file: word(alloc, matches, "FILE")?,
-            place: place(alloc, matches)?,
+            file: matches.get_str("FILE").ok_or(Unread::Value)?,
+            place: place(matches)?,
             start: start(matches)?,
-            patience: patience(matches)?,
+            patience: number_or(matches, "timeout", PATIENCE).ok_or(Unread::Value)?,
         })),
         Some(("watch", matches)) => Ok(Job::Watch(Watched {
-            file: word(alloc, matches, "FILE")?,
-            place: place(alloc, matches)?,
-            patience: patience(matches)?,
-            width: width(matches)?,
+            file: matches.get_str("FILE").ok_or(Unread::Value)?,
+            place: place(matches)?,
+            patience: number_or(matches, "timeout", PATIENCE).ok_or(Unread::Value)?,
+            width: number_or(matches, "width", WIDTH as u64).ok_or(Unread::Value)?,
         })),
         _ => Ok(Job::Offline(command_of(alloc, matches)?)),
     }
 }
 
-/// A word with a slash is a path, and every other one has to be a port from 1 on.
-fn place(alloc: Global, matches: &ArgMatches<'_>) -> Result<Place, Unread> {
+fn place<'a>(matches: &ArgMatches<'a>) -> Result<Place<'a>, Unread> {
     let word = matches.get_str("PORT").ok_or(Unread::Value)?;
-    if word.contains('/') {
-        return Ok(Place::Path(String::from_str(alloc, word)?));
-    }
-    match word.parse::<u16>() {
-        Ok(port) if port > 0 => Ok(Place::Port(port)),
-        _ => Err(Unread::Port),
-    }
-}
-
-/// The time that is given, or the one that stands for it where it is absent. One that is given and unreadable is a fault.
-fn patience(matches: &ArgMatches<'_>) -> Result<u64, Unread> {
-    match matches.try_get_one::<u64>("timeout") {
-        Ok(Some(seconds)) => Ok(seconds),
-        Ok(None) => Ok(PATIENCE),
-        Err(_) => Err(Unread::Value),
-    }
-}
-
-/// How many requests go out side by side, or the number that stands for it where it is absent. One that is given and
-/// unreadable is a fault.
-fn width(matches: &ArgMatches<'_>) -> Result<u64, Unread> {
-    match matches.try_get_one::<u64>("width") {
-        Ok(Some(width)) => Ok(width),
-        Ok(None) => Ok(WIDTH as u64),
-        Err(_) => Err(Unread::Value),
-    }
+    Place::to_ask(word).ok_or(Unread::Port)
 }
 
 /// The command, with all its values. Behind this nothing asks for a value by its name.

@@ -1,6 +1,6 @@
 -- Each command is obeyed by the run over the bytes of its files.
 use Rattle.std.proofs.Common.{List, Ok, Option, subst, ℕ}
-use Rattle.keep_engine.specs.From.{IsRead}
+use Rattle.keep_files.specs.Files.{IsRead}
 use Rattle.keep_engine.specs.Obeys.{ObeysOver}
 use Rattle.keep_inventory.specs.declared.limits.TheConstants.{MOST_INVENTORY}
 use Rattle.keep_engine.proofs.Obeying.{over_same, run_read}

@@ -1,7 +1,7 @@
 -- What a command does over the bytes of its inventory is what it does over its files, once that is read.
 use Rattle.std.proofs.Common.{List, Ok, subst, ℕ}
 use Rattle.keep_engine.specs.CheckRun.{CheckRun}
-use Rattle.keep_engine.specs.From.{IsRead}
+use Rattle.keep_files.specs.Files.{IsRead}
 use Rattle.keep_cert.specs.declared.cert.TheConstants.{MOST_CERTIFICATE}
 use Rattle.keep_engine.proofs.Obeying.{checks, run_read}
 use Rattle.keep_engine.proofs.command.obey_over.Goals as goal

@@ -1,5 +1,5 @@
 ghost use Rattle.std.specs.Prelude.{◌≡◌, ℕ, List, Option};
-ghost use Rattle.keep_engine.specs.From.{IsRead};
+ghost use Rattle.keep_files.specs.Files.{IsRead};
 
 use keep_device::InputFault;
 use keep_moment::Text;

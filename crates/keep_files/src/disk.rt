@@ -1,7 +1,7 @@
 ghost use Rattle.std.specs.Prelude.{None};
 
+use crate::inputs::Inputs;
 use keep_device::{InputFault, read_file};
-use keep_engine::Inputs;
 use keep_moment::Text;
 use std::alloc::Global;
 use std::rt::Files;
