@@ -1,6 +1,7 @@
 use crate::serving::tell_served;
 use crate::sockets::{serve_path, serve_port};
-use crate::words::{Command, PROGRAM, Place, read_command};
+use crate::words::{Command, PROGRAM, read_command};
+use keep_command::{Place, words};
 use keep_device::{Counted, Sink, Source, read_file};
 use keep_inventory::{MOST_INVENTORY, read};
 use keep_report::{Exit, Stop};
@@ -17,7 +18,11 @@ pub fn run<R: Env + Files + AllocGlobal + Print + Eprint + Net, I: Read + Drop, 
     errors: E,
 ) -> Exit {
     let mut errors = Counted::new(errors);
-    let command = match read_command(rt, &mut errors) {
+    let words = match words(rt, PROGRAM, &mut errors) {
+        Ok(words) => words,
+        Err(exit) => return exit,
+    };
+    let command = match read_command(rt, &words, &mut errors) {
         Ok(command) => command,
         Err(exit) => return exit,
     };
@@ -30,16 +35,16 @@ pub fn run<R: Env + Files + AllocGlobal + Print + Eprint + Net, I: Read + Drop, 
 /// Serves so many connections one after the other, then says so.
 fn obey<R: Files + AllocGlobal + Print + Net, S: Source, E: Sink>(
     rt: &R,
-    command: &Command,
+    command: &Command<'_>,
     lines: &mut S,
     errors: &mut E,
 ) -> Result<(), Stop> {
     let alloc = rt.alloc();
-    let text = read_file(rt, &command.file, MOST_INVENTORY)?;
+    let text = read_file(rt, command.file, MOST_INVENTORY)?;
     let inventory = read(alloc, text.list())?;
     let mut table = Table::load(alloc, &inventory)?;
-    match &command.place {
-        Place::Port(port) => serve_port(rt, *port, command, &mut table, lines, errors)?,
+    match command.place {
+        Place::Port(port) => serve_port(rt, port, command, &mut table, lines, errors)?,
         Place::Path(path) => serve_path(rt, path, command, &mut table, lines)?,
     }
     tell_served(alloc, command.count, &mut Counted::new(io::writer(rt)))

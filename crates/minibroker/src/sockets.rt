@@ -58,7 +58,7 @@ impl<'a> Connections for Paths<'a> {
 pub fn serve_port<R: AllocGlobal + Net, S: Source, E: Sink>(
     rt: &R,
     port: u16,
-    command: &Command,
+    command: &Command<'_>,
     table: &mut Table,
     lines: &mut S,
     errors: &mut E,
@@ -91,7 +91,7 @@ pub fn serve_port<R: AllocGlobal + Net, S: Source, E: Sink>(
 pub fn serve_path<R: AllocGlobal + Net + Files, S: Source>(
     rt: &R,
     path: &str,
-    command: &Command,
+    command: &Command<'_>,
     table: &mut Table,
     lines: &mut S,
 ) -> Result<(), Stop> {
