@@ -1,11 +1,9 @@
 -- Alike answers: over two brokers whose tables differ in credentials alone, the answers of a round are told by one text, and
 -- leave one keeper.
-use Rattle.std.proofs.Common.{◌≡◌, ◌∙◌, ◌==◌, ℕ, suc, ◌<◌, Bool, cond, List, [], ◌∷◌, ◌++◌, Option, Some, Result, Ok, codes, decimal, flat_map, length, map, refl, sym, ap, subst}
+use Rattle.std.proofs.Common.{◌≡◌, ◌∙◌, ◌==◌, ℕ, suc, ◌<◌, cond, List, [], ◌∷◌, ◌++◌, Option, Some, Result, Ok, codes, decimal, flat_map, length, map, refl, sym, ap, subst}
 use Rattle.std.proofs.lemmas.List.Elements.{All-head, All-tail}
 use Rattle.std.specs.List.{All}
-use Rattle.keep_tree.specs.declared.entry.Entry.{Entry}
 use Rattle.keep_tree.specs.declared.entry.Kind.{Kind}
-use Rattle.keep_tree.specs.declared.entry.Kind.TheVariants.{Token, Lease}
 use Rattle.keep_tree.specs.Forest.{Forest, entry_at}
 use Rattle.keep_inventory.specs.Inventories.{IsInventory, Inventory, credential_at}
 use Rattle.keep_inventory.specs.declared.terms.Terms.{Terms}
@@ -25,22 +23,21 @@ use Rattle.keep_core.specs.declared.event.Event.{Event}
 use Rattle.keep_core.specs.declared.event.Event.TheVariants.{Tick, Told, Refused, Lost, Need}
 use Rattle.keep_core.specs.declared.event.Output.{Output}
 use Rattle.keep_core.specs.declared.fault.StepFault.{StepFault}
-use Rattle.keep_core.specs.LawsOfSteps.{IsShaped}
 use Rattle.keep_core.specs.History.{Turn}
 use Rattle.keep_core.specs.State.{State}
 use Rattle.keep_core.proofs.Once.{once}
-use Rattle.keep_core.proofs.Shaped.{both_shaped, shape}
+use Rattle.keep_core.proofs.Shaped.{shape}
 use Rattle.keep_exchange.specs.Exchanges.{Behind}
-use Rattle.keep_exchange.specs.Requests.{asked_as, reply_in, request_of}
-use Rattle.keep_run.specs.Alike.{AreBrokersAlike, AreTablesAlike}
+use Rattle.keep_exchange.specs.Requests.{reply_in, request_of}
+use Rattle.keep_run.specs.Alike.{AreBrokersAlike, AreTablesAlike, IsKept}
 use Rattle.keep_run.specs.Closed.{AreAnswered, Exchanged, IsAnswered, World, closing, event_in, taken, told_next}
 use Rattle.keep_run.specs.Renewing.{event_of, refuses, told_by}
 use Rattle.keep_run.specs.Stops.{both}
 use Rattle.keep_run.specs.Text.{answer_line, answer_text, line, name_of, short_lines, status_in}
-use Rattle.keep_run.proofs.AlikeSteps.{AnswersOf, OutcomesOf, steps_both}
+use Rattle.keep_run.proofs.AlikeKept.{kept_shaped, renewals_both}
+use Rattle.keep_run.proofs.AlikeSteps.{AnswersOf, OutcomesOf}
 use Rattle.keep_run.proofs.OneAnswer.{asked_known, table_after}
 use Rattle.keep_run.proofs.Replying.{sent_told}
-use Rattle.keep_run.proofs.Texts.{same_event}
 
 -- ---- what is said of it
 
@@ -59,10 +56,6 @@ refused_status kind id i body NotRenewable = refl
 refused_by : (kind : Kind) (id : List ℕ) (i : ℕ) (v : Refusal) (r : Reply) → r.status ≡ status_of v → event_of kind id i (Some r) ≡ refuses (status_of v) (Refused i) (Lost i)
 unfolding event_of by_status
 refused_by kind id i v r is = ap (by_status kind id i r.body) is ∙ refused_status kind id i r.body v
-
-asked_shaped : (k : Kind) (port : ℕ) (xs : List (List ℕ)) (i : ℕ) (e : Entry) (end : ℕ) (renewable : Bool) (need : ℕ) → asked_as k port xs i (record e { end = end; renewable = renewable; need = need }) ≡ asked_as k port xs i e
-asked_shaped Token port xs i e end renewable need = refl
-asked_shaped Lease port xs i e end renewable need = refl
 
 -- one meaning, and one status
 abbrev pub MeanSame : Kind → List ℕ → List ℕ → ℕ → Served → Served → Type 0
@@ -84,6 +77,10 @@ dropped_same kind c d i t served.Dropped (served.Reply q) a b = absurd b
 told_status : (t : ℕ) (call : Call) (r : Row) (x : Served) → Tells t call r x → status_in (reply_in x) ≡ 200
 told_status t call r (served.Reply reply) is = is.0
 told_status t call r served.Dropped is = absurd is
+
+kept_event : (g h : Forest) → IsKept g h → (xs : List (List ℕ)) (x : Exchanged) → event_in xs h x ≡ event_in xs g x
+unfolding event_in
+kept_event g h kept xs x = ap (λ k. event_of k (credential_at xs x.entry) x.entry x.reply) (kept.kinds x.entry)
 
 module _ (g : Forest) (cs ds : List (List ℕ)) (ts : List Terms) (one : IsInventory (record { forest = g; credentials = cs; terms = ts })) (two : IsInventory (record { forest = g; credentials = ds; terms = ts })) where
   abbrev s : Inventory
@@ -114,113 +111,113 @@ module _ (g : Forest) (cs ds : List (List ℕ)) (ts : List Terms) (one : IsInven
 
   -- ---- one answer
 
-  ask_same : (port : ℕ) (xs : List (List ℕ)) (h : Forest) → IsShaped g h → (i : ℕ) → request_of port xs h i ≡ request_of port xs g i
-  unfolding request_of
-  ask_same port xs h like i =
-      let e = entry_at g.entries i in
-      let f = entry_at h.entries i in
-      ap (λ (x : Entry). asked_as x.kind port xs i x) (like.each i) ∙ asked_shaped e.kind port xs i e f.end f.renewable f.need
+  -- told by the names of a forest that has kept what this one had
+  module _ (names : Forest) (us : List Terms) (told : IsKept g names) where
+    abbrev v : Inventory
+    v = record { forest = names; credentials = cs; terms = us }
 
-  line_same : (event : Event) (x y : Option Reply) → status_in y ≡ status_in x → answer_line g event y ≡ answer_line g event x
-  line_same (Told i seconds renewable) x y same = refl
-  line_same (Refused i) x y same = ap (λ n. line (codes "refused" ∷ name_of g i ∷ decimal n ∷ [])) same
-  line_same (Lost i) x y same = refl
-  line_same (Tick t) x y same = refl
-  line_same (Need i until) x y same = refl
+    abbrev w : Inventory
+    w = record { forest = names; credentials = ds; terms = us }
 
-  -- what the answers x and y leave
-  pub record AreAnswersAlike (x y : Exchanged) (new last : World) : Type 0 where
-    pub output : y.output ≡ x.output
-    pub keeper : last.keeper ≡ new.keeper
-    pub brokers : AreBrokersAlike g cs ds new.behind last.behind
-    pub text : answer_text u y ≡ answer_text s x
-    pub shaped : IsShaped g new.keeper.forest
+    line_same : (event : Event) (x y : Option Reply) → status_in y ≡ status_in x → answer_line names event y ≡ answer_line names event x
+    line_same (Told i seconds renewable) x y same = refl
+    line_same (Refused i) x y same = ap (λ n. line (codes "refused" ∷ name_of names i ∷ decimal n ∷ [])) same
+    line_same (Lost i) x y same = refl
+    line_same (Tick t) x y same = refl
+    line_same (Need i until) x y same = refl
 
-  answer_both : (port other t : ℕ) (k : State) (b c : Option Behind) (x y : Exchanged) (new last : World) → IsShaped g k.forest → x.entry < length g.entries → y.entry ≡ x.entry → AreBrokersAlike g cs ds b c →
-      IsAnswered port cs t (both k b) x new → IsAnswered other ds t (both k c) y last → AreAnswersAlike x y new last
-  unfolding event_in answer_text
-  answer_both port other t k b c x y new last like within here alike a d =
-      let i = x.entry in
-      let h = k.forest in
-      let l = alike.behind in
-      let m = alike.other_behind in
-      let r = request_of port cs g i in
-      let q = request_of other ds g i in
-      let ask : request_of port cs h i ≡ r = ask_same port cs h like i in
-      let ask' : request_of other ds h y.entry ≡ q = ap (request_of other ds h) here ∙ ask_same other ds h like i in
-      let outcome : OutcomesOf g cs ds (call_for (entry_at g.entries i).kind) i (step l.table t r) (step m.table t q) = steps_both g cs ds ts ts one two port other t i l.table m.table within alike.tables in
-      let served = asked_known b l t (request_of port cs h i) x.reply new.behind alike.known a.asked in
-      let served' = asked_known c m t (request_of other ds h y.entry) y.reply last.behind alike.other_known d.asked in
-      let left = table_after l.table t (request_of port cs h i) x.reply new.behind served in
-      let left' = table_after m.table t (request_of other ds h y.entry) y.reply last.behind served' in
-      let says = subst (λ (p : Request). Says t (step l.table t p).answer served.sent) ask served.says in
-      let says' = subst (λ (p : Request). Says t (step m.table t p).answer served'.sent) ask' served'.says in
-      let means = said_same i t within (step l.table t r).answer (step m.table t q).answer outcome.0 served.sent served'.sent says says' in
-      let status : status_in y.reply ≡ status_in x.reply = ap status_in served'.reply_is ∙ means.1 ∙ sym (ap status_in served.reply_is) in
-      let event : event_in ds g y ≡ event_in cs g x =
-      ap (λ j. event_of (entry_at g.entries j).kind (credential_at ds j) j y.reply) here
-      ∙ ap (event_of (entry_at g.entries i).kind (credential_at ds i) i) served'.reply_is
-      ∙ means.0
-      ∙ sym (ap (event_of (entry_at g.entries i).kind (credential_at cs i) i) served.reply_is) in
-      let event' : event_in ds h y ≡ event_in cs h x = same_event g h like ds y ∙ event ∙ sym (same_event g h like cs x) in
-      let turns = once k a.keeper d.keeper (event_in cs h x) (Ok x.output) (Ok y.output) (λ bad. cc) (λ bad. cc) a.turn (subst (λ e. Turn k e (Ok y.output) d.keeper) event' d.turn) in
-      let output : y.output ≡ x.output = (let same : ◌≡◌ {A = Result Output StepFault} (Ok x.output) (Ok y.output) = turns.0 in cc) in
-      let short : y.short ≡ x.short = d.short ∙ ap (λ (z : State). z.shortened) (sym turns.1) ∙ sym a.short in
-      let table : left.0.table ≡ (step l.table t r).table = left.1.1 ∙ ap (λ (p : Request). (step l.table t p).table) ask in
-      let table' : left'.0.table ≡ (step m.table t q).table = left'.1.1 ∙ ap (λ (p : Request). (step m.table t p).table) ask' in
-      let first : new.keeper ≡ taken a.keeper = a.taken_is in
-      record {
-        output = output;
-        keeper = d.taken_is ∙ ap taken (sym turns.1) ∙ sym first;
-        brokers = record {
-          behind = left.0;
-          known = left.1.0;
-          other_behind = left'.0;
-          other_known = left'.1.0;
-          tables = subst (λ z. AreTablesAlike g cs ds z left'.0.table) (sym table) (subst (AreTablesAlike g cs ds (step l.table t r).table) (sym table') outcome.1);
-        };
-        text = ap (λ e. answer_line g e y.reply ++ short_lines g y.short) event
-            ∙ ap (λ z. z ++ short_lines g y.short) (line_same (event_in cs g x) x.reply y.reply status)
-            ∙ ap (λ ps. answer_line g (event_in cs g x) x.reply ++ short_lines g ps) short;
-        shaped = subst (λ (z : State). IsShaped g z.forest) (sym first) (both_shaped g h a.keeper.forest like (shape k a.keeper (event_in cs h x) (Ok x.output) a.turn));
-      }
+    -- what the answers x and y leave
+    pub record AreAnswersAlike (x y : Exchanged) (new last : World) : Type 0 where
+      pub output : y.output ≡ x.output
+      pub keeper : last.keeper ≡ new.keeper
+      pub brokers : AreBrokersAlike g cs ds new.behind last.behind
+      pub text : answer_text w y ≡ answer_text v x
+      pub kept : IsKept g new.keeper.forest
 
-  -- ---- the answers of a round
+    answer_both : (port other t : ℕ) (k : State) (b c : Option Behind) (x y : Exchanged) (new last : World) → IsKept g k.forest → x.entry < length g.entries → y.entry ≡ x.entry → AreBrokersAlike g cs ds b c →
+        IsAnswered port cs t (both k b) x new → IsAnswered other ds t (both k c) y last → AreAnswersAlike x y new last
+    unfolding event_in answer_text
+    answer_both port other t k b c x y new last like within here alike a d =
+        let i = x.entry in
+        let h = k.forest in
+        let l = alike.behind in
+        let m = alike.other_behind in
+        let r = request_of port cs h i in
+        let q = request_of other ds h i in
+        let outcome : OutcomesOf g cs ds (call_for (entry_at g.entries i).kind) i (step l.table t r) (step m.table t q) = renewals_both g cs ds ts one two port other t i h l.table m.table within like alike.tables in
+        let ask' : request_of other ds h y.entry ≡ q = ap (request_of other ds h) here in
+        let served = asked_known b l t r x.reply new.behind alike.known a.asked in
+        let served' = asked_known c m t (request_of other ds h y.entry) y.reply last.behind alike.other_known d.asked in
+        let left = table_after l.table t r x.reply new.behind served in
+        let left' = table_after m.table t (request_of other ds h y.entry) y.reply last.behind served' in
+        let says' = subst (λ (p : Request). Says t (step m.table t p).answer served'.sent) ask' served'.says in
+        let means = said_same i t within (step l.table t r).answer (step m.table t q).answer outcome.0 served.sent served'.sent served.says says' in
+        let status : status_in y.reply ≡ status_in x.reply = ap status_in served'.reply_is ∙ means.1 ∙ sym (ap status_in served.reply_is) in
+        let event : event_in ds g y ≡ event_in cs g x =
+        ap (λ j. event_of (entry_at g.entries j).kind (credential_at ds j) j y.reply) here
+        ∙ ap (event_of (entry_at g.entries i).kind (credential_at ds i) i) served'.reply_is
+        ∙ means.0
+        ∙ sym (ap (event_of (entry_at g.entries i).kind (credential_at cs i) i) served.reply_is) in
+        let event' : event_in ds h y ≡ event_in cs h x = kept_event g h like ds y ∙ event ∙ sym (kept_event g h like cs x) in
+        let event'' : event_in ds names y ≡ event_in cs names x = kept_event g names told ds y ∙ event ∙ sym (kept_event g names told cs x) in
+        let turns = once k a.keeper d.keeper (event_in cs h x) (Ok x.output) (Ok y.output) (λ bad. cc) (λ bad. cc) a.turn (subst (λ e. Turn k e (Ok y.output) d.keeper) event' d.turn) in
+        let output : y.output ≡ x.output = (let same : ◌≡◌ {A = Result Output StepFault} (Ok x.output) (Ok y.output) = turns.0 in cc) in
+        let short : y.short ≡ x.short = d.short ∙ ap (λ (z : State). z.shortened) (sym turns.1) ∙ sym a.short in
+        let table : left.0.table ≡ (step l.table t r).table = left.1.1 in
+        let table' : left'.0.table ≡ (step m.table t q).table = left'.1.1 ∙ ap (λ (p : Request). (step m.table t p).table) ask' in
+        let first : new.keeper ≡ taken a.keeper = a.taken_is in
+        record {
+          output = output;
+          keeper = d.taken_is ∙ ap taken (sym turns.1) ∙ sym first;
+          brokers = record {
+            behind = left.0;
+            known = left.1.0;
+            other_behind = left'.0;
+            other_known = left'.1.0;
+            tables = subst (λ z. AreTablesAlike g cs ds z left'.0.table) (sym table) (subst (AreTablesAlike g cs ds (step l.table t r).table) (sym table') outcome.1);
+          };
+          text = ap (λ e. answer_line names e y.reply ++ short_lines names y.short) event''
+              ∙ ap (λ z. z ++ short_lines names y.short) (line_same (event_in cs names x) x.reply y.reply status)
+              ∙ ap (λ ps. answer_line names (event_in cs names x) x.reply ++ short_lines names ps) short;
+          kept = subst (λ (z : State). IsKept g z.forest) (sym first) (kept_shaped g h a.keeper.forest like (shape k a.keeper (event_in cs h x) (Ok x.output) a.turn));
+        }
 
-  pub record AreAllAlike (xs ys : List Exchanged) (new last : World) : Type 0 where
-    pub closes : (next : Option ℕ) → closing next ys ≡ closing next xs
-    pub count : length ys ≡ length xs
-    pub keeper : last.keeper ≡ new.keeper
-    pub brokers : AreBrokersAlike g cs ds new.behind last.behind
-    pub text : flat_map (answer_text u) ys ≡ flat_map (answer_text s) xs
-    pub shaped : IsShaped g new.keeper.forest
+    -- ---- the answers of a round
 
-  pub answers_both : (port other t : ℕ) (k : State) (b c : Option Behind) (xs ys : List Exchanged) (new last : World) → IsShaped g k.forest → All (λ i. i < length g.entries) (map (λ (x : Exchanged). x.entry) xs) →
-      map (λ (y : Exchanged). y.entry) ys ≡ map (λ (x : Exchanged). x.entry) xs → AreBrokersAlike g cs ds b c → AreAnswered port cs t (both k b) xs new → AreAnswered other ds t (both k c) ys last → AreAllAlike xs ys new last
-  answers_both port other t k b c [] [] new last like within who alike a d =
-      record {
-        closes = λ next. refl;
-        count = refl;
-        keeper = ap (λ (w : World). w.keeper) d ∙ ap (λ (w : World). w.keeper) (sym a);
-        brokers = subst (λ (w : World). AreBrokersAlike g cs ds w.behind last.behind) (sym a) (subst (λ (w : World). AreBrokersAlike g cs ds b w.behind) (sym d) alike);
-        text = refl;
-        shaped = subst (λ (w : World). IsShaped g w.keeper.forest) (sym a) like;
-      }
-  answers_both port other t k b c [] (y ∷ ys) new last like within who alike a d = absurd cc
-  answers_both port other t k b c (x ∷ xs) [] new last like within who alike a d = absurd cc
-  answers_both port other t k b c (x ∷ xs) (y ∷ ys) new last like within who alike a d =
-      let here : y.entry ≡ x.entry = cc in
-      let rest : map (λ (z : Exchanged). z.entry) ys ≡ map (λ (z : Exchanged). z.entry) xs = cc in
-      let mid = a.0 in
-      let mid' = d.0 in
-      let first = answer_both port other t k b c x y mid mid' like (All-head (λ i. i < length g.entries) x.entry (map (λ (z : Exchanged). z.entry) xs) within) here alike a.1.0 d.1.0 in
-      let more = answers_both port other t mid.keeper mid.behind mid'.behind xs ys new last first.shaped (All-tail (λ i. i < length g.entries) x.entry (map (λ (z : Exchanged). z.entry) xs) within) rest first.brokers a.1.1
-      (subst (λ (z : State). AreAnswered other ds t (both z mid'.behind) ys last) first.keeper d.1.1) in
-      record {
-        closes = λ next. ap (λ (o : Output). closing (told_next next o) ys) first.output ∙ more.closes (told_next next x.output);
-        count = ap (λ n. suc n) more.count;
-        keeper = more.keeper;
-        brokers = more.brokers;
-        text = ap (λ l. l ++ flat_map (answer_text u) ys) first.text ∙ ap (λ l. answer_text s x ++ l) more.text;
-        shaped = more.shaped;
-      }
+    pub record AreAllAlike (xs ys : List Exchanged) (new last : World) : Type 0 where
+      pub closes : (next : Option ℕ) → closing next ys ≡ closing next xs
+      pub count : length ys ≡ length xs
+      pub keeper : last.keeper ≡ new.keeper
+      pub brokers : AreBrokersAlike g cs ds new.behind last.behind
+      pub text : flat_map (answer_text w) ys ≡ flat_map (answer_text v) xs
+      pub kept : IsKept g new.keeper.forest
+
+    pub answers_both : (port other t : ℕ) (k : State) (b c : Option Behind) (xs ys : List Exchanged) (new last : World) → IsKept g k.forest → All (λ i. i < length g.entries) (map (λ (x : Exchanged). x.entry) xs) →
+        map (λ (y : Exchanged). y.entry) ys ≡ map (λ (x : Exchanged). x.entry) xs → AreBrokersAlike g cs ds b c → AreAnswered port cs t (both k b) xs new → AreAnswered other ds t (both k c) ys last → AreAllAlike xs ys new last
+    answers_both port other t k b c [] [] new last like within who alike a d =
+        record {
+          closes = λ next. refl;
+          count = refl;
+          keeper = ap (λ (z : World). z.keeper) d ∙ ap (λ (z : World). z.keeper) (sym a);
+          brokers = subst (λ (z : World). AreBrokersAlike g cs ds z.behind last.behind) (sym a) (subst (λ (z : World). AreBrokersAlike g cs ds b z.behind) (sym d) alike);
+          text = refl;
+          kept = subst (λ (z : World). IsKept g z.keeper.forest) (sym a) like;
+        }
+    answers_both port other t k b c [] (y ∷ ys) new last like within who alike a d = absurd cc
+    answers_both port other t k b c (x ∷ xs) [] new last like within who alike a d = absurd cc
+    answers_both port other t k b c (x ∷ xs) (y ∷ ys) new last like within who alike a d =
+        let here : y.entry ≡ x.entry = cc in
+        let rest : map (λ (z : Exchanged). z.entry) ys ≡ map (λ (z : Exchanged). z.entry) xs = cc in
+        let mid = a.0 in
+        let mid' = d.0 in
+        let first = answer_both port other t k b c x y mid mid' like (All-head (λ i. i < length g.entries) x.entry (map (λ (z : Exchanged). z.entry) xs) within) here alike a.1.0 d.1.0 in
+        let more = answers_both port other t mid.keeper mid.behind mid'.behind xs ys new last first.kept (All-tail (λ i. i < length g.entries) x.entry (map (λ (z : Exchanged). z.entry) xs) within) rest first.brokers a.1.1
+        (subst (λ (z : State). AreAnswered other ds t (both z mid'.behind) ys last) first.keeper d.1.1) in
+        record {
+          closes = λ next. ap (λ (o : Output). closing (told_next next o) ys) first.output ∙ more.closes (told_next next x.output);
+          count = ap (λ n. suc n) more.count;
+          keeper = more.keeper;
+          brokers = more.brokers;
+          text = ap (λ l. l ++ flat_map (answer_text w) ys) first.text ∙ ap (λ l. answer_text v x ++ l) more.text;
+          kept = more.kept;
+        }

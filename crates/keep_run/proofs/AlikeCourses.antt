@@ -13,16 +13,16 @@ use Rattle.keep_core.specs.declared.event.Output.{Output}
 use Rattle.keep_core.specs.declared.event.Output.TheVariants as out
 use Rattle.keep_core.specs.declared.fault.StepFault.{StepFault}
 use Rattle.keep_core.specs.declared.shortened.ShortNeed.{ShortNeed}
-use Rattle.keep_core.specs.LawsOfSteps.{IsShaped}
 use Rattle.keep_core.specs.History.{Turn}
 use Rattle.keep_core.specs.State.{State, unplanned}
 use Rattle.keep_core.proofs.Once.{once}
 use Rattle.keep_core.proofs.Orders.{replan_once}
 use Rattle.keep_core.proofs.Shaped.{replanned, same as same_shape}
-use Rattle.keep_run.specs.Alike.{AreBrokersAlike, AreRowsAlike, AreTablesAlike}
+use Rattle.keep_run.specs.Alike.{AreBrokersAlike, AreRowsAlike, AreTablesAlike, IsKept}
 use Rattle.keep_run.specs.Closed.{Beat, Course, IsClosedRun, IsOpening, Played, World, requests_of, rounds, taken}
 use Rattle.keep_run.specs.Stops.{IsStopped, both}
 use Rattle.keep_run.specs.Text.{beat_text, course_text, done_text, short_lines}
+use Rattle.keep_run.proofs.AlikeKept.{kept_itself, kept_shaped}
 use Rattle.keep_run.proofs.AlikeRuns.{Compared, compare}
 use Rattle.keep_run.proofs.Goes.{joins, wakes_join}
 use Rattle.keep_run.proofs.NextAsks.{no_more, round_more}
@@ -87,7 +87,7 @@ module _ (g : Forest) (cs ds : List (List ℕ)) (ts : List Terms) (one : IsInven
       pub same : shorter ≡ short
       pub keeper : v.keeper ≡ w.keeper
       pub brokers : AreBrokersAlike g cs ds w.behind v.behind
-      pub shaped : IsShaped g w.keeper.forest
+      pub kept : IsKept g w.keeper.forest
 
     pub openings_both : (short shorter : List ShortNeed) (w v : World) → IsOpening s faults start short w → IsOpening u faults start shorter v → AreOpeningsAlike short shorter w v
     unfolding table_of
@@ -104,14 +104,14 @@ module _ (g : Forest) (cs ds : List (List ℕ)) (ts : List Terms) (one : IsInven
             other_known = ap (λ (x : World). x.behind) p.is;
             tables = tables_both;
           };
-          shaped = subst (λ (k : State). IsShaped g k.forest) (sym first) (replanned g (unplanned g) start o.keeper (same_shape g) o.planned);
+          kept = subst (λ (k : State). IsKept g k.forest) (sym first) (kept_shaped g g o.keeper.forest (kept_itself g) (replanned g (unplanned g) start o.keeper (same_shape g) o.planned));
         }
 
     pub compare_from : (short shorter : List ShortNeed) (w v : World) (xs ys : List Beat) (new last : World) (next then' : Option ℕ) → IsOpening s faults start short w → IsOpening u faults start shorter v →
-        Played 8200 cs w (Some start) xs new next → Played 8200 ds v (Some start) ys last then' → Compared g cs ds ts one two 8200 8200 w (both w.keeper v.behind) (Some start) xs ys new last next then'
+        Played 8200 cs w (Some start) xs new next → Played 8200 ds v (Some start) ys last then' → Compared g cs ds ts one two g ts (kept_itself g) 8200 8200 w (both w.keeper v.behind) (Some start) xs ys new last next then'
     compare_from short shorter w v xs ys new last next then' o p first second =
         let begun = openings_both short shorter w v o p in
-        compare g cs ds ts one two 8200 8200 w.keeper w.behind v.behind (Some start) xs ys new last next then' begun.shaped begun.brokers first
+        compare g cs ds ts one two g ts (kept_itself g) 8200 8200 w.keeper w.behind v.behind (Some start) xs ys new last next then' begun.kept begun.brokers first
         (subst (λ (k : State). Played 8200 ds (both k v.behind) (Some start) ys last then') begun.keeper second)
 
     -- ---- two runs that end

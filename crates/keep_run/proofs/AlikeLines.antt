@@ -4,20 +4,19 @@ use Rattle.std.proofs.lemmas.Bool.{cases_Bool, cond-true, cond-false}
 use Rattle.std.proofs.lemmas.Bool.Decides.{nat_tests}
 use Rattle.keep_moment.specs.declared.moment.TheConstants.{LAST}
 use Rattle.keep_tree.specs.Forest.{Forest}
-use Rattle.keep_inventory.specs.Inventories.{IsInventory, Inventory}
+use Rattle.keep_inventory.specs.Inventories.{IsInventory}
 use Rattle.keep_inventory.specs.declared.terms.Terms.{Terms}
 use Rattle.keep_core.specs.declared.event.Event.TheVariants as events
 use Rattle.keep_core.specs.declared.event.Output.{Output}
 use Rattle.keep_core.specs.declared.event.Output.TheVariants as out
 use Rattle.keep_core.specs.declared.fault.StepFault.TheVariants.{ClockBack, OutOfRange}
-use Rattle.keep_core.specs.LawsOfSteps.{IsShaped}
 use Rattle.keep_core.specs.History.{Turn}
 use Rattle.keep_core.specs.Refusal.{refusal, unless_closed}
 use Rattle.keep_core.specs.State.{State}
 use Rattle.keep_core.proofs.Once.{once}
-use Rattle.keep_core.proofs.Shaped.{both_shaped, shape}
+use Rattle.keep_core.proofs.Shaped.{shape}
 use Rattle.keep_exchange.specs.Exchanges.{Behind}
-use Rattle.keep_run.specs.Alike.{AreBrokersAlike}
+use Rattle.keep_run.specs.Alike.{AreBrokersAlike, IsKept}
 use Rattle.keep_run.specs.Secrecy.{AlikeAnswersLaw, AreSidesAlike}
 use Rattle.keep_run.specs.Closed.{Exchanged, World, next_by, taken}
 use Rattle.keep_run.specs.declared.event_line.Heard.{Heard}
@@ -27,8 +26,8 @@ use Rattle.keep_run.specs.Live.{IsHeard, IsNeeded, TicksLive, last_line, next_li
 use Rattle.keep_run.specs.Playing.{inventory_with}
 use Rattle.keep_run.specs.Stops.{both}
 use Rattle.keep_run.specs.Text.{beat_text, short_lines}
+use Rattle.keep_run.proofs.AlikeKept.{kept_shaped}
 use Rattle.keep_run.proofs.AlikeRuns.{beats_both}
-use Rattle.keep_run.proofs.Texts.{same_beat_text}
 
 -- a tick before the last moment is no step
 late_refused : (s k : State) (t : ℕ) (output : Output) → t < s.last → Turn s (events.Tick t) (Ok output) k → ⊥
@@ -53,44 +52,38 @@ last_same : (o p : Output) (xs ys : List Exchanged) → p ≡ o → next_by p ys
 last_same o p xs ys same next = ap (λ (q : Output). last_line q ys) same ∙ last_of o xs ys (ap (λ (q : Output). next_by q ys) (sym same) ∙ next)
 
 module _ (g : Forest) (cs ds : List (List ℕ)) (ts : List Terms) (one : IsInventory (record { forest = g; credentials = cs; terms = ts })) (two : IsInventory (record { forest = g; credentials = ds; terms = ts })) where
-  abbrev s : Inventory
-  s = record { forest = g; credentials = cs; terms = ts }
-
-  abbrev u : Inventory
-  u = record { forest = g; credentials = ds; terms = ts }
-
   -- what one line leaves
   record AreHeardAlike (new last : World) (text more : List ℕ) : Type 0 where
     text_is : more ≡ text
     keeper : last.keeper ≡ new.keeper
     brokers : AreBrokersAlike g cs ds new.behind last.behind
-    shaped : IsShaped g new.keeper.forest
+    kept : IsKept g new.keeper.forest
 
-  nothing_done : (k : State) (b c : Option Behind) (new last : World) (text more said : List ℕ) → IsShaped g k.forest → AreBrokersAlike g cs ds b c → new ≡ both k b → last ≡ both k c → text ≡ said → more ≡ said → AreHeardAlike new last text more
+  nothing_done : (k : State) (b c : Option Behind) (new last : World) (text more said : List ℕ) → IsKept g k.forest → AreBrokersAlike g cs ds b c → new ≡ both k b → last ≡ both k c → text ≡ said → more ≡ said → AreHeardAlike new last text more
   nothing_done k b c new last text more said like alike stays stays' is is' = record {
     text_is = is' ∙ sym is;
     keeper = ap (λ (w : World). w.keeper) stays' ∙ ap (λ (w : World). w.keeper) (sym stays);
     brokers = subst (λ (w : World). AreBrokersAlike g cs ds w.behind last.behind) (sym stays) (subst (λ (w : World). AreBrokersAlike g cs ds b w.behind) (sym stays') alike);
-    shaped = subst (λ (w : World). IsShaped g w.keeper.forest) (sym stays) like;
+    kept = subst (λ (w : World). IsKept g w.keeper.forest) (sym stays) like;
   }
 
-  ticks_alike : (port other t : ℕ) (k : State) (b c : Option Behind) (new last : World) (text more : List ℕ) → IsShaped g k.forest → AreBrokersAlike g cs ds b c → TicksLive port cs t (both k b) new text → TicksLive other ds t (both k c) last more →
+  ticks_alike : (port other t : ℕ) (k : State) (b c : Option Behind) (new last : World) (text more : List ℕ) → IsKept g k.forest → AreBrokersAlike g cs ds b c → TicksLive port cs t (both k b) new text → TicksLive other ds t (both k c) last more →
       AreHeardAlike new last text more
   ticks_alike port other t k b c new last text more like alike a d =
       let x = a.0 in
       let y = d.0 in
-      let beats = beats_both g cs ds ts one two port other k b c x y new last like (d.1.0 ∙ sym a.1.0) alike a.1.1.0 d.1.1.0 in
+      let beats = beats_both g cs ds ts one two k.forest [] like port other k b c x y new last like (d.1.0 ∙ sym a.1.0) alike a.1.1.0 d.1.1.0 in
       record {
         text_is = d.1.1.1
-            ∙ ap (λ l. l ++ last_line y.output y.answers) (same_beat_text u (inventory_with ds k.forest) like refl y ∙ beats.text ∙ sym (same_beat_text s (inventory_with cs k.forest) like refl x))
+            ∙ ap (λ l. l ++ last_line y.output y.answers) beats.text
             ∙ ap (λ l. beat_text (inventory_with cs k.forest) x ++ l) (last_same x.output y.output x.answers y.answers beats.output beats.next)
             ∙ sym a.1.1.1;
         keeper = beats.keeper;
         brokers = beats.brokers;
-        shaped = beats.shaped;
+        kept = beats.kept;
       }
 
-  needs_alike : (i until : ℕ) (k : State) (b c : Option Behind) (new last : World) (text more : List ℕ) → IsShaped g k.forest → AreBrokersAlike g cs ds b c → IsNeeded i until (both k b) new text → IsNeeded i until (both k c) last more → AreHeardAlike new last text more
+  needs_alike : (i until : ℕ) (k : State) (b c : Option Behind) (new last : World) (text more : List ℕ) → IsKept g k.forest → AreBrokersAlike g cs ds b c → IsNeeded i until (both k b) new text → IsNeeded i until (both k c) last more → AreHeardAlike new last text more
   needs_alike i until k b c new last text more like alike a d =
       let event = events.Need i until in
       let turns = once k a.keeper d.keeper event (Ok out.Planned) (Ok out.Planned) (λ bad. cc) (λ bad. cc) a.turn d.turn in
@@ -99,10 +92,10 @@ module _ (g : Forest) (cs ds : List (List ℕ)) (ts : List Terms) (one : IsInven
         text_is = d.text_is ∙ ap (λ (z : State). short_lines z.forest z.shortened ++ codes "planned\n") (sym turns.1) ∙ sym a.text_is;
         keeper = ap (λ (w : World). w.keeper) d.is ∙ ap taken (sym turns.1) ∙ sym first;
         brokers = subst (λ (w : World). AreBrokersAlike g cs ds w.behind last.behind) (sym a.is) (subst (λ (w : World). AreBrokersAlike g cs ds b w.behind) (sym d.is) alike);
-        shaped = subst (λ (z : State). IsShaped g z.forest) (sym first) (both_shaped g k.forest a.keeper.forest like (shape k a.keeper event (Ok out.Planned) a.turn));
+        kept = subst (λ (z : State). IsKept g z.forest) (sym first) (kept_shaped g k.forest a.keeper.forest like (shape k a.keeper event (Ok out.Planned) a.turn));
       }
 
-  heard_alike : (port other : ℕ) (says : Heard) (k : State) (b c : Option Behind) (new last : World) (text more : List ℕ) → IsShaped g k.forest → AreBrokersAlike g cs ds b c → IsHeard port cs (both k b) says new text → IsHeard other ds (both k c) says last more →
+  heard_alike : (port other : ℕ) (says : Heard) (k : State) (b c : Option Behind) (new last : World) (text more : List ℕ) → IsKept g k.forest → AreBrokersAlike g cs ds b c → IsHeard port cs (both k b) says new text → IsHeard other ds (both k c) says last more →
       AreHeardAlike new last text more
   heard_alike port other (Tick t) k b c new last text more like alike (inl a) (inl d) = nothing_done k b c new last text more (codes "fault clock-back\n") like alike a.1.0 d.1.0 a.1.1 d.1.1
   heard_alike port other (Tick t) k b c new last text more like alike (inl a) (inr d) =
@@ -113,14 +106,14 @@ module _ (g : Forest) (cs ds : List (List ℕ)) (ts : List Terms) (one : IsInven
   heard_alike port other (Need i until) k b c new last text more like alike a d = needs_alike i until k b c new last text more like alike a d
   heard_alike port other Unknown k b c new last text more like alike a d = nothing_done k b c new last text more (codes "fault unknown-name\n") like alike a.0 d.0 a.1 d.1
 
-  line_alike : (port other : ℕ) (k : State) (b c : Option Behind) (line : List ℕ) (new last : World) (text more : List ℕ) → IsShaped g k.forest → AreBrokersAlike g cs ds b c → IsLineHeard port cs (both k b) line new text →
-      IsLineHeard other ds (both k c) line last more → (more ≡ text) × (AreSidesAlike g cs ds new last × IsShaped g new.keeper.forest)
+  line_alike : (port other : ℕ) (k : State) (b c : Option Behind) (line : List ℕ) (new last : World) (text more : List ℕ) → IsKept g k.forest → AreBrokersAlike g cs ds b c → IsLineHeard port cs (both k b) line new text →
+      IsLineHeard other ds (both k c) line last more → (more ≡ text) × (AreSidesAlike g cs ds new last × IsKept g new.keeper.forest)
   line_alike port other k b c line new last text more like alike a d =
       let says : d.says ≡ a.says = (let e = sym d.is ∙ a.is in cc) in
       let heard = heard_alike port other a.says k b c new last text more like alike a.heard (subst (λ (h : Heard). IsHeard other ds (both k c) h last more) says d.heard) in
-      (heard.text_is, (record { keeper = heard.keeper; brokers = heard.brokers }, heard.shaped))
+      (heard.text_is, (record { keeper = heard.keeper; brokers = heard.brokers }, heard.kept))
 
-  lines_alike : (port other : ℕ) (old begun new last : World) (lines : List (List ℕ)) (text more : List ℕ) → IsShaped g old.keeper.forest → AreSidesAlike g cs ds old begun → AreHeard port cs old lines new text → AreHeard other ds begun lines last more →
+  lines_alike : (port other : ℕ) (old begun new last : World) (lines : List (List ℕ)) (text more : List ℕ) → IsKept g old.keeper.forest → AreSidesAlike g cs ds old begun → AreHeard port cs old lines new text → AreHeard other ds begun lines last more →
       (more ≡ text) × AreSidesAlike g cs ds new last
   lines_alike port other old begun new last [] text more like alike a d = (
     d.1 ∙ sym a.1,

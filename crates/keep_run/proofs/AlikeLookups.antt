@@ -1,9 +1,8 @@
 -- Alike lookups: over two brokers whose tables differ in credentials alone, lookups make of two inventories that do the same, and
 -- a run is opened by one text.
-use Rattle.std.proofs.Common.{◌≡◌, ◌∙◌, ◌==◌, ℕ, zero, suc, ◌+◌, ◌<◌, ◌≤◌, ◌^◌, Bool, true, false, cond, is_none, List, [], ◌∷◌, ◌++◌, Option, Some, None, IfSome, Result, Ok, Err, IsUtf8, bytes_eq, length, nat_le, option_map, set, refl, sym, ap, ap₂, subst, arith, inl, inr}
-use Rattle.std.proofs.lemmas.Bool.{cases_eq, cond-true}
+use Rattle.std.proofs.Common.{◌≡◌, ◌∙◌, ◌==◌, ℕ, zero, suc, ◌+◌, ◌<◌, ◌≤◌, ◌^◌, Bool, true, false, cond, is_none, List, [], ◌∷◌, ◌++◌, Option, Some, None, IfSome, Result, Ok, Err, IsUtf8, bytes_eq, length, nat_le, option_map, refl, sym, ap, ap₂, subst, arith}
+use Rattle.std.proofs.lemmas.Bool.{cond-true}
 use Rattle.std.proofs.lemmas.Bool.Decides.{nat_tests}
-use Rattle.std.proofs.lemmas.List.{length-set}
 use Rattle.std.proofs.lemmas.List.Elements.{All-head, All-nil, All-cons, All-tail}
 use Rattle.std.specs.Cmp.Lexicographic.{bytes_decides}
 use Rattle.std.specs.List.{All, range_with_len}
@@ -18,6 +17,7 @@ use Rattle.keep_exchange.specs.Requests.{Fits, lookup_of, looked_as}
 use Rattle.keep_exchange.proofs.Lengths.{looked_lease_short, ok_short, reply_short, status_short}
 use Rattle.keep_inventory.specs.Inventories.{IsInventory, Inventory, credential_at, terms_at}
 use Rattle.keep_inventory.specs.Lookup.{lookup_fault, told, told_entry, told_terms}
+use Rattle.keep_inventory.specs.declared.lookup.LookupFault.{LookupFault}
 use Rattle.keep_inventory.specs.declared.lookup.LookupFault.TheVariants.{OtherEntry, OtherKind}
 use Rattle.keep_inventory.specs.declared.terms.Terms.{Terms}
 use Rattle.keep_inventory.proofs.Inventories.{credential_text, sendable_at}
@@ -28,7 +28,6 @@ use Rattle.keep_tree.specs.declared.entry.Kind.{Kind}
 use Rattle.keep_tree.specs.declared.entry.Kind.TheVariants.{Token, Lease}
 use Rattle.keep_tree.specs.Forest.{Forest, entry_at}
 use Rattle.keep_tree.specs.Push.{is_lease}
-use Rattle.keep_tree.proofs.Entries.{entry_at_set_other, entry_at_set_same}
 use Rattle.mini_broker.specs.declared.call.Call.TheVariants.{LookupSelf, LookupLease}
 use Rattle.mini_broker.specs.declared.refusal.Refusal.{Refusal}
 use Rattle.mini_broker.specs.declared.refusal.Refusal.TheVariants.{UnsupportedPath, UnsupportedMethod, PermissionDenied, BadRequest, UnknownLease, NotRenewable}
@@ -50,16 +49,16 @@ use Rattle.vault_json.specs.declared.lookup.Lookup.TheVariants as lookups
 use Rattle.vault_json.specs.Laws.{LookedLeaseIsRead}
 use Rattle.vault_json.specs.Lookup.{lookup_lease_answer}
 use Rattle.vault_json.specs.Written.{looked_self_text}
-use Rattle.keep_run.specs.Alike.{AreBrokersAlike, AreDated, AreTablesAlike}
+use Rattle.keep_run.specs.Alike.{AreBrokersAlike, AreDated, AreTablesAlike, IsKept}
 use Rattle.keep_run.specs.Closed.{World, taken}
 use Rattle.keep_run.specs.LiveRun.{IsLiveOpening}
 use Rattle.keep_run.specs.Looking.{AreLookedUp, Looked, first, looked_text}
-use Rattle.keep_run.specs.Secrecy.{AlikeLookupsLaw, AlikeOpeningsLaw, AreLookedAlike, AreSidesAlike, IsToldOf}
+use Rattle.keep_run.specs.Secrecy.{AlikeLookupsLaw, AlikeOpeningsLaw, AreLookedAlike, AreSidesAlike}
 use Rattle.keep_run.specs.Text.{short_lines}
+use Rattle.keep_run.proofs.AlikeKept.{kept_itself, kept_with}
 use Rattle.keep_run.proofs.AlikeLooks.{look_for, looks_both}
 use Rattle.keep_run.proofs.AlikeSteps.{AnswersOf, by_kind}
 use Rattle.keep_run.proofs.Dated.{Speaks, if_both, step_dated}
-use Rattle.keep_run.proofs.LookedUp.{of_reply}
 
 -- ---- what is received
 
@@ -104,9 +103,6 @@ own_lease v i id issued ttl renewable same lease =
 -- ---- what a lookup leaves of the forest
 
 module _ (g : Forest) where
-  pub told_itself : IsToldOf g g
-  told_itself = record { count = refl; kinds = λ i. refl; parents = λ i. refl }
-
   same_kind : (now : ℕ) (lookup : Lookup) (t : Terms) (e : Entry) → (told_entry now lookup t e).kind ≡ e.kind
   same_kind now (lookups.Token ttl created explicit_max orphan renewable period) t e = refl
   same_kind now (lookups.Lease id issued renewable ttl) t e = refl
@@ -115,40 +111,57 @@ module _ (g : Forest) where
   same_parent now (lookups.Token ttl created explicit_max orphan renewable period) t e = refl
   same_parent now (lookups.Lease id issued renewable ttl) t e = refl
 
+  -- of a lease, a lookup that is applied keeps the step
+  same_step : (v : Inventory) (i now : ℕ) (lookup : Lookup) (t : Terms) → lookup_fault v i lookup ≡ None → (entry_at v.forest.entries i).kind ≡ Lease → (told_entry now lookup t (entry_at v.forest.entries i)).step ≡ (entry_at v.forest.entries i).step
+  unfolding lookup_fault
+  same_step v i now (lookups.Token ttl created explicit_max orphan renewable period) t free lease =
+      let lookup = lookups.Token ttl created explicit_max orphan renewable period in
+      absurd (let bad : Some OtherKind ≡ None = sym (cond-true (is_lease (entry_at v.forest.entries i).kind) (Some OtherKind) _ (ap is_lease lease)) ∙ free in cc)
+  same_step v i now (lookups.Lease id issued renewable ttl) t free lease = refl
+
   -- what it leaves of an inventory
   abbrev Leaves : Inventory → Inventory → Type 0
-  Leaves v new = IsToldOf g new.forest × (new.credentials ≡ v.credentials)
+  Leaves v new = IsKept g new.forest × (new.credentials ≡ v.credentials)
 
-  told_leaves : (v : Inventory) (i t : ℕ) → i < length v.forest.entries → IsToldOf g v.forest → (lookup : Lookup) → Leaves v (told v i lookup t)
+  told_leaves : (v : Inventory) (i t : ℕ) → i < length v.forest.entries → IsKept g v.forest → (lookup : Lookup) → lookup_fault v i lookup ≡ None → Leaves v (told v i lookup t)
   unfolding told
-  told_leaves v i t within like lookup =
-      let es = v.forest.entries in
-      let terms = told_terms lookup (terms_at v.terms i) in
-      let e = told_entry t lookup terms (entry_at es i) in
-      let here = entry_at_set_same es i e within in (
-        record {
-          count = length-set es i e ∙ like.count;
-          kinds = λ j. elim (cases_eq j i) as (λ _. (entry_at (set es i e) j).kind ≡ (entry_at g.entries j).kind) [
-            | inl same ↦ ap (λ k. (entry_at (set es i e) k).kind) same ∙ ap (λ (x : Entry). x.kind) here ∙ same_kind t lookup terms (entry_at es i) ∙ like.kinds i ∙ ap (λ k. (entry_at g.entries k).kind) (sym same)
-            | inr other ↦ ap (λ (x : Entry). x.kind) (entry_at_set_other es i j e other) ∙ like.kinds j
-          ];
-          parents = λ j. elim (cases_eq j i) as (λ _. (entry_at (set es i e) j).parent ≡ (entry_at g.entries j).parent) [
-            | inl same ↦ ap (λ k. (entry_at (set es i e) k).parent) same ∙ ap (λ (x : Entry). x.parent) here ∙ same_parent t lookup terms (entry_at es i) ∙ like.parents i ∙ ap (λ k. (entry_at g.entries k).parent) (sym same)
-            | inr other ↦ ap (λ (x : Entry). x.parent) (entry_at_set_other es i j e other) ∙ like.parents j
-          ];
-        },
+  told_leaves v i t within like lookup free =
+      let e = entry_at v.forest.entries i in
+      let terms = told_terms lookup (terms_at v.terms i) in (
+        kept_with g v.forest i (told_entry t lookup terms e) within like (same_kind t lookup terms e) (λ lease. same_parent t lookup terms e)
+            (λ lease. same_step v i t lookup terms free (like.kinds i ∙ lease)),
         refl,
       )
 
-  -- the request is that of the inventory before
-  looked_same : (k : Kind) (port : ℕ) (xs : List (List ℕ)) (i : ℕ) (e f : Entry) → f.parent ≡ e.parent → looked_as k port xs i f ≡ looked_as k port xs i e
-  looked_same Token port xs i e f same = refl
-  looked_same Lease port xs i e f same = ap (λ p. looked_as Lease port xs i (record e { parent = p })) same
+  module _ (v new : Inventory) (i t : ℕ) (within : i < length v.forest.entries) (like : IsKept g v.forest) where
+    abbrev LeavesIf : Option Inventory → Type 0
+    LeavesIf o = o ≡ Some new → Leaves v new
 
-  lookup_same : (port : ℕ) (xs : List (List ℕ)) (h : Forest) (i : ℕ) → IsToldOf g h → lookup_of port xs h i ≡ lookup_of port xs g i
+    applied_leaves : (answer : Result Lookup ReplyFault) → LeavesIf (applied v i t answer)
+    applied_leaves (Err fault) is = absurd (let bad : None ≡ Some new = is in cc)
+    applied_leaves (Ok lookup) is = by_fault (lookup_fault v i lookup) refl is where
+      by_fault : (fault : Option LookupFault) → lookup_fault v i lookup ≡ fault → LeavesIf (cond (is_none fault) (Some (told v i lookup t)) None)
+      by_fault None free is' =
+          let taken' : told v i lookup t ≡ new = (let some : Some (told v i lookup t) ≡ Some new = is' in cc) in
+          subst (Leaves v) taken' (told_leaves v i t within like lookup free)
+      by_fault (Some fault) other is' = absurd (let bad : None ≡ Some new = is' in cc)
+
+    reply_leaves : (came : Result Reply ExchangeFault) → LeavesIf (looked v i t came)
+    reply_leaves (Err fault) is = absurd (let bad : None ≡ Some new = is in cc)
+    reply_leaves (Ok r) is =
+        let answer = lookup_in (entry_at v.forest.entries i).kind r.body in
+        if_both LeavesIf (r.status == 200) (applied v i t answer) None (applied_leaves answer) (λ none. absurd (let bad : None ≡ Some new = none in cc)) is
+
+  -- the request is that of the inventory before
+  looked_lease : (k : Kind) (port : ℕ) (xs : List (List ℕ)) (i : ℕ) (e f : Entry) → (k ≡ Lease → f.parent ≡ e.parent) → looked_as k port xs i f ≡ looked_as k port xs i e
+  looked_lease Token port xs i e f same = refl
+  looked_lease Lease port xs i e f same = ap (λ p. looked_as Lease port xs i (record e { parent = p })) (same refl)
+
+  lookup_same : (port : ℕ) (xs : List (List ℕ)) (h : Forest) (i : ℕ) → IsKept g h → lookup_of port xs h i ≡ lookup_of port xs g i
   unfolding lookup_of
   lookup_same port xs h i like =
-      looked_same (entry_at h.entries i).kind port xs i (entry_at g.entries i) (entry_at h.entries i) (like.parents i) ∙ ap (λ k. looked_as k port xs i (entry_at g.entries i)) (like.kinds i)
+      looked_lease (entry_at h.entries i).kind port xs i (entry_at g.entries i) (entry_at h.entries i) (λ lease. like.owners i (sym (like.kinds i) ∙ lease))
+      ∙ ap (λ k. looked_as k port xs i (entry_at g.entries i)) (like.kinds i)
 
 -- ---- what a reply makes of two inventories
 
@@ -244,7 +257,7 @@ module _ (g : Forest) (cs ds : List (List ℕ)) (ts : List Terms) (one : IsInven
       taken_lease (other_of v) i t (credential_at ds i) r other refl lease y.0 second.0 said
       ∙ sym (ap (option_map other_of) (taken_lease v i t (credential_at cs i) r reply (ap (λ xs. credential_at xs i) credentials) lease x.0 first.0 first.1))
 
-  looked_alike : (v : Inventory) (i t : ℕ) → i < length g.entries → v.credentials ≡ cs → IsToldOf g v.forest → (x y : Answer) → AnswersOf g cs ds (look_for (entry_at g.entries i).kind) i x y → Speaks x → (a b : Served) → Says t x a → Says t y b → Alike v i t a b
+  looked_alike : (v : Inventory) (i t : ℕ) → i < length g.entries → v.credentials ≡ cs → IsKept g v.forest → (x y : Answer) → AnswersOf g cs ds (look_for (entry_at g.entries i).kind) i x y → Speaks x → (a b : Served) → Says t x a → Says t y b → Alike v i t a b
   looked_alike v i t within own like (refuses x) (refuses y) same speaks a b p q = refused_alike v i t x y a b p q
   looked_alike v i t within own like (refuses x) (tells d q) same speaks a b p o = absurd same
   looked_alike v i t within own like (refuses x) drops same speaks a b p o = absurd same
@@ -295,11 +308,11 @@ module _ (g : Forest) (cs ds : List (List ℕ)) (ts : List Terms) (one : IsInven
 
     asked : lookup_of port old.inventory.credentials old.inventory.forest i ≡ r
     unfolding r
-    asked = ap (λ xs. lookup_of port xs old.inventory.forest i) alike.credentials ∙ lookup_same g port cs old.inventory.forest i alike.told
+    asked = ap (λ xs. lookup_of port xs old.inventory.forest i) alike.credentials ∙ lookup_same g port cs old.inventory.forest i alike.kept
 
     asked_too : lookup_of other begun.inventory.credentials begun.inventory.forest i ≡ q
     unfolding q
-    asked_too = ap (λ (v : Inventory). lookup_of other v.credentials v.forest i) alike.inventory ∙ lookup_same g other ds old.inventory.forest i alike.told
+    asked_too = ap (λ (v : Inventory). lookup_of other v.credentials v.forest i) alike.inventory ∙ lookup_same g other ds old.inventory.forest i alike.kept
 
     results : (x y : Bool) (after behind : Inventory) (new last : Option Behind) → IsLookedUp port old.behind t old.inventory i x after new → IsLookedUp other begun.behind t begun.inventory i y behind last →
         behind_if y behind ≡ option_map other_of (behind_if x after)
@@ -311,7 +324,7 @@ module _ (g : Forest) (cs ds : List (List ℕ)) (ts : List Terms) (one : IsInven
         let second = exchanged_known begun.behind alike.brokers.other_behind t (lookup_of other begun.inventory.credentials begun.inventory.forest i) b.came last alike.brokers.other_known b.exchanged in
         let says = subst (λ z. Says t (step l t z).answer first.sent) asked first.says in
         let says_too = subst (λ z. Says t (step m t z).answer second.sent) asked_too second.says in
-        let same = looked_alike old.inventory i t within alike.credentials alike.told (step l t r).answer (step m t q).answer outcome.0 speaks first.sent second.sent says says_too in
+        let same = looked_alike old.inventory i t within alike.credentials alike.kept (step l t r).answer (step m t q).answer outcome.0 speaks first.sent second.sent says says_too in
         sym b.applied_is
         ∙ ap (λ (v : Inventory). looked v i t b.came) alike.inventory
         ∙ ap (looked (other_of old.inventory) i t) second.received_as
@@ -327,8 +340,8 @@ module _ (g : Forest) (cs ds : List (List ℕ)) (ts : List Terms) (one : IsInven
     one_both mid after a b =
         let outcome = looks_both g cs ds ts ts one two port other t i l m within alike.brokers.tables in
         let left = step_dated l alike.dated t r in
-        let n = alike.told.count in
-        let leaves = of_reply old.inventory i t (Leaves g old.inventory) (told_leaves g old.inventory i t (omega (arith, within, n)) alike.told) a.came mid.inventory a.applied_is in
+        let n = alike.kept.count in
+        let leaves = reply_leaves g old.inventory mid.inventory i t (omega (arith, within, n)) alike.kept a.came a.applied_is in
         let gone = table_behind l t (lookup_of port old.inventory.credentials old.inventory.forest i) a.came mid.behind
         (exchanged_known old.behind alike.brokers.behind t (lookup_of port old.inventory.credentials old.inventory.forest i) a.came mid.behind alike.brokers.known a.exchanged) in
         let gone_too = table_behind m t (lookup_of other begun.inventory.credentials begun.inventory.forest i) b.came after.behind
@@ -338,7 +351,7 @@ module _ (g : Forest) (cs ds : List (List ℕ)) (ts : List Terms) (one : IsInven
         record {
           credentials = leaves.1 ∙ alike.credentials;
           inventory = value_same mid.inventory after.inventory (results true true mid.inventory after.inventory mid.behind after.behind a b);
-          told = leaves.0;
+          kept = leaves.0;
           brokers = record {
             behind = gone.0;
             known = gone.1.0;
@@ -367,7 +380,7 @@ module _ (g : Forest) (cs ds : List (List ℕ)) (ts : List Terms) (one : IsInven
   started v b = record { inventory = v; behind = Some b }
 
   fresh_both : (b c : Behind) → AreTablesAlike g cs ds b.table c.table → AreDated b.table → AreLookedAlike g cs ds (started s b) (started u c)
-  fresh_both b c tables dated = record { credentials = refl; inventory = refl; told = told_itself g; brokers = record { behind = b; known = refl; other_behind = c; other_known = refl; tables = tables }; dated = dated }
+  fresh_both b c tables dated = record { credentials = refl; inventory = refl; kept = kept_itself g; brokers = record { behind = b; known = refl; other_behind = c; other_known = refl; tables = tables }; dated = dated }
 
   pub opened_looked : (port other start : ℕ) (b c : Behind) (opening last : World) (text more : List ℕ) → AreTablesAlike g cs ds b.table c.table → AreDated b.table →
       (a : IsLiveOpening port start (started s b) opening text) (d : IsLiveOpening other start (started u c) last more) → AreLookedAlike g cs ds a.looked d.looked

@@ -10,25 +10,26 @@ use Rattle.keep_core.specs.declared.event.Event.TheVariants.{Tick}
 use Rattle.keep_core.specs.declared.event.Output.{Output}
 use Rattle.keep_core.specs.declared.event.Output.TheVariants as out
 use Rattle.keep_core.specs.declared.fault.StepFault.{StepFault}
-use Rattle.keep_core.specs.LawsOfSteps.{IsShaped}
 use Rattle.keep_core.specs.History.{Turn}
 use Rattle.keep_core.specs.State.{State}
 use Rattle.keep_core.proofs.Once.{once}
-use Rattle.keep_core.proofs.Shaped.{both_shaped, shape}
+use Rattle.keep_core.proofs.Shaped.{shape}
 use Rattle.keep_exchange.specs.Exchanges.{Behind}
-use Rattle.keep_run.specs.Alike.{AreBrokersAlike}
+use Rattle.keep_run.specs.Alike.{AreBrokersAlike, IsKept}
 use Rattle.keep_run.specs.Closed.{AreAnswered, Beat, Exchanged, IsBeat, Played, World, asked_in, asks_some, closing, next_by, next_tick, requests_of, rounds, taken}
 use Rattle.keep_run.specs.Stops.{both}
 use Rattle.keep_run.specs.Text.{answer_text, beat_text, short_lines, wake_line}
 use Rattle.keep_run.proofs.AlikeAnswers.{answers_both}
+use Rattle.keep_run.proofs.AlikeKept.{kept_shaped}
 use Rattle.keep_run.proofs.Within.{asked_within}
 
-module _ (g : Forest) (cs ds : List (List ℕ)) (ts : List Terms) (one : IsInventory (record { forest = g; credentials = cs; terms = ts })) (two : IsInventory (record { forest = g; credentials = ds; terms = ts })) where
-  abbrev s : Inventory
-  s = record { forest = g; credentials = cs; terms = ts }
+-- told by the names of a forest that has kept what this one had
+module _ (g : Forest) (cs ds : List (List ℕ)) (ts : List Terms) (one : IsInventory (record { forest = g; credentials = cs; terms = ts })) (two : IsInventory (record { forest = g; credentials = ds; terms = ts })) (names : Forest) (us : List Terms) (told : IsKept g names) where
+  abbrev v : Inventory
+  v = record { forest = names; credentials = cs; terms = us }
 
-  abbrev u : Inventory
-  u = record { forest = g; credentials = ds; terms = ts }
+  abbrev w : Inventory
+  w = record { forest = names; credentials = ds; terms = us }
 
   -- what the ticks x and y leave
   pub record AreBeatsAlike (x y : Beat) (new last : World) : Type 0 where
@@ -37,8 +38,8 @@ module _ (g : Forest) (cs ds : List (List ℕ)) (ts : List Terms) (one : IsInven
     pub next : next_tick y ≡ next_tick x
     pub keeper : last.keeper ≡ new.keeper
     pub brokers : AreBrokersAlike g cs ds new.behind last.behind
-    pub text : beat_text u y ≡ beat_text s x
-    pub shaped : IsShaped g new.keeper.forest
+    pub text : beat_text w y ≡ beat_text v x
+    pub kept : IsKept g new.keeper.forest
 
   next_same : (o : Output) (xs ys : List Exchanged) → closing None ys ≡ closing None xs → next_by o ys ≡ next_by o xs
   next_same (out.Ask asked) xs ys same = same
@@ -48,30 +49,30 @@ module _ (g : Forest) (cs ds : List (List ℕ)) (ts : List Terms) (one : IsInven
   next_same (out.Round next) xs ys same = refl
   next_same out.Planned xs ys same = refl
 
-  pub beats_both : (port other : ℕ) (k : State) (b c : Option Behind) (x y : Beat) (new last : World) → IsShaped g k.forest → y.at ≡ x.at → AreBrokersAlike g cs ds b c → IsBeat port cs (both k b) x new → IsBeat other ds (both k c) y last →
+  pub beats_both : (port other : ℕ) (k : State) (b c : Option Behind) (x y : Beat) (new last : World) → IsKept g k.forest → y.at ≡ x.at → AreBrokersAlike g cs ds b c → IsBeat port cs (both k b) x new → IsBeat other ds (both k c) y last →
       AreBeatsAlike x y new last
   unfolding beat_text
   beats_both port other k b c x y new last like at alike a d =
       let turns = once k a.keeper d.keeper (Tick x.at) (Ok x.output) (Ok y.output) (λ bad. cc) (λ bad. cc) a.turn (subst (λ t. Turn k (Tick t) (Ok y.output) d.keeper) at d.turn) in
       let output : y.output ≡ x.output = (let same : ◌≡◌ {A = Result Output StepFault} (Ok x.output) (Ok y.output) = turns.0 in cc) in
       let short : y.short ≡ x.short = d.short ∙ ap (λ (z : State). z.shortened) (sym turns.1) ∙ sym a.short in
-      let shaped : IsShaped g a.keeper.forest = both_shaped g k.forest a.keeper.forest like (shape k a.keeper (Tick x.at) (Ok x.output) a.turn) in
+      let kept : IsKept g a.keeper.forest = kept_shaped g k.forest a.keeper.forest like (shape k a.keeper (Tick x.at) (Ok x.output) a.turn) in
       let within : All (λ i. i < length g.entries) (map (λ (z : Exchanged). z.entry) x.answers) =
-      subst (All (λ i. i < length g.entries)) (sym a.asked) (subst (λ n. All (λ i. i < n) (asked_in x.output)) shaped.count (asked_within k a.keeper x.at x.output a.turn)) in
+      subst (All (λ i. i < length g.entries)) (sym a.asked) (subst (λ n. All (λ i. i < n) (asked_in x.output)) kept.count (asked_within k a.keeper x.at x.output a.turn)) in
       let who : map (λ (z : Exchanged). z.entry) y.answers ≡ map (λ (z : Exchanged). z.entry) x.answers = d.asked ∙ ap asked_in output ∙ sym a.asked in
       let answered = subst (λ t. AreAnswered other ds t (both (taken a.keeper) c) y.answers last) at (subst (λ (z : State). AreAnswered other ds y.at (both (taken z) c) y.answers last) (sym turns.1) d.answered) in
-      let rest = answers_both g cs ds ts one two port other x.at (taken a.keeper) b c x.answers y.answers new last shaped within who alike a.answered answered in
+      let rest = answers_both g cs ds ts one two names us told port other x.at (taken a.keeper) b c x.answers y.answers new last kept within who alike a.answered answered in
       record {
         output = output;
         count = rest.count;
         next = ap (λ (o : Output). next_by o y.answers) output ∙ next_same x.output x.answers y.answers (rest.closes None);
         keeper = rest.keeper;
         brokers = rest.brokers;
-        text = ap (λ ps. short_lines g ps ++ (wake_line g y.at y.output ++ flat_map (answer_text u) y.answers)) short
-            ∙ ap (λ t. short_lines g x.short ++ (wake_line g t y.output ++ flat_map (answer_text u) y.answers)) at
-            ∙ ap (λ (o : Output). short_lines g x.short ++ (wake_line g x.at o ++ flat_map (answer_text u) y.answers)) output
-            ∙ ap (λ l. short_lines g x.short ++ (wake_line g x.at x.output ++ l)) rest.text;
-        shaped = rest.shaped;
+        text = ap (λ ps. short_lines names ps ++ (wake_line names y.at y.output ++ flat_map (answer_text w) y.answers)) short
+            ∙ ap (λ t. short_lines names x.short ++ (wake_line names t y.output ++ flat_map (answer_text w) y.answers)) at
+            ∙ ap (λ (o : Output). short_lines names x.short ++ (wake_line names x.at o ++ flat_map (answer_text w) y.answers)) output
+            ∙ ap (λ l. short_lines names x.short ++ (wake_line names x.at x.output ++ l)) rest.text;
+        kept = rest.kept;
       }
 
   -- ---- runs
@@ -80,11 +81,11 @@ module _ (g : Forest) (cs ds : List (List ℕ)) (ts : List Terms) (one : IsInven
   pub record AreRunsAlike (xs ys : List Beat) (new last : World) (next then' : Option ℕ) : Type 0 where
     pub wakes : length (rounds ys) ≡ length (rounds xs)
     pub asked : requests_of ys ≡ requests_of xs
-    pub text : flat_map (beat_text u) ys ≡ flat_map (beat_text s) xs
+    pub text : flat_map (beat_text w) ys ≡ flat_map (beat_text v) xs
     pub next_is : then' ≡ next
     pub keeper : last.keeper ≡ new.keeper
     pub brokers : AreBrokersAlike g cs ds new.behind last.behind
-    pub shaped : IsShaped g new.keeper.forest
+    pub kept : IsKept g new.keeper.forest
 
   -- the run by ys goes as that by xs, and on
   pub record GoesFurther (other : ℕ) (old : World) (due : Option ℕ) (xs ys : List Beat) (new last : World) (next then' : Option ℕ) : Type 0 where
@@ -108,9 +109,9 @@ module _ (g : Forest) (cs ds : List (List ℕ)) (ts : List Terms) (one : IsInven
     pub goes_on : Played port cs mid at more new next
     pub alike : AreRunsAlike front ys mid last at then'
 
-  none_yet : (k : State) (b c : Option Behind) (due : Option ℕ) → IsShaped g k.forest → AreBrokersAlike g cs ds b c → AreRunsAlike [] [] (both k b) (both k c) due due
+  none_yet : (k : State) (b c : Option Behind) (due : Option ℕ) → IsKept g k.forest → AreBrokersAlike g cs ds b c → AreRunsAlike [] [] (both k b) (both k c) due due
   unfolding rounds requests_of
-  none_yet k b c due like alike = record { wakes = refl; asked = refl; text = refl; next_is = refl; keeper = refl; brokers = alike; shaped = like }
+  none_yet k b c due like alike = record { wakes = refl; asked = refl; text = refl; next_is = refl; keeper = refl; brokers = alike; kept = like }
 
   count_more : (o p : Output) (x y : Beat) (xs ys : List Beat) → p ≡ o → length ys ≡ length xs → length (cond (asks_some p) (y ∷ ys) ys) ≡ length (cond (asks_some o) (x ∷ xs) xs)
   count_more (out.Ask asked) p x y xs ys same rest = ap (λ (q : Output). length (cond (asks_some q) (y ∷ ys) ys)) same ∙ ap (λ n. suc n) rest
@@ -132,18 +133,18 @@ module _ (g : Forest) (cs ds : List (List ℕ)) (ts : List Terms) (one : IsInven
       record {
         wakes = count_more x.output y.output x y (rounds xs) (rounds ys) first.output rest.wakes;
         asked = requests_first y ys ∙ ap (λ n. n + requests_of ys) first.count ∙ ap (λ n. length x.answers + n) rest.asked ∙ sym (requests_first x xs);
-        text = ap (λ l. l ++ flat_map (beat_text u) ys) first.text ∙ ap (λ l. beat_text s x ++ l) rest.text;
+        text = ap (λ l. l ++ flat_map (beat_text w) ys) first.text ∙ ap (λ l. beat_text v x ++ l) rest.text;
         next_is = rest.next_is;
         keeper = rest.keeper;
         brokers = rest.brokers;
-        shaped = rest.shaped;
+        kept = rest.kept;
       }
 
   abbrev pub Compared : ℕ → ℕ → World → World → Option ℕ → List Beat → List Beat → World → World → Option ℕ → Option ℕ → Type 0
   Compared port other old begun due xs ys new last next then' = GoesFurther other begun due xs ys new last next then' ⊎ GoneFurther port old due xs ys new last next then'
 
   -- one of two such runs goes as the other, and on
-  pub compare : (port other : ℕ) (k : State) (b c : Option Behind) (due : Option ℕ) (xs ys : List Beat) (new last : World) (next then' : Option ℕ) → IsShaped g k.forest → AreBrokersAlike g cs ds b c →
+  pub compare : (port other : ℕ) (k : State) (b c : Option Behind) (due : Option ℕ) (xs ys : List Beat) (new last : World) (next then' : Option ℕ) → IsKept g k.forest → AreBrokersAlike g cs ds b c →
       Played port cs (both k b) due xs new next → Played other ds (both k c) due ys last then' → Compared port other (both k b) (both k c) due xs ys new last next then'
   compare port other k b c due [] ys new last next then' like alike a d =
       inl (record {
@@ -154,7 +155,7 @@ module _ (g : Forest) (cs ds : List (List ℕ)) (ts : List Terms) (one : IsInven
         parts = refl;
         played = (refl, refl);
         goes_on = d;
-        alike = subst (λ (w : World). AreRunsAlike [] [] w (both k c) next due) (sym a.0) (subst (λ o. AreRunsAlike [] [] (both k b) (both k c) o due) (sym a.1) (none_yet k b c due like alike));
+        alike = subst (λ (z : World). AreRunsAlike [] [] z (both k c) next due) (sym a.0) (subst (λ o. AreRunsAlike [] [] (both k b) (both k c) o due) (sym a.1) (none_yet k b c due like alike));
       })
   compare port other k b c due (x ∷ xs) [] new last next then' like alike a d =
       inr (record {
@@ -165,7 +166,7 @@ module _ (g : Forest) (cs ds : List (List ℕ)) (ts : List Terms) (one : IsInven
         parts = refl;
         played = (refl, refl);
         goes_on = a;
-        alike = subst (λ (w : World). AreRunsAlike [] [] (both k b) w due then') (sym d.0) (subst (λ o. AreRunsAlike [] [] (both k b) (both k c) due o) (sym d.1) (none_yet k b c due like alike));
+        alike = subst (λ (z : World). AreRunsAlike [] [] (both k b) z due then') (sym d.0) (subst (λ o. AreRunsAlike [] [] (both k b) (both k c) due o) (sym d.1) (none_yet k b c due like alike));
       })
   compare port other k b c None (x ∷ xs) (y ∷ ys) new last next then' like alike a d = absurd a
   compare port other k b c (Some t) (x ∷ xs) (y ∷ ys) new last next then' like alike a d =
@@ -173,7 +174,7 @@ module _ (g : Forest) (cs ds : List (List ℕ)) (ts : List Terms) (one : IsInven
       let mid' = d.1.0 in
       let first = beats_both port other k b c x y mid mid' like (d.0 ∙ sym a.0) alike a.1.1.0 d.1.1.0 in
       let rest = subst (λ (z : State). Played other ds (both z mid'.behind) (next_tick x) ys last then') first.keeper (subst (λ o. Played other ds mid' o ys last then') first.next d.1.1.1) in
-      elim (compare port other mid.keeper mid.behind mid'.behind (next_tick x) xs ys new last next then' first.shaped first.brokers a.1.1.1 rest) [
+      elim (compare port other mid.keeper mid.behind mid'.behind (next_tick x) xs ys new last next then' first.kept first.brokers a.1.1.1 rest) [
         | inl g' ↦ inl (record {
           front = y ∷ g'.front;
           more = g'.more;

@@ -33,6 +33,7 @@ pub mod LiveListening
 pub mod AlikeRows
 pub mod AlikeSteps
 pub mod AlikeLooks
+pub mod AlikeKept
 pub mod Dated
 pub mod AlikeLookups
 pub mod AlikeAnswers

@@ -1,14 +1,23 @@
 -- Alike: tables of two brokers that differ in credentials alone, where one has the credential of an entry the other has its own
--- for the same entry.
+-- for the same entry; and what a forest keeps, whatever a broker tells of it.
 -- Source: this project's own.
 use Rattle.std.specs.Prelude.{◌≡◌, ◌↔◌, ℕ, ◌<◌, ◌≤◌, All, List, Option, Some, length}
 use Rattle.std.specs.List.{AllZip}
 use Rattle.keep_exchange.specs.Exchanges.{Behind}
+use Rattle.keep_tree.specs.declared.entry.Kind.TheVariants.{Lease}
 use Rattle.keep_tree.specs.Forest.{Forest, entry_at}
 use Rattle.keep_inventory.specs.Inventories.{credential_at}
 use Rattle.keep_moment.specs.declared.moment.TheConstants.{LAST}
 use Rattle.mini_broker.specs.declared.row.Row.{Row}
 use Rattle.mini_broker.specs.Table.{Table}
+
+-- what a forest keeps of the one that was supplied, whatever lookups and renewals tell: as many entries, each of its kind, and
+-- of a lease its token and its step
+pub record IsKept (g h : Forest) : Type 0 where
+  pub count : length h.entries ≡ length g.entries
+  pub kinds : (i : ℕ) → (entry_at h.entries i).kind ≡ (entry_at g.entries i).kind
+  pub owners : (i : ℕ) → (entry_at g.entries i).kind ≡ Lease → (entry_at h.entries i).parent ≡ (entry_at g.entries i).parent
+  pub steps : (i : ℕ) → (entry_at g.entries i).kind ≡ Lease → (entry_at h.entries i).step ≡ (entry_at g.entries i).step
 
 -- two rows that differ in their credentials alone; the one has the credential of an entry of its kind by these credentials
 -- exactly where the other has it by those

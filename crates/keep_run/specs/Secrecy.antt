@@ -1,13 +1,12 @@
 -- Secrecy: a live run is opened by the same lines, and answers the same event lines by the same lines, whatever the secrets are. The
 -- contract of a public function without a body.
 use Rattle.std.specs.Prelude.{◌≡◌, ℕ, ◌<◌, All, Bool, List, Option, Some, length}
-use Rattle.keep_tree.specs.Forest.{Forest, entry_at}
+use Rattle.keep_tree.specs.Forest.{Forest}
 use Rattle.keep_inventory.specs.Inventories.{Inventory, IsInventory}
 use Rattle.keep_inventory.specs.declared.terms.Terms.{Terms}
-use Rattle.keep_core.specs.LawsOfSteps.{IsShaped}
 use Rattle.keep_exchange.specs.Exchanges.{Behind}
 use Rattle.keep_exchange.specs.Lookups.{IsLookedUp}
-use Rattle.keep_run.specs.Alike.{AreBrokersAlike, AreDated, AreTablesAlike}
+use Rattle.keep_run.specs.Alike.{AreBrokersAlike, AreDated, AreTablesAlike, IsKept}
 use Rattle.keep_run.specs.Closed.{World}
 use Rattle.keep_run.specs.Listening.{AreHeard}
 use Rattle.keep_run.specs.LiveRun.{IsLiveOpening, IsLiveRun}
@@ -18,28 +17,22 @@ pub record AreSidesAlike (g : Forest) (cs ds : List (List ℕ)) (old other : Wor
   pub keeper : other.keeper ≡ old.keeper
   pub brokers : AreBrokersAlike g cs ds old.behind other.behind
 
--- of two inventories with one forest, which differ in their credentials: a keeper of that forest, with ends, needs and
--- renewability as told, hears the same lines with the one and with the other, over two such brokers, at whatever ports. Then the
--- texts are the same, and so are the keepers, and the brokers differ in credentials alone
+-- of two inventories with one forest, which differ in their credentials: a keeper whose forest has kept what that one had hears
+-- the same lines with the one and with the other, over two such brokers, at whatever ports. Then the texts are the same, and so are
+-- the keepers, and the brokers differ in credentials alone
 abbrev pub AlikeAnswersLaw : Type 0
 AlikeAnswersLaw =
     (g : Forest) (cs ds : List (List ℕ)) (ts : List Terms) → IsInventory (record { forest = g; credentials = cs; terms = ts }) → IsInventory (record { forest = g; credentials = ds; terms = ts }) →
-    (port other_port : ℕ) (old other new last : World) (lines : List (List ℕ)) (text more : List ℕ) → IsShaped g old.keeper.forest → AreSidesAlike g cs ds old other →
+    (port other_port : ℕ) (old other new last : World) (lines : List (List ℕ)) (text more : List ℕ) → IsKept g old.keeper.forest → AreSidesAlike g cs ds old other →
     AreHeard port cs old lines new text → AreHeard other_port ds other lines last more → (more ≡ text) × AreSidesAlike g cs ds new last
 
 -- ---- the lookups before
-
--- a forest behind lookups: as many entries, each of its kind, and under its parent
-pub record IsToldOf (g h : Forest) : Type 0 where
-  pub count : length h.entries ≡ length g.entries
-  pub kinds : (i : ℕ) → (entry_at h.entries i).kind ≡ (entry_at g.entries i).kind
-  pub parents : (i : ℕ) → (entry_at h.entries i).parent ≡ (entry_at g.entries i).parent
 
 -- two inventories that differ in their credentials alone, which are looked up over brokers that do
 pub record AreLookedAlike (g : Forest) (cs ds : List (List ℕ)) (old other : Looked) : Type 0 where
   pub credentials : old.inventory.credentials ≡ cs
   pub inventory : other.inventory ≡ record old.inventory { credentials = ds }
-  pub told : IsToldOf g old.inventory.forest
+  pub kept : IsKept g old.inventory.forest
   pub brokers : AreBrokersAlike g cs ds old.behind other.behind
   pub dated : AreDated brokers.behind.table
 
@@ -62,12 +55,11 @@ AlikeOpeningsLaw =
     IsLiveOpening other_port start (record { inventory = record { forest = g; credentials = ds; terms = ts }; behind = Some c }) last more →
     (more ≡ text) × AreSidesAlike g cs ds opening last
 
--- and where what the lookups leave is an inventory, as each is that a run holds, the same event lines are answered by the same lines:
--- one text for the whole run
+-- and the same event lines are answered by the same lines: one text for the whole run
 abbrev pub AlikeRunsLaw : Type 0
 AlikeRunsLaw =
     (g : Forest) (cs ds : List (List ℕ)) (ts : List Terms) → IsInventory (record { forest = g; credentials = cs; terms = ts }) → IsInventory (record { forest = g; credentials = ds; terms = ts }) →
     (port other_port start : ℕ) (b c : Behind) (lines : List (List ℕ)) (final last : World) (text more : List ℕ) → AreTablesAlike g cs ds b.table c.table → AreDated b.table →
-    (run : IsLiveRun port start (record { inventory = record { forest = g; credentials = cs; terms = ts }; behind = Some b }) lines final text) → IsInventory run.opened.looked.inventory →
+    IsLiveRun port start (record { inventory = record { forest = g; credentials = cs; terms = ts }; behind = Some b }) lines final text →
     IsLiveRun other_port start (record { inventory = record { forest = g; credentials = ds; terms = ts }; behind = Some c }) lines last more →
-    (more ≡ text) × AreSidesAlike run.opened.looked.inventory.forest cs ds final last
+    (more ≡ text) × AreSidesAlike g cs ds final last

@@ -16,7 +16,7 @@ use Rattle.keep_watch.specs.declared.event.Terms as told
 use Rattle.keep_watch.specs.History.{Turn}
 use Rattle.keep_watch.specs.State.{State}
 use Rattle.keep_watching.specs.Answers.{Answered, AreTaken, AreTakenByIndex, IsTaken, answered, by_index, is_of, noted_lines, reply_lines}
-use Rattle.keep_watching.specs.Alike.{IsKept}
+use Rattle.keep_run.specs.Alike.{IsKept}
 use Rattle.keep_watching.specs.Told.{event_of, reply_to, terms_to}
 use Rattle.keep_watching.proofs.Kept.{answer_step, turn_kept}
 use Rattle.keep_watching.proofs.Once.{turn_once}

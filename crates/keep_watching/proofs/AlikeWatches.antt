@@ -5,15 +5,12 @@ use Rattle.std.proofs.lemmas.List.Elements.{All-head, All-tail}
 use Rattle.std.specs.List.{AllZip}
 use Rattle.keep_exchange.specs.Abreast as abreast
 use Rattle.keep_exchange.specs.Abreast.{AreAnswered, IsAnswered}
-use Rattle.keep_exchange.specs.Requests.{asked_as, lookup_of, request_of, token_renewal}
-use Rattle.keep_inventory.specs.Inventories.{IsInventory, Inventory, credential_at}
+use Rattle.keep_exchange.specs.Requests.{lookup_of, request_of}
+use Rattle.keep_inventory.specs.Inventories.{IsInventory, Inventory}
 use Rattle.keep_inventory.specs.declared.terms.Terms.{Terms}
-use Rattle.keep_run.specs.Alike.{AreDated, AreTablesAlike}
-use Rattle.keep_run.proofs.AlikeLooks.{looks_both, token_renewals_both}
-use Rattle.keep_run.proofs.AlikeSteps.{OutcomesOf, by_kind, steps_both}
-use Rattle.keep_tree.specs.declared.entry.Entry.{Entry}
-use Rattle.keep_tree.specs.declared.entry.Kind.{Kind}
-use Rattle.keep_tree.specs.declared.entry.Kind.TheVariants.{Token, Lease}
+use Rattle.keep_run.specs.Alike.{AreDated, AreTablesAlike, IsKept}
+use Rattle.keep_run.proofs.AlikeKept.{kept_itself, renewals_both}
+use Rattle.keep_run.proofs.AlikeLooks.{looks_both}
 use Rattle.keep_tree.specs.Forest.{Forest, entry_at}
 use Rattle.keep_watch.specs.declared.command.Command.{Command}
 use Rattle.keep_watch.specs.declared.command.Command.TheVariants.{Ask, Wait, Taken}
@@ -30,7 +27,7 @@ use Rattle.keep_watching.specs.Answers.{answered, by_index}
 use Rattle.keep_watching.specs.Clocked.{IsAsked, IsClocked, IsCommanded, IsDone, IsWaited, Side, changed_line, clock_lines, next_there, said_after, short_lines, side}
 use Rattle.keep_watching.specs.Hears.{AreHeard, IsHeard, IsKnown, IsLineHeard, IsTurned}
 use Rattle.keep_watching.specs.Lines.{line_in}
-use Rattle.keep_watching.specs.Alike.{AlikeWatchesLaw, AreSidesAlike, FreshAlikeLaw, IsKept}
+use Rattle.keep_watching.specs.Alike.{AlikeWatchesLaw, AreSidesAlike, FreshAlikeLaw}
 use Rattle.keep_watching.specs.Slices.{AreOut, IsSlice, asked_lines, message, message_as, moment_of}
 use Rattle.keep_watching.specs.Texts.{after_clock_line, clock_line, planned_line, unknown_name_line, wait_line}
 use Rattle.keep_watching.specs.Told.{renewal_reply, reply_as, terms_as}
@@ -41,12 +38,10 @@ use Rattle.keep_watching.proofs.AlikeReplies.{LooksSame, RenewsSame, answer_of, 
 use Rattle.keep_watching.proofs.AlikeTaken.{AreToldAlike, kept_taken, told_both}
 use Rattle.keep_watching.proofs.Clocks.{commanded}
 use Rattle.keep_run.proofs.Dated.{step_dated}
-use Rattle.keep_watching.proofs.Kept.{TellsNoStep, kept_itself, turn_kept}
+use Rattle.keep_watching.proofs.Kept.{TellsNoStep, turn_kept}
 use Rattle.keep_watching.proofs.Once.{next_once, turn_once}
-use Rattle.mini_broker.specs.Granted.{call_for}
 use Rattle.mini_broker.specs.Step.{step}
 use Rattle.mini_broker.specs.Table.{Table}
-use Rattle.vault_http.specs.declared.request.Request as http
 use Rattle.vault_json.specs.Laws.{LookedLeaseIsRead}
 
 -- ---- requests that are asked
@@ -60,40 +55,6 @@ module _ (g : Forest) (cs ds : List (List ℕ)) (ts : List Terms) (one : IsInven
 
   abbrev u : Inventory
   u = record { forest = g; credentials = ds; terms = ts }
-
-  -- ---- one request
-
-  renewal_as : (k : Kind) (port : ℕ) (xs : List (List ℕ)) (i : ℕ) (e : Entry) → k ≡ Token → asked_as k port xs i e ≡ token_renewal port (credential_at xs i) e.step
-  renewal_as k port xs i e token = ap (λ z. asked_as z port xs i e) token
-
-  lease_as : (k : Kind) (port : ℕ) (xs : List (List ℕ)) (i : ℕ) (e f : Entry) → k ≡ Lease → f.parent ≡ e.parent → f.step ≡ e.step → asked_as k port xs i f ≡ asked_as k port xs i e
-  lease_as Token port xs i e f lease parent step' = absurd cc
-  lease_as Lease port xs i e f lease parent step' = ap₂ (λ p n. asked_as Lease port xs i (record e { parent = p; step = n })) parent step'
-
-  -- the renewal of a token by the step that the machine has, and that of a lease
-  token_message : (port : ℕ) (xs : List (List ℕ)) (h : Forest) (i : ℕ) → IsKept g h → (entry_at g.entries i).kind ≡ Token → request_of port xs h i ≡ token_renewal port (credential_at xs i) (entry_at h.entries i).step
-  unfolding request_of
-  token_message port xs h i kept token = renewal_as (entry_at h.entries i).kind port xs i (entry_at h.entries i) (kept.kinds i ∙ token)
-
-  lease_message : (port : ℕ) (xs : List (List ℕ)) (h : Forest) (i : ℕ) → IsKept g h → (entry_at g.entries i).kind ≡ Lease → request_of port xs h i ≡ request_of port xs g i
-  unfolding request_of
-  lease_message port xs h i kept lease =
-      lease_as (entry_at h.entries i).kind port xs i (entry_at g.entries i) (entry_at h.entries i) (kept.kinds i ∙ lease) (kept.owners i lease) (kept.steps i lease)
-      ∙ ap (λ k. asked_as k port xs i (entry_at g.entries i)) (kept.kinds i)
-
-  renewals_both : (port other t i : ℕ) (h : Forest) (l m : Table) → i < length g.entries → IsKept g h → AreTablesAlike g cs ds l m →
-      OutcomesOf g cs ds (call_for (entry_at g.entries i).kind) i (step l t (request_of port cs h i)) (step m t (request_of other ds h i))
-  renewals_both port other t i h l m within kept alike =
-      let kind = (entry_at g.entries i).kind in
-      let P : http.Request → http.Request → Type 0 = λ r q. OutcomesOf g cs ds (call_for kind) i (step l t r) (step m t q) in
-      by_kind kind (P (request_of port cs h i) (request_of other ds h i))
-      (λ token.
-      subst (λ r. P r (request_of other ds h i)) (sym (token_message port cs h i kept token))
-      (subst (P (token_renewal port (credential_at cs i) (entry_at h.entries i).step)) (sym (token_message other ds h i kept token))
-      (token_renewals_both g cs ds port other t i (entry_at h.entries i).step l m within token alike)))
-      (λ lease.
-      subst (λ r. P r (request_of other ds h i)) (sym (lease_message port cs h i kept lease))
-      (subst (P (request_of port cs g i)) (sym (lease_message other ds h i kept lease)) (steps_both g cs ds ts ts one two port other t i l m within alike)))
 
   -- ---- one answer
 
@@ -121,7 +82,7 @@ module _ (g : Forest) (cs ds : List (List ℕ)) (ts : List Terms) (one : IsInven
   answer_both Renew port other t i mid l m l' m' a b within kept alike dated x y =
       let r = request_of port cs mid.forest i in
       let q = request_of other ds mid.forest i in
-      let outcome = renewals_both port other t i mid.forest l m within kept alike in
+      let outcome = renewals_both g cs ds ts one two port other t i mid.forest l m within kept alike in
       let left = step_dated l dated t r in
       let same : RenewsSame g cs ds ts one two i (answer_of x.sent) (answer_of y.sent) = renews_same g cs ds ts one two i t within (step l t r).answer (step m t q).answer outcome.0 x.sent y.sent x.says y.says in (
         (ap (reply_as Renew u i) y.answer_is ∙ ap renewal_reply same ∙ sym (ap (reply_as Renew s i) x.answer_is), refl),

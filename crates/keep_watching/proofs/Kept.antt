@@ -1,8 +1,7 @@
 -- Kept: what the machine of a watch keeps of the forest that was supplied, whatever comes. For the law that secrets change no answer.
-use Rattle.std.proofs.Common.{◌≡◌, ◌∙◌, ℕ, ◌<◌, ◌&&◌, Bool, true, false, not, cond, is_some, Option, Some, None, Ok, ◌+◌, length, min, nat_le, nat_lt, set, refl, sym, ap, subst, arith, inl, inr}
-use Rattle.std.proofs.lemmas.Bool.{cases_Bool, cases_eq, cond-true}
+use Rattle.std.proofs.Common.{◌≡◌, ◌∙◌, ℕ, ◌<◌, ◌&&◌, Bool, true, false, not, cond, is_some, Option, Some, None, Ok, ◌+◌, length, min, nat_le, nat_lt, refl, sym, ap, subst, arith, inl, inr}
+use Rattle.std.proofs.lemmas.Bool.{cases_Bool, cond-true}
 use Rattle.std.proofs.lemmas.Bool.Decides.{nat_tests}
-use Rattle.std.proofs.lemmas.List.{length-set}
 use Rattle.keep_exchange.specs.Abreast.{Answer}
 use Rattle.keep_exchange.specs.Heard.{looked_up}
 use Rattle.keep_exchange.specs.declared.heard.Heard.{Heard}
@@ -14,12 +13,12 @@ use Rattle.keep_inventory.specs.Terms.{step_of}
 use Rattle.keep_inventory.specs.declared.lookup.LookupFault.{LookupFault}
 use Rattle.keep_inventory.specs.declared.lookup.LookupFault.TheVariants.{OtherKind, OtherTree, NoStep}
 use Rattle.keep_moment.specs.declared.moment.TheConstants.{LAST}
-use Rattle.keep_tree.specs.declared.entry.Entry.{Entry}
+use Rattle.keep_run.specs.Alike.{IsKept}
+use Rattle.keep_run.proofs.AlikeKept.{kept_with}
 use Rattle.keep_tree.specs.declared.entry.Kind.{Kind}
 use Rattle.keep_tree.specs.declared.entry.Kind.TheVariants.{Lease}
 use Rattle.keep_tree.specs.Forest.{Forest, entry_at}
 use Rattle.keep_tree.specs.Push.{is_lease}
-use Rattle.keep_tree.proofs.Entries.{entry_at_set_other, entry_at_set_same}
 use Rattle.keep_watch.specs.declared.command.Output.{Output}
 use Rattle.keep_watch.specs.declared.event.Event.{Event}
 use Rattle.keep_watch.specs.declared.event.Event.TheVariants.{Clock, Looked, Renewed, Need, Begin, Known}
@@ -43,43 +42,13 @@ use Rattle.keep_watch.proofs.Cases.{if_cases}
 use Rattle.keep_watch.proofs.Early.{new_of}
 use Rattle.keep_watch.proofs.Forested.{after_forest, readied_forest}
 use Rattle.keep_watch.proofs.Turning.{looked_to}
-use Rattle.keep_watching.specs.Alike.{IsKept}
 use Rattle.keep_watching.specs.Told.{event_as, event_of, is_of_another, lookup_terms, no_terms, step_in, terms_as, terms_to, terms_told}
 use Rattle.vault_json.specs.declared.lookup.Lookup.{Lookup}
 use Rattle.vault_json.specs.declared.lookup.Lookup.TheVariants as lookups
 
--- ---- one entry is written anew
-
-pub kept_itself : (g : Forest) → IsKept g g
-kept_itself g = record { count = refl; kinds = λ i. refl; owners = λ i lease. refl; steps = λ i lease. refl }
+-- ---- an event
 
 module _ (g : Forest) where
-  kept_with : (h : Forest) (i : ℕ) (e : Entry) → i < length h.entries → IsKept g h → e.kind ≡ (entry_at h.entries i).kind →
-      ((entry_at g.entries i).kind ≡ Lease → e.parent ≡ (entry_at h.entries i).parent) → ((entry_at g.entries i).kind ≡ Lease → e.step ≡ (entry_at h.entries i).step) → IsKept g (record h { entries = set h.entries i e })
-  kept_with h i e within kept kind parent step =
-      let here = entry_at_set_same h.entries i e within in
-      record {
-        count = length-set h.entries i e ∙ kept.count;
-        kinds = λ j. elim (cases_eq j i) as (λ _. (entry_at (set h.entries i e) j).kind ≡ (entry_at g.entries j).kind) [
-          | inl same ↦ ap (λ k. (entry_at (set h.entries i e) k).kind) same ∙ ap (λ (x : Entry). x.kind) here ∙ kind ∙ kept.kinds i ∙ ap (λ k. (entry_at g.entries k).kind) (sym same)
-          | inr other ↦ ap (λ (x : Entry). x.kind) (entry_at_set_other h.entries i j e other) ∙ kept.kinds j
-        ];
-        owners = λ j lease. elim (cases_eq j i) as (λ _. (entry_at (set h.entries i e) j).parent ≡ (entry_at g.entries j).parent) [
-          | inl same ↦
-              let lease_i = ap (λ k. (entry_at g.entries k).kind) (sym same) ∙ lease in
-              ap (λ k. (entry_at (set h.entries i e) k).parent) same ∙ ap (λ (x : Entry). x.parent) here ∙ parent lease_i ∙ kept.owners i lease_i ∙ ap (λ k. (entry_at g.entries k).parent) (sym same)
-          | inr other ↦ ap (λ (x : Entry). x.parent) (entry_at_set_other h.entries i j e other) ∙ kept.owners j lease
-        ];
-        steps = λ j lease. elim (cases_eq j i) as (λ _. (entry_at (set h.entries i e) j).step ≡ (entry_at g.entries j).step) [
-          | inl same ↦
-              let lease_i = ap (λ k. (entry_at g.entries k).kind) (sym same) ∙ lease in
-              ap (λ k. (entry_at (set h.entries i e) k).step) same ∙ ap (λ (x : Entry). x.step) here ∙ step lease_i ∙ kept.steps i lease_i ∙ ap (λ k. (entry_at g.entries k).step) (sym same)
-          | inr other ↦ ap (λ (x : Entry). x.step) (entry_at_set_other h.entries i j e other) ∙ kept.steps j lease
-        ];
-      }
-
-  -- ---- an event
-
   -- no lookup of a lease tells a step
   abbrev pub TellsNoStep : Event → Type 0
   TellsNoStep (Clock wall elapsed) = Unit {0}
@@ -97,7 +66,7 @@ module _ (g : Forest) where
   unfolding by_terms entry_of
   looked_kept s i (Told seconds renewable date) terms within none kept =
       let old = entry_at s.forest.entries i in
-      kept_with s.forest i (by_terms s.forest.margin terms old) within kept refl
+      kept_with g s.forest i (by_terms s.forest.margin terms old) within kept refl
       (λ lease. not_orphaned old.kind terms.orphan old.parent (kept.kinds i ∙ lease))
       (λ lease. ap (step_told s.forest.margin old.step) (none lease))
   looked_kept s i (Refused status date) terms within none kept = kept
@@ -128,7 +97,7 @@ module _ (g : Forest) where
       subst (λ (x : State). IsKept g x.forest) (sym step.1) (subst (IsKept g) (sym (after_forest (renewed old i reply) old.slice i reply)) (renewed_kept old i reply kept))
   stepped old new (Need i until) output free step none kept =
       let within : i < length old.forest.entries = within_of (length old.forest.entries) i (unless_closed old) free in
-      subst (λ (x : State). IsKept g x.forest) (sym step.1) (kept_with old.forest i (record (entry_at old.forest.entries i) { need = min LAST until }) within kept refl (λ lease. refl) (λ lease. refl))
+      subst (λ (x : State). IsKept g x.forest) (sym step.1) (kept_with g old.forest i (record (entry_at old.forest.entries i) { need = min LAST until }) within kept refl (λ lease. refl) (λ lease. refl))
   stepped old new Begin output free step none kept = subst (λ (x : State). IsKept g x.forest) (sym step.1) kept
   stepped old new (Known i end renewable) output free step none kept = subst (λ (x : State). IsKept g x.forest) (sym step.1) kept
 

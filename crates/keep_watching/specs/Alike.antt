@@ -1,24 +1,15 @@
 -- Alike: two watches over brokers in memory that differ in credentials alone answer the same lines by the same lines. The contract
 -- of a public function.
 -- Source: this project's own.
-use Rattle.std.specs.Prelude.{◌≡◌, ℕ, List, Some, length}
-use Rattle.keep_inventory.specs.Inventories.{Inventory, IsInventory}
+use Rattle.std.specs.Prelude.{◌≡◌, ℕ, List, Some}
+use Rattle.keep_inventory.specs.Inventories.{IsInventory}
 use Rattle.keep_inventory.specs.declared.terms.Terms.{Terms}
-use Rattle.keep_run.specs.Alike.{AreDated, AreTablesAlike}
-use Rattle.keep_tree.specs.declared.entry.Kind.TheVariants.{Lease}
-use Rattle.keep_tree.specs.Forest.{Forest, entry_at}
+use Rattle.keep_run.specs.Alike.{AreDated, AreTablesAlike, IsKept}
+use Rattle.keep_tree.specs.Forest.{Forest}
 use Rattle.keep_watching.specs.Clocked.{Side, side}
 use Rattle.keep_watching.specs.Hears.{AreHeard}
 use Rattle.keep_watching.specs.Watching.{fresh}
 use Rattle.mini_broker.specs.Table.{Table}
-
--- what the forest of a machine keeps of the one that was supplied, whatever lookups tell: as many entries, each of its kind, and
--- of a lease its token and its step
-pub record IsKept (g h : Forest) : Type 0 where
-  pub count : length h.entries ≡ length g.entries
-  pub kinds : (i : ℕ) → (entry_at h.entries i).kind ≡ (entry_at g.entries i).kind
-  pub owners : (i : ℕ) → (entry_at g.entries i).kind ≡ Lease → (entry_at h.entries i).parent ≡ (entry_at g.entries i).parent
-  pub steps : (i : ℕ) → (entry_at g.entries i).kind ≡ Lease → (entry_at h.entries i).step ≡ (entry_at g.entries i).step
 
 -- two watches that hold and said the same, of two inventories that differ in their credentials alone, over brokers that do
 pub record AreSidesAlike (g : Forest) (cs ds : List (List ℕ)) (ts : List Terms) (old other : Side) : Type 0 where
