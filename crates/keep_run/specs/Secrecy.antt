@@ -1,6 +1,6 @@
 -- Secrecy: a live run is opened by the same lines, and answers the same event lines by the same lines, whatever the secrets are. The
 -- contract of a public function without a body.
-use Rattle.std.specs.Prelude.{◌≡◌, ℕ, ◌<◌, All, Bool, List, Option, Some, length}
+use Rattle.std.specs.Prelude.{◌≡◌, ℕ, ◌<◌, ◌++◌, All, Bool, List, Option, Some, length}
 use Rattle.keep_tree.specs.Forest.{Forest}
 use Rattle.keep_inventory.specs.Inventories.{Inventory, IsInventory}
 use Rattle.keep_inventory.specs.declared.terms.Terms.{Terms}
@@ -17,9 +17,9 @@ pub record AreSidesAlike (g : Forest) (cs ds : List (List ℕ)) (old other : Wor
   pub keeper : other.keeper ≡ old.keeper
   pub brokers : AreBrokersAlike g cs ds old.behind other.behind
 
--- of two inventories with one forest, which differ in their credentials: a keeper whose forest has kept what that one had hears
--- the same lines with the one and with the other, over two such brokers, at whatever ports. Then the texts are the same, and so are
--- the keepers, and the brokers differ in credentials alone
+-- of two inventories with one forest, which differ in their credentials: a keeper of that forest, as lookups and renewals have left
+-- it, hears the same lines with the one and with the other, over two such brokers, at whatever ports. Then the texts are the same, and
+-- so are the keepers, and the brokers differ in credentials alone
 abbrev pub AlikeAnswersLaw : Type 0
 AlikeAnswersLaw =
     (g : Forest) (cs ds : List (List ℕ)) (ts : List Terms) → IsInventory (record { forest = g; credentials = cs; terms = ts }) → IsInventory (record { forest = g; credentials = ds; terms = ts }) →
@@ -56,10 +56,29 @@ AlikeOpeningsLaw =
     (more ≡ text) × AreSidesAlike g cs ds opening last
 
 -- and the same event lines are answered by the same lines: one text for the whole run
-abbrev pub AlikeRunsLaw : Type 0
-AlikeRunsLaw =
+abbrev pub AlikeWholeLaw : Type 0
+AlikeWholeLaw =
     (g : Forest) (cs ds : List (List ℕ)) (ts : List Terms) → IsInventory (record { forest = g; credentials = cs; terms = ts }) → IsInventory (record { forest = g; credentials = ds; terms = ts }) →
     (port other_port start : ℕ) (b c : Behind) (lines : List (List ℕ)) (final last : World) (text more : List ℕ) → AreTablesAlike g cs ds b.table c.table → AreDated b.table →
     IsLiveRun port start (record { inventory = record { forest = g; credentials = cs; terms = ts }; behind = Some b }) lines final text →
     IsLiveRun other_port start (record { inventory = record { forest = g; credentials = ds; terms = ts }; behind = Some c }) lines last more →
     (more ≡ text) × AreSidesAlike g cs ds final last
+
+-- this text is how that one begins
+abbrev pub Begins : List ℕ → List ℕ → Type 0
+Begins text longer = (rest : List ℕ) × (longer ≡ text ++ rest)
+
+-- where one of them has heard the lines of the other and later ones, as where the other was cut short, its text begins with the
+-- other's
+abbrev pub AlikeSoFarLaw : Type 0
+AlikeSoFarLaw =
+    (g : Forest) (cs ds : List (List ℕ)) (ts : List Terms) → IsInventory (record { forest = g; credentials = cs; terms = ts }) → IsInventory (record { forest = g; credentials = ds; terms = ts }) →
+    (port other_port start : ℕ) (b c : Behind) (lines later : List (List ℕ)) (final last : World) (text more : List ℕ) → AreTablesAlike g cs ds b.table c.table → AreDated b.table →
+    (IsLiveRun port start (record { inventory = record { forest = g; credentials = cs; terms = ts }; behind = Some b }) lines final text →
+    IsLiveRun other_port start (record { inventory = record { forest = g; credentials = ds; terms = ts }; behind = Some c }) (lines ++ later) last more → Begins text more)
+    × (IsLiveRun port start (record { inventory = record { forest = g; credentials = cs; terms = ts }; behind = Some b }) (lines ++ later) final text →
+    IsLiveRun other_port start (record { inventory = record { forest = g; credentials = ds; terms = ts }; behind = Some c }) lines last more → Begins more text)
+
+-- so two runs are told alike, as far as both go
+abbrev pub AlikeRunsLaw : Type 0
+AlikeRunsLaw = AlikeWholeLaw × AlikeSoFarLaw
