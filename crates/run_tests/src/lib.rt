@@ -37,6 +37,8 @@ mod obeyed;
 #[cfg(test)]
 mod outcomes;
 #[cfg(test)]
+mod places;
+#[cfg(test)]
 mod plans;
 #[cfg(test)]
 mod reaches;

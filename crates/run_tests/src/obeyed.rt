@@ -10,6 +10,7 @@ use keep_exchange::MemoryExchange;
 use keep_files::Inputs;
 use keep_inventory::read;
 use keep_moment::Text;
+use keep_watching::watch_file;
 use mini_broker::Table;
 use std::alloc::Global;
 use std::test::Fail;
@@ -246,6 +247,42 @@ fn a_live_run_reads_its_file_first(rt: HostRuntime) -> Result<(), Fail> {
     kept.is(&rt, Exit::Done, text, "");
     let (unread, reads) = keeps_alive(rt.alloc(), "other.toml")?;
     unread.is(&rt, Exit::Device, "", "leasekeep: read\n");
+    assert!(rt; reads == 0, "{reads}");
+    Ok(())
+}
+
+// A watch over the file, over a broker that lists the web example.
+fn watches(alloc: Global, file: &str) -> Result<(Outcome, u64), Fail> {
+    let table = Table::load(alloc, &read(alloc, WEB.as_bytes())?)?;
+    let mut exchange = MemoryExchange::new(alloc, table);
+    let text = Vec::from_slice(alloc, b"clock 1000000 1000000\n")?;
+    let mut lines = MemorySource::new(text, Vec::new(alloc), None);
+    let mut inputs = Folder;
+    let mut out = MemorySink::new(alloc, None);
+    let mut errors = MemorySink::new(alloc, None);
+    let exit = watch_file(
+        alloc,
+        file,
+        8,
+        &mut inputs,
+        &mut lines,
+        &mut exchange,
+        &mut out,
+        &mut errors,
+    );
+    Ok((Outcome { exit, out, errors }, lines.reads()))
+}
+
+#[test]
+fn a_watch_reads_its_file_first(rt: HostRuntime) -> Result<(), Fail> {
+    let text = "begin start\nlook web\nentry web 1060\nend web 1060000 yes\nclock\n";
+    let (watched, _) = watches(rt.alloc(), "web.toml")?;
+    watched.is(&rt, Exit::Done, text, "");
+    let (unread, reads) = watches(rt.alloc(), "other.toml")?;
+    unread.is(&rt, Exit::Device, "", "leasekeep: read\n");
+    assert!(rt; reads == 0, "{reads}");
+    let (no_inventory, reads) = watches(rt.alloc(), "web.plan")?;
+    no_inventory.is(&rt, Exit::Inventory, "", "leasekeep: inventory: not-toml\n");
     assert!(rt; reads == 0, "{reads}");
     Ok(())
 }
