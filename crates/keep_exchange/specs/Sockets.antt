@@ -1,6 +1,6 @@
 -- Exchanges over sockets, to contracts: where the broker listens, and how long a call may take.
 -- Source: this project's own.
-use Rattle.std.specs.Prelude.{◌≡◌, ℕ, ◌⊎◌, ◌∷◌, [], Bool, min, None, Result, Ok, Err, if◌then◌else◌}
+use Rattle.std.specs.Prelude.{◌≡◌, ℕ, ◌⊎◌, ◌∷◌, [], Bool, true, min, Option, Some, None, Result, Ok, Err, if◌then◌else◌}
 use Rattle.std.specs.Net.Addr.{ipv4_octets, MatchIp}
 use Rattle.std.specs.Net.Socket.{socket_ip, socket_port}
 use Rattle.std.specs.declared.net.socket_addr.SocketAddr.{SocketAddr}
@@ -38,10 +38,25 @@ quarter_of longest = min longest 250_000_000
 abbrev pub limit_of : ℕ → Bool → ℕ
 limit_of longest is_short = if is_short then quarter_of longest else longest
 
--- behind an exchange: the longest time again once there is a reply, and else what it was, or a quarter of a second
+-- behind an exchange without a reply: what it was, or a quarter of a second
+abbrev pub Slows : ℕ → ℕ → ℕ → Type 0
+Slows longest old new = (new ≡ old) ⊎ (new ≡ quarter_of longest)
+
+-- behind an exchange: the longest time again once there is a reply
 abbrev pub Paces : Result Reply ExchangeFault → ℕ → ℕ → ℕ → Type 0
 Paces (Ok reply) longest old new = new ≡ longest
-Paces (Err fault) longest old new = (new ≡ old) ⊎ (new ≡ quarter_of longest)
+Paces (Err fault) longest old new = Slows longest old new
+
+-- behind a renewal
+abbrev pub PacesAsked : {E : Type 0} → Result (Option Reply) E → ℕ → ℕ → ℕ → Type 0
+PacesAsked (Ok (Some reply)) longest old new = new ≡ longest
+PacesAsked (Ok None) longest old new = Slows longest old new
+PacesAsked (Err fault) longest old new = Slows longest old new
+
+-- behind a lookup, which may have a reply that is not applied
+abbrev pub PacesLooked : {E : Type 0} → Result Bool E → ℕ → ℕ → ℕ → Type 0
+PacesLooked (Ok true) longest old new = new ≡ longest
+PacesLooked result longest old new = (new ≡ longest) ⊎ Slows longest old new
 
 -- the port of 127.0.0.1
 abbrev pub IsHere : ℕ → SocketAddr → Type 0

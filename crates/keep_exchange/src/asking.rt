@@ -1,5 +1,6 @@
 ghost use Rattle.std.specs.Prelude.{◌≡◌, ◌≢◌, ◌<◌, IfSome, None, Ok, length};
 ghost use Rattle.keep_exchange.specs.Requests.{Asks, request_of};
+ghost use Rattle.keep_exchange.specs.Sockets.{PacesAsked};
 
 use crate::exchange::Exchange;
 use crate::fault::ExchangeFault;
@@ -15,6 +16,7 @@ use vault_http::Reply;
 ///
 /// Where the broker's table is known, the reply is that of the Broker step at `t`, and the table is as that step leaves it.
 /// Known or not, nothing but `None` comes of an exchange that has failed: no connection, no whole request, or a read that failed.
+/// Behind a reply the next call may take the longest time, and else as long as before, or a quarter of a second.
 pub fn ask<E: Exchange>(
     alloc: Global,
     exchange: &mut E,
@@ -28,6 +30,9 @@ pub fn ask<E: Exchange>(
     requires credentials { length credentials.now ≡ length forest.now.entries }
     ensures asked { IfSome (E.behind exchange.old) (λ old. Asks old t (request_of port credentials.now forest.now i) result (E.behind exchange.new)) }
     ensures unanswered { result ≢ Ok None → E.failed_calls exchange.new ≡ E.failed_calls exchange.old }
+    ensures longest { E.longest exchange.new ≡ E.longest exchange.old }
+    ensures limit { PacesAsked result (E.longest exchange.old) (E.limit exchange.old) (E.limit exchange.new) }
+    ensures port { E.host_port exchange.new ≡ E.host_port exchange.old }
 {
     let request = request_for(alloc, port, credentials, forest, i)?;
     match exchange.exchange(alloc, t, &request) {

@@ -1,6 +1,7 @@
 ghost use Rattle.std.specs.Prelude.{◌≡◌, ◌<◌, ◌≤◌, ◌≢◌, IfOk, IfSome, IsUtf8, Ok, false, true, length};
 ghost use Rattle.keep_exchange.specs.Lookups.{LooksUp, lookup_in, looked, behind_if};
 ghost use Rattle.keep_exchange.specs.Requests.{lease_looked, lookup_of, token_looked};
+ghost use Rattle.keep_exchange.specs.Sockets.{PacesLooked};
 ghost use Rattle.keep_inventory.specs.Inventories.{IsSendable};
 ghost use Rattle.vault_http.specs.declared.known.TheConstants.{MOST_MESSAGE};
 ghost use Rattle.vault_http.specs.RoundTripRequest.{IsWritable};
@@ -24,7 +25,8 @@ use vault_json::{Lookup, ReplyFault, lookup_body, read_lookup_lease, read_lookup
 ///
 /// Whatever the exchange, the inventory is what some reply makes of it. Where the broker's table is known, that reply is the one
 /// of the Broker step, and the table is as that step leaves it. Known or not, nothing but `false` comes of an exchange that has
-/// failed: no connection, no whole request, or a read that failed.
+/// failed: no connection, no whole request, or a read that failed. Behind a reply the next call may take the longest time, and
+/// else as long as before, or a quarter of a second.
 pub fn look_up<E: Exchange>(
     alloc: Global,
     exchange: &mut E,
@@ -38,6 +40,9 @@ pub fn look_up<E: Exchange>(
     ensures unapplied { result ≢ Ok true → inventory.new ≡ inventory.old }
     ensures unanswered { result ≢ Ok false → E.failed_calls exchange.new ≡ E.failed_calls exchange.old }
     ensures count { length inventory.new.forest.entries ≡ length inventory.old.forest.entries }
+    ensures longest { E.longest exchange.new ≡ E.longest exchange.old }
+    ensures limit { PacesLooked result (E.longest exchange.old) (E.limit exchange.old) (E.limit exchange.new) }
+    ensures port { E.host_port exchange.new ≡ E.host_port exchange.old }
 {
     let request = lookup_for(alloc, port, inventory, i)?;
     match exchange.exchange(alloc, t, &request) {

@@ -1,5 +1,7 @@
 ghost use Rattle.std.specs.Prelude.{◌≡◌, ◌⊎◌, None, IfOk, OnOk};
+ghost use Rattle.std.specs.Result.{IfErr};
 ghost use Rattle.keep_exchange.specs.Sockets.{IsServedOnce};
+ghost use Rattle.keep_exchange.specs.declared.fault.ExchangeFault.TheVariants as faults;
 ghost use Rattle.vault_http.specs.RoundTripRequest.{IsWritable};
 
 use crate::exchange::Exchange;
@@ -39,6 +41,7 @@ impl<'a, R: Net> SelfServed<'a, R> {
     pub fn bind(rt: &'a R, _alloc: Global, table: Table) -> Result<SelfServed<'a, R>, ExchangeFault>
         ensures table { IfOk result (λ e. e.table ≡ table) }
         ensures failures { IfOk result (λ e. e.failures ≡ 0) }
+        ensures fault { IfErr result (λ fault. fault ≡ faults.ConnectFailed) }
     {
         let Ok(listener) = TcpListener::bind(rt, here(0)) else {
             return Err(ExchangeFault::ConnectFailed);
