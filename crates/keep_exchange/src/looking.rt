@@ -1,7 +1,7 @@
 ghost use Rattle.std.specs.Prelude.{◌≡◌, ◌<◌, ◌≤◌, ◌≢◌, IfOk, IfSome, IsUtf8, Ok, false, true, length};
 ghost use Rattle.keep_exchange.specs.Lookups.{LooksUp, lookup_in, looked, behind_if};
 ghost use Rattle.keep_exchange.specs.Requests.{lease_looked, lookup_of, token_looked};
-ghost use Rattle.keep_exchange.specs.Sockets.{PacesLooked};
+ghost use Rattle.keep_exchange.specs.Sockets.{PacesLooked, Slows};
 ghost use Rattle.keep_inventory.specs.Inventories.{IsSendable};
 ghost use Rattle.vault_http.specs.declared.known.TheConstants.{MOST_MESSAGE};
 ghost use Rattle.vault_http.specs.RoundTripRequest.{IsWritable};
@@ -42,6 +42,7 @@ pub fn look_up<E: Exchange>(
     ensures count { length inventory.new.forest.entries ≡ length inventory.old.forest.entries }
     ensures longest { E.longest exchange.new ≡ E.longest exchange.old }
     ensures limit { PacesLooked result (E.longest exchange.old) (E.limit exchange.old) (E.limit exchange.new) }
+    ensures failed { E.failed_calls exchange.new ≢ E.failed_calls exchange.old → Slows (E.longest exchange.old) (E.limit exchange.old) (E.limit exchange.new) }
     ensures port { E.host_port exchange.new ≡ E.host_port exchange.old }
 {
     let request = lookup_for(alloc, port, inventory, i)?;
