@@ -1,3 +1,4 @@
+pub mod Agents
 pub mod Serving
 pub mod Mirroring
 pub mod Replying

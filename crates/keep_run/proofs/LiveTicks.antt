@@ -1,7 +1,6 @@
 -- LiveTicks: what an event line comes to over an exchange, from what the calls of its code say.
 use Rattle.std.proofs.Common.{◌≡◌, ℕ, inl, inr, false, cond, List, [], ◌∷◌, ◌++◌, Option, None, OnOk, Result, Ok, Err, refl, sym, ap, ◌∙◌, subst, flat_map, map}
 use Rattle.std.proofs.lemmas.List.{append-nil, append_assoc}
-use Rattle.keep_core.specs.declared.event.Event.{Event}
 use Rattle.keep_core.specs.declared.event.Event.TheVariants as events
 use Rattle.keep_core.specs.declared.event.Event.TheVariants.{Tick}
 use Rattle.keep_core.specs.declared.event.Output.{Output}
@@ -11,7 +10,6 @@ use Rattle.keep_core.specs.declared.fault.StepFault.TheVariants as steps
 use Rattle.keep_core.specs.History.{Turn}
 use Rattle.keep_core.specs.LawsOfSteps.{IsShaped}
 use Rattle.keep_core.specs.State.{State}
-use Rattle.keep_core.proofs.Shaped.{shape}
 use Rattle.keep_exchange.specs.Exchanges.{Behind}
 use Rattle.keep_inventory.specs.Inventories.{Inventory}
 use Rattle.keep_report.specs.declared.stop.Stop.{Stop}
@@ -28,17 +26,11 @@ use Rattle.keep_run.proofs.Texts.{same_answer_text, same_answer_texts, same_shor
 
 -- ---- what a keeper stays
 
-pub ready_as : (cs : List (List ℕ)) (old new : State) → IsShaped old.forest new.forest → IsReady cs old → new.shortened ≡ [] → new.round ≡ None → IsReady cs new
-ready_as cs old new like ready quiet closed = record { count = ready.count ∙ sym like.count; quiet = quiet; closed = closed }
+pub ready_on : (k new : State) → new ≡ taken k → new.round ≡ None → IsReady new
+ready_on k new is closed = record { quiet = ap (λ (s : State). s.shortened) is; closed = closed }
 
-pub ready_on :
-    (cs : List (List ℕ)) (old k new : State) (event : Event) (output : Output) → IsReady cs old → Turn old event (Ok output) k → new ≡ taken k → new.round ≡ None → IsReady cs new
-ready_on cs old k new event output ready turn quiet closed =
-    ready_as cs old new (subst (λ (s : State). IsShaped old.forest s.forest) (sym quiet) (shape old k event (Ok output) turn)) ready (ap (λ (s : State). s.shortened) quiet) closed
-
-pub ticks_ready :
-    (cs : List (List ℕ)) (t : ℕ) (old new : State) (output : Output) (before after : List ℕ) → Ticks t old output new before after → IsReady cs old → new.round ≡ None → IsReady cs new
-ticks_ready cs t old new output before after ticks ready closed = ready_on cs old ticks.keeper new (Tick t) output ready ticks.turn ticks.is closed
+pub ticks_ready : (t : ℕ) (old new : State) (output : Output) (before after : List ℕ) → Ticks t old output new before after → new.round ≡ None → IsReady new
+ticks_ready t old new output before after ticks closed = ready_on ticks.keeper new ticks.is closed
 
 -- a tick that neither asks nor sleeps has nothing to do
 pub only_idle : (t : ℕ) (old new : State) (output : Output) → Turn old (Tick t) (Ok output) new → ((asked : List ℕ) → output ≡ out.Ask asked → ⊥) → ((w : ℕ) → output ≡ out.Sleep w → ⊥) → output ≡ out.Idle

@@ -212,15 +212,16 @@ plays_on bytes words inventory faults start at g cs k now behind lines result ne
     rehearsed bytes words inventory faults start k lines result new left out old (record { read = read; faults_are = taken' }) (subst (λ h. Replan (unplanned h) start k) is_g r) lines_are p4 is
 
 -- the keeper is ready for its first tick
-pub ready_opened : (inventory : Inventory) (g : Forest) (cs : List (List ℕ)) (start : ℕ) (k now : State) → IsInventory inventory → g ≡ inventory.forest → cs ≡ inventory.credentials → Replan (unplanned g) start k → now ≡ taken k → IsReady cs now
-ready_opened inventory g cs start k now sound is_g is_cs r is_now =
-    let r' = subst (λ h. Replan (unplanned h) start k) is_g r in
-    let like = replanned inventory.forest (unplanned inventory.forest) start k (same inventory.forest) r' in
-    record {
-      count = ap length is_cs ∙ sound.credentials ∙ sym (ap (λ (s : State). length s.forest.entries) is_now ∙ like.count);
-      quiet = ap (λ (s : State). s.shortened) is_now;
-      closed = ap (λ (s : State). s.round) is_now ∙ ap (λ (s : State). s.round) r'.is;
-    }
+pub ready_opened : (g : Forest) (start : ℕ) (k now : State) → Replan (unplanned g) start k → now ≡ taken k → IsReady now
+ready_opened g start k now r is_now = record { quiet = ap (λ (s : State). s.shortened) is_now; closed = ap (λ (s : State). s.round) is_now ∙ ap (λ (s : State). s.round) r.is }
+
+-- and there is a credential for each of its entries
+pub fit_opened :
+    (inventory : Inventory) (g : Forest) (cs : List (List ℕ)) (start : ℕ) (k now : State) → IsInventory inventory → g ≡ inventory.forest → cs ≡ inventory.credentials → Replan (unplanned g) start k → now ≡ taken k →
+    length cs ≡ length now.forest.entries
+fit_opened inventory g cs start k now sound is_g is_cs r is_now =
+    let like = replanned inventory.forest (unplanned inventory.forest) start k (same inventory.forest) (subst (λ h. Replan (unplanned h) start k) is_g r) in
+    ap length is_cs ∙ sound.credentials ∙ sym (ap (λ (s : State). length s.forest.entries) is_now ∙ like.count)
 
 pub comes_first : (g : Forest) (start at : ℕ) (k now : State) → Replan (unplanned g) start k → now ≡ taken k → at ≡ start → start ≤ LAST → Comes now.last (Some at)
 comes_first g start at k now r is_now is_at late =

@@ -55,13 +55,13 @@ pub record Going (cs : List (List ℕ)) (old : World) (start : ℕ) (before : Li
   pub goes : Goes (inventory_with cs old.keeper.forest) old (Some start) now (Some due) wakes asked lines
   pub all : Appends first written (before ++ lines)
   pub count : failed_now ≡ failed
-  pub ready : IsReady cs now.keeper
+  pub ready : IsReady now.keeper
   pub comes : Comes now.keeper.last (Some due)
   pub like : IsShaped old.keeper.forest now.keeper.forest
   pub few : asked ≤ wakes * 4096
 
 pub going_first :
-    (cs : List (List ℕ)) (old : World) (start : ℕ) (before : List ℕ) (first : Option (List ℕ)) (failed : ℕ) (written : Option (List ℕ)) (failed_now : ℕ) → IsReady cs old.keeper → Comes old.keeper.last (Some start) →
+    (cs : List (List ℕ)) (old : World) (start : ℕ) (before : List ℕ) (first : Option (List ℕ)) (failed : ℕ) (written : Option (List ℕ)) (failed_now : ℕ) → IsReady old.keeper → Comes old.keeper.last (Some start) →
     Appends first written before → failed_now ≡ failed → Going cs old start before first failed old start 0 0 written failed_now
 going_first cs old start before first failed written failed_now ready comes all count = record {
   lines = [];
@@ -87,7 +87,7 @@ module _ (cs : List (List ℕ)) (old : World) (start : ℕ) (before : List ℕ) 
   -- a wake-up more, and its lines were written
   pub going_more :
       (new : World) (then' a : ℕ) (text : List ℕ) (after : Option (List ℕ)) (failed_after : ℕ) → Goes (inventory_with cs now.keeper.forest) now (Some due) new (Some then') 1 a text → IsShaped now.keeper.forest new.keeper.forest →
-      IsReady cs new.keeper → Comes new.keeper.last (Some then') → a ≤ 4096 → Appends written after text → failed_after ≡ failed_now → Going cs old start before first failed new then' (wakes + 1) (asked + a) after failed_after
+      IsReady new.keeper → Comes new.keeper.last (Some then') → a ≤ 4096 → Appends written after text → failed_after ≡ failed_now → Going cs old start before first failed new then' (wakes + 1) (asked + a) after failed_after
   unfolding on
   going_more new then' a text after failed_after more like ready comes few all count = record {
     lines = g.lines ++ text;

@@ -9,6 +9,7 @@ pub mod FaultWords
 pub mod Rehearse
 pub mod PlannedRehearsal
 pub mod EventLines
+pub mod Agent
 pub mod Live
 pub mod Looking
 pub mod Listening

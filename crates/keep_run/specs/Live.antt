@@ -1,6 +1,6 @@
 -- Live: what an event line comes to: what the keeper puts out, whom it asks, and the lines that say so.
 -- Source: this project's own.
-use Rattle.std.specs.Prelude.{◌≡◌, ℕ, ◌<◌, ◌⊎◌, IsTrue, true, List, [], ◌∷◌, ◌++◌, Option, Some, None, Result, Ok, Err, codes, decimal, if◌then◌else◌, length, map, take}
+use Rattle.std.specs.Prelude.{◌≡◌, ℕ, ◌<◌, ◌⊎◌, IsTrue, true, List, [], ◌∷◌, ◌++◌, Option, Some, None, Result, Ok, Err, codes, decimal, if◌then◌else◌, map, take}
 use Rattle.std.specs.Io.KnownBytes.{Appends}
 use Rattle.keep_core.specs.declared.event.Event.TheVariants as events
 use Rattle.keep_core.specs.declared.event.Output.{Output}
@@ -68,9 +68,8 @@ IsHeard port cs old (Tick t) new text = IsLate t old new text ⊎ TicksLive port
 IsHeard port cs old (Need i until) new text = IsNeeded i until old new text
 IsHeard port cs old Unknown new text = (new ≡ old) × (text ≡ codes "fault unknown-name\n")
 
--- the keeper is of these credentials, its shortened needs are taken, and no round is open
-pub record IsReady (cs : List (List ℕ)) (keeper : State) : Type 0 where
-  pub count : length cs ≡ length keeper.forest.entries
+-- between two events: the shortened needs are taken, and no round is open
+pub record IsReady (keeper : State) : Type 0 where
   pub quiet : keeper.shortened ≡ []
   pub closed : keeper.round ≡ None
 

@@ -2,21 +2,22 @@
 ghost use Rattle.std.specs.Prelude.{◌≡◌, ◌++◌, ◌<◌, List, Option, ℕ, IsTrue, OnOk, length};
 ghost use Rattle.std.specs.Result.{IfErr};
 ghost use Rattle.keep_exchange.specs.Exchanges.{Behind};
+ghost use Rattle.keep_run.specs.Agent.{Stays};
 ghost use Rattle.keep_run.specs.EventLines.{IsWithin};
 ghost use Rattle.keep_run.specs.Live.{HearsTo, IsNeeded, IsReady};
 ghost use Rattle.keep_run.specs.declared.event_line.Heard.TheVariants as heards;
 ghost use Rattle.keep_run.specs.Stops.{both};
 ghost use Rattle.keep_run.specs.Telling.{StopsNeed};
 
+use crate::agent::Agent;
 use crate::event_line::Heard;
 use crate::lines::{push_next, push_short_lines, push_sleep};
 use crate::opening::tick;
 use crate::refused::stop_of;
 use crate::telling::tell_round;
-use keep_core::{Event, Keeper, Output};
+use keep_core::{Event, Output};
 use keep_device::Sink;
 use keep_exchange::Exchange;
-use keep_inventory::Credentials;
 use keep_moment::Moment;
 use keep_report::{Stop, Watched, send};
 use std::alloc::Global;
@@ -32,26 +33,25 @@ use std::alloc::Global;
 /// step. The line has begun at the exchange: the first request may take as long as any.
 pub fn hear<E: Exchange, W: Sink>(
     alloc: Global,
-    keeper: &mut Keeper,
+    agent: &mut Agent,
     exchange: &mut E,
-    credentials: &Credentials,
-    port: u16,
     heard: Heard,
     out: &mut W,
 ) -> Result<(), Stop>
-    requires ready { IsReady credentials.now keeper.old }
-    requires within { IsWithin (length keeper.old.forest.entries) heard }
+    requires ready { IsReady agent.old.keeper }
+    requires within { IsWithin (length agent.old.keeper.forest.entries) heard }
     requires flushed { IsTrue (W.is_flushed out.old) }
     requires begun { E.limit exchange.old ≡ E.longest exchange.old }
-    ensures hears { HearsTo port credentials.now (both keeper.old (E.behind exchange.old)) heard result (both keeper.new (E.behind exchange.new)) (⟦<W as Watched>⟧.sent out.old out.new) }
+    ensures hears { HearsTo agent.old.port agent.old.credentials (both agent.old.keeper (E.behind exchange.old)) heard result (both agent.new.keeper (E.behind exchange.new)) (⟦<W as Watched>⟧.sent out.old out.new) }
     ensures count { OnOk result (W.failed_calls out.new ≡ W.failed_calls out.old) }
-    ensures ready { OnOk result (IsReady credentials.now keeper.new) }
+    ensures ready { OnOk result (IsReady agent.new.keeper) }
+    ensures stays { Stays agent.old agent.new }
 {
     match heard {
-        Heard::Tick(t) => hear_tick(alloc, keeper, exchange, credentials, port, t, out),
+        Heard::Tick(t) => hear_tick(alloc, agent, exchange, t, out),
         Heard::Need { i, until } => {
             let mut text = Vec::new(alloc);
-            hear_need(alloc, keeper, credentials, i, until, &mut text)?;
+            hear_need(alloc, agent, i, until, &mut text)?;
             send(out, &text)
         }
         Heard::Unknown => send(out, b"fault unknown-name\n"),
@@ -61,29 +61,28 @@ pub fn hear<E: Exchange, W: Sink>(
 /// A new need: its line, behind those of the needs that it shortens.
 fn hear_need(
     alloc: Global,
-    keeper: &mut Keeper,
-    credentials: &Credentials,
+    agent: &mut Agent,
     i: u32,
     until: Moment,
     text: &mut Vec<u8>,
 ) -> Result<(), Stop>
-    requires ready { IsReady credentials.now keeper.old }
-    requires within { i < length keeper.old.forest.entries }
-    ensures stops { IfErr result (λ stop. (behind : Option Behind) → StopsNeed (both keeper.old behind) (heards.Need i until) stop (both keeper.new behind)) }
-    ensures needed { OnOk result ((b : Option Behind) → (lines : List ℕ) × (IsNeeded i until (both keeper.old b) (both keeper.new b) lines × (text.new.items ≡ text.old.items ++ lines))) }
-    ensures ready { OnOk result (IsReady credentials.now keeper.new) }
+    requires ready { IsReady agent.old.keeper }
+    requires within { i < length agent.old.keeper.forest.entries }
+    ensures stops { IfErr result (λ stop. (behind : Option Behind) → StopsNeed (both agent.old.keeper behind) (heards.Need i until) stop (both agent.new.keeper behind)) }
+    ensures needed { OnOk result ((b : Option Behind) → (lines : List ℕ) × (IsNeeded i until (both agent.old.keeper b) (both agent.new.keeper b) lines × (text.new.items ≡ text.old.items ++ lines))) }
+    ensures ready { OnOk result (IsReady agent.new.keeper) }
+    ensures stays { Stays agent.old agent.new }
 {
-    let _credentials = credentials;
     let event = Event::Need {
         i,
         until: until.get(),
     };
-    match keeper.step(event) {
+    match agent.step(event) {
         Ok(_) => {}
         Err(fault) => return Err(stop_of(fault)),
     }
-    let short = keeper.take_shortened();
-    push_short_lines(alloc, keeper.forest(), short.list(), text)?;
+    let short = agent.take_shortened();
+    push_short_lines(alloc, agent.forest(), short.list(), text)?;
     text.extend_from_slice(b"planned\n")?;
     Ok(())
 }
@@ -91,28 +90,27 @@ fn hear_need(
 /// It is `t`: whom the keeper then asks, by index, is asked behind the lines that say so.
 fn hear_tick<E: Exchange, W: Sink>(
     alloc: Global,
-    keeper: &mut Keeper,
+    agent: &mut Agent,
     exchange: &mut E,
-    credentials: &Credentials,
-    port: u16,
     t: Moment,
     out: &mut W,
 ) -> Result<(), Stop>
-    requires ready { IsReady credentials.now keeper.old }
+    requires ready { IsReady agent.old.keeper }
     requires flushed { IsTrue (W.is_flushed out.old) }
-    ensures hears { HearsTo port credentials.now (both keeper.old (E.behind exchange.old)) (heards.Tick t) result (both keeper.new (E.behind exchange.new)) (⟦<W as Watched>⟧.sent out.old out.new) }
+    ensures hears { HearsTo agent.old.port agent.old.credentials (both agent.old.keeper (E.behind exchange.old)) (heards.Tick t) result (both agent.new.keeper (E.behind exchange.new)) (⟦<W as Watched>⟧.sent out.old out.new) }
     ensures count { OnOk result (W.failed_calls out.new ≡ W.failed_calls out.old) }
-    ensures ready { OnOk result (IsReady credentials.now keeper.new) }
+    ensures ready { OnOk result (IsReady agent.new.keeper) }
+    ensures stays { Stays agent.old agent.new }
 {
-    if t.get() < keeper.now().get() {
+    if t.get() < agent.keeper().now().get() {
         return send(out, b"fault clock-back\n");
     }
     let mut text = Vec::new(alloc);
-    match tick(alloc, keeper, t.get(), &mut text)? {
+    match tick(alloc, agent, t.get(), &mut text)? {
         Output::Ask(asked) => {
             send(out, &text)?;
             let asked = asked.list();
-            let next = tell_round(alloc, keeper, exchange, credentials, port, t, asked, out)?;
+            let next = tell_round(alloc, agent, exchange, t, asked, out)?;
             let mut last = Vec::new(alloc);
             push_next(alloc, next, &mut last)?;
             send(out, &last)

@@ -3,11 +3,13 @@
 //!
 //! The contracts for the program above are those of [`run_rehearse`], over a table in memory, and [`run_live`], over any
 //! exchange; both are made of one definition of an answer. The laws say what a rehearsal is where the broker has no faults.
+//! Who asks is an [`Agent`]: the keeper with the credentials of its entries, and the port that its requests name.
 //! Begin with `specs/Closed.antt` and `specs/Text.antt`, then `rehearsal`, `playing` and `waking`. Of the live run
 //! `specs/LiveRun.antt` says the whole, over its lookups (`specs/Looking.antt`), its event lines one after another
 //! (`specs/Listening.antt`) and what one of them comes to (`specs/Live.antt`, [`hear`]).
 #![tactic(auto)]
 
+mod agent;
 mod event_line;
 mod fault_words;
 mod feeding;
@@ -26,6 +28,7 @@ mod served_entry;
 mod telling;
 mod waking;
 
+pub use agent::Agent;
 pub use event_line::{Heard, MOST_LINE, heard_in};
 pub use feeding::Feeding;
 pub use hearing::hear;

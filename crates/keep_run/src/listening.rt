@@ -3,19 +3,19 @@ ghost use Rattle.std.specs.Prelude.{◌≡◌, ◌+◌, ◌∷◌, [], ◌<◌, 
 ghost use Rattle.std.specs.Result.{IfErr};
 ghost use Rattle.std.specs.Io.KnownBytes.{Keeps};
 ghost use Rattle.keep_report.specs.declared.stop.Stop.TheVariants as stops;
+ghost use Rattle.keep_run.specs.Agent.{Stays};
 ghost use Rattle.keep_run.specs.declared.event_line.TheConstants.{MOST_LINE};
 ghost use Rattle.keep_run.specs.LineByLine.{HaltsWithin, HearsLine, HearsUpTo};
 ghost use Rattle.keep_run.specs.Listening.{Listens};
 ghost use Rattle.keep_run.specs.Live.{IsReady};
 ghost use Rattle.keep_run.specs.Stops.{both};
 
+use crate::agent::Agent;
 use crate::event_line::{MOST_LINE, heard_in};
 use crate::feeding::Feeding;
 use crate::hearing::hear;
-use keep_core::Keeper;
 use keep_device::{Sink, Source, zeros};
 use keep_exchange::Exchange;
-use keep_inventory::Credentials;
 use keep_report::{Stop, Watched};
 use keep_words::cut;
 use std::alloc::Global;
@@ -38,52 +38,36 @@ pub const EVENT_ROOM: usize = 4096;
 /// with the new need of a line would be too long. `Write`: `out` failed. `Memory`.
 pub(crate) fn listen<R: Source, E: Exchange, W: Sink>(
     alloc: Global,
-    keeper: &mut Keeper,
-    credentials: &Credentials,
-    port: u16,
+    agent: &mut Agent,
     events: &mut R,
     exchange: &mut E,
     out: &mut W,
 ) -> Result<(), Stop>
-    requires ready { IsReady credentials.now keeper.old }
+    requires ready { IsReady agent.old.keeper }
     requires flushed { IsTrue (W.is_flushed out.old) }
-    ensures listens { Listens port credentials.now (both keeper.old (E.behind exchange.old)) result (both keeper.new (E.behind exchange.new)) (⟦<R as Feeding>⟧.fed events.old events.new) (⟦<W as Watched>⟧.sent out.old out.new) }
+    ensures listens { Listens agent.old.port agent.old.credentials (both agent.old.keeper (E.behind exchange.old)) result (both agent.new.keeper (E.behind exchange.new)) (⟦<R as Feeding>⟧.fed events.old events.new) (⟦<W as Watched>⟧.sent out.old out.new) }
     ensures written { Keeps (R.written events.old) (R.written events.new) }
 {
     let mut room = zeros(alloc, EVENT_ROOM)?;
-    let mut pending = Vec::new(alloc);
-    listen_to(
-        alloc,
-        keeper,
-        credentials,
-        port,
-        events,
-        exchange,
-        &mut room,
-        &mut pending,
-        out,
-    )
+    listen_to(alloc, agent, events, exchange, &mut room, out)
 }
 
-/// Hears event lines behind `pending`, which is empty, until they end.
+/// Hears event lines until they end, by reads into `room`.
 fn listen_to<R: Source, E: Exchange, W: Sink>(
     alloc: Global,
-    keeper: &mut Keeper,
-    credentials: &Credentials,
-    port: u16,
+    agent: &mut Agent,
     events: &mut R,
     exchange: &mut E,
     room: &mut [u8],
-    pending: &mut Vec<u8>,
     out: &mut W,
 ) -> Result<(), Stop>
-    requires ready { IsReady credentials.now keeper.old }
+    requires ready { IsReady agent.old.keeper }
     requires flushed { IsTrue (W.is_flushed out.old) }
     requires room { length room.old ≡ EVENT_ROOM }
-    requires none { pending.old.items ≡ [] }
-    ensures listens { Listens port credentials.now (both keeper.old (E.behind exchange.old)) result (both keeper.new (E.behind exchange.new)) (⟦<R as Feeding>⟧.fed events.old events.new) (⟦<W as Watched>⟧.sent out.old out.new) }
+    ensures listens { Listens agent.old.port agent.old.credentials (both agent.old.keeper (E.behind exchange.old)) result (both agent.new.keeper (E.behind exchange.new)) (⟦<R as Feeding>⟧.fed events.old events.new) (⟦<W as Watched>⟧.sent out.old out.new) }
     ensures written { Keeps (R.written events.old) (R.written events.new) }
 {
+    let mut pending = Vec::new(alloc);
     let mut left = MOST_EVENTS;
     let mut lines: u64 = 0;
     for _ in 0..MOST_EVENT_READS {
@@ -91,21 +75,12 @@ fn listen_to<R: Source, E: Exchange, W: Sink>(
             return Err(Stop::Read);
         };
         if n == 0 {
-            return at_end(pending, lines);
+            return at_end(&pending, lines);
         }
         let taken = n.min(left);
         pending.extend_from_slice(&room[..taken])?;
         left -= taken;
-        hear_pending(
-            alloc,
-            keeper,
-            credentials,
-            port,
-            exchange,
-            pending,
-            &mut lines,
-            out,
-        )?;
+        hear_pending(alloc, agent, exchange, &mut pending, &mut lines, out)?;
         if taken < n {
             return Err(Stop::Read);
         }
@@ -130,33 +105,23 @@ fn at_end(pending: &[u8], lines: u64) -> Result<(), Stop>
 /// has no line feed is none.
 fn hear_pending<E: Exchange, W: Sink>(
     alloc: Global,
-    keeper: &mut Keeper,
-    credentials: &Credentials,
-    port: u16,
+    agent: &mut Agent,
     exchange: &mut E,
     pending: &mut Vec<u8>,
     lines: &mut u64,
     out: &mut W,
 ) -> Result<(), Stop>
-    requires ready { IsReady credentials.now keeper.old }
+    requires ready { IsReady agent.old.keeper }
     requires flushed { IsTrue (W.is_flushed out.old) }
     requires few { lines.old + length pending.old.items ≤ MOST_EVENTS }
-    ensures heard { OnOk result (HearsUpTo port credentials.now lines.old (both keeper.old (E.behind exchange.old)) pending.old.items (pending.new.items ∷ []) (both keeper.new (E.behind exchange.new)) lines.new (⟦<W as Watched>⟧.sent out.old out.new)) }
+    ensures heard { OnOk result (HearsUpTo agent.old.port agent.old.credentials lines.old (both agent.old.keeper (E.behind exchange.old)) pending.old.items (pending.new.items ∷ []) (both agent.new.keeper (E.behind exchange.new)) lines.new (⟦<W as Watched>⟧.sent out.old out.new)) }
     ensures short { OnOk result (length pending.new.items < MOST_LINE) }
     ensures fewer { OnOk result (lines.new + length pending.new.items ≤ lines.old + length pending.old.items) }
-    ensures ready { OnOk result (IsReady credentials.now keeper.new) }
-    ensures halts { IfErr result (λ stop. HaltsWithin port credentials.now lines.old (both keeper.old (E.behind exchange.old)) pending.old.items stop (both keeper.new (E.behind exchange.new)) (⟦<W as Watched>⟧.sent out.old out.new)) }
+    ensures ready { OnOk result (IsReady agent.new.keeper) }
+    ensures halts { IfErr result (λ stop. HaltsWithin agent.old.port agent.old.credentials lines.old (both agent.old.keeper (E.behind exchange.old)) pending.old.items stop (both agent.new.keeper (E.behind exchange.new)) (⟦<W as Watched>⟧.sent out.old out.new)) }
+    ensures stays { Stays agent.old agent.new }
 {
-    let heard = hear_whole(
-        alloc,
-        keeper,
-        credentials,
-        port,
-        exchange,
-        pending,
-        lines,
-        out,
-    )?;
+    let heard = hear_whole(alloc, agent, exchange, pending, lines, out)?;
     pending.drain(..heard);
     if pending.len() >= MOST_LINE {
         return Err(Stop::Line(*lines + 1));
@@ -168,36 +133,26 @@ fn hear_pending<E: Exchange, W: Sink>(
 #[tactic(auto, using(crate::proofs::LineByLine::behind_line))]
 fn hear_whole<E: Exchange, W: Sink>(
     alloc: Global,
-    keeper: &mut Keeper,
-    credentials: &Credentials,
-    port: u16,
+    agent: &mut Agent,
     exchange: &mut E,
     bytes: &[u8],
     lines: &mut u64,
     out: &mut W,
 ) -> Result<usize, Stop>
-    requires ready { IsReady credentials.now keeper.old }
+    requires ready { IsReady agent.old.keeper }
     requires flushed { IsTrue (W.is_flushed out.old) }
     requires few { lines.old + length bytes.now ≤ MOST_EVENTS }
-    ensures heard { IfOk result (λ n. HearsUpTo port credentials.now lines.old (both keeper.old (E.behind exchange.old)) bytes.now (drop n bytes.now ∷ []) (both keeper.new (E.behind exchange.new)) lines.new (⟦<W as Watched>⟧.sent out.old out.new)) }
+    ensures heard { IfOk result (λ n. HearsUpTo agent.old.port agent.old.credentials lines.old (both agent.old.keeper (E.behind exchange.old)) bytes.now (drop n bytes.now ∷ []) (both agent.new.keeper (E.behind exchange.new)) lines.new (⟦<W as Watched>⟧.sent out.old out.new)) }
     ensures within { IfOk result (λ n. n ≤ length bytes.now) }
     ensures fewer { IfOk result (λ n. lines.new ≤ lines.old + n) }
-    ensures ready { IfOk result (λ _. IsReady credentials.now keeper.new) }
-    ensures halts { IfErr result (λ stop. HaltsWithin port credentials.now lines.old (both keeper.old (E.behind exchange.old)) bytes.now stop (both keeper.new (E.behind exchange.new)) (⟦<W as Watched>⟧.sent out.old out.new)) }
+    ensures ready { IfOk result (λ _. IsReady agent.new.keeper) }
+    ensures halts { IfErr result (λ stop. HaltsWithin agent.old.port agent.old.credentials lines.old (both agent.old.keeper (E.behind exchange.old)) bytes.now stop (both agent.new.keeper (E.behind exchange.new)) (⟦<W as Watched>⟧.sent out.old out.new)) }
+    ensures stays { Stays agent.old agent.new }
 {
     let mut rest = bytes;
     while let Some((line, behind)) = cut(rest, b'\n') {
         *lines += 1;
-        hear_line(
-            alloc,
-            keeper,
-            credentials,
-            port,
-            exchange,
-            line,
-            *lines,
-            out,
-        )?;
+        hear_line(alloc, agent, exchange, line, *lines, out)?;
         rest = behind;
     }
     Ok(bytes.len() - rest.len())
@@ -207,22 +162,21 @@ fn hear_whole<E: Exchange, W: Sink>(
 /// as long as those of the first.
 fn hear_line<E: Exchange, W: Sink>(
     alloc: Global,
-    keeper: &mut Keeper,
-    credentials: &Credentials,
-    port: u16,
+    agent: &mut Agent,
     exchange: &mut E,
     line: &[u8],
     number: u64,
     out: &mut W,
 ) -> Result<(), Stop>
-    requires ready { IsReady credentials.now keeper.old }
+    requires ready { IsReady agent.old.keeper }
     requires flushed { IsTrue (W.is_flushed out.old) }
-    ensures hears { HearsLine port credentials.now number (both keeper.old (E.behind exchange.old)) line.now result (both keeper.new (E.behind exchange.new)) (⟦<W as Watched>⟧.sent out.old out.new) }
-    ensures ready { OnOk result (IsReady credentials.now keeper.new) }
+    ensures hears { HearsLine agent.old.port agent.old.credentials number (both agent.old.keeper (E.behind exchange.old)) line.now result (both agent.new.keeper (E.behind exchange.new)) (⟦<W as Watched>⟧.sent out.old out.new) }
+    ensures ready { OnOk result (IsReady agent.new.keeper) }
+    ensures stays { Stays agent.old agent.new }
 {
-    let Some(heard) = heard_in(keeper.forest(), line) else {
+    let Some(heard) = heard_in(agent.forest(), line) else {
         return Err(Stop::Line(number));
     };
     exchange.begin_line();
-    hear(alloc, keeper, exchange, credentials, port, heard, out)
+    hear(alloc, agent, exchange, heard, out)
 }

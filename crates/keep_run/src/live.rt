@@ -1,9 +1,10 @@
 //! The live run: lookups, and then event lines as they come.
-ghost use Rattle.std.specs.Prelude.{IfOk, IsTrue, OnOk};
+ghost use Rattle.std.specs.Prelude.{◌≡◌, IfOk, IsTrue, OnOk};
 ghost use Rattle.std.specs.Result.{IfErr};
 ghost use Rattle.keep_run.specs.Live.{IsReady};
 ghost use Rattle.keep_run.specs.LiveRun.{EndsEarly, IsOpened, LiveRun, LivesTo};
 
+use crate::agent::Agent;
 use crate::feeding::Feeding;
 use crate::lines::push_short_lines;
 use crate::listening::listen;
@@ -12,7 +13,7 @@ use crate::rehearsal::opened;
 use keep_core::Keeper;
 use keep_device::{Sink, Source};
 use keep_exchange::Exchange;
-use keep_inventory::{Credentials, Inventory, read};
+use keep_inventory::{Inventory, read};
 use keep_moment::Moment;
 use keep_report::{Exit, Stop, Watched, send};
 use std::alloc::Global;
@@ -57,20 +58,11 @@ fn live<R: Source, E: Exchange, W: Sink>(
 {
     let inventory = read(alloc, bytes)?;
     let port = exchange.port();
-    let (mut keeper, credentials) = begin(alloc, inventory, start, port, exchange, out)?;
-    listen(
-        alloc,
-        &mut keeper,
-        &credentials,
-        port,
-        events,
-        exchange,
-        out,
-    )
+    let mut agent = begin(alloc, inventory, start, port, exchange, out)?;
+    listen(alloc, &mut agent, events, exchange, out)
 }
 
-/// Looks all entries up, plans from `start`, and writes and flushes the lines of both: the keeper, and the credentials that it
-/// asks with.
+/// Looks all entries up, plans from `start`, and writes and flushes the lines of both.
 fn begin<E: Exchange, W: Sink>(
     alloc: Global,
     inventory: Inventory,
@@ -78,10 +70,11 @@ fn begin<E: Exchange, W: Sink>(
     port: u16,
     exchange: &mut E,
     out: &mut W,
-) -> Result<(Keeper, Credentials), Stop>
+) -> Result<Agent, Stop>
     ensures early { IfErr result (λ stop. EndsEarly port start (record { inventory = inventory; behind = E.behind exchange.old }) stop (⟦<W as Watched>⟧.sent out.old out.new) (E.behind exchange.new)) }
-    ensures opened { IfOk result (λ begun. IsOpened port start (record { inventory = inventory; behind = E.behind exchange.old }) begun.1 begun.0 (E.behind exchange.new) (⟦<W as Watched>⟧.sent out.old out.new)) }
-    ensures ready { IfOk result (λ begun. IsReady begun.1 begun.0) }
+    ensures opened { IfOk result (λ agent. IsOpened agent.port start (record { inventory = inventory; behind = E.behind exchange.old }) agent.credentials agent.keeper (E.behind exchange.new) (⟦<W as Watched>⟧.sent out.old out.new)) }
+    ensures ready { IfOk result (λ agent. IsReady agent.keeper) }
+    ensures port { IfOk result (λ agent. agent.port ≡ port) }
     ensures flushed { OnOk result (IsTrue (W.is_flushed out.new)) }
 {
     let mut inventory = inventory;
@@ -93,5 +86,5 @@ fn begin<E: Exchange, W: Sink>(
     let mut text = Vec::new(alloc);
     push_short_lines(alloc, keeper.forest(), short.list(), &mut text)?;
     send(out, &text)?;
-    Ok((keeper, credentials))
+    Ok(Agent::new(keeper, credentials, port))
 }

@@ -1,18 +1,17 @@
 //! The wake-ups of a run, one after another, with their lines.
-ghost use Rattle.std.specs.Prelude.{◌≡◌, ◌++◌, [], List, None, Option, Some, ℕ};
+ghost use Rattle.std.specs.Prelude.{◌≡◌, ◌++◌, List, None, Option, Some, ℕ};
 ghost use Rattle.keep_exchange.specs.Exchanges.{Behind};
 ghost use Rattle.keep_run.specs.Text.{done_text};
 ghost use Rattle.keep_run.specs.Live.{IsReady};
 ghost use Rattle.keep_run.specs.Playing.{Comes, Finishes, LastPlays, Plays};
 ghost use Rattle.keep_run.specs.Stops.{both};
 
+use crate::agent::Agent;
 use crate::lines::push_done;
 use crate::opening::open;
 use crate::waking::wake;
-use keep_core::Keeper;
 use keep_device::{Sink, write_all};
 use keep_exchange::MemoryExchange;
-use keep_inventory::Credentials;
 use keep_report::{Stop, Watched, send};
 use std::alloc::Global;
 
@@ -23,23 +22,23 @@ pub const MOST_WAKES: u64 = 100000;
 /// flushes them at the end.
 pub(crate) fn play<W: Sink>(
     alloc: Global,
-    keeper: &mut Keeper,
+    agent: &mut Agent,
     exchange: &mut MemoryExchange,
-    credentials: &Credentials,
     start: u64,
     lines: &[u8],
     out: &mut W,
 ) -> Result<(), Stop>
-    requires ready { IsReady credentials.now keeper.old }
-    requires comes { Comes keeper.old.last (Some start) }
-    ensures { Plays credentials.now (both keeper.old (Some exchange.old)) start lines.now result (both keeper.new (Some exchange.new)) (⟦<W as Watched>⟧.sent out.old out.new) }
+    requires ready { IsReady agent.old.keeper }
+    requires comes { Comes agent.old.keeper.last (Some start) }
+    requires port { agent.old.port ≡ 8200 }
+    ensures { Plays agent.old.credentials (both agent.old.keeper (Some exchange.old)) start lines.now result (both agent.new.keeper (Some exchange.new)) (⟦<W as Watched>⟧.sent out.old out.new) }
 {
     write_all(out, lines)?;
     let mut due = start;
     let mut requests = 0;
     for wakes in 0..MOST_WAKES {
         let mut text = Vec::new(alloc);
-        let Some(woken) = wake(alloc, keeper, exchange, credentials, due, &mut text)? else {
+        let Some(woken) = wake(alloc, agent, exchange, due, &mut text)? else {
             return finish(alloc, wakes, requests, text, out);
         };
         write_all(out, &text)?;
@@ -49,24 +48,23 @@ pub(crate) fn play<W: Sink>(
         };
         due = next;
     }
-    last(alloc, keeper, due, requests, out)
+    last(alloc, agent, due, requests, out)
 }
 
 /// Behind the last wake-up that a run may have: its end, or that it would have another.
 fn last<W: Sink>(
     alloc: Global,
-    keeper: &mut Keeper,
+    agent: &mut Agent,
     due: u64,
     requests: u64,
     out: &mut W,
 ) -> Result<(), Stop>
-    requires quiet { keeper.old.shortened ≡ [] }
-    requires closed { keeper.old.round ≡ None }
-    requires comes { Comes keeper.old.last (Some due) }
-    ensures { (cs : List (List ℕ)) (behind : Option Behind) → LastPlays cs behind keeper.old due requests result keeper.new (⟦<W as Watched>⟧.sent out.old out.new) }
+    requires ready { IsReady agent.old.keeper }
+    requires comes { Comes agent.old.keeper.last (Some due) }
+    ensures { (cs : List (List ℕ)) (behind : Option Behind) → LastPlays cs behind agent.old.keeper due requests result agent.new.keeper (⟦<W as Watched>⟧.sent out.old out.new) }
 {
     let mut text = Vec::new(alloc);
-    match open(alloc, keeper, due, &mut text)? {
+    match open(alloc, agent, due, &mut text)? {
         None => finish(alloc, MOST_WAKES, requests, text, out),
         Some(_) => {
             out.flush()?;

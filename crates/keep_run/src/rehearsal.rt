@@ -2,13 +2,14 @@ ghost use Rattle.std.specs.Prelude.{◌≡◌, Err, IfErr, IfOk, Ok};
 ghost use Rattle.keep_run.specs.Playing.{IsPlanFault, stop_of};
 ghost use Rattle.keep_run.specs.Rehearse.{RehearseRun, RehearseTold, Rehearses};
 
+use crate::agent::Agent;
 use crate::fault_words::set_faults;
 use crate::lines::push_short_lines;
 use crate::playing::play;
 use crate::refused::stop_of;
 use keep_core::{Keeper, StepFault};
 use keep_device::Sink;
-use keep_exchange::MemoryExchange;
+use keep_exchange::{Exchange, MemoryExchange};
 use keep_inventory::read;
 use keep_moment::{Moment, Text};
 use keep_report::{Exit, Stop, Watched};
@@ -71,15 +72,8 @@ fn rehearse<W: Sink>(
     let short = keeper.take_shortened();
     let mut lines = Vec::new(alloc);
     push_short_lines(alloc, keeper.forest(), short.list(), &mut lines)?;
-    play(
-        alloc,
-        &mut keeper,
-        exchange,
-        &credentials,
-        start.get(),
-        &lines,
-        out,
-    )
+    let mut agent = Agent::new(keeper, credentials, exchange.port());
+    play(alloc, &mut agent, exchange, start.get(), &lines, out)
 }
 
 /// The keeper that was opened; or what stops a run for which none could be: its plan is too long, or memory was refused.

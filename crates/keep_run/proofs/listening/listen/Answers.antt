@@ -12,9 +12,9 @@ use Rattle.keep_run.proofs.listening.listen.Goals as goal
 
 pub returns-in_err-room-clause-listens : goal.returns-in_err-room-clause-listens
 returns-in_err-room-clause-listens g c =
-    let port = c.args.port in
-    let cs = c.args.credentials.now in
-    let old : World = both c.args.keeper.now (g.E.Exchange.behind c.args.exchange.now) in
+    let port = c.args.agent.now.port in
+    let cs = c.args.agent.now.credentials in
+    let old : World = both c.args.agent.now.keeper (g.E.Exchange.behind c.args.exchange.now) in
     let fed : Fed = record {
       old = g.R.Device.remaining c.args.events.now;
       new = g.R.Device.remaining c.args.events.now;

@@ -3,8 +3,13 @@ use Rattle.std.proofs.Common.{◌≡◌, ◌∙◌, ◌++◌, ap, length, refl, 
 use Rattle.keep_report.specs.declared.stop.Stop.TheVariants as stops
 use Rattle.keep_tree.specs.Forest.{Forest}
 use Rattle.keep_core.specs.State.{State}
+use Rattle.keep_run.specs.Agent.{Agent}
+use Rattle.keep_run.specs.Live.{IsReady}
+use Rattle.keep_run.specs.LiveRun.{IsOpened}
+use Rattle.keep_run.specs.Looking.{Looked}
+use Rattle.keep_report.specs.Sent.{Sent}
 use Rattle.keep_run.specs.Text.{short_lines}
-use Rattle.keep_run.proofs.Rehearsed.{ready_opened}
+use Rattle.keep_run.proofs.Rehearsed.{fit_opened, ready_opened}
 use Rattle.keep_run.proofs.LiveOpening.{for_err, memory_ends, opens, planning_ends, sending_ends}
 use Rattle.keep_run.proofs.Opened.{planned_as, refused_as, stopped_as}
 use Rattle.keep_run.proofs.Within.{AreOf, replan_within}
@@ -19,7 +24,11 @@ push_short_lines-requires g c =
 
 pub returns-clause-ready : goal.returns-clause-ready
 returns-clause-ready g c =
-    ready_opened c.look_all_up.new.inventory c.into_parts-forest.result.0 c.into_parts-forest.result.1 c.args.start c.in_ok-keeper.keeper c.take_shortened-short.new.self c.into_parts-forest.ensures.sound
+    subst (λ (agent : Agent). IsReady agent.keeper) (sym c.new.ensures) (ready_opened c.into_parts-forest.result.0 c.args.start c.in_ok-keeper.keeper c.take_shortened-short.new.self (planned_as c.into_parts-forest.result.0 c.args.start c.new-made.result c.in_ok-keeper.keeper c.new-made.ensures.opened c.in_ok-keeper.ensures.keeper c.in_ok-keeper.ensures.stop) c.take_shortened-short.ensures.after)
+
+pub new-requires : goal.new-requires
+new-requires g c =
+    fit_opened c.look_all_up.new.inventory c.into_parts-forest.result.0 c.into_parts-forest.result.1 c.args.start c.in_ok-keeper.keeper c.take_shortened-short.new.self c.into_parts-forest.ensures.sound
     c.into_parts-forest.ensures.forest c.into_parts-forest.ensures.credentials (planned_as c.into_parts-forest.result.0 c.args.start c.new-made.result c.in_ok-keeper.keeper c.new-made.ensures.opened c.in_ok-keeper.ensures.keeper c.in_ok-keeper.ensures.stop) c.take_shortened-short.ensures.after
 
 pub returns-in_err-keeper-clause-early : goal.returns-in_err-keeper-clause-early
@@ -59,11 +68,22 @@ returns-clause-opened g c =
     ∙ ap (λ l. l ++ short_lines c.forest.result.now c.list.result.now) c.new-text.ensures.items
     ∙ ap (λ h. short_lines h c.list.result.now) (c.forest.ensures ∙ ap (λ (s : State). s.forest) c.take_shortened-short.ensures.after)
     ∙ ap (short_lines k.forest) (c.list.ensures ∙ c.take_shortened-short.ensures.value) in
-    opens c.args.port c.args.start (record { inventory = c.args.inventory; behind = g.E.Exchange.behind c.args.exchange.now }) c.look_all_up.new.inventory (g.E.Exchange.behind c.look_all_up.new.exchange)
+    let out : Sent = record {
+      old = g.W.Device.written c.args.out.now;
+      new = g.W.Device.written c.send.new.out;
+      failed_before = g.W.Device.failed_calls c.args.out.now;
+      failed_after = g.W.Device.failed_calls c.send.new.out;
+      flushed_before = g.W.Device.is_flushed c.args.out.now;
+      flushed = g.W.Device.is_flushed c.send.new.out;
+      is_in_memory = g.W.Device.is_in_memory;
+    } in
+    let before : Looked = record { inventory = c.args.inventory; behind = g.E.Exchange.behind c.args.exchange.now } in
+    subst (λ (agent : Agent). IsOpened agent.port c.args.start before agent.credentials agent.keeper (g.E.Exchange.behind c.look_all_up.new.exchange) out) (sym c.new.ensures)
+    (opens c.args.port c.args.start (record { inventory = c.args.inventory; behind = g.E.Exchange.behind c.args.exchange.now }) c.look_all_up.new.inventory (g.E.Exchange.behind c.look_all_up.new.exchange)
     (g.W.Device.written c.args.out.now) (g.W.Device.written c.look_all_up.new.out) (g.W.Device.written c.send.new.out) (g.W.Device.failed_calls c.args.out.now) (g.W.Device.failed_calls c.look_all_up.new.out) (g.W.Device.failed_calls c.send.new.out)
     (g.W.Device.is_flushed c.args.out.now) (g.W.Device.is_flushed c.look_all_up.new.out) (g.W.Device.is_flushed c.send.new.out) g.W.Device.is_in_memory c.in_ok-look_all_up.ensures
     c.into_parts-forest.result.0 c.into_parts-forest.result.1 k c.take_shortened-short.new.self c.deref.result.now c.into_parts-forest.ensures.forest c.into_parts-forest.ensures.credentials (planned_as c.into_parts-forest.result.0 c.args.start c.new-made.result c.in_ok-keeper.keeper c.new-made.ensures.opened c.in_ok-keeper.ensures.keeper c.in_ok-keeper.ensures.stop)
-    c.take_shortened-short.ensures.after lines c.in_ok-send.ensures.sent c.in_ok-send.ensures.count
+    c.take_shortened-short.ensures.after lines c.in_ok-send.ensures.sent c.in_ok-send.ensures.count)
 
 pub opened-requires : goal.opened-requires
 opened-requires g c = refused_as c.into_parts-forest.result.0 c.args.start c.new-made.result c.new-made.ensures.refused

@@ -1,0 +1,104 @@
+//! The keeper of a run, and what its requests are made of.
+ghost use Rattle.std.specs.Prelude.{◌≡◌, ◌<◌, IfSome, length};
+ghost use Rattle.keep_core.specs.History.{Turn};
+ghost use Rattle.keep_exchange.specs.Requests.{Asks, request_of};
+ghost use Rattle.keep_inventory.specs.Inventories.{credential_at};
+ghost use Rattle.keep_run.specs.Agent.{IsFit, Stays};
+ghost use Rattle.keep_run.specs.Closed.{taken};
+
+use keep_core::{Event, Keeper, Output, Shortened, StepFault};
+use keep_exchange::{Exchange, ask};
+use keep_inventory::Credentials;
+use keep_moment::Moment;
+use keep_tree::Forest;
+use std::alloc::{AllocError, Global};
+use std::marker::Model;
+use vault_http::Reply;
+
+/// A keeper with the credentials of its entries, and the port that its requests name.
+#[derive(Debug, Drop)]
+pub struct Agent {
+    keeper: Keeper,
+    credentials: Credentials,
+    port: u16,
+}
+
+impl Model for Agent {
+    ghost use Rattle.keep_run.specs.Agent.{Agent, IsFit};
+
+    ghost Value = { Agent };
+
+    ghost view = { λ a. record { keeper = a.keeper; credentials = a.credentials; port = a.port } };
+
+    ghost invariant = { λ a. IsFit (record { keeper = a.keeper; credentials = a.credentials; port = a.port }) };
+}
+
+impl Agent {
+    /// An agent that asks for the entries of this keeper, with a credential for each, by requests that name this port.
+    pub fn new(keeper: Keeper, credentials: Credentials, port: u16) -> Agent
+        requires { length credentials ≡ length keeper.forest.entries }
+        ensures { result ≡ record { keeper = keeper; credentials = credentials; port = port } }
+    {
+        Agent {
+            keeper,
+            credentials,
+            port,
+        }
+    }
+
+    /// The keeper.
+    pub fn keeper(&self) -> &Keeper
+        ensures value { result.now ≡ self.now.keeper }
+        ensures fit { IsFit self.now }
+    {
+        &self.keeper
+    }
+
+    /// The entries, with the ends as told and the needs in force.
+    pub(crate) fn forest(&self) -> &Forest
+        ensures { result.now ≡ self.now.keeper.forest }
+    {
+        self.keeper.forest()
+    }
+
+    /// The credential of an entry.
+    pub(crate) fn credential(&self, i: u32) -> &[u8]
+        requires { i < length self.now.keeper.forest.entries }
+        ensures { result.now ≡ credential_at self.now.credentials i }
+    {
+        self.credentials.get(i)
+    }
+
+    /// Hands the keeper an event.
+    pub(crate) fn step(&mut self, event: Event) -> Result<Output, StepFault>
+        ensures turn { Turn self.old.keeper event result self.new.keeper }
+        ensures stays { Stays self.old self.new }
+    {
+        self.keeper.step(event)
+    }
+
+    /// Takes the needs that the keeper shortened since this was last called.
+    pub(crate) fn take_shortened(&mut self) -> Shortened
+        ensures value { result ≡ self.old.keeper.shortened }
+        ensures after { self.new.keeper ≡ taken self.old.keeper }
+        ensures stays { Stays self.old self.new }
+    {
+        self.keeper.take_shortened()
+    }
+
+    /// Asks the broker to renew an entry, and gives its reply; `None` where no reply came, or none that could be read. The only
+    /// error is want of memory.
+    pub(crate) fn ask<E: Exchange>(
+        &self,
+        alloc: Global,
+        exchange: &mut E,
+        t: Moment,
+        i: u32,
+    ) -> Result<Option<Reply>, AllocError>
+        requires { i < length self.now.keeper.forest.entries }
+        ensures { IfSome (E.behind exchange.old) (λ old. Asks old t (request_of self.now.port self.now.credentials self.now.keeper.forest i) result (E.behind exchange.new)) }
+    {
+        let forest = self.keeper.forest();
+        ask(alloc, exchange, t, self.port, &self.credentials, forest, i)
+    }
+}
