@@ -3,7 +3,7 @@ use Rattle.std.proofs.Common.{◌≡◌, ℕ, ◌+◌, ◌<◌, ◌++◌, ◌∷
 use Rattle.std.proofs.lemmas.List.{append-nil, append_assoc, length-append, map-append}
 use Rattle.keep_report.specs.declared.stop.Stop.{Stop}
 use Rattle.mini_broker.specs.declared.moment_line.Moments.{Moments}
-use Rattle.minibroker.specs.Serving.{AreServed, Broker, Connection, HandsOut, ServesAll, Visit, Visits, visited}
+use Rattle.minibroker.specs.Serving.{AreServed, Broker, Connection, HandsOut, IsNoneHanded, ServesAll, Visit, Visits, visited}
 
 -- so many connections were handed out and served
 abbrev pub SoFar : ℕ → Moments → Broker → Broker → Option (List Connection) → Option (List Connection) → Type 0
@@ -43,9 +43,9 @@ stopped_at n count moments first mid last old now new v stop (visits, (many, (se
     (visits, (omega arith, inr (mid, v, (served, (one, handed_behind old now new visits v handed more)))))
 
 pub stopped_before : (n count : ℕ) (moments : Moments) (first last : Broker) (old now new : Option (List Connection)) (stop : Stop)
-    → SoFar n moments first last old now → n < count → HandsOut now new [] → ServesAll count moments first (Err stop) last old new
-stopped_before n count moments first last old now new stop (visits, (many, (served, handed))) fewer more =
-    (visits, (omega arith, inl (served, subst (λ (these : List Connection). HandsOut old new these) (append-nil (map visited visits)) (handed_more old now new (map visited visits) [] handed more))))
+    → SoFar n moments first last old now → n < count → IsNoneHanded stop × HandsOut now new [] → ServesAll count moments first (Err stop) last old new
+stopped_before n count moments first last old now new stop (visits, (many, (served, handed))) fewer (why, more) =
+    (visits, (omega arith, inl (why, (served, subst (λ (these : List Connection). HandsOut old new these) (append-nil (map visited visits)) (handed_more old now new (map visited visits) [] handed more)))))
 
 pub handed_on : (answer : Result (Unit {0}) Stop) (stop : Stop) (P : Result (Unit {0}) Stop → Type 0) → IsErr answer × IsErrAnd answer (λ (q : Stop). q ≡ stop) → P (Err stop) → P answer
 handed_on (Ok x) stop P is h = absurd (let none = is.0 in cc)

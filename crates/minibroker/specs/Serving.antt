@@ -4,6 +4,7 @@ use Rattle.std.specs.Prelude.{◌≡◌, ℕ, ◌<◌, ◌⊎◌, Bool, true, fa
 use Rattle.std.specs.Io.KnownBytes.{Keeps}
 use Rattle.keep_report.specs.declared.stop.Stop.{Stop}
 use Rattle.keep_report.specs.declared.stop.Stop.TheVariants as stops
+use Rattle.keep_report.specs.Sent.{IsUntouched, Sends, Sent}
 use Rattle.mini_broker.specs.declared.moment_line.LineFault.{LineFault}
 use Rattle.mini_broker.specs.declared.moment_line.LineFault.TheVariants as line_faults
 use Rattle.mini_broker.specs.declared.moment_line.Moments.{Moments}
@@ -48,6 +49,10 @@ pub record Connection : Type 0 where
 abbrev pub HandsOut : Option (List Connection) → Option (List Connection) → List Connection → Type 0
 HandsOut old new these = IfSome old (λ before. new ≡ Some (before ++ these))
 
+-- why no connection is handed out: memory was wanting, or else it counts as a read that failed
+abbrev pub IsNoneHanded : Stop → Type 0
+IsNoneHanded stop = (stop ≡ stops.Memory) ⊎ (stop ≡ stops.Read)
+
 -- what became of a connection
 pub record Visit : Type 0 where
   pub ends : Ends
@@ -75,7 +80,7 @@ AreServed moments b (v ∷ later) after = (mid : Broker) × (Visits moments b v 
 -- behind these no other connection is handed out, or one that stops the broker
 abbrev pub StopsBehind : Moments → Broker → List Visit → Stop → Broker → Option (List Connection) → Option (List Connection) → Type 0
 StopsBehind moments b visits stop after old new =
-    (AreServed moments b visits after × HandsOut old new (map visited visits))
+    (IsNoneHanded stop × (AreServed moments b visits after × HandsOut old new (map visited visits)))
     ⊎ ((mid : Broker) × (last : Visit) × (AreServed moments b visits mid × (Visits moments mid last (Err stop) after × HandsOut old new (map visited (visits ++ last ∷ [])))))
 
 -- so many connections are handed out and served, each once, in the order in which they come; or the broker stops behind fewer
@@ -88,3 +93,7 @@ ServesAll count moments b (Err stop) after old new =
 -- the last line
 abbrev pub served_line : ℕ → List ℕ
 served_line count = codes "served " ++ (decimal count ++ codes "\n")
+
+-- it is told; or why no more than a front of it is, and nothing of it where memory for its text was wanting
+abbrev pub TellsServed : ℕ → Result (Unit {0}) Stop → Sent → Type 0
+TellsServed count result out = Sends result (served_line count) out ⊎ ((result ≡ Err stops.Memory) × IsUntouched out)

@@ -1,6 +1,6 @@
 //! Where connections come from.
 ghost use Rattle.std.specs.Prelude.{◌≡◌, List, Option, None, MatchResult, [], ◌∷◌};
-ghost use Rattle.minibroker.specs.Serving.{Connection, HandsOut};
+ghost use Rattle.minibroker.specs.Serving.{Connection, HandsOut, IsNoneHanded};
 
 use keep_device::{Sink, Source};
 use keep_report::Stop;
@@ -22,9 +22,9 @@ pub trait Connections {
     /// Those that it has handed out, from the first on, where they are known.
     ghost handed: { Self → Option (List Connection) } = { λ _. None };
 
-    /// Waits for the next connection, and hands it out. An error hands out none.
+    /// Waits for the next connection, and hands it out. An error hands out none: `Memory`, or `Read` where none can be had.
     fn accept(&mut self) -> Result<Handed<Self::Stream>, Stop>
         ensures { MatchResult result
             (λ h. HandsOut (Self.handed self.old) (Self.handed self.new) (record { bytes = Self.Stream.remaining h.stream; has_time = h.has_time } ∷ []))
-            (λ _. HandsOut (Self.handed self.old) (Self.handed self.new) []) };
+            (λ stop. IsNoneHanded stop × HandsOut (Self.handed self.old) (Self.handed self.new) []) };
 }

@@ -1,6 +1,5 @@
-ghost use Rattle.std.specs.Prelude.{◌≡◌, OnOk};
-ghost use Rattle.keep_report.specs.Sent.{IsAll};
-ghost use Rattle.minibroker.specs.Serving.{ServesAll, ServesOne, served_line, stop_of_line};
+ghost use Rattle.std.specs.Prelude.{◌≡◌};
+ghost use Rattle.minibroker.specs.Serving.{ServesAll, ServesOne, TellsServed, stop_of_line};
 
 use crate::connections::{Connections, Handed};
 use keep_device::{Sink, Source};
@@ -66,9 +65,9 @@ fn line_stop(fault: LineFault) -> Stop
     }
 }
 
-/// Says how many connections were served.
+/// Says how many connections were served. `Write`: `out` failed. `Memory`.
 pub fn tell_served<W: Sink>(alloc: Global, count: u32, out: &mut W) -> Result<(), Stop>
-    ensures { OnOk result (IsAll (served_line count) (⟦<W as Watched>⟧.sent out.old out.new)) }
+    ensures { TellsServed count result (⟦<W as Watched>⟧.sent out.old out.new) }
 {
     let line = format!(in alloc; "served {count}\n")?;
     send(out, line.as_bytes())

@@ -1,3 +1,5 @@
+ghost use Rattle.minibroker.specs.Serving.{IsNoneHanded};
+
 use crate::connections::{Connections, Handed};
 use crate::serving::serve_all;
 use crate::words::Command;
@@ -112,7 +114,9 @@ pub fn serve_path<R: AllocGlobal + Net + Files, S: Source>(
     answer
 }
 
-fn stop_of(error: &io::Error) -> Stop {
+fn stop_of(error: &io::Error) -> Stop
+    ensures { IsNoneHanded result }
+{
     if error.kind() == io::ErrorKind::OutOfMemory {
         Stop::Memory
     } else {
