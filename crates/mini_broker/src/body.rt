@@ -7,7 +7,7 @@ use crate::row::Row;
 use keep_inventory::SPAN_MAX;
 use keep_moment::{Moment, Span, Text};
 use std::alloc::{AllocError, Global};
-use vault_json::{looked_lease, looked_self, renewed_lease, renewed_self};
+use vault_json::{LookedToken, looked_lease, looked_self, renewed_lease, renewed_self};
 
 /// The body of the reply that tells a call of a row with that end. The only error is want of memory.
 #[tactic(auto, unfolding(crate::specs::Step::IsBody))]
@@ -27,12 +27,14 @@ pub(crate) fn body_of(
         Call::RenewLease => renewed_lease(alloc, row.credential.list(), seconds, row.renewable),
         Call::LookupSelf => looked_self(
             alloc,
-            seconds,
-            row.issued,
-            row.explicit_max,
-            row.parent.is_none(),
-            row.renewable,
-            row.period,
+            LookedToken {
+                ttl: seconds,
+                created: row.issued,
+                explicit_max: row.explicit_max,
+                orphan: row.parent.is_none(),
+                renewable: row.renewable,
+                period: row.period,
+            },
         ),
         Call::LookupLease => looked_lease(
             alloc,

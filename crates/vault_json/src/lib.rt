@@ -22,6 +22,6 @@ pub use fault::ReplyFault;
 pub use field::Field;
 pub use lookup::{Lookup, never_ends, read_lookup_lease, read_lookup_self};
 pub use renewed::{Renewed, RenewedLease, read_renew_lease, read_renew_self};
-pub use reply_body::{errors, looked_lease, looked_self, renewed_lease, renewed_self};
+pub use reply_body::{LookedToken, errors, looked_lease, looked_self, renewed_lease, renewed_self};
 pub use request::{read_increment, read_lease_id};
 pub use request_body::{lease_body, lookup_body, renew_body};

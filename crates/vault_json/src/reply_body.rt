@@ -8,6 +8,23 @@ use keep_moment::{Moment, Span, Text, date_text};
 use serde_json::{Value, json};
 use std::alloc::{AllocError, Global};
 
+/// What a broker's reply to a token's lookup tells of the token.
+#[derive(Clone, Copy, Debug, PartialEq, Eq)]
+pub struct LookedToken {
+    /// The seconds to the token's end.
+    pub ttl: Span,
+    /// When the token was created.
+    pub created: Moment,
+    /// The explicit max TTL in seconds, 0 where none is set.
+    pub explicit_max: Span,
+    /// Whether the token has no parent.
+    pub orphan: bool,
+    /// Whether the token can be renewed.
+    pub renewable: bool,
+    /// The period in seconds, 0 where the token is not periodic.
+    pub period: Span,
+}
+
 /// The body of a broker's reply to a token's renewal, as `{"auth":{"lease_duration":60,"renewable":true}}`: the seconds
 /// to its end, and whether it can be renewed again (Vault, HTTP API `auth/token`, "Renew a token (self)"). The only
 /// error is want of memory.
@@ -39,27 +56,14 @@ pub fn renewed_lease(
 /// `{"data":{"creation_time":900,"explicit_max_ttl":200,"orphan":true,"period":60,"renewable":true,"ttl":60}}`, with
 /// `period` only where it is not 0 (Vault, HTTP API `auth/token`, "Lookup a token (self)"). The only error is want of
 /// memory.
-pub fn looked_self(
-    alloc: Global,
-    ttl: Span,
-    created: Moment,
-    explicit_max: Span,
-    orphan: bool,
-    renewable: bool,
-    period: Span,
-) -> Result<Text, AllocError>
-    ensures { IfOk result (λ t. t ≡ looked_self_text ttl created explicit_max orphan renewable period) }
+pub fn looked_self(alloc: Global, token: LookedToken) -> Result<Text, AllocError>
+    ensures { IfOk result (λ t.
+        t ≡ looked_self_text token.ttl token.created token.explicit_max token.orphan token.renewable token.period) }
 {
-    if period == 0 {
-        written(
-            alloc,
-            &plain_value(alloc, ttl, created, explicit_max, orphan, renewable)?,
-        )
+    if token.period == 0 {
+        written(alloc, &plain_value(alloc, token)?)
     } else {
-        written(
-            alloc,
-            &periodic_value(alloc, ttl, created, explicit_max, orphan, renewable, period)?,
-        )
+        written(alloc, &periodic_value(alloc, token)?)
     }
 }
 
@@ -111,43 +115,30 @@ fn renewed_lease_value(
     json!(in alloc; {"lease_duration": seconds, "lease_id": id, "renewable": renewable})
 }
 
-fn plain_value(
-    alloc: Global,
-    ttl: Span,
-    created: Moment,
-    explicit_max: Span,
-    orphan: bool,
-    renewable: bool,
-) -> Result<Value, AllocError>
-    ensures { IfOk result (λ v. view v ≡ looked_plain_tree ttl created explicit_max orphan renewable) }
+fn plain_value(alloc: Global, token: LookedToken) -> Result<Value, AllocError>
+    ensures { IfOk result (λ v.
+        view v ≡ looked_plain_tree token.ttl token.created token.explicit_max token.orphan token.renewable) }
 {
     json!(in alloc; {"data": {
-        "creation_time": created.get(),
-        "explicit_max_ttl": explicit_max,
-        "orphan": orphan,
-        "renewable": renewable,
-        "ttl": ttl
+        "creation_time": token.created.get(),
+        "explicit_max_ttl": token.explicit_max,
+        "orphan": token.orphan,
+        "renewable": token.renewable,
+        "ttl": token.ttl
     }})
 }
 
-fn periodic_value(
-    alloc: Global,
-    ttl: Span,
-    created: Moment,
-    explicit_max: Span,
-    orphan: bool,
-    renewable: bool,
-    period: Span,
-) -> Result<Value, AllocError>
-    ensures { IfOk result (λ v. view v ≡ looked_periodic_tree ttl created explicit_max orphan renewable period) }
+fn periodic_value(alloc: Global, token: LookedToken) -> Result<Value, AllocError>
+    ensures { IfOk result (λ v. view v
+        ≡ looked_periodic_tree token.ttl token.created token.explicit_max token.orphan token.renewable token.period) }
 {
     json!(in alloc; {"data": {
-        "creation_time": created.get(),
-        "explicit_max_ttl": explicit_max,
-        "orphan": orphan,
-        "period": period,
-        "renewable": renewable,
-        "ttl": ttl
+        "creation_time": token.created.get(),
+        "explicit_max_ttl": token.explicit_max,
+        "orphan": token.orphan,
+        "period": token.period,
+        "renewable": token.renewable,
+        "ttl": token.ttl
     }})
 }
 

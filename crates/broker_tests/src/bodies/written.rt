@@ -38,12 +38,28 @@ fn bodies_of_renewals(rt: HostRuntime) -> Result<(), Fail> {
 fn bodies_of_lookups(rt: HostRuntime) -> Result<(), Fail> {
     let alloc = rt.alloc();
     let created = Moment::new(900).ok_or("a moment")?;
+    let periodic = LookedToken {
+        ttl: 60,
+        created,
+        explicit_max: 200,
+        orphan: true,
+        renewable: true,
+        period: 60,
+    };
+    let plain = LookedToken {
+        ttl: 60,
+        created,
+        explicit_max: 0,
+        orphan: false,
+        renewable: false,
+        period: 0,
+    };
     assert!(rt;
-        looked_self(alloc, 60, created, 200, true, true, 60)?.list()
+        looked_self(alloc, periodic)?.list()
             == b"{\"data\":{\"creation_time\":900,\"explicit_max_ttl\":200,\"orphan\":true,\"period\":60,\"renewable\":true,\"ttl\":60}}".as_slice()
     );
     assert!(rt;
-        looked_self(alloc, 60, created, 0, false, false, 0)?.list()
+        looked_self(alloc, plain)?.list()
             == b"{\"data\":{\"creation_time\":900,\"explicit_max_ttl\":0,\"orphan\":false,\"renewable\":false,\"ttl\":60}}".as_slice()
     );
     assert!(rt;

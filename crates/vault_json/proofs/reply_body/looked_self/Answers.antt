@@ -7,16 +7,16 @@ use Rattle.vault_json.proofs.reply_body.looked_self.Goals as goal
 
 pub returns-in_ok-plain_value : goal.returns-in_ok-plain_value
 returns-in_ok-plain_value c =
-    let a = c.args in
-    let none : a.period ≡ 0 = c.if-period-eq0.true in
+    let a = c.args.token in
+    let none : a.period ≡ 0 = c.if-token-eq0.true in
     let is = looked_plain_text_is a.ttl a.created a.explicit_max a.orphan a.renewable
     ∙ ap (looked_self_text a.ttl a.created a.explicit_max a.orphan a.renewable) (sym none) in
     spelled c.written.result _ (looked_plain_tree a.ttl a.created a.explicit_max a.orphan a.renewable) _ c.in_ok-plain_value.ensures refl is c.written.ensures
 
 pub returns-in_ok-periodic_value : goal.returns-in_ok-periodic_value
 returns-in_ok-periodic_value c =
-    let a = c.args in
+    let a = c.args.token in
     let some : a.period ≢ 0 = omega arith in
     let is = looked_periodic_text_is a.ttl a.created a.explicit_max a.orphan a.renewable a.period some in
-    spelled c.written-else-period-eq0.result _ (looked_periodic_tree a.ttl a.created a.explicit_max a.orphan a.renewable a.period) _ c.in_ok-periodic_value.ensures refl is
-    c.written-else-period-eq0.ensures
+    spelled c.written-else-token-eq0.result _ (looked_periodic_tree a.ttl a.created a.explicit_max a.orphan a.renewable a.period) _ c.in_ok-periodic_value.ensures refl is
+    c.written-else-token-eq0.ensures
