@@ -98,9 +98,9 @@ module _ {A : Type 0} (HasNoHead : List ℕ → Type 0) (IsAnswer : List ℕ →
         subst HasNoHead (sym (take-append-le seen bytes more there)) none,
         ap (list_all is_blank) (take-append-le blank bytes more within) ∙ all,
       )
-  known_on max bytes more (known.Body len message p) (headed, part) = (
-    headed_on max bytes more len message (framing_of p) headed,
-    subst (IsPartOf p (max - len)) (sym (drop-append-le len bytes more headed.there)) (part_on p (max - len) (drop len bytes) more part),
+  known_on max bytes more (known.Body k) (headed, part) = (
+    headed_on max bytes more k.len k.message (framing_of k.partial) headed,
+    subst (IsPartOf k.partial (max - k.len)) (sym (drop-append-le k.len bytes more headed.there)) (part_on k.partial (max - k.len) (drop k.len bytes) more part),
   )
 
   -- no head is whole in more bytes that are all of line ends, or bring no empty line
@@ -151,9 +151,9 @@ module _ {A : Type 0} (HasNoHead : List ℕ → Type 0) (IsAnswer : List ℕ →
           | inr long ↦ inr (record { none = gone; looked = looked; many = long.0; half = long.1; within = omega (arith, less, there); cut = cut })
         ];
       }
-  waited max bytes (known.Body len message p) heads (headed, part) cut = record {
-    none = body_none max bytes len message (framing_of p) headed cut;
-    pending = inl (body_pending max bytes len message (framing_of p) headed cut);
+  waited max bytes (known.Body k) heads (headed, part) cut = record {
+    none = body_none max bytes k.len k.message (framing_of k.partial) headed cut;
+    pending = inl (body_pending max bytes k.len k.message (framing_of k.partial) headed cut);
   }
 
 module _ {A : Type 0} (HasNoHead : List ℕ → Type 0) (IsAnswer : List ℕ → Result A HttpFault → Type 0) where

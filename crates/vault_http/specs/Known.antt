@@ -39,10 +39,10 @@ abbrev pub IsKnown : {A : Type 0} → (List ℕ → Type 0) → (List ℕ → Re
 IsKnown HasNoHead IsAnswer with_body max bytes (known.Head looked seen blank) =
     (looked ≤ seen) × (seen ≤ length bytes) × (blank ≤ length bytes) × IsAnswer (take looked bytes) (Err Truncated) × HasNoHead (take seen bytes)
     × IsTrue (list_all is_blank (take blank bytes))
-IsKnown HasNoHead IsAnswer with_body max bytes (known.Body len message partial) =
-    IsHeaded IsAnswer with_body max bytes len message (framing_of partial) × IsPartOf partial (max - len) (drop len bytes)
+IsKnown HasNoHead IsAnswer with_body max bytes (known.Body headed) =
+    IsHeaded IsAnswer with_body max bytes headed.len headed.message (framing_of headed.partial) × IsPartOf headed.partial (max - headed.len) (drop headed.len bytes)
 
 -- it is known of all the bytes, and they do not yet settle an answer
 abbrev pub IsCurrent : {A : Type 0} → ℕ → List ℕ → Known A → Type 0
 IsCurrent max bytes (known.Head looked seen blank) = (seen ≡ length bytes) × ((looked ≡ seen) ⊎ ((SMALL_HEAD < length bytes) × (length bytes < 2 * looked)))
-IsCurrent max bytes (known.Body len message partial) = IsCutOff (framing_of partial) (max - len) (drop len bytes)
+IsCurrent max bytes (known.Body headed) = IsCutOff (framing_of headed.partial) (max - headed.len) (drop headed.len bytes)

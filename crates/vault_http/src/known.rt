@@ -27,8 +27,19 @@ pub(crate) enum Known<M> {
     /// There is no head yet. So many bytes were looked at for one; in so many there is none; and so many at the front are
     /// carriage returns and line feeds.
     Head(usize, usize, usize),
-    /// The head has so many bytes; the message without its body; and what is known of the body.
-    Body(usize, M, Partial),
+    /// A head is there, and its body is not all there.
+    Body(Headed<M>),
+}
+
+/// What is known of a message whose head is there.
+#[derive(Drop)]
+pub(crate) struct Headed<M> {
+    /// The bytes of the head.
+    len: usize,
+    /// The message without its body.
+    message: M,
+    /// What is known of the body.
+    partial: Partial,
 }
 
 /// Judges the bytes of a message that were read so far, of which `max` may be read; `ended` says that the input ends behind
@@ -49,9 +60,7 @@ pub(crate) fn go_on<M: Message>(
 {
     M::laws();
     match known {
-        Known::Body(len, message, partial) => {
-            behind(alloc, len, message, partial, bytes, max, ended)
-        }
+        Known::Body(headed) => behind(alloc, headed, bytes, max, ended),
         Known::Head(looked, seen, blank) => {
             let blank = blank_front(bytes, blank);
             if !ended && !is_due(bytes, max, looked, seen, blank) {
@@ -98,32 +107,43 @@ pub(crate) fn look<M: Message>(
         Head::Open => Verdict::More(Known::Head(bytes.len(), bytes.len(), blank)),
         Head::Refused(fault) => Verdict::Done(Err(fault)),
         Head::Found(len, message, framing) => {
-            let partial = Partial::new(alloc, framing);
-            behind(alloc, len, message, partial, bytes, max, ended)
+            let headed = Headed {
+                len,
+                message,
+                partial: Partial::new(alloc, framing),
+            };
+            behind(alloc, headed, bytes, max, ended)
         }
     }
 }
 
-/// Judges what stands behind a head of `len` bytes.
+/// Judges what stands behind a head.
 fn behind<M: Message>(
     alloc: Global,
-    len: usize,
-    message: M,
-    partial: Partial,
+    headed: Headed<M>,
     bytes: &[u8],
     max: usize,
     ended: bool,
 ) -> Verdict<Known<M>, Result<M, HttpFault>>
-    requires headed { IsHeaded (M.is_answer max) M.with_body max bytes.now len message (framing_of partial) }
-    requires part { IsPartOf partial (max - len) (drop len bytes.now) }
+    requires headed { IsHeaded (M.is_answer max) M.with_body max bytes.now headed.len headed.message (framing_of headed.partial) }
+    requires part { IsPartOf headed.partial (max - headed.len) (drop headed.len bytes.now) }
     ensures answer { IfDone result (λ a. (more : List ℕ) → (IsTrue ended → more ≡ [])
         → UnlessMemory a (M.is_answer max (bytes.now ++ more) a)) }
     ensures decides { (IsTrue ended ⊎ (max < length bytes.now)) → IsDone result }
     ensures known { IfMore result (λ k. IsKnown M.has_no_head (M.is_answer max) M.with_body max bytes.now k) }
     ensures current { IfMore result (λ k. IsCurrent max bytes.now k) }
 {
+    let Headed {
+        len,
+        message,
+        partial,
+    } = headed;
     match judge_body(alloc, partial, &bytes[len..], max - len, ended) {
-        Verdict::More(partial) => Verdict::More(Known::Body(len, message, partial)),
+        Verdict::More(partial) => Verdict::More(Known::Body(Headed {
+            len,
+            message,
+            partial,
+        })),
         Verdict::Done(Ok(body)) => Verdict::Done(Ok(message.with_body(body))),
         Verdict::Done(Err(fault)) => Verdict::Done(Err(fault.into())),
     }
