@@ -1,4 +1,4 @@
--- The cases of the line of a size.
+-- Where no line of a size can come of the front, the body fails with BadChunk however the bytes go on.
 use Rattle.std.proofs.Common.{subst}
 use Rattle.vault_http.specs.Chunks.{IsSize, NeverHas}
 use Rattle.vault_http.proofs.ChunkSteps.{bad_front}

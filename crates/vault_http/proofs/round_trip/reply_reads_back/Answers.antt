@@ -1,4 +1,4 @@
--- The law is the lemma.
+-- A reply that was written is the only answer to its bytes, as `ReplyRoundTrip` shows.
 use Rattle.vault_http.proofs.ReplyRoundTrip.{reads_back}
 use Rattle.vault_http.proofs.round_trip.reply_reads_back.Goals as goal
 

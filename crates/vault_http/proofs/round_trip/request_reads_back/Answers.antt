@@ -1,4 +1,4 @@
--- The law is the lemma.
+-- A request that was written, with port 0, is the only answer to its bytes, as `RequestRoundTrip` shows.
 use Rattle.vault_http.proofs.RequestRoundTrip.{reads_back}
 use Rattle.vault_http.proofs.round_trip.request_reads_back.Goals as goal
 

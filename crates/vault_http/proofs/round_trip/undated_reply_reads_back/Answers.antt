@@ -1,4 +1,4 @@
--- The law is the lemma.
+-- A reply that was written, read with its date, is read back without one, as `DatedRoundTrip` shows.
 use Rattle.vault_http.proofs.DatedRoundTrip.{reads_back_undated}
 use Rattle.vault_http.proofs.round_trip.undated_reply_reads_back.Goals as goal
 

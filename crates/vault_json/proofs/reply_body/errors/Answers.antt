@@ -1,4 +1,4 @@
--- The value that is written is the tree, and the tree's text is the body.
+-- What is written of `errors_tree` is `errors_text`: the body of a reply that refuses a request.
 use Rattle.std.proofs.Common.{refl}
 use Rattle.vault_json.specs.Trees.{errors_tree}
 use Rattle.vault_json.proofs.Texts.{spelled, errors_text_is}

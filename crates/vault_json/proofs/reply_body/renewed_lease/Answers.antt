@@ -1,4 +1,4 @@
--- The value that is written is the tree, and the tree's text is the body.
+-- What is written of `renewed_lease_tree`, whose id is the text of the bytes, is `renewed_lease_text`: the body of a reply to a lease's renewal.
 use Rattle.std.proofs.Common.{refl, ap, ◌∙◌}
 use Rattle.vault_json.specs.Trees.{renewed_lease_tree}
 use Rattle.vault_json.proofs.Texts.{spelled, renewed_lease_text_is}

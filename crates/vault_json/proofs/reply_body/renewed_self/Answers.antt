@@ -1,4 +1,4 @@
--- The value that is written is the tree, and the tree's text is the body.
+-- What is written of `renewed_self_tree` is `renewed_self_text`: the body of a reply to a token's renewal.
 use Rattle.std.proofs.Common.{refl}
 use Rattle.vault_json.specs.Trees.{renewed_self_tree}
 use Rattle.vault_json.proofs.Texts.{spelled, renewed_self_text_is}

@@ -1,4 +1,4 @@
--- The value that is written is the tree, and the tree's text is the body.
+-- What is written of `lease_tree`, whose id is the text of the bytes, is `lease_text`: the body of a request to renew a lease.
 use Rattle.std.proofs.Common.{refl, ap, ◌∙◌}
 use Rattle.vault_json.specs.Trees.{lease_tree}
 use Rattle.vault_json.proofs.Texts.{spelled, lease_text_is}

@@ -1,4 +1,4 @@
--- The value that is written is the tree, and the tree's text is the body.
+-- What is written of `lookup_tree`, whose id is the text of the bytes, is `lookup_text`: the body of a request to look up a lease.
 use Rattle.std.proofs.Common.{refl, ap, ◌∙◌}
 use Rattle.vault_json.specs.Trees.{lookup_tree}
 use Rattle.vault_json.proofs.Texts.{spelled, lookup_text_is}

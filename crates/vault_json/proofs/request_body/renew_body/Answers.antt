@@ -1,4 +1,4 @@
--- The value that is written is the tree, and the tree's text is the body.
+-- What is written of `renew_tree` is `renew_text`: the body of a request to renew the own token.
 use Rattle.std.proofs.Common.{refl}
 use Rattle.vault_json.specs.Trees.{renew_tree}
 use Rattle.vault_json.proofs.Texts.{spelled, renew_text_is}

@@ -1,4 +1,4 @@
--- A head that is refused stays so however the bytes go on.
+-- Where the head of a reply is refused, the answer is BadHead however the bytes go on.
 use Rattle.std.proofs.Common.{subst}
 use Rattle.httparse.specs.Spans.{ResponseOverflows}
 use Rattle.vault_http.proofs.MessageLemmas.{refused_reply}
