@@ -1,5 +1,6 @@
-use crate::runs::Runs;
 use keep_moment::Moment;
+use keep_rule::Run;
+use keep_tree::Listed;
 
 /// The most lines of wake-ups (version 1) or of runs (version 2) in a certificate's text.
 pub const MAX_LINES: u64 = 100_000;
@@ -15,6 +16,9 @@ pub enum Version {
     /// A line for each run of wake-ups.
     Two,
 }
+
+/// Runs of wake-ups, in the order of their moments.
+pub type Runs = Listed<Run>;
 
 /// What a certificate claims of a forest.
 #[derive(Debug, Drop)]

@@ -15,15 +15,13 @@ mod printer;
 mod reader;
 mod run_line;
 mod run_lines;
-mod runs;
 mod writer;
 
-pub use cert::{Body, Cert, MAX_LINES, MOST_CERTIFICATE, Version};
+pub use cert::{Body, Cert, MAX_LINES, MOST_CERTIFICATE, Runs, Version};
 pub use fault::CertFault;
 pub use first_fault::first_fault_law;
 pub use keep_rule::LIMIT;
 pub use laws::{certificates_are_read_back, decisions_are_read_back, limits_of_certificates};
 pub use printer::{PrintFault, print};
 pub use reader::read;
-pub use runs::Runs;
 pub use writer::text_of;

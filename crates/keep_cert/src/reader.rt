@@ -10,9 +10,8 @@ use crate::fault::CertFault;
 use crate::lines::{line_at, number_at};
 use crate::run_line::{entry_named, nothing_behind};
 use crate::run_lines::runs_of;
-use crate::runs::Runs;
 use keep_moment::Moment;
-use keep_tree::Forest;
+use keep_tree::{Forest, Listed};
 use keep_words::{begins, cut, three_words, two_words};
 use std::alloc::Global;
 
@@ -94,7 +93,7 @@ fn body_of(alloc: Global, forest: &Forest, version: Version, text: &[u8]) -> Res
         return Ok(body);
     }
     let runs = runs_of(alloc, forest, version, text)?;
-    Ok(Body::Runs(Runs::from_vec(runs)))
+    Ok(Body::Runs(Listed::from_vec(runs)))
 }
 
 /// The third line, `unkeepable ENTRY NEEDED`.

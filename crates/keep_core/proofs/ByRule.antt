@@ -4,6 +4,7 @@ use Rattle.std.proofs.lemmas.Bool.{cases_Bool, cases_eq}
 use Rattle.std.proofs.lemmas.Bool.Decides.{nat_tests}
 use Rattle.std.proofs.lemmas.List.{get_or-set_other, get_or-set_same, length-set}
 use Rattle.std.specs.List.{list_any}
+use Rattle.std.proofs.Math.Bool.{and-true}
 use Rattle.keep_tree.specs.declared.entry.Entry.{Entry}
 use Rattle.keep_tree.specs.Forest.{Forest, end_of, entry_at}
 use Rattle.keep_tree.specs.Push.{IsForest}
@@ -135,10 +136,6 @@ no_flag flags i none = elim (cases_Bool (flag flags i)) [
   | inl yes' ↦ absurd (let bad : true ≡ false = sym (waits_flag flags i ∙ yes') ∙ ap (list_any (λ j. j == i)) none in cc)
 ]
 
-and_true : (b : Bool) → b && true ≡ b
-and_true true = refl
-and_true false = refl
-
 -- where all have answered, the rest of the plan is what planning anew gives, with its forces, and nothing is shortened
 pub closes_by_rule :
     (h : Forest) (t : ℕ) (p : Planned) (flags : List Bool) → IsByRule h t p flags → waited_for flags ≡ [] →
@@ -152,7 +149,7 @@ closes_by_rule h t p flags rule none =
       count = rule.count;
       each = λ i. rule.each i
           ∙ ap (λ b. record (entry_at g.entries i) { end = cond (asked i && not b) (renewal (entry_at g.entries i) t) (entry_at g.entries i).end }) (no_flag flags i none)
-          ∙ ap (λ b. record (entry_at g.entries i) { end = cond b (renewal (entry_at g.entries i) t) (entry_at g.entries i).end }) (and_true (asked i));
+          ∙ ap (λ b. record (entry_at g.entries i) { end = cond b (renewal (entry_at g.entries i) t) (entry_at g.entries i).end }) (and-true (asked i));
     } in
     let stays = tail_kept g h t (moments_of (to_come p)) rule.forest rule.best answered in
     let best : IsPlanOf g t (moments_of (rule.x ∷ to_come p)) = subst (λ n. IsPlanOf g t (n ∷ moments_of (to_come p))) (sym rule.at) rule.best in

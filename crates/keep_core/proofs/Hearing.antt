@@ -4,6 +4,7 @@ use Rattle.std.proofs.lemmas.Bool.{cases_Bool, cases_eq}
 use Rattle.std.proofs.lemmas.Bool.Decides.{nat_tests}
 use Rattle.std.proofs.lemmas.List.{get_or-set_other, get_or-set_same, length-set, set-set}
 use Rattle.std.specs.List.{list_any, range_with_len}
+use Rattle.std.proofs.Math.Bool.{and-false, and-true}
 use Rattle.keep_tree.specs.declared.entry.Entry.{Entry}
 use Rattle.keep_tree.specs.Carried.{carried, carried_of}
 use Rattle.keep_tree.specs.Forest.{Forest, entry_at}
@@ -99,22 +100,14 @@ carried_heard g i at event within s loads carries =
 
 -- Flags: one answer more.
 
-and_false : (b : Bool) → b && false ≡ false
-and_false true = refl
-and_false false = refl
-
-and_true : (b : Bool) → b && true ≡ b
-and_true true = refl
-and_true false = refl
-
 flag_set : (flags : List Bool) (i : ℕ) → i < length flags → (j : ℕ) → flag (set flags i false) j ≡ flag flags j && not (j == i)
 flag_set flags i within j = elim (cases_eq j i) [
   | inl same ↦
       let test : (j == i) ≡ true = grind (arith, nat_tests) in
-      ap (flag (set flags i false)) same ∙ get_or-set_same flags i false false within ∙ sym (ap (λ b. flag flags j && not b) test ∙ and_false (flag flags j))
+      ap (flag (set flags i false)) same ∙ get_or-set_same flags i false false within ∙ sym (ap (λ b. flag flags j && not b) test ∙ and-false (flag flags j))
   | inr apart ↦
       let test : (j == i) ≡ false = grind (arith, nat_tests) in
-      get_or-set_other flags i j false false apart ∙ sym (ap (λ b. flag flags j && not b) test ∙ and_true (flag flags j))
+      get_or-set_other flags i j false false apart ∙ sym (ap (λ b. flag flags j && not b) test ∙ and-true (flag flags j))
 ]
 
 filter_twice : (p q r : ℕ → Bool) → ((j : ℕ) → r j ≡ p j && q j) → (xs : List ℕ) → filter r xs ≡ filter q (filter p xs)

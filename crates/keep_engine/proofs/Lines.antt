@@ -6,15 +6,11 @@ use Rattle.std.proofs.lemmas.List.FromFn.{get_or-map-range_with_len, length-map-
 use Rattle.std.specs.List.{range_with_len}
 use Rattle.keep_tree.specs.declared.entry.Entry.{Entry}
 use Rattle.keep_tree.specs.Forest.{entry_at}
+use Rattle.keep_tree.proofs.Ranges.{range_more}
 use Rattle.keep_rule.specs.declared.wake.Wake.{Wake}
 use Rattle.keep_rule.specs.Ends.{listed}
 use Rattle.keep_engine.specs.code.Making.{at_index}
 use Rattle.keep_engine.specs.EndsText.{all_asked, end_line, end_lines}
-
-pub range_more : (n : ℕ) → range_with_len 0 (n + 1) ≡ range_with_len 0 n ++ n ∷ []
-range_more n =
-    sym (map-id (range_with_len 0 (n + 1))) ∙ map-range_with_len_more (λ k. k) 0 n n (omega arith)
-    ∙ ap (λ xs. xs ++ n ∷ []) (map-id (range_with_len 0 n))
 
 pub end_lines_none : (es : List Entry) (ends : ℕ → ℕ) → end_lines es ends 0 ≡ []
 unfolding end_lines
@@ -24,7 +20,7 @@ pub end_lines_more : (es : List Entry) (ends : ℕ → ℕ) (n : ℕ) → end_li
 unfolding end_lines
 end_lines_more es ends n =
     let line : ℕ → List ℕ = λ i. end_line (entry_at es i) (ends i) in
-    ap (flat_map line) (range_more n) ∙ flat_map-append line (range_with_len 0 n) (n ∷ []) ∙ ap (λ xs. flat_map line (range_with_len 0 n) ++ xs) (append-nil (line n))
+    ap (flat_map line) (range_more 0 n n (omega arith)) ∙ flat_map-append line (range_with_len 0 n) (n ∷ []) ∙ ap (λ xs. flat_map line (range_with_len 0 n) ++ xs) (append-nil (line n))
 
 pub all_asked_none : (n : ℕ) → all_asked n [] ≡ []
 unfolding all_asked

@@ -9,6 +9,7 @@ use Rattle.keep_tree.specs.Carried.{carried}
 use Rattle.keep_tree.specs.Forest.{Forest, end_of, entry_at}
 use Rattle.keep_tree.specs.Over.{chain}
 use Rattle.keep_tree.specs.Renewal.{all_last, is_granted, renewal, renewed}
+use Rattle.keep_tree.proofs.Ranges.{range_more}
 use Rattle.keep_rule.specs.Asks.{asks, is_due, is_wanted}
 use Rattle.keep_needs.specs.Carried.{CarriedNeed, IsCarried}
 use Rattle.keep_plan.specs.code.Wanted.{is_test, waits_until}
@@ -80,14 +81,9 @@ test_is g above s at next until loads i within is waits =
     ∙ ap (λ d. nat_lt (end_of es i) (carried es s i) && (d && gains)) (due_until g.margin (end_of es i) next until waits)
     ∙ sym (three_of_five (entry_at es i).renewable (all_last es (end_of es) (at + 1) i) (nat_lt (end_of es i) (carried es s i)) gains (is_due g.margin next (end_of es i)) (gaining es g.margin at i above))
 
-range_more : (a n : ℕ) → range_with_len a (suc n) ≡ range_with_len a n ++ (a + n) ∷ []
-range_more a zero = ap (λ k. k ∷ []) (let e : a ≡ a + 0 = omega arith in e)
-range_more a (suc n) = ap (λ ks. a ∷ ks) (range_more (a + 1) n) ∙ ap (λ k. a ∷ (range_with_len (a + 1) n ++ k ∷ [])) (let e : a + 1 + n ≡ a + suc n = omega arith in e)
-
 pub asked_more : (p : ℕ → Bool) (n : ℕ) → filter p (range_with_len 0 (n + 1)) ≡ filter p (range_with_len 0 n) ++ cond (p n) (n ∷ []) []
 asked_more p n =
-    ap (λ m. filter p (range_with_len 0 m)) (let e : n + 1 ≡ suc n = omega arith in e) ∙ ap (filter p) (range_more 0 n) ∙ filter-append p (range_with_len 0 n) ((0 + n) ∷ [])
-    ∙ ap (λ m. filter p (range_with_len 0 n) ++ cond (p m) (m ∷ []) []) (let e : 0 + n ≡ n = omega arith in e)
+    ap (filter p) (range_more 0 n n (omega arith)) ∙ filter-append p (range_with_len 0 n) (n ∷ [])
 
 pub asks_of : (es : List Entry) (margin s at : ℕ) (next : Option ℕ) (n : ℕ) → n ≡ length es → filter (is_wanted es margin s (end_of es) at next) (range_with_len 0 n) ≡ asks es margin s (end_of es) at next
 unfolding asks

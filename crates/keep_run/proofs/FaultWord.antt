@@ -1,13 +1,11 @@
 -- Fault words: one word more.
 use Rattle.std.proofs.Common.{◌≡◌, ◌∙◌, ℕ, ◌+◌, List, [], ◌∷◌, ◌++◌, Option, Some, None, Result, Ok, Err, is_none, refl, sym, ap, subst}
-use Rattle.std.specs.Prelude.{◌≢◌, IfSome, IsOkUnless}
+use Rattle.std.specs.Prelude.{IfSome, IsOkUnless}
 use Rattle.mini_broker.specs.declared.fault.SetFault.TheVariants.{BadNumber, Twice, OutOfMemory}
 use Rattle.std.proofs.lemmas.Bool.{cond-true, cond-false}
 use Rattle.mini_broker.specs.declared.fault.NumberedFault.{NumberedFault}
 use Rattle.mini_broker.specs.declared.fault.SetFault.{SetFault}
 use Rattle.mini_broker.specs.Faults.{fault_refusal}
-use Rattle.keep_words.specs.Pieces.{pieces, two}
-use Rattle.keep_words.proofs.Cutting.{has_piece}
 use Rattle.keep_run.specs.FaultWords.{SetsFaults, fault_word, faults_from, faults_of, is_taken, listed, stop_at}
 use Rattle.mini_broker.specs.Table.{Table}
 
@@ -29,13 +27,6 @@ word_bad before n w ws is = cond-false (is_taken before (fault_word w)) _ _ (ap 
 pub no_more : (before : List NumberedFault) (n : ℕ) → faults_from before n [] ≡ Ok before
 unfolding faults_from
 no_more before n = refl
-
-more_than_two : (a b : List ℕ) (ws : List (List ℕ)) → ws ≢ [] → two (a ∷ b ∷ ws) ≡ None
-more_than_two a b [] some = absurd (some refl)
-more_than_two a b (w ∷ ws) some = refl
-
-pub two_of_more : (byte : ℕ) (a b rest : List ℕ) → two (a ∷ b ∷ pieces byte rest) ≡ None
-two_of_more byte a b rest = more_than_two a b (pieces byte rest) (has_piece byte rest)
 
 -- what the broker's table says of a fault that it takes, and of one that it refuses
 pub free : (o : Option SetFault) (result : Result (Unit {0}) SetFault) (u : Unit {0}) → result ≡ Ok u → IfSome o (λ fault. result ≡ Err fault) → o ≡ None

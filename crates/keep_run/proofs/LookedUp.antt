@@ -24,6 +24,7 @@ use Rattle.keep_run.proofs.Written.{appends_then, front_then, keeps_appends, who
 use Rattle.keep_tree.specs.declared.entry.Entry.{Entry}
 use Rattle.keep_tree.specs.Forest.{entry_at}
 use Rattle.keep_tree.proofs.Entries.{entry_at_set_other}
+use Rattle.keep_tree.proofs.Ranges.{range_more}
 use Rattle.vault_http.specs.declared.reply.Reply.{Reply}
 use Rattle.vault_json.specs.declared.fault.ReplyFault.{ReplyFault}
 use Rattle.vault_json.specs.declared.lookup.Lookup.{Lookup}
@@ -36,17 +37,8 @@ looked_more :
 looked_more port t old mid new [] i all one = (new, (subst (λ (m : Looked). IsLookedUp port m.behind t m.inventory i true new.inventory new.behind) all one, refl))
 looked_more port t old mid new (j ∷ is) i all one = (all.0, (all.1.0, looked_more port t all.0 mid new is i all.1.1 one))
 
-range_more : (a n : ℕ) → range_with_len a (suc n) ≡ range_with_len a n ++ (a + n) ∷ []
-range_more a zero = let e : a ≡ a + 0 = omega arith in ap (λ k. k ∷ []) e
-range_more a (suc n) =
-    let e : (a + 1) + n ≡ a + suc n = omega arith in
-    ap (λ xs. a ∷ xs) (range_more (a + 1) n) ∙ ap (λ k. a ∷ (range_with_len (a + 1) n ++ k ∷ [])) e
-
 first_more : (n : ℕ) → first (n + 1) ≡ first n ++ n ∷ []
-first_more n =
-    let one : n + 1 ≡ suc n = omega arith in
-    let at : 0 + n ≡ n = omega arith in
-    ap (range_with_len 0) one ∙ range_more 0 n ∙ ap (λ k. range_with_len 0 n ++ k ∷ []) at
+first_more n = range_more 0 n n (omega arith)
 
 -- ---- what a lookup leaves of the other entries
 

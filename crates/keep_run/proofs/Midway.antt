@@ -3,6 +3,7 @@ use Rattle.std.proofs.Common.{◌≡◌, ◌==◌, ℕ, zero, suc, ◌+◌, ◌<
 use Rattle.std.proofs.lemmas.Bool.{cases_Bool, cases_eq, cases_lt, cond-true, cond-false}
 use Rattle.std.proofs.lemmas.Bool.Decides.{nat_tests}
 use Rattle.std.specs.List.{list_any, range_with_len}
+use Rattle.std.proofs.Math.Bool.{and-false, and-true}
 use Rattle.keep_tree.specs.declared.entry.Entry.{Entry}
 use Rattle.keep_tree.specs.Forest.{Forest, end_of, entry_at}
 use Rattle.keep_tree.specs.Over.{chain, is_over}
@@ -106,30 +107,22 @@ midway_first g t rest = record {
   rises = filter_rises (is_wanted g.entries g.margin t (end_of g.entries) t (first_of rest)) (length g.entries) 0;
 }
 
-and_true : (b : Bool) → b && true ≡ b
-and_true true = refl
-and_true false = refl
-
 pub midway_last : (g : Forest) (t : ℕ) (rest : List ℕ) (h : Forest) → Midway g t rest [] h → IsAnsweredByRule g h t (first_of rest)
 midway_last g t rest h m = record {
   margin = m.margin;
   count = m.count;
-  each = λ i. m.each i ∙ ap (λ b. record (entry_at g.entries i) { end = cond b (renewal (entry_at g.entries i) t) (entry_at g.entries i).end }) (and_true (is_asked (wake_of g t rest) i));
+  each = λ i. m.each i ∙ ap (λ b. record (entry_at g.entries i) { end = cond b (renewal (entry_at g.entries i) t) (entry_at g.entries i).end }) (and-true (is_asked (wake_of g t rest) i));
 }
 
 pub here_first : (i : ℕ) (xs : List ℕ) → is_among (i ∷ xs) i ≡ true
 here_first i xs = let hit : (i == i) ≡ true = grind (arith, nat_tests) in ap (λ b. b || is_among xs i) hit
-
-and_false : (b : Bool) → b && false ≡ false
-and_false true = refl
-and_false false = refl
 
 -- who is still to answer is as before the round
 pub as_it_was : (g : Forest) (t : ℕ) (rest todo : List ℕ) (h : Forest) → Midway g t rest todo h → (i : ℕ) → is_among todo i ≡ true → entry_at h.entries i ≡ entry_at g.entries i
 as_it_was g t rest todo h m i there =
     m.each i
     ∙ ap (λ b. record (entry_at g.entries i) { end = cond (is_asked (wake_of g t rest) i && not b) (renewal (entry_at g.entries i) t) (entry_at g.entries i).end }) there
-    ∙ ap (λ b. record (entry_at g.entries i) { end = cond b (renewal (entry_at g.entries i) t) (entry_at g.entries i).end }) (and_false (is_asked (wake_of g t rest) i))
+    ∙ ap (λ b. record (entry_at g.entries i) { end = cond b (renewal (entry_at g.entries i) t) (entry_at g.entries i).end }) (and-false (is_asked (wake_of g t rest) i))
 
 pub margin_of : (h : Forest) (i end : ℕ) → (ended h i end).margin ≡ h.margin
 unfolding ended

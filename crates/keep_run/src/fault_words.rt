@@ -1,12 +1,11 @@
 //! FAULT words: what is to go wrong at which renewal request.
-ghost use Rattle.std.specs.Prelude.{◌≡◌, [], option_map};
-ghost use Rattle.keep_words.specs.Pieces.{pieces, two};
+ghost use Rattle.std.specs.Prelude.{◌≡◌, []};
 ghost use Rattle.keep_run.specs.FaultWords.{SetsFaults, fault_word, kind_of, stop_at};
 
 use keep_inventory::SPAN_MAX;
 use keep_moment::Text;
 use keep_report::Stop;
-use keep_words::{cut, number_up_to};
+use keep_words::{number_up_to, two_pieces};
 use mini_broker::{Fault, NumberedFault, SetFault, Table};
 
 /// The greatest number of a renewal request that a FAULT word names.
@@ -71,15 +70,4 @@ fn kind_of(text: &[u8]) -> Option<Fault>
     }
     let seconds = number_up_to(seconds, SPAN_MAX as u64)?;
     Some(Fault::Short(seconds as u32))
-}
-
-/// The pieces of a text between bytes of this value, where it has two.
-fn two_pieces(text: &[u8], byte: u8) -> Option<(&[u8], &[u8])>
-    ensures { option_map (λ w. (w.0.now, w.1.now)) result ≡ two (pieces byte text.now) }
-{
-    let (first, rest) = cut(text, byte)?;
-    match cut(rest, byte) {
-        Some(_) => None,
-        None => Some((first, rest)),
-    }
 }

@@ -4,3 +4,4 @@ pub mod Placed
 pub mod Carrying
 pub mod Names
 pub mod Margins
+pub mod Ranges

@@ -6,18 +6,16 @@
 //! `entry`.
 #![tactic(auto)]
 
-mod ends;
 mod entry;
 mod fault;
 mod forest;
-mod indices;
 mod limits;
+mod listed;
 mod renewing;
 
-pub use ends::Ends;
 pub use entry::{Entry, Kind};
 pub use fault::TreeFault;
 pub use forest::{END_MAX, Forest, MARGIN_MAX, MAX_DEPTH, MAX_ENTRIES, NAME_MAX};
-pub use indices::Indices;
 pub use limits::limits_law;
+pub use listed::{Ends, Indices, Listed};
 pub use renewing::{capped, renewal};

@@ -3,6 +3,7 @@
 use Rattle.std.proofs.Common.{◌≡◌, ◌∙◌, ℕ, ◌+◌, ◌<◌, ◌≤◌, Bool, true, false, not, ◌&&◌, ◌||◌, ◌==◌, List, Some, filter, length, map, refl, sym, ap, ap₂, subst, arith, inl, inr}
 use Rattle.std.proofs.lemmas.Bool.{cases_Bool}
 use Rattle.std.specs.List.{list_any, range_with_len}
+use Rattle.std.proofs.Math.Bool.{and-true}
 use Rattle.keep_watch.specs.declared.event.Request.{Request}
 use Rattle.keep_watch.specs.LawsOfRecovery.{is_out, is_tried}
 use Rattle.keep_watch.specs.Outage.{Outage, comes, is_served, is_whole, waiting, waits}
@@ -67,10 +68,7 @@ module _ (o : Outage) (n : ℕ) (old mid : State) (picked : List ℕ) (requests 
       omega (arith, h, many, full)
     where
       served_is : (k : ℕ) → is_served o going k ≡ has picked k
-      served_is k = ap (λ b. is_out going k && b) whole ∙ and_true (is_out going k) ∙ new_out k where
-        and_true : (b : Bool) → b && true ≡ b
-        and_true true = refl
-        and_true false = refl
+      served_is k = ap (λ b. is_out going k && b) whole ∙ and-true (is_out going k) ∙ new_out k
 
       goes_tried : (k : ℕ) → is_served o going k ≡ true → is_tried going k ≡ true
       goes_tried k out = new_tried k ∙ may_tried mid k (passes (may_go mid) (length mid.forest.entries) picked k (picked_of mid picked pick) (sym (served_is k) ∙ out)).1

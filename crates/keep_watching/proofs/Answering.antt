@@ -6,6 +6,7 @@ use Rattle.std.proofs.lemmas.Bool.Decides.{nat_tests}
 use Rattle.std.proofs.lemmas.Grind.{flat_map-append}
 use Rattle.std.proofs.lemmas.List.{append-nil as append_nil}
 use Rattle.std.proofs.lemmas.List.Elements.{All-head, All-tail}
+use Rattle.keep_tree.proofs.Ranges.{range_more}
 use Rattle.keep_exchange.specs.Abreast.{Answer}
 use Rattle.keep_inventory.specs.Inventories.{Inventory}
 use Rattle.keep_watch.specs.declared.command.Output.{Output}
@@ -70,19 +71,11 @@ taken_more s (y ∷ ys) x old mid new first last all one =
     let rest = all.1.1.0 in
     (all.0, (all.1.0, (rest ++ last, (all.1.1.1.0, (taken_more s ys x all.0 mid new rest last all.1.1.1.1.0 one, ap (λ f. f ++ last) all.1.1.1.1.1 ∙ append_assoc all.1.0 rest last)))))
 
-range_more : (a n : ℕ) → range_with_len a (suc n) ≡ range_with_len a n ++ (a + n) ∷ []
-range_more a zero = let e : a ≡ a + 0 = omega arith in ap (λ k. k ∷ []) e
-range_more a (suc n) =
-    let e : (a + 1) + n ≡ a + suc n = omega arith in
-    ap (λ xs. a ∷ xs) (range_more (a + 1) n) ∙ ap (λ k. a ∷ (range_with_len (a + 1) n ++ k ∷ [])) e
-
 index_more : (n : ℕ) (xs : List Answered) → by_index (n + 1) xs ≡ by_index n xs ++ option_to_list (find (is_of n) xs)
 unfolding by_index
 index_more n xs =
-    let one : n + 1 ≡ suc n = omega arith in
-    let at : 0 + n ≡ n = omega arith in
     let one_of : ℕ → List Answered = λ i. option_to_list (find (is_of i) xs) in
-    ap (λ k. flat_map one_of (range_with_len 0 k)) one ∙ ap (flat_map one_of) (range_more 0 n) ∙ ap (λ k. flat_map one_of (range_with_len 0 n ++ k ∷ [])) at
+    ap (flat_map one_of) (range_more 0 n n (omega arith))
     ∙ flat_map-append one_of (range_with_len 0 n) (n ∷ []) ∙ ap (λ l. flat_map one_of (range_with_len 0 n) ++ l) (append_nil (one_of n))
 
 -- ---- the place of an entry's request

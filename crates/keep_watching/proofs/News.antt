@@ -5,12 +5,8 @@ use Rattle.std.proofs.lemmas.Grind.{flat_map-append}
 use Rattle.std.proofs.lemmas.List.{append_assoc, append-nil, ext_get_or, get_or-set_other, get_or-set_same, map-id}
 use Rattle.std.proofs.lemmas.List.FromFn.{get_or-map-range_with_len, length-map-range_with_len, map-range_with_len_more}
 use Rattle.std.specs.List.{range_with_len}
+use Rattle.keep_tree.proofs.Ranges.{range_more}
 use Rattle.keep_watching.specs.Clocked.{said_of}
-
-range_more : (n : ℕ) → range_with_len 0 (n + 1) ≡ range_with_len 0 n ++ n ∷ []
-range_more n =
-    sym (map-id (range_with_len 0 (n + 1))) ∙ map-range_with_len_more (λ k. k) 0 n n (omega arith)
-    ∙ ap (λ xs. xs ++ n ∷ []) (map-id (range_with_len 0 n))
 
 -- one line more
 pub one_more : (f : ℕ → List ℕ) (text : List ℕ) (n : ℕ) → (text ++ flat_map f (range_with_len 0 n)) ++ f n ≡ text ++ flat_map f (range_with_len 0 (n + 1))
@@ -18,7 +14,7 @@ one_more f text n =
     append_assoc text (flat_map f (range_with_len 0 n)) (f n)
     ∙ ap (λ xs. text ++ (flat_map f (range_with_len 0 n) ++ xs)) (sym (append-nil (f n)))
     ∙ ap (λ xs. text ++ xs) (sym (flat_map-append f (range_with_len 0 n) (n ∷ [])))
-    ∙ ap (λ is. text ++ flat_map f is) (sym (range_more n))
+    ∙ ap (λ is. text ++ flat_map f is) (sym (range_more 0 n n (omega arith)))
 
 module _ (first : List (Option ℕ)) (f : ℕ → Option ℕ) (said : List (Option ℕ)) (n : ℕ) where
   -- one entry more of which something was said

@@ -42,9 +42,9 @@ more_than_two : (a b : List ℕ) (ws : List (List ℕ)) → ws ≢ [] → two (a
 more_than_two a b [] some = absurd (some refl)
 more_than_two a b (w ∷ ws) some = refl
 
--- more than two words
-pub two_of_more : (a b rest : List ℕ) → two (a ∷ b ∷ pieces 32 rest) ≡ None
-two_of_more a b rest = more_than_two a b (pieces 32 rest) (has_piece 32 rest)
+-- more than two pieces
+pub two_of_more : (byte : ℕ) (a b rest : List ℕ) → two (a ∷ b ∷ pieces byte rest) ≡ None
+two_of_more byte a b rest = more_than_two a b (pieces byte rest) (has_piece byte rest)
 
 -- one word more in front
 pub three_after : (a : List ℕ) (ws : List (List ℕ)) → three (a ∷ ws) ≡ option_map (λ w. (a, w.0, w.1)) (two ws)

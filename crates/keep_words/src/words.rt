@@ -1,6 +1,6 @@
 ghost use Rattle.std.specs.Prelude.{◌≡◌, bytes_eq};
 ghost use Rattle.std.specs.Option.{option_map};
-ghost use Rattle.keep_words.specs.Pieces.{four, keyword, six, three, two, words};
+ghost use Rattle.keep_words.specs.Pieces.{four, keyword, pieces, six, three, two, words};
 
 use crate::pieces::cut;
 
@@ -21,15 +21,22 @@ pub fn keyword(line: &[u8]) -> &[u8]
     }
 }
 
+/// The pieces of a text between bytes of this value, where it has two.
+pub fn two_pieces(text: &[u8], byte: u8) -> Option<(&[u8], &[u8])>
+    ensures { option_map (λ w. (w.0.now, w.1.now)) result ≡ two (pieces byte text.now) }
+{
+    let (first, rest) = cut(text, byte)?;
+    match cut(rest, byte) {
+        Some(_) => None,
+        None => Some((first, rest)),
+    }
+}
+
 /// The words of a line, where it has two.
 pub fn two_words(line: &[u8]) -> Option<(&[u8], &[u8])>
     ensures { option_map (λ w. (w.0.now, w.1.now)) result ≡ two (words line.now) }
 {
-    let (first, rest) = cut(line, b' ')?;
-    match cut(rest, b' ') {
-        Some(_) => None,
-        None => Some((first, rest)),
-    }
+    two_pieces(line, b' ')
 }
 
 /// The words of a line, where it has three.

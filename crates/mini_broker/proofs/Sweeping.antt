@@ -4,6 +4,7 @@ use Rattle.std.proofs.lemmas.Bool.{cases_lt}
 use Rattle.std.proofs.lemmas.Bool.Decides.{nat_tests}
 use Rattle.std.specs.Cmp.Lexicographic.{bytes_decides}
 use Rattle.std.specs.List.{range_with_len}
+use Rattle.std.proofs.Math.Bool.{and-true}
 use Rattle.keep_tree.specs.declared.forest.TheConstants.{MAX_ENTRIES}
 use Rattle.keep_tree.specs.Forest.{Forest, end_of, entry_at, index_named}
 use Rattle.keep_tree.specs.Push.{IsForest}
@@ -52,10 +53,6 @@ pub name_in : (s : Inventory) (i : ℕ) → (row_of s i).name ≡ (entry_at s.fo
 unfolding row_of
 name_in s i = refl
 
-and_true : (b : Bool) → b && true ≡ b
-and_true true = refl
-and_true false = refl
-
 -- a row lives where its entry is alive
 lives_of_alive :
     (s : Inventory) → IsForest s.forest → (rows : List Row) (t : ℕ) (these : ℕ → Type 0) → Named s rows these → (n i : ℕ) → i < n → these i → lives_of n rows t (row_of s i) ≡ is_alive s.forest t i
@@ -72,7 +69,7 @@ lives_of_alive s forest rows t these named (suc n) i below here =
     (nat_le (t + 1) (entry_at es i).end && parent_passes test rows (option_map (λ p. (entry_at es p).name) (entry_at es i).parent) ≡ is_alive g t i)
     (λ root.
     ap (λ o. nat_le (t + 1) (entry_at es i).end && parent_passes test rows (option_map (λ p. (entry_at es p).name) o)) root
-    ∙ and_true (nat_le (t + 1) (entry_at es i).end) ∙ sym (alive_root g t i root))
+    ∙ and-true (nat_le (t + 1) (entry_at es i).end) ∙ sym (alive_root g t i root))
     (λ p child.
     let over = named i p here child in
     let first : p < i = parents_first g forest i p child in

@@ -1,7 +1,7 @@
 -- With one entry more, the greatest margin is the lesser of that before and the entry's step less one.
-use Rattle.std.proofs.Common.{◌≡◌, ◌+◌, ◌-◌, ◌<◌, length, min, arith, ap, ◌∙◌, subst, sym}
+use Rattle.std.proofs.Common.{◌≡◌, ◌+◌, ◌-◌, ◌<◌, length, min, arith, subst, sym}
 use Rattle.keep_tree.specs.declared.entry.Entry.{Entry}
-use Rattle.keep_tree.specs.Forest.{Forest, entry_at}
+use Rattle.keep_tree.specs.Forest.{entry_at}
 use Rattle.keep_tree.proofs.Margins.{IsMostOf, most_of_more}
 use Rattle.keep_tree.proofs.forest.Forest.most_margin.Goals as goal
 
