@@ -10,9 +10,9 @@ use Rattle.keep_core.specs.LawsOfSteps.{IsShaped}
 use Rattle.keep_core.specs.declared.event.Output.TheVariants as out
 use Rattle.keep_core.specs.State.{State}
 use Rattle.keep_run.specs.Closed.{AreAnswered, Beat, Exchanged, IsBeat, Played, World, asks_some, next_tick, requests_of, rounds}
-use Rattle.keep_run.specs.Playing.{AnswersAll, Ends, Goes, Opens, inventory_with}
+use Rattle.keep_run.specs.code.Playing.{AnswersAll, Ends, Goes, Opens}
 use Rattle.keep_run.specs.Stops.{IsDue, both}
-use Rattle.keep_run.specs.Text.{answer_text, beat_text, short_lines, wake_line}
+use Rattle.keep_run.specs.Text.{answer_text, beat_text, inventory_with, short_lines, wake_line}
 use Rattle.keep_run.proofs.Texts.{same_answer_texts, same_beat_texts, same_shorts, same_wake}
 
 -- ---- one run behind another

@@ -16,11 +16,11 @@ use Rattle.keep_report.specs.declared.stop.Stop.{Stop}
 use Rattle.keep_report.specs.Sent.{Sent}
 use Rattle.keep_run.specs.Closed.{AreAnswered, Beat, Exchanged, IsBeat, World, asked_in, asks_some, closing, taken}
 use Rattle.keep_run.specs.Live.{IsReady, IsUnderWay, TicksLive, TicksSoFar, TicksUpTo, last_line, next_line, tick_text}
-use Rattle.keep_run.specs.declared.event_line.Heard.TheVariants.{Need}
-use Rattle.keep_run.specs.Telling.{IsRoundSoFar, IsRoundUpTo, StopsNeed, TellsRound}
-use Rattle.keep_run.specs.Playing.{AnswersAll, IsPlanFault, Ticks, inventory_with, stop_of}
+use Rattle.keep_run.specs.declared.live.event_line.Heard.TheVariants.{Need}
+use Rattle.keep_run.specs.code.Telling.{IsRoundSoFar, IsRoundUpTo, StopsNeed, TellsRound}
+use Rattle.keep_run.specs.code.Playing.{AnswersAll, IsPlanFault, Ticks, stop_of}
 use Rattle.keep_run.specs.Stops.{both}
-use Rattle.keep_run.specs.Text.{answer_text, beat_text, short_lines, wake_line}
+use Rattle.keep_run.specs.Text.{answer_text, beat_text, inventory_with, short_lines, wake_line}
 use Rattle.keep_run.proofs.Opens.{ticks_shaped}
 use Rattle.keep_run.proofs.Texts.{same_answer_text, same_answer_texts, same_shorts, same_wake}
 

@@ -7,7 +7,7 @@ use Rattle.keep_core.specs.declared.fault.StepFault.{StepFault}
 use Rattle.keep_core.specs.declared.fault.StepFault.TheVariants.{ClockBack, RoundOpen, NotAsked, BadIndex, OutOfRange, TooLong, OutOfMemory}
 use Rattle.keep_report.specs.declared.stop.Stop.{Stop}
 use Rattle.keep_report.specs.declared.stop.Stop.TheVariants as stops
-use Rattle.keep_run.specs.Playing.{IsPlanFault, stop_of}
+use Rattle.keep_run.specs.code.Playing.{IsPlanFault, stop_of}
 
 plan_fault : (g : Forest) (t : ℕ) (fault : StepFault) → PlanFails g t fault → IsPlanFault fault
 plan_fault g t TooLong fails = tt

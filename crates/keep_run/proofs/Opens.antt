@@ -13,9 +13,9 @@ use Rattle.keep_core.proofs.Once.{next_asks}
 use Rattle.keep_core.proofs.Shaped.{shape}
 use Rattle.keep_core.proofs.Turns.{replan_force}
 use Rattle.keep_run.specs.Closed.{Beat, IsBeat, asked_in, asks_some, next_by, rounds, requests_of}
-use Rattle.keep_run.specs.Playing.{Ends, IsQuietTo, Opens, Ticks, inventory_with}
+use Rattle.keep_run.specs.code.Playing.{Ends, IsQuietTo, Opens, Ticks}
 use Rattle.keep_run.specs.Stops.{both}
-use Rattle.keep_run.specs.Text.{beat_text, short_lines, wake_line}
+use Rattle.keep_run.specs.Text.{beat_text, inventory_with, short_lines, wake_line}
 use Rattle.keep_run.proofs.Texts.{same_shorts, same_wake}
 
 pub ticks_shaped : (t : ℕ) (old new : State) (output : Output) (before after : List ℕ) → Ticks t old output new before after → IsShaped old.forest new.forest

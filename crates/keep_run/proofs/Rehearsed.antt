@@ -25,10 +25,10 @@ use Rattle.keep_report.specs.Told.{Reports}
 use Rattle.keep_run.specs.Closed.{IsOpening, World, taken}
 use Rattle.keep_run.specs.FaultWords.{SetsFaults, faults_of}
 use Rattle.keep_run.specs.Live.{IsReady}
-use Rattle.keep_run.specs.Playing.{Comes, Goes, IsText, Plays, PlaysFront, inventory_with}
+use Rattle.keep_run.specs.code.Playing.{Comes, Goes, IsText, Plays, PlaysFront}
 use Rattle.keep_run.specs.Rehearse.{IsCalled, IsRunText, Rehearses, RehearseRun, RehearseTold, WritesFront, fresh}
 use Rattle.keep_run.specs.Stops.{SoFar, both}
-use Rattle.keep_run.specs.Text.{done_text, short_lines}
+use Rattle.keep_run.specs.Text.{done_text, inventory_with, short_lines}
 use Rattle.keep_run.proofs.Loops.{at_end}
 use Rattle.keep_run.proofs.Texts.{same_beat_texts, same_shorts}
 

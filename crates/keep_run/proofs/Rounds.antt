@@ -4,8 +4,8 @@ use Rattle.std.proofs.lemmas.List.{append-nil, flat_map_more, map-append}
 use Rattle.keep_core.specs.LawsOfSteps.{IsShaped}
 use Rattle.keep_core.specs.declared.event.Output.{Output}
 use Rattle.keep_run.specs.Closed.{Exchanged, World, closing, told_next}
-use Rattle.keep_run.specs.Playing.{Answers, AnswersAll, inventory_with}
-use Rattle.keep_run.specs.Text.{answer_text}
+use Rattle.keep_run.specs.code.Playing.{Answers, AnswersAll}
+use Rattle.keep_run.specs.Text.{answer_text, inventory_with}
 use Rattle.keep_run.proofs.Loops.{answer_more}
 use Rattle.keep_run.proofs.Texts.{same_answer_text}
 

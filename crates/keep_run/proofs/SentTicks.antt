@@ -12,13 +12,13 @@ use Rattle.keep_report.specs.declared.stop.Stop.{Stop}
 use Rattle.keep_report.specs.declared.stop.Stop.TheVariants as stops
 use Rattle.keep_report.specs.Sent.{Sends, Sent}
 use Rattle.keep_run.specs.Closed.{World, asked_in, asks_some}
-use Rattle.keep_run.specs.LineByLine.{IsSent}
+use Rattle.keep_run.specs.code.LineByLine.{IsSent}
 use Rattle.keep_run.specs.Live.{HearsTo, IsBrokenOff, IsCutOff, IsHeard, IsHeardUpTo, IsNeeded, IsOverlong, last_line, next_line}
-use Rattle.keep_run.specs.declared.event_line.Heard.{Heard}
-use Rattle.keep_run.specs.declared.event_line.Heard.TheVariants as heards
-use Rattle.keep_run.specs.declared.event_line.Heard.TheVariants.{Need}
-use Rattle.keep_run.specs.Telling.{IsRoundBroken, IsRoundCut, StopsNeed, TellsRound}
-use Rattle.keep_run.specs.Playing.{Ticks}
+use Rattle.keep_run.specs.declared.live.event_line.Heard.{Heard}
+use Rattle.keep_run.specs.declared.live.event_line.Heard.TheVariants as heards
+use Rattle.keep_run.specs.declared.live.event_line.Heard.TheVariants.{Need}
+use Rattle.keep_run.specs.code.Telling.{IsRoundBroken, IsRoundCut, StopsNeed, TellsRound}
+use Rattle.keep_run.specs.code.Playing.{Ticks}
 use Rattle.keep_run.specs.Stops.{both}
 use Rattle.keep_run.proofs.LineByLine.{all_then, appends, joined, sent_then}
 use Rattle.keep_run.proofs.ToldRounds.{so_far}

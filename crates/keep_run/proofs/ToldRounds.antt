@@ -12,10 +12,11 @@ use Rattle.keep_report.specs.declared.stop.Stop.{Stop}
 use Rattle.keep_report.specs.declared.stop.Stop.TheVariants as stops
 use Rattle.keep_report.specs.Sent.{Sent}
 use Rattle.keep_run.specs.Closed.{Exchanged, World, told_next}
-use Rattle.keep_run.specs.LineByLine.{IsSent}
-use Rattle.keep_run.specs.Playing.{Answers, AnswersAll, inventory_with}
+use Rattle.keep_run.specs.code.LineByLine.{IsSent}
+use Rattle.keep_run.specs.code.Playing.{Answers, AnswersAll}
 use Rattle.keep_run.specs.Stops.{both}
-use Rattle.keep_run.specs.Telling.{IsOneCut, IsRoundBroken, IsRoundCut, IsRoundSoFar, IsRoundUpTo, TellsOne, TellsRound}
+use Rattle.keep_run.specs.code.Telling.{IsOneCut, IsRoundBroken, IsRoundCut, IsRoundSoFar, IsRoundUpTo, TellsOne, TellsRound}
+use Rattle.keep_run.specs.Text.{inventory_with}
 use Rattle.keep_run.proofs.LineByLine.{joined, sent_then}
 use Rattle.keep_run.proofs.Loops.{answer_more}
 use Rattle.keep_run.proofs.Rounds.{answers_more}

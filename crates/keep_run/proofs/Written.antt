@@ -21,9 +21,9 @@ use Rattle.keep_report.proofs.Counting.{failed_once}
 use Rattle.keep_report.specs.Sent.{Sent}
 use Rattle.keep_run.specs.Closed.{World}
 use Rattle.keep_run.specs.Live.{IsReady}
-use Rattle.keep_run.specs.Playing.{Comes, Ends, Finishes, Goes, IsText, LastFront, LastPlays, Plays, PlaysFront, inventory_with}
+use Rattle.keep_run.specs.code.Playing.{Comes, Ends, Finishes, Goes, IsText, LastFront, LastPlays, Plays, PlaysFront}
 use Rattle.keep_run.specs.Stops.{both}
-use Rattle.keep_run.specs.Text.{done_text}
+use Rattle.keep_run.specs.Text.{done_text, inventory_with}
 use Rattle.keep_run.proofs.Goes.{ends_go, goes_as, goes_nowhere, goes_on}
 
 -- ---- one text behind another

@@ -17,7 +17,7 @@ use Rattle.keep_core.specs.declared.shortened.ShortNeed.{ShortNeed}
 use Rattle.keep_core.specs.Replan.{Replan}
 use Rattle.keep_core.specs.History.{Turn}
 use Rattle.keep_core.specs.State.{State, unplanned}
-use Rattle.keep_run.specs.declared.playing.TheConstants.{MOST_WAKES}
+use Rattle.keep_run.specs.declared.rehearse.playing.TheConstants.{MOST_WAKES}
 use Rattle.keep_run.specs.Renewing.{event_for}
 
 -- both sides: the keeper, whose shortened needs were taken, and what stands behind the exchange, where it is known: the broker's

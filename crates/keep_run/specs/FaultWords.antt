@@ -12,7 +12,7 @@ use Rattle.mini_broker.specs.Table.{Table}
 use Rattle.keep_report.specs.declared.stop.Stop.{Stop}
 use Rattle.keep_report.specs.declared.stop.Stop.TheVariants as stops
 use Rattle.keep_inventory.specs.declared.limits.TheConstants.{SPAN_MAX}
-use Rattle.keep_run.specs.declared.fault_words.TheConstants.{MOST_NUMBER}
+use Rattle.keep_run.specs.declared.rehearse.fault_words.TheConstants.{MOST_NUMBER}
 use Rattle.keep_words.specs.Numbers.{number_up_to}
 use Rattle.keep_words.specs.Pieces.{pieces, two}
 

@@ -27,7 +27,7 @@ use Rattle.keep_core.specs.Replan.{IsPlanOf}
 use Rattle.keep_core.specs.Shorten.{pairs, shorten}
 use Rattle.keep_core.specs.History.{Turn}
 use Rattle.keep_core.specs.State.{State}
-use Rattle.keep_run.specs.declared.playing.TheConstants.{MOST_WAKES}
+use Rattle.keep_run.specs.declared.rehearse.playing.TheConstants.{MOST_WAKES}
 use Rattle.keep_run.specs.Closed.{AreAnswered, Beat, Course, Exchanged, IsClosedRun, IsOpening, Played, World, event_in, requests_of, rounds, taken}
 use Rattle.keep_run.specs.Renewing.{event_for}
 use Rattle.keep_exchange.specs.Exchanges.{Behind}

@@ -4,7 +4,6 @@ pub mod Text
 pub mod Listed
 pub mod Laws
 pub mod Stops
-pub mod Playing
 pub mod FaultWords
 pub mod Rehearse
 pub mod PlannedRehearsal
@@ -13,8 +12,7 @@ pub mod Agent
 pub mod Live
 pub mod Looking
 pub mod Listening
-pub mod LineByLine
-pub mod Telling
 pub mod LiveRun
 pub mod Alike
 pub mod Secrecy
+pub mod code

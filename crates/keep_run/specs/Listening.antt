@@ -9,9 +9,9 @@ use Rattle.keep_device.specs.Whole.{MakesAtMost}
 use Rattle.keep_report.specs.declared.stop.Stop.{Stop}
 use Rattle.keep_report.specs.declared.stop.Stop.TheVariants as stops
 use Rattle.keep_report.specs.Sent.{IsAll, Sent}
-use Rattle.keep_run.specs.declared.event_line.Heard.{Heard}
-use Rattle.keep_run.specs.declared.event_line.TheConstants.{MOST_LINE}
-use Rattle.keep_run.specs.declared.listening.TheConstants.{EVENT_ROOM, MOST_EVENTS, MOST_EVENT_READS}
+use Rattle.keep_run.specs.declared.live.event_line.Heard.{Heard}
+use Rattle.keep_run.specs.declared.live.event_line.TheConstants.{MOST_LINE}
+use Rattle.keep_run.specs.declared.live.listening.TheConstants.{EVENT_ROOM, MOST_EVENTS, MOST_EVENT_READS}
 use Rattle.keep_run.specs.Closed.{World}
 use Rattle.keep_run.specs.EventLines.{heard_in}
 use Rattle.keep_run.specs.Live.{IsBrokenOff, IsCutOff, IsHeard, IsOverlong}

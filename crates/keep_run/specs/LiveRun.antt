@@ -20,7 +20,7 @@ use Rattle.keep_report.specs.FaultLine.{fault_line}
 use Rattle.keep_report.specs.Sent.{IsAll, IsUntouched, Sent}
 use Rattle.keep_report.specs.Told.{Reports}
 use Rattle.keep_run.specs.Closed.{World, taken}
-use Rattle.keep_run.specs.declared.listening.TheConstants.{MOST_EVENTS, MOST_EVENT_READS}
+use Rattle.keep_run.specs.declared.live.listening.TheConstants.{MOST_EVENTS, MOST_EVENT_READS}
 use Rattle.keep_run.specs.Listening.{AreHeard, Fed, IsPrompt, ListensTo}
 use Rattle.keep_run.specs.Looking.{AreLookedUp, IsCut, IsLeft, IsSaid, IsUnlooked, Looked, first, looked_text}
 use Rattle.keep_run.specs.Stops.{both}

@@ -15,7 +15,7 @@ use Rattle.keep_exchange.specs.Exchanges.{Behind}
 use Rattle.keep_report.specs.declared.exit.Exit.{Exit}
 use Rattle.keep_report.specs.declared.exit.Exit.TheVariants as exits
 use Rattle.keep_report.specs.Sent.{IsAll, Sent}
-use Rattle.keep_run.specs.declared.playing.TheConstants.{MOST_WAKES}
+use Rattle.keep_run.specs.declared.rehearse.playing.TheConstants.{MOST_WAKES}
 use Rattle.keep_run.specs.Closed.{Course, IsClosedRun, World, rounds}
 use Rattle.keep_run.specs.Laws.{IsQuiet}
 use Rattle.keep_run.specs.Rehearse.{RehearseRun}

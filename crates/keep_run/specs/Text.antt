@@ -12,6 +12,10 @@ use Rattle.keep_core.specs.declared.event.Output.TheVariants as out
 use Rattle.keep_core.specs.declared.shortened.ShortNeed.{ShortNeed}
 use Rattle.keep_run.specs.Closed.{Beat, Course, Exchanged, event_in, requests_of, rounds}
 
+-- an inventory of these credentials and this forest
+abbrev pub inventory_with : List (List ℕ) → Forest → Inventory
+inventory_with cs g = record { forest = g; credentials = cs; terms = [] }
+
 -- words parted by one space, and a line feed behind the last
 abbrev pub line : List (List ℕ) → List ℕ
 line [] = 10 ∷ []

@@ -6,6 +6,12 @@ ghost use Rattle.keep_inventory.specs.Inventories.{credential_at};
 ghost use Rattle.keep_run.specs.Agent.{IsFit, Stays};
 ghost use Rattle.keep_run.specs.Closed.{taken};
 
+pub(crate) mod lines;
+pub(crate) mod opening;
+pub(crate) mod refused;
+pub(crate) mod renewing;
+pub(crate) mod served_entry;
+
 use keep_core::{Event, Keeper, Output, Shortened, StepFault};
 use keep_exchange::{Exchange, ask};
 use keep_inventory::Credentials;

@@ -1,9 +1,9 @@
 //! Laws of the Closed run without faults.
 ghost use Rattle.std.specs.Prelude.{◌≡◌};
-ghost use Rattle.keep_run.specs.declared.event_line.TheConstants.{MOST_LINE};
-ghost use Rattle.keep_run.specs.declared.fault_words.TheConstants.{MOST_NUMBER};
-ghost use Rattle.keep_run.specs.declared.listening.TheConstants.{EVENT_ROOM, MOST_EVENTS, MOST_EVENT_READS};
-ghost use Rattle.keep_run.specs.declared.playing.TheConstants.{MOST_WAKES};
+ghost use Rattle.keep_run.specs.declared.live.event_line.TheConstants.{MOST_LINE};
+ghost use Rattle.keep_run.specs.declared.rehearse.fault_words.TheConstants.{MOST_NUMBER};
+ghost use Rattle.keep_run.specs.declared.live.listening.TheConstants.{EVENT_ROOM, MOST_EVENTS, MOST_EVENT_READS};
+ghost use Rattle.keep_run.specs.declared.rehearse.playing.TheConstants.{MOST_WAKES};
 ghost use Rattle.keep_run.specs.Laws.{AnswersTakenLaw, LeastLaw, PlannedRunLaw, RehearsalLaw, SoFarLaw, StandsLaw};
 ghost use Rattle.keep_run.specs.PlannedRehearsal.{PlannedRehearsalLaw};
 ghost use Rattle.keep_run.specs.Secrecy.{AlikeAnswersLaw, AlikeLookupsLaw, AlikeOpeningsLaw, AlikeRunsLaw};

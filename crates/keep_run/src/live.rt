@@ -4,12 +4,19 @@ ghost use Rattle.std.specs.Result.{IfErr};
 ghost use Rattle.keep_run.specs.Live.{IsReady};
 ghost use Rattle.keep_run.specs.LiveRun.{EndsEarly, IsOpened, LiveRun, LivesTo};
 
+pub(crate) mod event_line;
+pub(crate) mod feeding;
+pub(crate) mod hearing;
+pub(crate) mod listening;
+mod looking;
+mod telling;
+
 use crate::agent::Agent;
-use crate::feeding::Feeding;
-use crate::lines::push_short_lines;
-use crate::listening::listen;
-use crate::looking::look_all_up;
-use crate::rehearsal::opened;
+use crate::agent::lines::push_short_lines;
+use crate::agent::refused::opened;
+use crate::live::feeding::Feeding;
+use crate::live::listening::listen;
+use crate::live::looking::look_all_up;
 use keep_core::Keeper;
 use keep_device::{Sink, Source};
 use keep_exchange::Exchange;

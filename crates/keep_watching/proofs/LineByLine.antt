@@ -7,7 +7,7 @@ use Rattle.keep_device.specs.Failures.{HasFailed}
 use Rattle.keep_report.specs.declared.stop.Stop.{Stop}
 use Rattle.keep_report.specs.declared.stop.Stop.TheVariants as stops
 use Rattle.keep_report.specs.Sent.{IsAll, IsUntouched, Sends, Sent}
-use Rattle.keep_run.specs.declared.event_line.TheConstants.{MOST_LINE}
+use Rattle.keep_run.specs.declared.live.event_line.TheConstants.{MOST_LINE}
 use Rattle.keep_run.specs.Looking.{IsSaid}
 use Rattle.keep_run.proofs.Cut.{first_piece}
 use Rattle.keep_run.proofs.LineByLine.{joined}

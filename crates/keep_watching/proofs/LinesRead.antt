@@ -8,8 +8,8 @@ use Rattle.keep_device.specs.Failures.{one_more}
 use Rattle.keep_report.specs.declared.stop.Stop.{Stop}
 use Rattle.keep_report.specs.declared.stop.Stop.TheVariants as stops
 use Rattle.keep_report.specs.Sent.{Sent}
-use Rattle.keep_run.specs.declared.event_line.TheConstants.{MOST_LINE}
-use Rattle.keep_run.specs.declared.listening.TheConstants.{EVENT_ROOM}
+use Rattle.keep_run.specs.declared.live.event_line.TheConstants.{MOST_LINE}
+use Rattle.keep_run.specs.declared.live.listening.TheConstants.{EVENT_ROOM}
 use Rattle.keep_run.specs.Listening.{Fed}
 use Rattle.keep_run.proofs.Cut.{pieces_more}
 use Rattle.keep_run.proofs.LineByLine.{joined}

@@ -2,8 +2,8 @@
 use Rattle.std.proofs.Common.{◌≡◌, ◌∙◌, ◌≢◌, ℕ, Bool, true, false, bytes_eq, is_none, length, nat_lt, codes, if◌then◌else◌, List, [], ◌∷◌, Option, Some, None, refl, sym, ap}
 use Rattle.keep_run.specs.EventLines.{heard_in, need_in}
 use Rattle.keep_run.specs.EventLines.{words_in as heard_words}
-use Rattle.keep_run.specs.declared.event_line.Heard.{Heard}
-use Rattle.keep_run.specs.declared.event_line.TheConstants.{MOST_LINE}
+use Rattle.keep_run.specs.declared.live.event_line.Heard.{Heard}
+use Rattle.keep_run.specs.declared.live.event_line.TheConstants.{MOST_LINE}
 use Rattle.keep_tree.specs.Forest.{Forest}
 use Rattle.keep_watching.specs.declared.line.Line.{Line}
 use Rattle.keep_watching.specs.Lines.{clock_in, known_in, line_in, need_of, words_in}

@@ -3,9 +3,9 @@
 -- numbers spelled in decimal.
 use Rattle.std.specs.Prelude.{ℕ, ◌<◌, ◌==◌, Bool, true, false, if◌then◌else◌, List, [], ◌∷◌, Option, None, Some, bytes_eq, codes, length, nat_lt, option_and_then, option_map}
 use Rattle.keep_run.specs.EventLines.{need_in}
-use Rattle.keep_run.specs.declared.event_line.Heard.{Heard}
-use Rattle.keep_run.specs.declared.event_line.Heard.TheVariants as heard
-use Rattle.keep_run.specs.declared.event_line.TheConstants.{MOST_LINE}
+use Rattle.keep_run.specs.declared.live.event_line.Heard.{Heard}
+use Rattle.keep_run.specs.declared.live.event_line.Heard.TheVariants as heard
+use Rattle.keep_run.specs.declared.live.event_line.TheConstants.{MOST_LINE}
 use Rattle.keep_tree.specs.Forest.{Forest, index_named}
 use Rattle.keep_watching.specs.declared.line.Line.{Line}
 use Rattle.keep_watching.specs.declared.line.Line.TheVariants.{Clock, Need, Begin, Known, Unknown}

@@ -6,8 +6,8 @@ use Rattle.keep_device.specs.Failures.{HasFailed, one_more}
 use Rattle.keep_report.specs.declared.stop.Stop.{Stop}
 use Rattle.keep_report.specs.declared.stop.Stop.TheVariants as stops
 use Rattle.keep_report.specs.Sent.{Sent}
-use Rattle.keep_run.specs.declared.event_line.TheConstants.{MOST_LINE}
-use Rattle.keep_run.specs.declared.listening.TheConstants.{EVENT_ROOM}
+use Rattle.keep_run.specs.declared.live.event_line.TheConstants.{MOST_LINE}
+use Rattle.keep_run.specs.declared.live.listening.TheConstants.{EVENT_ROOM}
 use Rattle.keep_run.specs.Listening.{Fed, whole_line}
 use Rattle.keep_run.specs.Looking.{IsSaid}
 use Rattle.keep_tree.specs.Forest.{Forest}

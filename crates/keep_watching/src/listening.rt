@@ -2,8 +2,8 @@
 ghost use Rattle.std.specs.Prelude.{◌≡◌, ◌+◌, ◌∷◌, [], ◌<◌, ◌≤◌, IfOk, OnOk, drop, length};
 ghost use Rattle.std.specs.Result.{IfErr};
 ghost use Rattle.keep_report.specs.declared.stop.Stop.TheVariants as stops;
-ghost use Rattle.keep_run.specs.declared.event_line.TheConstants.{MOST_LINE};
-ghost use Rattle.keep_run.specs.declared.listening.TheConstants.{EVENT_ROOM};
+ghost use Rattle.keep_run.specs.declared.live.event_line.TheConstants.{MOST_LINE};
+ghost use Rattle.keep_run.specs.declared.live.listening.TheConstants.{EVENT_ROOM};
 ghost use Rattle.keep_watching.specs.Answers.{cut};
 ghost use Rattle.keep_watching.specs.Clocked.{side};
 ghost use Rattle.keep_watching.specs.code.LineByLine.{HaltsWithin, HearsLine, HearsUpTo};

@@ -4,7 +4,7 @@ use Rattle.std.specs.Prelude.{◌≡◌, ℕ, ◌+◌, ◌<◌, ◌≤◌, List,
 use Rattle.std.specs.Io.KnownBytes.{Consumes}
 use Rattle.keep_report.specs.declared.stop.Stop.{Stop}
 use Rattle.keep_report.specs.Sent.{IsAll, Sent}
-use Rattle.keep_run.specs.declared.event_line.TheConstants.{MOST_LINE}
+use Rattle.keep_run.specs.declared.live.event_line.TheConstants.{MOST_LINE}
 use Rattle.keep_run.specs.Listening.{Fed}
 use Rattle.keep_run.specs.Looking.{IsSaid}
 use Rattle.keep_watching.specs.Answers.{cut}

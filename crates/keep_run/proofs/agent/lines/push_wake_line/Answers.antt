@@ -1,0 +1,18 @@
+-- The word, the moment, the names and the line feed that are appended are the line of a wake-up.
+use Rattle.std.proofs.Common.{◌∙◌, ◌++◌, ◌∷◌, [], ap, codes, decimal, flat_map, sym}
+use Rattle.keep_run.specs.Text.{name_of}
+use Rattle.keep_run.proofs.Wording.{five, named_line}
+use Rattle.keep_run.proofs.agent.lines.push_wake_line.Goals as goal
+
+pub returns : goal.returns
+returns c =
+    let text = c.args.text.now.items in
+    let word = decimal c.args.t in
+    let names = flat_map (λ i. 32 ∷ name_of c.args.forest.now i) c.args.asked.now in
+    c.in_ok-push.ensures.items
+    ∙ ap (λ xs. xs ++ 10 ∷ []) c.in_ok-push_names.ensures
+    ∙ ap (λ xs. (xs ++ names) ++ 10 ∷ []) (c.in_ok-extend_from_slice-2.ensures.items
+    ∙ ap (λ xs. c.extend_from_slice.new.self.items ++ xs) (c.as_bytes.ensures.value ∙ c.in_ok-t.ensures.ok)
+    ∙ ap (λ xs. xs ++ word) c.in_ok-extend_from_slice.ensures.items)
+    ∙ five text (codes "wake ") word names (10 ∷ [])
+    ∙ ap (λ xs. text ++ (codes "wake " ++ xs)) (sym (named_line c.args.forest.now word c.args.asked.now))

@@ -1,0 +1,27 @@
+-- What the line says is heard. That the line begins leaves what stands behind the exchange.
+use Rattle.std.proofs.Common.{ap, sym, subst, ◌∙◌}
+use Rattle.keep_report.specs.Sent.{Sent}
+use Rattle.keep_tree.specs.Forest.{Forest}
+use Rattle.keep_run.specs.EventLines.{heard_in}
+use Rattle.keep_run.specs.Live.{HearsTo}
+use Rattle.keep_run.specs.Stops.{both}
+use Rattle.keep_run.proofs.LineByLine.{line_hears}
+use Rattle.keep_run.proofs.live.listening.hear_line.Goals as goal
+
+pub returns-clause-hears : goal.returns-clause-hears
+returns-clause-hears g c =
+    let before = g.E.Exchange.behind c.args.exchange.now in
+    let after = g.E.Exchange.behind c.hear.new.exchange in
+    let line = c.args.line.now in
+    let out : Sent = record {
+      old = g.W.Device.written c.args.out.now;
+      new = g.W.Device.written c.hear.new.out;
+      failed_before = g.W.Device.failed_calls c.args.out.now;
+      failed_after = g.W.Device.failed_calls c.hear.new.out;
+      flushed_before = g.W.Device.is_flushed c.args.out.now;
+      flushed = g.W.Device.is_flushed c.hear.new.out;
+      is_in_memory = g.W.Device.is_in_memory;
+    } in
+    line_hears c.args.agent.now.port c.args.agent.now.credentials c.args.number (both c.args.agent.now.keeper before) line c.in-Some.heard (both c.hear.new.agent.keeper after) c.hear.result out
+    (sym (c.in-Some.ensures.heard ∙ ap (λ (h : Forest). heard_in h line) c.forest.ensures)) c.requires.flushed
+    (subst (λ o. HearsTo c.args.agent.now.port c.args.agent.now.credentials (both c.args.agent.now.keeper o) c.in-Some.heard c.hear.result (both c.hear.new.agent.keeper after) out) c.begin_line.ensures.behind c.hear.ensures.hears) c.hear.ensures.count

@@ -1,0 +1,70 @@
+//! Looking the entries of an inventory up, one after another.
+ghost use Rattle.std.specs.Prelude.{◌≡◌, ◌<◌, OnOk, length};
+ghost use Rattle.keep_run.specs.Looking.{LooksAllUp, LooksOneUp, looked_line};
+ghost use Rattle.keep_run.specs.code.Playing.{Finishes};
+
+use crate::agent::lines::push_entry;
+use keep_device::Sink;
+use keep_exchange::{Exchange, look_up};
+use keep_inventory::Inventory;
+use keep_moment::{Moment, Text};
+use keep_report::{Stop, Watched, send};
+use std::alloc::Global;
+
+/// Looks each entry up at `start`, by index, and writes and flushes its line before the next is looked up.
+///
+/// Errors: `Broker`, with the name of the first entry whose lookup got no answer that can be applied; `Write`; `Memory`.
+pub(crate) fn look_all_up<E: Exchange, W: Sink>(
+    alloc: Global,
+    inventory: &mut Inventory,
+    start: Moment,
+    port: u16,
+    exchange: &mut E,
+    out: &mut W,
+) -> Result<(), Stop>
+    ensures { LooksAllUp port start (record { inventory = inventory.old; behind = E.behind exchange.old }) result (⟦<W as Watched>⟧.sent out.old out.new) inventory.new (E.behind exchange.new) }
+{
+    let mut i = 0;
+    while i < inventory.forest().len() {
+        look_one_up(alloc, inventory, i, start, port, exchange, out)?;
+        i += 1;
+    }
+    Ok(())
+}
+
+/// Looks the entry `i` up, and writes and flushes its line.
+fn look_one_up<E: Exchange, W: Sink>(
+    alloc: Global,
+    inventory: &mut Inventory,
+    i: u32,
+    start: Moment,
+    port: u16,
+    exchange: &mut E,
+    out: &mut W,
+) -> Result<(), Stop>
+    requires { i < length inventory.old.forest.entries }
+    ensures { LooksOneUp port start (record { inventory = inventory.old; behind = E.behind exchange.old }) i result (⟦<W as Watched>⟧.sent out.old out.new) inventory.new (E.behind exchange.new) }
+{
+    let name = Text::of(alloc, inventory.forest().get(i).name.list())?;
+    if !look_up(alloc, exchange, start, port, inventory, i)? {
+        return Err(Stop::Broker(name));
+    }
+    write_entry(alloc, inventory, i, out)
+}
+
+/// Writes and flushes the line of an entry that was looked up.
+fn write_entry<W: Sink>(
+    alloc: Global,
+    inventory: &Inventory,
+    i: u32,
+    out: &mut W,
+) -> Result<(), Stop>
+    requires { i < length inventory.now.forest.entries }
+    ensures written { Finishes (looked_line inventory.now i) result (⟦<W as Watched>⟧.sent out.old out.new) }
+    ensures kept { OnOk result (W.failed_calls out.new ≡ W.failed_calls out.old) }
+{
+    let entry = inventory.forest().get(i);
+    let mut text = Vec::new(alloc);
+    push_entry(alloc, entry.name.list(), entry.end, &mut text)?;
+    send(out, &text)
+}

@@ -1,0 +1,68 @@
+//! The round of a live run: each answer is told before the next entry is asked.
+ghost use Rattle.std.specs.Prelude.{◌≡◌, ◌≢◌, ◌<◌, [], IfOk, IsTrue, OnOk, length, true};
+ghost use Rattle.keep_core.specs.LawsOfSteps.{IsShaped};
+ghost use Rattle.keep_core.specs.Refusal.{waits_for};
+ghost use Rattle.keep_run.specs.Agent.{Stays};
+ghost use Rattle.keep_run.specs.Live.{IsReady};
+ghost use Rattle.keep_run.specs.code.Playing.{Hears, Waits};
+ghost use Rattle.keep_run.specs.Stops.{both};
+ghost use Rattle.keep_run.specs.code.Telling.{TellsOne, TellsRound};
+
+use crate::agent::Agent;
+use crate::agent::served_entry::{answer, told_next};
+use keep_core::Output;
+use keep_device::Sink;
+use keep_exchange::Exchange;
+use keep_moment::Moment;
+use keep_report::{Stop, Watched, send};
+use std::alloc::Global;
+
+/// The asked entries send their requests at `t`, one after another, and the lines of each answer are written and flushed before
+/// the next request; the moment of the next tick, if there is one.
+pub(crate) fn tell_round<E: Exchange, W: Sink>(
+    alloc: Global,
+    agent: &mut Agent,
+    exchange: &mut E,
+    t: Moment,
+    asked: &[u32],
+    out: &mut W,
+) -> Result<Option<u64>, Stop>
+    requires waits { Waits agent.old.keeper t asked.now }
+    requires some { asked.now ≢ [] }
+    requires quiet { agent.old.keeper.shortened ≡ [] }
+    requires flushed { IsTrue (W.is_flushed out.old) }
+    ensures tells { TellsRound agent.old.port agent.old.credentials t (both agent.old.keeper (E.behind exchange.old)) asked.now result (both agent.new.keeper (E.behind exchange.new)) (⟦<W as Watched>⟧.sent out.old out.new) }
+    ensures ready { IfOk result (λ _. IsReady agent.new.keeper) }
+    ensures stays { Stays agent.old agent.new }
+{
+    let mut next = None;
+    for i in asked {
+        let output = tell_answer(alloc, agent, exchange, t, *i, out)?;
+        next = told_next(next, &output);
+    }
+    Ok(next)
+}
+
+/// The entry `i` sends its request at `t`, where all lines before are flushed; and the lines of its answer are written and
+/// flushed.
+fn tell_answer<E: Exchange, W: Sink>(
+    alloc: Global,
+    agent: &mut Agent,
+    exchange: &mut E,
+    t: Moment,
+    i: u32,
+    out: &mut W,
+) -> Result<Output, Stop>
+    requires within { i < length agent.old.keeper.forest.entries }
+    requires waits { waits_for agent.old.keeper.round i ≡ true }
+    requires quiet { agent.old.keeper.shortened ≡ [] }
+    requires flushed { IsTrue (W.is_flushed out.old) }
+    ensures tells { TellsOne agent.old.port agent.old.credentials t (both agent.old.keeper (E.behind exchange.old)) i result (both agent.new.keeper (E.behind exchange.new)) (⟦<W as Watched>⟧.sent out.old out.new) }
+    ensures hears { IfOk result (λ output. Hears i agent.old.keeper output agent.new.keeper) }
+    ensures stays { Stays agent.old agent.new }
+{
+    let mut text = Vec::new(alloc);
+    let output = answer(alloc, agent, exchange, t, i, &mut text)?;
+    send(out, &text)?;
+    Ok(output)
+}

@@ -1,0 +1,79 @@
+//! The command `rehearse`.
+ghost use Rattle.keep_run.specs.Rehearse.{RehearseRun, RehearseTold, Rehearses};
+
+pub(crate) mod fault_words;
+pub(crate) mod playing;
+mod waking;
+
+use crate::agent::Agent;
+use crate::agent::lines::push_short_lines;
+use crate::agent::refused::opened;
+use crate::rehearse::fault_words::set_faults;
+use crate::rehearse::playing::play;
+use keep_core::Keeper;
+use keep_device::Sink;
+use keep_exchange::{Exchange, MemoryExchange};
+use keep_inventory::read;
+use keep_moment::{Moment, Text};
+use keep_report::{Exit, Stop, Watched};
+use mini_broker::Table;
+use std::alloc::Global;
+
+/// The command `rehearse`: plays the keeper of an inventory from `start` on against a broker's table of the same inventory, with
+/// these faults, and writes what happens: each wake-up with who is asked, each answer, each need that is shortened, and at last
+/// how many wake-ups and requests it took.
+///
+/// The inventory is judged first (exit 1), then the FAULT words: `K=short:SECONDS`, `K=drop` or `K=deny` is what goes wrong at
+/// the renewal request number `K` (exit 2, with the place of the first that is malformed or repeats a number). Then `exchange`
+/// is given the table of the inventory with these faults and no bytes carried.
+///
+/// Exit 0: the lines of the whole run were written, and `exchange` is as the run leaves it: its table, and the bytes of the
+/// last request and its reply. Exit 5: the plan of the opening is too long, and nothing is written; or the run has made
+/// 100,000 wake-ups and another is due, and their lines are written. The lines are written as the run goes, wake-up by
+/// wake-up, and flushed at its end; so exits 6 and 7 leave a front of them, 6 only where a write of `out` failed. The exits 3
+/// and 4 never come.
+///
+/// Source: Vault, "Lease, renew, and revoke"; Vault, "Tokens".
+#[tactic(auto, using(crate::proofs::Rehearsed::run_stopped, crate::proofs::Rehearsed::stopped_told))]
+pub fn run_rehearse<W: Sink, F: Sink>(
+    alloc: Global,
+    inventory: &[u8],
+    start: Moment,
+    words: &[Text],
+    out: &mut W,
+    errors: &mut F,
+    exchange: &mut MemoryExchange,
+) -> Exit
+    ensures run { RehearseRun inventory.now start words.now result (⟦<W as Watched>⟧.sent out.old out.new) exchange.old exchange.new }
+    ensures told { RehearseTold inventory.now words.now result (⟦<F as Watched>⟧.sent errors.old errors.new) }
+{
+    match rehearse(alloc, inventory, start, words, out, exchange) {
+        Ok(()) => Exit::Done,
+        Err(stop) => stop.report("leasekeep", errors),
+    }
+}
+
+/// The rehearsal without its fault line.
+fn rehearse<W: Sink>(
+    alloc: Global,
+    inventory: &[u8],
+    start: Moment,
+    words: &[Text],
+    out: &mut W,
+    exchange: &mut MemoryExchange,
+) -> Result<(), Stop>
+    ensures { Rehearses inventory.now start words.now result (⟦<W as Watched>⟧.sent out.old out.new) exchange.old exchange.new }
+{
+    let inventory = read(alloc, inventory)?;
+    let mut table = Table::load(alloc, &inventory)?;
+    set_faults(&mut table, words)?;
+    exchange.give(table);
+    let (forest, credentials) = inventory.into_parts();
+    let made = Keeper::new(alloc, forest, start);
+    let mut keeper = opened(made)?;
+    let short = keeper.take_shortened();
+    let mut lines = Vec::new(alloc);
+    push_short_lines(alloc, keeper.forest(), short.list(), &mut lines)?;
+    let mut agent = Agent::new(keeper, credentials, exchange.port());
+    play(alloc, &mut agent, exchange, start.get(), &lines, out)
+}

@@ -1,0 +1,83 @@
+//! One wake-up: ticks until one asks, and the answers of those who are asked.
+ghost use Rattle.std.specs.Prelude.{◌≡◌, ◌≢◌, ◌≤◌, [], IfOk, Some};
+ghost use Rattle.std.specs.Result.{IfErr};
+ghost use Rattle.keep_report.specs.declared.stop.Stop.TheVariants as stops;
+ghost use Rattle.keep_core.specs.LawsOfSteps.{IsShaped};
+ghost use Rattle.keep_run.specs.Agent.{Stays};
+ghost use Rattle.keep_run.specs.Live.{IsReady};
+ghost use Rattle.keep_run.specs.code.Playing.{AnswersAll, Comes, Waits, Wakes, next_in, requests_in};
+ghost use Rattle.keep_run.specs.Stops.{both};
+
+use crate::agent::Agent;
+use crate::agent::opening::open;
+use crate::agent::served_entry::{answer, told_next};
+use keep_exchange::{Exchange, MemoryExchange};
+use keep_moment::Moment;
+use keep_report::Stop;
+use std::alloc::Global;
+
+/// What a wake-up came to: how many requests it made, and the moment of the next tick, if there is one.
+#[derive(Clone, Copy, Debug, PartialEq, Eq)]
+pub(crate) struct Woken {
+    pub requests: u64,
+    pub next: Option<u64>,
+}
+
+/// Goes on from a tick at `due` to the end of the first round from there; `None` where nothing is to be done any more.
+pub(crate) fn wake(
+    alloc: Global,
+    agent: &mut Agent,
+    exchange: &mut MemoryExchange,
+    due: u64,
+    text: &mut Vec<u8>,
+) -> Result<Option<Woken>, Stop>
+    requires ready { IsReady agent.old.keeper }
+    requires comes { Comes agent.old.keeper.last (Some due) }
+    requires port { agent.old.port ≡ 8200 }
+    ensures memory { IfErr result (λ stop. stop ≡ stops.Memory) }
+    ensures wakes { IfOk result (λ woken. Wakes agent.old.credentials (both agent.old.keeper (Some exchange.old)) due woken (both agent.new.keeper (Some exchange.new)) text.old.items text.new.items) }
+    ensures few { IfOk result (λ woken. requests_in woken ≤ 4096) }
+    ensures shaped { IfOk result (λ _. IsShaped agent.old.keeper.forest agent.new.keeper.forest) }
+    ensures ready { IfOk result (λ _. IsReady agent.new.keeper) }
+    ensures comes { IfOk result (λ woken. Comes agent.new.keeper.last (next_in woken)) }
+    ensures stays { Stays agent.old agent.new }
+{
+    let Some(opened) = open(alloc, agent, due, text)? else {
+        return Ok(None);
+    };
+    let Some(at) = Moment::new(opened.at) else {
+        unreachable!()
+    };
+    let next = round(alloc, agent, exchange, at, opened.asked.list(), text)?;
+    Ok(Some(Woken {
+        requests: opened.asked.list().len() as u64,
+        next,
+    }))
+}
+
+/// The asked entries send their requests at `t`, one after another; the moment of the next tick, if there is one.
+pub(crate) fn round<E: Exchange>(
+    alloc: Global,
+    agent: &mut Agent,
+    exchange: &mut E,
+    t: Moment,
+    asked: &[u32],
+    text: &mut Vec<u8>,
+) -> Result<Option<u64>, Stop>
+    requires waits { Waits agent.old.keeper t asked.now }
+    requires some { asked.now ≢ [] }
+    requires quiet { agent.old.keeper.shortened ≡ [] }
+    ensures memory { IfErr result (λ stop. stop ≡ stops.Memory) }
+    ensures answers { IfOk result (λ next. AnswersAll agent.old.port agent.old.credentials t (both agent.old.keeper (E.behind exchange.old)) asked.now next (both agent.new.keeper (E.behind exchange.new)) text.old.items text.new.items) }
+    ensures shaped { IfOk result (λ _. IsShaped agent.old.keeper.forest agent.new.keeper.forest) }
+    ensures ready { IfOk result (λ _. IsReady agent.new.keeper) }
+    ensures comes { IfOk result (λ next. Comes agent.new.keeper.last next) }
+    ensures stays { Stays agent.old agent.new }
+{
+    let mut next = None;
+    for i in asked {
+        let output = answer(alloc, agent, exchange, t, *i, text)?;
+        next = told_next(next, &output);
+    }
+    Ok(next)
+}
