@@ -16,6 +16,7 @@ mod memory_sink;
 mod memory_source;
 mod one_read;
 mod read_whole;
+mod streams;
 mod write_whole;
 
 pub use counted::Counted;
@@ -28,4 +29,5 @@ pub use memory_sink::MemorySink;
 pub use memory_source::MemorySource;
 pub use one_read::{MoreFault, read_more, zeros};
 pub use read_whole::read_all;
+pub use streams::Streams;
 pub use write_whole::write_all;
