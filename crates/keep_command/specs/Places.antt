@@ -3,8 +3,8 @@
 use Rattle.std.specs.Prelude.{◌≡◌, ℕ, ◌≤◌, List, Option, Some, None}
 use Rattle.std.specs.List.{Contains}
 use Rattle.std.specs.Str.Parse.{IsNumeral, digits_value, without_leading_plus}
-use Rattle.keep_command.specs.declared.place.Place.{Place}
-use Rattle.keep_command.specs.declared.place.Place.TheVariants as places
+use Rattle.keep_device.specs.declared.place.Place.{Place}
+use Rattle.keep_device.specs.declared.place.Place.TheVariants as places
 
 -- a word with a slash in it is a path
 abbrev pub IsPath : List ℕ → Type 0

@@ -4,8 +4,8 @@ use Rattle.std.specs.Prelude.{◌≡◌, ℕ, ◌≤◌, ◌⊎◌, List, [], �
 use Rattle.keep_device.specs.Failures.{one_more}
 use Rattle.keep_exchange.specs.Exchanges.{received}
 use Rattle.keep_exchange.specs.declared.fault.ExchangeFault.{ExchangeFault}
-use Rattle.keep_exchange.specs.declared.link.Place.{Place}
-use Rattle.keep_exchange.specs.declared.link.Place.TheVariants.{Port, Path}
+use Rattle.keep_device.specs.declared.place.Place.{Place}
+use Rattle.keep_device.specs.declared.place.Place.TheVariants.{Port, Path}
 use Rattle.keep_exchange.specs.declared.fault.ExchangeFault.TheVariants.{ConnectFailed, WriteFailed, Http}
 use Rattle.mini_broker.specs.declared.served.Served.{Served}
 use Rattle.mini_broker.specs.Table.{Table}

@@ -5,7 +5,7 @@ use Rattle.std.specs.Net.Addr.{ipv4_octets, MatchIp}
 use Rattle.std.specs.Net.Socket.{socket_ip, socket_port}
 use Rattle.std.specs.declared.net.socket_addr.SocketAddr.{SocketAddr}
 use Rattle.keep_exchange.specs.declared.fault.ExchangeFault.{ExchangeFault}
-use Rattle.keep_exchange.specs.declared.link.Place.{Place}
+use Rattle.keep_device.specs.declared.place.Place.{Place}
 use Rattle.mini_broker.specs.Stream.{Ends, IsStreamed}
 use Rattle.mini_broker.specs.Table.{Table}
 use Rattle.vault_http.specs.declared.reply.Reply.{Reply}

@@ -1,6 +1,7 @@
 //! One connection of a slice, and how it waits.
 use crate::over::here;
 use crate::waits::{LONGEST_STEP, QUARTER, Stage, Waits, next_step};
+use keep_device::Place;
 use mio::event::Source;
 use mio::net::{TcpStream, UnixStream};
 use mio::{Events, Interest, Poll, Token};
@@ -9,15 +10,6 @@ use std::io;
 use std::io::{Error, ErrorKind, Read, Write};
 use std::net::Net;
 use std::time::Duration;
-
-/// Where a broker listens.
-#[derive(Clone, Copy, Debug)]
-pub(crate) enum Place<'a> {
-    /// At this port of 127.0.0.1.
-    Port(u16),
-    /// At the UNIX socket with this path.
-    Path(&'a str),
-}
 
 /// A connection whose calls do not wait, or none.
 #[derive(Drop)]

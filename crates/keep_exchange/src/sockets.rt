@@ -2,14 +2,14 @@
 ghost use Rattle.std.specs.Prelude.{◌≡◌, ◌+◌, ◌-◌, ◌*◌, All, IfOk, None, length, vec_len};
 ghost use Rattle.keep_exchange.specs.Abreast.{after_answers, port_of};
 ghost use Rattle.keep_exchange.specs.Waits.{longest_first};
-ghost use Rattle.keep_exchange.specs.declared.link.Place.TheVariants as places;
 ghost use Rattle.vault_http.specs.RoundTripRequest.{IsWritable};
 
 use crate::abreast::{Abreast, Waiting, count_answer};
 use crate::fault::ExchangeFault;
 use crate::line::{hear, send};
-use crate::link::{Bell, Link, Place, Shared, Waiter};
+use crate::link::{Bell, Link, Shared, Waiter};
 use crate::waits::Waits;
+use keep_device::Place;
 use keep_moment::Moment;
 use std::alloc::{AllocError, Global};
 use std::marker::Model;
@@ -41,27 +41,13 @@ impl<'a, R: Net> Model for SocketSlices<'a, R> {
 }
 
 impl<'a, R: Net> SocketSlices<'a, R> {
-    /// With the broker that listens on 127.0.0.1 at that port, with time-outs of so many seconds. It takes no memory, and
-    /// connects to nothing yet.
-    pub fn at_port(rt: &'a R, port: u16, seconds: u32) -> SocketSlices<'a, R>
-        ensures { result ≡ record { place = places.Port port; seconds = seconds; failures = 0 } }
+    /// With the broker that listens there, with time-outs of so many seconds. It takes no memory, and connects to nothing yet.
+    pub fn new(rt: &'a R, place: Place<'a>, seconds: u32) -> SocketSlices<'a, R>
+        ensures { result ≡ record { place = place; seconds = seconds; failures = 0 } }
     {
         SocketSlices {
             rt,
-            place: Place::Port(port),
-            seconds,
-            room: Room::new(),
-            failures: 0,
-        }
-    }
-
-    /// With the broker that listens on the UNIX socket with that path, likewise.
-    pub fn at_path(rt: &'a R, path: &'a str, seconds: u32) -> SocketSlices<'a, R>
-        ensures { result ≡ record { place = places.Path path.entry; seconds = seconds; failures = 0 } }
-    {
-        SocketSlices {
-            rt,
-            place: Place::Path(path),
+            place,
             seconds,
             room: Room::new(),
             failures: 0,

@@ -4,7 +4,7 @@ ghost use Rattle.std.specs.Duration.{as_nanos};
 ghost use Rattle.keep_exchange.specs.Abreast.{port_of};
 ghost use Rattle.keep_exchange.specs.Sockets.{limit_of};
 ghost use Rattle.keep_exchange.specs.declared.fault.ExchangeFault.TheVariants as faults;
-ghost use Rattle.keep_exchange.specs.declared.link.Place.TheVariants as places;
+ghost use Rattle.keep_device.specs.declared.place.Place.TheVariants as places;
 
 use crate::exchange::Exchange;
 use crate::fault::ExchangeFault;
@@ -29,7 +29,7 @@ pub struct TcpExchange<'a, R: Net> {
 
 impl<'a, R: Net> Model for TcpExchange<'a, R> {
     ghost use Rattle.std.specs.Duration.{as_nanos};
-    ghost use Rattle.keep_exchange.specs.declared.link.Place.TheVariants as places;
+    ghost use Rattle.keep_device.specs.declared.place.Place.TheVariants as places;
     ghost use Rattle.keep_exchange.specs.Sockets.{Socket};
 
     ghost Value = { Socket };

@@ -3,7 +3,7 @@ ghost use Rattle.std.specs.Result.{IfErr};
 ghost use Rattle.std.specs.Duration.{as_nanos};
 ghost use Rattle.keep_exchange.specs.Sockets.{limit_of};
 ghost use Rattle.keep_exchange.specs.declared.fault.ExchangeFault.TheVariants as faults;
-ghost use Rattle.keep_exchange.specs.declared.link.Place.TheVariants as places;
+ghost use Rattle.keep_device.specs.declared.place.Place.TheVariants as places;
 
 use crate::exchange::Exchange;
 use crate::fault::ExchangeFault;
@@ -32,7 +32,7 @@ pub struct UnixExchange<'a, R: Net> {
 
 impl<'a, R: Net> Model for UnixExchange<'a, R> {
     ghost use Rattle.std.specs.Duration.{as_nanos};
-    ghost use Rattle.keep_exchange.specs.declared.link.Place.TheVariants as places;
+    ghost use Rattle.keep_device.specs.declared.place.Place.TheVariants as places;
     ghost use Rattle.keep_exchange.specs.Sockets.{Socket};
 
     ghost Value = { Socket };

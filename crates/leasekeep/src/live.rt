@@ -1,5 +1,4 @@
-use keep_command::Place;
-use keep_device::{Counted, Sink};
+use keep_device::{Counted, Place, Sink};
 use keep_engine::{Exchange, Exit, TcpExchange, UnixExchange, keep_alive};
 use keep_files::Disk;
 use keep_moment::Moment;

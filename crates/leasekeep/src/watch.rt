@@ -1,7 +1,6 @@
-use keep_command::Place;
-use keep_device::{Counted, Sink};
+use keep_device::{Counted, Place, Sink};
 use keep_engine::Exit;
-use keep_exchange::{Abreast, SocketSlices};
+use keep_exchange::SocketSlices;
 use keep_files::Disk;
 use keep_watch::WIDTH_MAX;
 use keep_watching::watch_file;
@@ -31,32 +30,14 @@ pub fn watch<R: Files + AllocGlobal + Print + Net, I: Read + Drop, E: Sink>(
     errors: &mut E,
 ) -> Exit {
     let seconds = watched.patience.min(60) as u32;
-    match watched.place {
-        Place::Port(port) => {
-            let mut exchange = SocketSlices::at_port(rt, port, seconds);
-            watch_over(rt, watched, input, &mut exchange, errors)
-        }
-        Place::Path(path) => {
-            let mut exchange = SocketSlices::at_path(rt, path, seconds);
-            watch_over(rt, watched, input, &mut exchange, errors)
-        }
-    }
-}
-
-fn watch_over<R: Files + AllocGlobal + Print, I: Read + Drop, X: Abreast, E: Sink>(
-    rt: &R,
-    watched: &Watched<'_>,
-    input: I,
-    exchange: &mut X,
-    errors: &mut E,
-) -> Exit {
+    let mut exchange = SocketSlices::new(rt, watched.place, seconds);
     watch_file(
         rt.alloc(),
         watched.file,
         watched.width.min(WIDTH_MAX as u64) as u32,
         &mut Disk { rt },
         &mut Counted::new(input),
-        exchange,
+        &mut exchange,
         &mut Counted::new(io::writer(rt)),
         errors,
     )

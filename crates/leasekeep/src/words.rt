@@ -3,8 +3,8 @@ use crate::parser::{mistake, parse};
 use crate::watch::Watched;
 use clap::error::ErrorKind;
 use clap::{ArgMatches, Error};
-use keep_command::{Place, number_or, show};
-use keep_device::Sink;
+use keep_command::{number_or, place_to_ask, show};
+use keep_device::{Place, Sink};
 use keep_engine::{Command, Exit, MarginQuery, PROGRAM, Stop, tell};
 use keep_exchange::PATIENCE;
 use keep_moment::{Moment, Text};
@@ -128,7 +128,7 @@ fn job_of<'a>(alloc: Global, matches: &ArgMatches<'a>) -> Result<Job<'a>, Unread
 
 fn place<'a>(matches: &ArgMatches<'a>) -> Result<Place<'a>, Unread> {
     let word = matches.get_str("PORT").ok_or(Unread::Value)?;
-    Place::to_ask(word).ok_or(Unread::Port)
+    place_to_ask(word).ok_or(Unread::Port)
 }
 
 /// The command, with all its values. Behind this nothing asks for a value by its name.

@@ -1,8 +1,8 @@
 use crate::serving::tell_served;
 use crate::sockets::{serve_path, serve_port};
 use crate::words::{Command, PROGRAM, read_command};
-use keep_command::{Place, words};
-use keep_device::{Counted, Sink, Source, read_file};
+use keep_command::words;
+use keep_device::{Counted, Place, Sink, Source, read_file};
 use keep_inventory::{MOST_INVENTORY, read};
 use keep_report::{Exit, Stop};
 use mini_broker::Table;

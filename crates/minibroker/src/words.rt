@@ -1,7 +1,7 @@
 use crate::parser::{mistake, parse};
 use clap::ArgMatches;
-use keep_command::{Place, number_or, show};
-use keep_device::Sink;
+use keep_command::{number_or, place_to_listen, show};
+use keep_device::{Place, Sink};
 use keep_moment::Moment;
 use keep_report::{Exit, Stop};
 use mini_broker::Moments;
@@ -63,7 +63,7 @@ fn command_of<'a>(matches: &ArgMatches<'a>) -> Result<Command<'a>, &'static str>
     let moments = matches.get_str("MOMENT").ok_or(MOMENT_MISTAKE)?;
     Ok(Command {
         file,
-        place: Place::to_listen(place).ok_or(PORT_MISTAKE)?,
+        place: place_to_listen(place).ok_or(PORT_MISTAKE)?,
         count: count_of(matches).ok_or(COUNT_MISTAKE)?,
         moments: moments_of(moments).ok_or(MOMENT_MISTAKE)?,
         patience: number_or(matches, "timeout", PATIENCE).ok_or(SECONDS_MISTAKE)?,

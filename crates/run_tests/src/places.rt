@@ -1,5 +1,6 @@
 //! Where a broker listens, as a word of the command line says it.
-use keep_command::Place;
+use keep_command::{place_to_ask, place_to_listen};
+use keep_device::Place;
 
 // A word, where it asks a broker, and where it has one listen.
 type Said = (&'static str, Option<Place<'static>>, Option<Place<'static>>);
@@ -30,7 +31,7 @@ const SAID: [Said; 12] = [
 #[test]
 fn a_word_says_a_port_or_a_path(rt: HostRuntime) {
     for (word, asked, listening) in &SAID {
-        assert!(rt; Place::to_ask(word) == *asked, "{word}");
-        assert!(rt; Place::to_listen(word) == *listening, "{word}");
+        assert!(rt; place_to_ask(word) == *asked, "{word}");
+        assert!(rt; place_to_listen(word) == *listening, "{word}");
     }
 }
