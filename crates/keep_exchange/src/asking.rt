@@ -11,8 +11,8 @@ use keep_tree::Forest;
 use std::alloc::{AllocError, Global};
 use vault_http::Reply;
 
-/// Asks the broker at that port to renew an entry, and gives its reply; `None` where no reply came, or none that could be
-/// read. The only error is want of memory.
+/// Asks the broker to renew an entry, by a request that names the exchange's port, and gives its reply; `None` where no reply
+/// came, or none that could be read. The only error is want of memory.
 ///
 /// Where the broker's table is known, the reply is that of the Broker step at `t`, and the table is as that step leaves it.
 /// Known or not, nothing but `None` comes of an exchange that has failed: no connection, no whole request, or a read that failed.
@@ -21,19 +21,19 @@ pub fn ask<E: Exchange>(
     alloc: Global,
     exchange: &mut E,
     t: Moment,
-    port: u16,
     credentials: &Credentials,
     forest: &Forest,
     i: u32,
 ) -> Result<Option<Reply>, AllocError>
     requires within { i < length forest.now.entries }
     requires credentials { length credentials.now ≡ length forest.now.entries }
-    ensures asked { IfSome (E.behind exchange.old) (λ old. Asks old t (request_of port credentials.now forest.now i) result (E.behind exchange.new)) }
+    ensures asked { IfSome (E.behind exchange.old) (λ old. Asks old t (request_of (E.host_port exchange.old) credentials.now forest.now i) result (E.behind exchange.new)) }
     ensures unanswered { result ≢ Ok None → E.failed_calls exchange.new ≡ E.failed_calls exchange.old }
     ensures longest { E.longest exchange.new ≡ E.longest exchange.old }
     ensures limit { PacesAsked result (E.longest exchange.old) (E.limit exchange.old) (E.limit exchange.new) }
     ensures port { E.host_port exchange.new ≡ E.host_port exchange.old }
 {
+    let port = exchange.port();
     let request = request_for(alloc, port, credentials, forest, i)?;
     match exchange.exchange(alloc, t, &request) {
         Ok(reply) => Ok(Some(reply)),

@@ -19,9 +19,9 @@ use std::alloc::{AllocError, Global};
 use vault_http::{Reply, Request};
 use vault_json::{Lookup, ReplyFault, lookup_body, read_lookup_lease, read_lookup_self};
 
-/// Looks an entry up at `t` with the broker at that port, and makes of it what the broker says. `false`: no reply came, or
-/// none with status 200 that can be read, or it says what is not applied to this entry; the inventory is then as it was. The
-/// only error is want of memory. No lookup changes the number of entries.
+/// Looks an entry up at `t` with the broker, by a request that names the exchange's port, and makes of it what the broker says.
+/// `false`: no reply came, or none with status 200 that can be read, or it says what is not applied to this entry; the inventory
+/// is then as it was. The only error is want of memory. No lookup changes the number of entries.
 ///
 /// Whatever the exchange, the inventory is what some reply makes of it. Where the broker's table is known, that reply is the one
 /// of the Broker step, and the table is as that step leaves it. Known or not, nothing but `false` comes of an exchange that has
@@ -31,12 +31,11 @@ pub fn look_up<E: Exchange>(
     alloc: Global,
     exchange: &mut E,
     t: Moment,
-    port: u16,
     inventory: &mut Inventory,
     i: u32,
 ) -> Result<bool, AllocError>
     requires { i < length inventory.old.forest.entries }
-    ensures looked { LooksUp port (E.behind exchange.old) t inventory.old i result inventory.new (E.behind exchange.new) }
+    ensures looked { LooksUp (E.host_port exchange.old) (E.behind exchange.old) t inventory.old i result inventory.new (E.behind exchange.new) }
     ensures unapplied { result ≢ Ok true → inventory.new ≡ inventory.old }
     ensures unanswered { result ≢ Ok false → E.failed_calls exchange.new ≡ E.failed_calls exchange.old }
     ensures count { length inventory.new.forest.entries ≡ length inventory.old.forest.entries }
@@ -45,6 +44,7 @@ pub fn look_up<E: Exchange>(
     ensures failed { E.failed_calls exchange.new ≢ E.failed_calls exchange.old → Slows (E.longest exchange.old) (E.limit exchange.old) (E.limit exchange.new) }
     ensures port { E.host_port exchange.new ≡ E.host_port exchange.old }
 {
+    let port = exchange.port();
     let request = lookup_for(alloc, port, inventory, i)?;
     match exchange.exchange(alloc, t, &request) {
         Ok(reply) => apply(alloc, inventory, i, t, &reply),
