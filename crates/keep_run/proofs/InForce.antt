@@ -4,13 +4,11 @@ use Rattle.std.proofs.lemmas.Bool.{cases_lt}
 use Rattle.std.proofs.lemmas.List.{length-map}
 use Rattle.std.proofs.Math.Path.{fun_ext}
 use Rattle.std.specs.List.{range_with_len}
-use Rattle.keep_moment.specs.declared.moment.TheConstants.{LAST}
 use Rattle.keep_tree.specs.declared.entry.Entry.{Entry}
 use Rattle.keep_tree.specs.Forest.{Forest, entry_at}
 use Rattle.keep_tree.proofs.Entries.{entry_at_past}
 use Rattle.keep_inventory.specs.Inventories.{IsInventory, Inventory, credential_at, terms_at}
 use Rattle.keep_inventory.specs.declared.limits.TheConstants.{SPAN_MAX}
-use Rattle.keep_inventory.specs.Terms.{ceiling_of, step_of}
 use Rattle.mini_broker.specs.declared.row.Row.{Row}
 use Rattle.mini_broker.specs.Rows.{row_of, rows_of}
 use Rattle.keep_core.specs.Replan.{IsPlanOf, Replan}

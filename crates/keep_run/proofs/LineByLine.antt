@@ -17,7 +17,6 @@ use Rattle.keep_run.specs.Live.{HearsTo, IsBrokenOff, IsCutOff}
 use Rattle.keep_run.specs.EventLines.{heard_in}
 use Rattle.keep_run.specs.declared.live.event_line.Heard.{Heard}
 use Rattle.keep_run.specs.declared.live.event_line.TheConstants.{MOST_LINE}
-use Rattle.keep_run.specs.Stops.{both}
 use Rattle.keep_run.specs.Closed.{World}
 use Rattle.keep_run.proofs.Cut.{cut_back, first_piece}
 use Rattle.keep_run.proofs.Written.{keeps_appends}

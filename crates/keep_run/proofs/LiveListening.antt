@@ -24,6 +24,7 @@ use Rattle.keep_run.specs.Listening.{Fed, Halts, HaveEnded, IsBrokenShort, IsCut
 use Rattle.keep_run.specs.LiveRun.{EndsEarly, HasListened, IsOpened, IsUnread, LiveRun, LivesTo}
 use Rattle.keep_run.specs.Stops.{both}
 use Rattle.keep_run.specs.Closed.{World}
+use Rattle.keep_run.proofs.Agents.{as_begun}
 use Rattle.keep_run.proofs.LookedUp.{sent_by, untouched}
 use Rattle.keep_run.proofs.Written.{appends_then}
 
@@ -138,13 +139,13 @@ module _ (port : ℕ) (bytes : List ℕ) (start : ℕ) (before : Option Behind) 
 
   -- it listened
   pub listened_lives :
-      (inventory : Inventory) (cs : List (List ℕ)) (keeper : State) (middle : Option Behind) (a b c : Option (List ℕ)) (n m l : ℕ) (p q r k : Bool) (result : Result (Unit {0}) Stop) (final : World) (fed : Fed) → read_inventory bytes ≡ Ok inventory →
-      IsOpened port start (record { inventory = inventory; behind = before }) cs keeper middle (sent_by a b n m p q k) → Listens port cs (both keeper middle) result final fed (sent_by b c m l q r k) →
+      (now : ℕ) (inventory : Inventory) (cs : List (List ℕ)) (keeper : State) (middle : Option Behind) (a b c : Option (List ℕ)) (n m l : ℕ) (p q r k : Bool) (result : Result (Unit {0}) Stop) (final : World) (fed : Fed) → read_inventory bytes ≡ Ok inventory → now ≡ port →
+      IsOpened port start (record { inventory = inventory; behind = before }) cs keeper middle (sent_by a b n m p q k) → Listens now cs (both keeper middle) result final fed (sent_by b c m l q r k) →
       LivesTo port bytes start before result fed (sent_by a c n l p r k) final.behind
-  listened_lives inventory cs keeper middle a b c n m l p q r k result final fed read o listens = by_result result has where
+  listened_lives now inventory cs keeper middle a b c n m l p q r k result final fed read same o listens = by_result result has where
     has : HasListened port start (record { inventory = inventory; behind = before }) result final fed (sent_by a c n l p r k)
     has =
-        let h : Listens port inventory.credentials (both keeper middle) result final fed (sent_by b c m l q r k) = subst (λ d. Listens port d (both keeper middle) result final fed (sent_by b c m l q r k)) o.same listens in
+        let h : Listens port inventory.credentials (both keeper middle) result final fed (sent_by b c m l q r k) = as_begun same o.same (λ x ds. Listens x ds (both keeper middle) result final fed (sent_by b c m l q r k)) listens in
         record {
           read = h.read;
           consumed = h.consumed;
@@ -170,10 +171,6 @@ module _ (port : ℕ) (bytes : List ℕ) (start : ℕ) (before : Option Behind) 
     by_result (Err (stops.Moments fault)) h = (inventory, read, inr (final, h, refl))
     by_result (Err (stops.FaultWord i)) h = (inventory, read, inr (final, h, refl))
     by_result (Err (stops.Inventory fault)) h = absurd h.ends.1
-
-  -- by another name of the port
-  pub at_port : (result : Result (Unit {0}) Stop) (fed : Fed) (out : Sent) (new : Option Behind) (n : ℕ) → port ≡ n → LivesTo port bytes start before result fed out new → LivesTo n bytes start before result fed out new
-  at_port result fed out new n is lives = subst (λ m. LivesTo m bytes start before result fed out new) is lives
 
   -- ---- by exit
 

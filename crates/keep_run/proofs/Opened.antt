@@ -1,5 +1,5 @@
 -- Opened: the keeper that was made goes on, or what kept it from being made stops the run; for the rehearsal and the live run.
-use Rattle.std.proofs.Common.{◌≡◌, ◌∙◌, ℕ, Result, Ok, Err, IfOk, IfErr, ◌⊎◌, inl, inr, refl, subst, sym}
+use Rattle.std.proofs.Common.{◌≡◌, ℕ, Result, Ok, Err, IfOk, IfErr, ◌⊎◌, inl, inr, subst, sym}
 use Rattle.keep_tree.specs.Forest.{Forest}
 use Rattle.keep_core.specs.Replan.{PlanFails, Replan, ReplanTooLong}
 use Rattle.keep_core.specs.State.{State, unplanned}

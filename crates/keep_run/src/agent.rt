@@ -3,7 +3,7 @@ ghost use Rattle.std.specs.Prelude.{◌≡◌, ◌<◌, IfSome, length};
 ghost use Rattle.keep_core.specs.History.{Turn};
 ghost use Rattle.keep_exchange.specs.Requests.{Asks, request_of};
 ghost use Rattle.keep_inventory.specs.Inventories.{credential_at};
-ghost use Rattle.keep_run.specs.Agent.{IsFit, Stays};
+ghost use Rattle.keep_run.specs.Agent.{IsFit};
 ghost use Rattle.keep_run.specs.Closed.{taken};
 
 pub(crate) mod lines;
@@ -21,12 +21,11 @@ use std::alloc::{AllocError, Global};
 use std::marker::Model;
 use vault_http::Reply;
 
-/// A keeper with the credentials of its entries, and the port that its requests name.
+/// A keeper with the credentials of its entries.
 #[derive(Debug, Drop)]
 pub struct Agent {
     keeper: Keeper,
     credentials: Credentials,
-    port: u16,
 }
 
 impl Model for Agent {
@@ -34,21 +33,20 @@ impl Model for Agent {
 
     ghost Value = { Agent };
 
-    ghost view = { λ a. record { keeper = a.keeper; credentials = a.credentials; port = a.port } };
+    ghost view = { λ a. record { keeper = a.keeper; credentials = a.credentials } };
 
-    ghost invariant = { λ a. IsFit (record { keeper = a.keeper; credentials = a.credentials; port = a.port }) };
+    ghost invariant = { λ a. IsFit (record { keeper = a.keeper; credentials = a.credentials }) };
 }
 
 impl Agent {
-    /// An agent that asks for the entries of this keeper, with a credential for each, by requests that name this port.
-    pub fn new(keeper: Keeper, credentials: Credentials, port: u16) -> Agent
+    /// An agent that asks for the entries of this keeper, with a credential for each.
+    pub fn new(keeper: Keeper, credentials: Credentials) -> Agent
         requires { length credentials ≡ length keeper.forest.entries }
-        ensures { result ≡ record { keeper = keeper; credentials = credentials; port = port } }
+        ensures { result ≡ record { keeper = keeper; credentials = credentials } }
     {
         Agent {
             keeper,
             credentials,
-            port,
         }
     }
 
@@ -78,7 +76,7 @@ impl Agent {
     /// Hands the keeper an event.
     pub(crate) fn step(&mut self, event: Event) -> Result<Output, StepFault>
         ensures turn { Turn self.old.keeper event result self.new.keeper }
-        ensures stays { Stays self.old self.new }
+        ensures credentials { self.new.credentials ≡ self.old.credentials }
     {
         self.keeper.step(event)
     }
@@ -87,7 +85,7 @@ impl Agent {
     pub(crate) fn take_shortened(&mut self) -> Shortened
         ensures value { result ≡ self.old.keeper.shortened }
         ensures after { self.new.keeper ≡ taken self.old.keeper }
-        ensures stays { Stays self.old self.new }
+        ensures credentials { self.new.credentials ≡ self.old.credentials }
     {
         self.keeper.take_shortened()
     }
@@ -102,9 +100,10 @@ impl Agent {
         i: u32,
     ) -> Result<Option<Reply>, AllocError>
         requires { i < length self.now.keeper.forest.entries }
-        ensures { IfSome (E.behind exchange.old) (λ old. Asks old t (request_of self.now.port self.now.credentials self.now.keeper.forest i) result (E.behind exchange.new)) }
+        ensures asked { IfSome (E.behind exchange.old) (λ old. Asks old t (request_of (E.host_port exchange.old) self.now.credentials self.now.keeper.forest i) result (E.behind exchange.new)) }
+        ensures port { E.host_port exchange.new ≡ E.host_port exchange.old }
     {
         let forest = self.keeper.forest();
-        ask(alloc, exchange, t, self.port, &self.credentials, forest, i)
+        ask(alloc, exchange, t, &self.credentials, forest, i)
     }
 }

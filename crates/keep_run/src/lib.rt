@@ -3,9 +3,11 @@
 //!
 //! The contracts for the program above are those of [`run_rehearse`], over a table in memory, and [`run_live`], over any
 //! exchange; both are made of one definition of an answer. The laws say what a rehearsal is where the broker has no faults.
-//! Who asks is an [`Agent`]: the keeper with the credentials of its entries, and the port that its requests name.
-//! Begin with `specs/Closed.antt` and `specs/Text.antt`, then `rehearse` with its room. Of the live run, which is in `live`,
-//! `specs/LiveRun.antt` says the whole, over its lookups (`specs/Looking.antt`), its event lines one after another
+//! Who asks is an [`Agent`]: the keeper with the credentials of its entries.
+//!
+//! There are three rooms: `agent` has who asks and what one answer comes to, `rehearse` the wake-ups and the FAULT words, and
+//! `live` the lookups and the event lines. Begin with `specs/Closed.antt` and `specs/Text.antt`, then `rehearse`. Of the live
+//! run `specs/LiveRun.antt` says the whole, over its lookups (`specs/Looking.antt`), its event lines one after another
 //! (`specs/Listening.antt`) and what one of them comes to (`specs/Live.antt`, [`hear`]).
 #![tactic(auto)]
 
@@ -23,4 +25,4 @@ pub use live::hearing::hear;
 pub use live::listening::{EVENT_ROOM, MOST_EVENT_READS, MOST_EVENTS};
 pub use live::run_live;
 pub use rehearse::playing::MOST_WAKES;
-pub use rehearse::run_rehearse;
+pub use rehearse::{Script, run_rehearse};

@@ -18,37 +18,42 @@ use crate::live::feeding::Feeding;
 use crate::live::listening::listen;
 use crate::live::looking::look_all_up;
 use keep_core::Keeper;
-use keep_device::{Sink, Source};
+use keep_device::{Sink, Source, Streams};
 use keep_exchange::Exchange;
 use keep_inventory::{Inventory, read};
 use keep_moment::Moment;
 use keep_report::{Exit, Stop, Watched, send};
 use std::alloc::Global;
 
-/// Keeps the entries of an inventory alive: looks each of them up at `start`, takes event lines from `events`, and renews over
-/// the exchange. `docs/running.md` says what each line means.
+/// Keeps the entries of an inventory alive: looks each of them up at `start`, takes event lines, and renews over the exchange.
+/// `docs/running.md` says what each line means.
 ///
 /// What is written is the keeper's, whatever the exchange: the lines of the replies that came, one after another. Where the
 /// broker's table is known, these are the replies of the Broker step.
 ///
-/// An event line is answered, and its lines written and flushed as they come, before `events` is read again. The exits: `Done`, the
-/// events have ended; `Inventory`, the bytes are no inventory; `TooLong`, a plan would have more than 10,000,000 wake-ups;
-/// `Device`, a lookup got no answer that can be applied, a line is no event line or has no line feed, `events` failed or
-/// passed a limit, or the writer failed; `Memory`. Each but `Done` has its line on `errors`.
+/// An event line is answered, and its lines written and flushed as they come, before `streams.lines` is read again. The exits:
+/// `Done`, the events have ended; `Inventory`, the bytes are no inventory; `TooLong`, a plan would have more than 10,000,000
+/// wake-ups; `Device`, a lookup got no answer that can be applied, a line is no event line or has no line feed, `streams.lines`
+/// failed or passed a limit, or the writer failed; `Memory`. Each but `Done` has its line on `streams.errors`.
 pub fn run_live<R: Source, E: Exchange, W: Sink, F: Sink>(
     alloc: Global,
     inventory: &[u8],
     start: Moment,
-    events: &mut R,
     exchange: &mut E,
-    out: &mut W,
-    errors: &mut F,
+    streams: &mut Streams<R, W, F>,
 ) -> Exit
-    ensures { LiveRun (E.host_port exchange.old) inventory.now start (E.behind exchange.old) result (⟦<R as Feeding>⟧.fed events.old events.new) (⟦<W as Watched>⟧.sent out.old out.new) (⟦<F as Watched>⟧.sent errors.old errors.new) (E.behind exchange.new) }
+    ensures { LiveRun (E.host_port exchange.old) inventory.now start (E.behind exchange.old) result (⟦<R as Feeding>⟧.fed streams.old.lines streams.new.lines) (⟦<W as Watched>⟧.sent streams.old.out streams.new.out) (⟦<F as Watched>⟧.sent streams.old.errors streams.new.errors) (E.behind exchange.new) }
 {
-    match live(alloc, inventory, start, events, exchange, out) {
+    match live(
+        alloc,
+        inventory,
+        start,
+        &mut streams.lines,
+        exchange,
+        &mut streams.out,
+    ) {
         Ok(()) => Exit::Done,
-        Err(stop) => stop.report("leasekeep", errors),
+        Err(stop) => stop.report("leasekeep", &mut streams.errors),
     }
 }
 
@@ -64,8 +69,7 @@ fn live<R: Source, E: Exchange, W: Sink>(
     ensures { LivesTo (E.host_port exchange.old) bytes.now start (E.behind exchange.old) result (⟦<R as Feeding>⟧.fed events.old events.new) (⟦<W as Watched>⟧.sent out.old out.new) (E.behind exchange.new) }
 {
     let inventory = read(alloc, bytes)?;
-    let port = exchange.port();
-    let mut agent = begin(alloc, inventory, start, port, exchange, out)?;
+    let mut agent = begin(alloc, inventory, start, exchange, out)?;
     listen(alloc, &mut agent, events, exchange, out)
 }
 
@@ -74,18 +78,17 @@ fn begin<E: Exchange, W: Sink>(
     alloc: Global,
     inventory: Inventory,
     start: Moment,
-    port: u16,
     exchange: &mut E,
     out: &mut W,
 ) -> Result<Agent, Stop>
-    ensures early { IfErr result (λ stop. EndsEarly port start (record { inventory = inventory; behind = E.behind exchange.old }) stop (⟦<W as Watched>⟧.sent out.old out.new) (E.behind exchange.new)) }
-    ensures opened { IfOk result (λ agent. IsOpened agent.port start (record { inventory = inventory; behind = E.behind exchange.old }) agent.credentials agent.keeper (E.behind exchange.new) (⟦<W as Watched>⟧.sent out.old out.new)) }
+    ensures early { IfErr result (λ stop. EndsEarly (E.host_port exchange.old) start (record { inventory = inventory; behind = E.behind exchange.old }) stop (⟦<W as Watched>⟧.sent out.old out.new) (E.behind exchange.new)) }
+    ensures opened { IfOk result (λ agent. IsOpened (E.host_port exchange.old) start (record { inventory = inventory; behind = E.behind exchange.old }) agent.credentials agent.keeper (E.behind exchange.new) (⟦<W as Watched>⟧.sent out.old out.new)) }
     ensures ready { IfOk result (λ agent. IsReady agent.keeper) }
-    ensures port { IfOk result (λ agent. agent.port ≡ port) }
+    ensures port { E.host_port exchange.new ≡ E.host_port exchange.old }
     ensures flushed { OnOk result (IsTrue (W.is_flushed out.new)) }
 {
     let mut inventory = inventory;
-    look_all_up(alloc, &mut inventory, start, port, exchange, out)?;
+    look_all_up(alloc, &mut inventory, start, exchange, out)?;
     let (forest, credentials) = inventory.into_parts();
     let made = Keeper::new(alloc, forest, start);
     let mut keeper = opened(made)?;
@@ -93,5 +96,5 @@ fn begin<E: Exchange, W: Sink>(
     let mut text = Vec::new(alloc);
     push_short_lines(alloc, keeper.forest(), short.list(), &mut text)?;
     send(out, &text)?;
-    Ok(Agent::new(keeper, credentials, port))
+    Ok(Agent::new(keeper, credentials))
 }

@@ -12,16 +12,23 @@ use crate::rehearse::fault_words::set_faults;
 use crate::rehearse::playing::play;
 use keep_core::Keeper;
 use keep_device::Sink;
-use keep_exchange::{Exchange, MemoryExchange};
+use keep_exchange::MemoryExchange;
 use keep_inventory::read;
 use keep_moment::{Moment, Text};
 use keep_report::{Exit, Stop, Watched};
 use mini_broker::Table;
 use std::alloc::Global;
 
-/// The command `rehearse`: plays the keeper of an inventory from `start` on against a broker's table of the same inventory, with
-/// these faults, and writes what happens: each wake-up with who is asked, each answer, each need that is shortened, and at last
-/// how many wake-ups and requests it took.
+/// What a rehearsal plays: from when on, and the FAULT words that say what goes wrong.
+#[derive(Debug, Drop)]
+pub struct Script<'a> {
+    pub start: Moment,
+    pub faults: &'a [Text],
+}
+
+/// The command `rehearse`: plays the keeper of an inventory by the script against a broker's table of the same inventory, and
+/// writes what happens: each wake-up with who is asked, each answer, each need that is shortened, and at last how many wake-ups
+/// and requests it took.
 ///
 /// The inventory is judged first (exit 1), then the FAULT words: `K=short:SECONDS`, `K=drop` or `K=deny` is what goes wrong at
 /// the renewal request number `K` (exit 2, with the place of the first that is malformed or repeats a number). Then `exchange`
@@ -38,16 +45,15 @@ use std::alloc::Global;
 pub fn run_rehearse<W: Sink, F: Sink>(
     alloc: Global,
     inventory: &[u8],
-    start: Moment,
-    words: &[Text],
+    script: &Script<'_>,
     out: &mut W,
     errors: &mut F,
     exchange: &mut MemoryExchange,
 ) -> Exit
-    ensures run { RehearseRun inventory.now start words.now result (⟦<W as Watched>⟧.sent out.old out.new) exchange.old exchange.new }
-    ensures told { RehearseTold inventory.now words.now result (⟦<F as Watched>⟧.sent errors.old errors.new) }
+    ensures run { RehearseRun inventory.now script.now.start script.now.faults.now result (⟦<W as Watched>⟧.sent out.old out.new) exchange.old exchange.new }
+    ensures told { RehearseTold inventory.now script.now.faults.now result (⟦<F as Watched>⟧.sent errors.old errors.new) }
 {
-    match rehearse(alloc, inventory, start, words, out, exchange) {
+    match rehearse(alloc, inventory, script, out, exchange) {
         Ok(()) => Exit::Done,
         Err(stop) => stop.report("leasekeep", errors),
     }
@@ -57,23 +63,22 @@ pub fn run_rehearse<W: Sink, F: Sink>(
 fn rehearse<W: Sink>(
     alloc: Global,
     inventory: &[u8],
-    start: Moment,
-    words: &[Text],
+    script: &Script<'_>,
     out: &mut W,
     exchange: &mut MemoryExchange,
 ) -> Result<(), Stop>
-    ensures { Rehearses inventory.now start words.now result (⟦<W as Watched>⟧.sent out.old out.new) exchange.old exchange.new }
+    ensures { Rehearses inventory.now script.now.start script.now.faults.now result (⟦<W as Watched>⟧.sent out.old out.new) exchange.old exchange.new }
 {
     let inventory = read(alloc, inventory)?;
     let mut table = Table::load(alloc, &inventory)?;
-    set_faults(&mut table, words)?;
+    set_faults(&mut table, script.faults)?;
     exchange.give(table);
     let (forest, credentials) = inventory.into_parts();
-    let made = Keeper::new(alloc, forest, start);
+    let made = Keeper::new(alloc, forest, script.start);
     let mut keeper = opened(made)?;
     let short = keeper.take_shortened();
     let mut lines = Vec::new(alloc);
     push_short_lines(alloc, keeper.forest(), short.list(), &mut lines)?;
-    let mut agent = Agent::new(keeper, credentials, exchange.port());
-    play(alloc, &mut agent, exchange, start.get(), &lines, out)
+    let mut agent = Agent::new(keeper, credentials);
+    play(alloc, &mut agent, exchange, script.start.get(), &lines, out)
 }

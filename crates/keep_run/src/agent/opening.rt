@@ -4,7 +4,6 @@ ghost use Rattle.std.specs.Result.{IfErr};
 ghost use Rattle.keep_report.specs.declared.stop.Stop.TheVariants as stops;
 ghost use Rattle.keep_core.specs.LawsOfSteps.{IsShaped};
 ghost use Rattle.keep_exchange.specs.Exchanges.{Behind};
-ghost use Rattle.keep_run.specs.Agent.{Stays};
 ghost use Rattle.keep_run.specs.Closed.{asked_in};
 ghost use Rattle.keep_run.specs.Live.{IsReady};
 ghost use Rattle.keep_run.specs.code.Playing.{Comes, Leaves, LeavesOpen, OpensOrEnds, Ticks, asked_of};
@@ -37,7 +36,7 @@ pub(crate) fn tick(
     ensures ticks { IfOk result (λ output. Ticks t agent.old.keeper output agent.new.keeper text.old.items text.new.items) }
     ensures leaves { IfOk result (λ output. Leaves t output agent.new.keeper) }
     ensures few { IfOk result (λ output. length (asked_in output) ≤ 4096) }
-    ensures stays { Stays agent.old agent.new }
+    ensures credentials { agent.new.credentials ≡ agent.old.credentials }
 {
     let _entries = agent.forest().len();
     let output = match agent.step(Event::Tick(t)) {
@@ -68,7 +67,7 @@ pub(crate) fn open(
     ensures few { IfOk result (λ opened. length (asked_of opened) ≤ 4096) }
     ensures taken { IfOk result (λ _. agent.new.keeper.shortened ≡ []) }
     ensures shaped { IfOk result (λ _. IsShaped agent.old.keeper.forest agent.new.keeper.forest) }
-    ensures stays { Stays agent.old agent.new }
+    ensures credentials { agent.new.credentials ≡ agent.old.credentials }
 {
     match tick(alloc, agent, t, text)? {
         Output::Ask(asked) => Ok(Some(Opened { at: t, asked })),

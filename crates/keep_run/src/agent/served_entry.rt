@@ -3,7 +3,6 @@ ghost use Rattle.std.specs.Prelude.{◌≡◌, ◌<◌, [], IfOk, length, true};
 ghost use Rattle.std.specs.Result.{IfErr};
 ghost use Rattle.keep_core.specs.Refusal.{waits_for};
 ghost use Rattle.keep_report.specs.declared.stop.Stop.TheVariants as stops;
-ghost use Rattle.keep_run.specs.Agent.{Stays};
 ghost use Rattle.keep_run.specs.Closed.{told_next};
 ghost use Rattle.keep_run.specs.code.Playing.{Answers, Hears};
 ghost use Rattle.keep_run.specs.Stops.{both};
@@ -32,8 +31,9 @@ pub(crate) fn answer<E: Exchange>(
     requires quiet { agent.old.keeper.shortened ≡ [] }
     ensures memory { IfErr result (λ stop. stop ≡ stops.Memory) }
     ensures hears { IfOk result (λ output. Hears i agent.old.keeper output agent.new.keeper) }
-    ensures answers { IfOk result (λ output. Answers agent.old.port agent.old.credentials t (both agent.old.keeper (E.behind exchange.old)) i output (both agent.new.keeper (E.behind exchange.new)) text.old.items text.new.items) }
-    ensures stays { Stays agent.old agent.new }
+    ensures answers { IfOk result (λ output. Answers (E.host_port exchange.old) agent.old.credentials t (both agent.old.keeper (E.behind exchange.old)) i output (both agent.new.keeper (E.behind exchange.new)) text.old.items text.new.items) }
+    ensures credentials { agent.new.credentials ≡ agent.old.credentials }
+    ensures port { E.host_port exchange.new ≡ E.host_port exchange.old }
 {
     let kind = agent.forest().get(i).kind;
     let reply = agent.ask(alloc, exchange, t, i)?;

@@ -2,7 +2,6 @@
 ghost use Rattle.std.specs.Prelude.{◌≡◌, ◌++◌, ◌<◌, List, Option, ℕ, IsTrue, OnOk, length};
 ghost use Rattle.std.specs.Result.{IfErr};
 ghost use Rattle.keep_exchange.specs.Exchanges.{Behind};
-ghost use Rattle.keep_run.specs.Agent.{Stays};
 ghost use Rattle.keep_run.specs.EventLines.{IsWithin};
 ghost use Rattle.keep_run.specs.Live.{HearsTo, IsNeeded, IsReady};
 ghost use Rattle.keep_run.specs.declared.live.event_line.Heard.TheVariants as heards;
@@ -42,10 +41,11 @@ pub fn hear<E: Exchange, W: Sink>(
     requires within { IsWithin (length agent.old.keeper.forest.entries) heard }
     requires flushed { IsTrue (W.is_flushed out.old) }
     requires begun { E.limit exchange.old ≡ E.longest exchange.old }
-    ensures hears { HearsTo agent.old.port agent.old.credentials (both agent.old.keeper (E.behind exchange.old)) heard result (both agent.new.keeper (E.behind exchange.new)) (⟦<W as Watched>⟧.sent out.old out.new) }
+    ensures hears { HearsTo (E.host_port exchange.old) agent.old.credentials (both agent.old.keeper (E.behind exchange.old)) heard result (both agent.new.keeper (E.behind exchange.new)) (⟦<W as Watched>⟧.sent out.old out.new) }
     ensures count { OnOk result (W.failed_calls out.new ≡ W.failed_calls out.old) }
     ensures ready { OnOk result (IsReady agent.new.keeper) }
-    ensures stays { Stays agent.old agent.new }
+    ensures credentials { agent.new.credentials ≡ agent.old.credentials }
+    ensures port { E.host_port exchange.new ≡ E.host_port exchange.old }
 {
     match heard {
         Heard::Tick(t) => hear_tick(alloc, agent, exchange, t, out),
@@ -71,7 +71,7 @@ fn hear_need(
     ensures stops { IfErr result (λ stop. (behind : Option Behind) → StopsNeed (both agent.old.keeper behind) (heards.Need i until) stop (both agent.new.keeper behind)) }
     ensures needed { OnOk result ((b : Option Behind) → (lines : List ℕ) × (IsNeeded i until (both agent.old.keeper b) (both agent.new.keeper b) lines × (text.new.items ≡ text.old.items ++ lines))) }
     ensures ready { OnOk result (IsReady agent.new.keeper) }
-    ensures stays { Stays agent.old agent.new }
+    ensures credentials { agent.new.credentials ≡ agent.old.credentials }
 {
     let event = Event::Need {
         i,
@@ -97,10 +97,11 @@ fn hear_tick<E: Exchange, W: Sink>(
 ) -> Result<(), Stop>
     requires ready { IsReady agent.old.keeper }
     requires flushed { IsTrue (W.is_flushed out.old) }
-    ensures hears { HearsTo agent.old.port agent.old.credentials (both agent.old.keeper (E.behind exchange.old)) (heards.Tick t) result (both agent.new.keeper (E.behind exchange.new)) (⟦<W as Watched>⟧.sent out.old out.new) }
+    ensures hears { HearsTo (E.host_port exchange.old) agent.old.credentials (both agent.old.keeper (E.behind exchange.old)) (heards.Tick t) result (both agent.new.keeper (E.behind exchange.new)) (⟦<W as Watched>⟧.sent out.old out.new) }
     ensures count { OnOk result (W.failed_calls out.new ≡ W.failed_calls out.old) }
     ensures ready { OnOk result (IsReady agent.new.keeper) }
-    ensures stays { Stays agent.old agent.new }
+    ensures credentials { agent.new.credentials ≡ agent.old.credentials }
+    ensures port { E.host_port exchange.new ≡ E.host_port exchange.old }
 {
     if t.get() < agent.keeper().now().get() {
         return send(out, b"fault clock-back\n");

@@ -3,7 +3,6 @@ ghost use Rattle.std.specs.Prelude.{◌≡◌, ◌+◌, ◌∷◌, [], ◌<◌, 
 ghost use Rattle.std.specs.Result.{IfErr};
 ghost use Rattle.std.specs.Io.KnownBytes.{Keeps};
 ghost use Rattle.keep_report.specs.declared.stop.Stop.TheVariants as stops;
-ghost use Rattle.keep_run.specs.Agent.{Stays};
 ghost use Rattle.keep_run.specs.declared.live.event_line.TheConstants.{MOST_LINE};
 ghost use Rattle.keep_run.specs.code.LineByLine.{HaltsWithin, HearsLine, HearsUpTo};
 ghost use Rattle.keep_run.specs.Listening.{Listens};
@@ -45,7 +44,7 @@ pub(crate) fn listen<R: Source, E: Exchange, W: Sink>(
 ) -> Result<(), Stop>
     requires ready { IsReady agent.old.keeper }
     requires flushed { IsTrue (W.is_flushed out.old) }
-    ensures listens { Listens agent.old.port agent.old.credentials (both agent.old.keeper (E.behind exchange.old)) result (both agent.new.keeper (E.behind exchange.new)) (⟦<R as Feeding>⟧.fed events.old events.new) (⟦<W as Watched>⟧.sent out.old out.new) }
+    ensures listens { Listens (E.host_port exchange.old) agent.old.credentials (both agent.old.keeper (E.behind exchange.old)) result (both agent.new.keeper (E.behind exchange.new)) (⟦<R as Feeding>⟧.fed events.old events.new) (⟦<W as Watched>⟧.sent out.old out.new) }
     ensures written { Keeps (R.written events.old) (R.written events.new) }
 {
     let mut room = zeros(alloc, EVENT_ROOM)?;
@@ -64,7 +63,7 @@ fn listen_to<R: Source, E: Exchange, W: Sink>(
     requires ready { IsReady agent.old.keeper }
     requires flushed { IsTrue (W.is_flushed out.old) }
     requires room { length room.old ≡ EVENT_ROOM }
-    ensures listens { Listens agent.old.port agent.old.credentials (both agent.old.keeper (E.behind exchange.old)) result (both agent.new.keeper (E.behind exchange.new)) (⟦<R as Feeding>⟧.fed events.old events.new) (⟦<W as Watched>⟧.sent out.old out.new) }
+    ensures listens { Listens (E.host_port exchange.old) agent.old.credentials (both agent.old.keeper (E.behind exchange.old)) result (both agent.new.keeper (E.behind exchange.new)) (⟦<R as Feeding>⟧.fed events.old events.new) (⟦<W as Watched>⟧.sent out.old out.new) }
     ensures written { Keeps (R.written events.old) (R.written events.new) }
 {
     let mut pending = Vec::new(alloc);
@@ -114,12 +113,13 @@ fn hear_pending<E: Exchange, W: Sink>(
     requires ready { IsReady agent.old.keeper }
     requires flushed { IsTrue (W.is_flushed out.old) }
     requires few { lines.old + length pending.old.items ≤ MOST_EVENTS }
-    ensures heard { OnOk result (HearsUpTo agent.old.port agent.old.credentials lines.old (both agent.old.keeper (E.behind exchange.old)) pending.old.items (pending.new.items ∷ []) (both agent.new.keeper (E.behind exchange.new)) lines.new (⟦<W as Watched>⟧.sent out.old out.new)) }
+    ensures heard { OnOk result (HearsUpTo (E.host_port exchange.old) agent.old.credentials lines.old (both agent.old.keeper (E.behind exchange.old)) pending.old.items (pending.new.items ∷ []) (both agent.new.keeper (E.behind exchange.new)) lines.new (⟦<W as Watched>⟧.sent out.old out.new)) }
     ensures short { OnOk result (length pending.new.items < MOST_LINE) }
     ensures fewer { OnOk result (lines.new + length pending.new.items ≤ lines.old + length pending.old.items) }
     ensures ready { OnOk result (IsReady agent.new.keeper) }
-    ensures halts { IfErr result (λ stop. HaltsWithin agent.old.port agent.old.credentials lines.old (both agent.old.keeper (E.behind exchange.old)) pending.old.items stop (both agent.new.keeper (E.behind exchange.new)) (⟦<W as Watched>⟧.sent out.old out.new)) }
-    ensures stays { Stays agent.old agent.new }
+    ensures halts { IfErr result (λ stop. HaltsWithin (E.host_port exchange.old) agent.old.credentials lines.old (both agent.old.keeper (E.behind exchange.old)) pending.old.items stop (both agent.new.keeper (E.behind exchange.new)) (⟦<W as Watched>⟧.sent out.old out.new)) }
+    ensures credentials { agent.new.credentials ≡ agent.old.credentials }
+    ensures port { E.host_port exchange.new ≡ E.host_port exchange.old }
 {
     let heard = hear_whole(alloc, agent, exchange, pending, lines, out)?;
     pending.drain(..heard);
@@ -142,12 +142,13 @@ fn hear_whole<E: Exchange, W: Sink>(
     requires ready { IsReady agent.old.keeper }
     requires flushed { IsTrue (W.is_flushed out.old) }
     requires few { lines.old + length bytes.now ≤ MOST_EVENTS }
-    ensures heard { IfOk result (λ n. HearsUpTo agent.old.port agent.old.credentials lines.old (both agent.old.keeper (E.behind exchange.old)) bytes.now (drop n bytes.now ∷ []) (both agent.new.keeper (E.behind exchange.new)) lines.new (⟦<W as Watched>⟧.sent out.old out.new)) }
+    ensures heard { IfOk result (λ n. HearsUpTo (E.host_port exchange.old) agent.old.credentials lines.old (both agent.old.keeper (E.behind exchange.old)) bytes.now (drop n bytes.now ∷ []) (both agent.new.keeper (E.behind exchange.new)) lines.new (⟦<W as Watched>⟧.sent out.old out.new)) }
     ensures within { IfOk result (λ n. n ≤ length bytes.now) }
     ensures fewer { IfOk result (λ n. lines.new ≤ lines.old + n) }
     ensures ready { IfOk result (λ _. IsReady agent.new.keeper) }
-    ensures halts { IfErr result (λ stop. HaltsWithin agent.old.port agent.old.credentials lines.old (both agent.old.keeper (E.behind exchange.old)) bytes.now stop (both agent.new.keeper (E.behind exchange.new)) (⟦<W as Watched>⟧.sent out.old out.new)) }
-    ensures stays { Stays agent.old agent.new }
+    ensures halts { IfErr result (λ stop. HaltsWithin (E.host_port exchange.old) agent.old.credentials lines.old (both agent.old.keeper (E.behind exchange.old)) bytes.now stop (both agent.new.keeper (E.behind exchange.new)) (⟦<W as Watched>⟧.sent out.old out.new)) }
+    ensures credentials { agent.new.credentials ≡ agent.old.credentials }
+    ensures port { E.host_port exchange.new ≡ E.host_port exchange.old }
 {
     let mut rest = bytes;
     while let Some((line, behind)) = cut(rest, b'\n') {
@@ -170,9 +171,10 @@ fn hear_line<E: Exchange, W: Sink>(
 ) -> Result<(), Stop>
     requires ready { IsReady agent.old.keeper }
     requires flushed { IsTrue (W.is_flushed out.old) }
-    ensures hears { HearsLine agent.old.port agent.old.credentials number (both agent.old.keeper (E.behind exchange.old)) line.now result (both agent.new.keeper (E.behind exchange.new)) (⟦<W as Watched>⟧.sent out.old out.new) }
+    ensures hears { HearsLine (E.host_port exchange.old) agent.old.credentials number (both agent.old.keeper (E.behind exchange.old)) line.now result (both agent.new.keeper (E.behind exchange.new)) (⟦<W as Watched>⟧.sent out.old out.new) }
     ensures ready { OnOk result (IsReady agent.new.keeper) }
-    ensures stays { Stays agent.old agent.new }
+    ensures credentials { agent.new.credentials ≡ agent.old.credentials }
+    ensures port { E.host_port exchange.new ≡ E.host_port exchange.old }
 {
     let Some(heard) = heard_in(agent.forest(), line) else {
         return Err(Stop::Line(number));

@@ -18,15 +18,15 @@ pub(crate) fn look_all_up<E: Exchange, W: Sink>(
     alloc: Global,
     inventory: &mut Inventory,
     start: Moment,
-    port: u16,
     exchange: &mut E,
     out: &mut W,
 ) -> Result<(), Stop>
-    ensures { LooksAllUp port start (record { inventory = inventory.old; behind = E.behind exchange.old }) result (⟦<W as Watched>⟧.sent out.old out.new) inventory.new (E.behind exchange.new) }
+    ensures looked { LooksAllUp (E.host_port exchange.old) start (record { inventory = inventory.old; behind = E.behind exchange.old }) result (⟦<W as Watched>⟧.sent out.old out.new) inventory.new (E.behind exchange.new) }
+    ensures port { E.host_port exchange.new ≡ E.host_port exchange.old }
 {
     let mut i = 0;
     while i < inventory.forest().len() {
-        look_one_up(alloc, inventory, i, start, port, exchange, out)?;
+        look_one_up(alloc, inventory, i, start, exchange, out)?;
         i += 1;
     }
     Ok(())
@@ -38,15 +38,15 @@ fn look_one_up<E: Exchange, W: Sink>(
     inventory: &mut Inventory,
     i: u32,
     start: Moment,
-    port: u16,
     exchange: &mut E,
     out: &mut W,
 ) -> Result<(), Stop>
     requires { i < length inventory.old.forest.entries }
-    ensures { LooksOneUp port start (record { inventory = inventory.old; behind = E.behind exchange.old }) i result (⟦<W as Watched>⟧.sent out.old out.new) inventory.new (E.behind exchange.new) }
+    ensures looked { LooksOneUp (E.host_port exchange.old) start (record { inventory = inventory.old; behind = E.behind exchange.old }) i result (⟦<W as Watched>⟧.sent out.old out.new) inventory.new (E.behind exchange.new) }
+    ensures port { E.host_port exchange.new ≡ E.host_port exchange.old }
 {
     let name = Text::of(alloc, inventory.forest().get(i).name.list())?;
-    if !look_up(alloc, exchange, start, port, inventory, i)? {
+    if !look_up(alloc, exchange, start, inventory, i)? {
         return Err(Stop::Broker(name));
     }
     write_entry(alloc, inventory, i, out)

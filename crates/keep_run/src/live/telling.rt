@@ -2,7 +2,6 @@
 ghost use Rattle.std.specs.Prelude.{◌≡◌, ◌≢◌, ◌<◌, [], IfOk, IsTrue, OnOk, length, true};
 ghost use Rattle.keep_core.specs.LawsOfSteps.{IsShaped};
 ghost use Rattle.keep_core.specs.Refusal.{waits_for};
-ghost use Rattle.keep_run.specs.Agent.{Stays};
 ghost use Rattle.keep_run.specs.Live.{IsReady};
 ghost use Rattle.keep_run.specs.code.Playing.{Hears, Waits};
 ghost use Rattle.keep_run.specs.Stops.{both};
@@ -31,9 +30,10 @@ pub(crate) fn tell_round<E: Exchange, W: Sink>(
     requires some { asked.now ≢ [] }
     requires quiet { agent.old.keeper.shortened ≡ [] }
     requires flushed { IsTrue (W.is_flushed out.old) }
-    ensures tells { TellsRound agent.old.port agent.old.credentials t (both agent.old.keeper (E.behind exchange.old)) asked.now result (both agent.new.keeper (E.behind exchange.new)) (⟦<W as Watched>⟧.sent out.old out.new) }
+    ensures tells { TellsRound (E.host_port exchange.old) agent.old.credentials t (both agent.old.keeper (E.behind exchange.old)) asked.now result (both agent.new.keeper (E.behind exchange.new)) (⟦<W as Watched>⟧.sent out.old out.new) }
     ensures ready { IfOk result (λ _. IsReady agent.new.keeper) }
-    ensures stays { Stays agent.old agent.new }
+    ensures credentials { agent.new.credentials ≡ agent.old.credentials }
+    ensures port { E.host_port exchange.new ≡ E.host_port exchange.old }
 {
     let mut next = None;
     for i in asked {
@@ -57,9 +57,10 @@ fn tell_answer<E: Exchange, W: Sink>(
     requires waits { waits_for agent.old.keeper.round i ≡ true }
     requires quiet { agent.old.keeper.shortened ≡ [] }
     requires flushed { IsTrue (W.is_flushed out.old) }
-    ensures tells { TellsOne agent.old.port agent.old.credentials t (both agent.old.keeper (E.behind exchange.old)) i result (both agent.new.keeper (E.behind exchange.new)) (⟦<W as Watched>⟧.sent out.old out.new) }
+    ensures tells { TellsOne (E.host_port exchange.old) agent.old.credentials t (both agent.old.keeper (E.behind exchange.old)) i result (both agent.new.keeper (E.behind exchange.new)) (⟦<W as Watched>⟧.sent out.old out.new) }
     ensures hears { IfOk result (λ output. Hears i agent.old.keeper output agent.new.keeper) }
-    ensures stays { Stays agent.old agent.new }
+    ensures credentials { agent.new.credentials ≡ agent.old.credentials }
+    ensures port { E.host_port exchange.new ≡ E.host_port exchange.old }
 {
     let mut text = Vec::new(alloc);
     let output = answer(alloc, agent, exchange, t, i, &mut text)?;

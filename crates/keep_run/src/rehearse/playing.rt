@@ -30,7 +30,6 @@ pub(crate) fn play<W: Sink>(
 ) -> Result<(), Stop>
     requires ready { IsReady agent.old.keeper }
     requires comes { Comes agent.old.keeper.last (Some start) }
-    requires port { agent.old.port ≡ 8200 }
     ensures { Plays agent.old.credentials (both agent.old.keeper (Some exchange.old)) start lines.now result (both agent.new.keeper (Some exchange.new)) (⟦<W as Watched>⟧.sent out.old out.new) }
 {
     write_all(out, lines)?;

@@ -3,7 +3,6 @@ ghost use Rattle.std.specs.Prelude.{◌≡◌, ◌≢◌, ◌≤◌, [], IfOk, S
 ghost use Rattle.std.specs.Result.{IfErr};
 ghost use Rattle.keep_report.specs.declared.stop.Stop.TheVariants as stops;
 ghost use Rattle.keep_core.specs.LawsOfSteps.{IsShaped};
-ghost use Rattle.keep_run.specs.Agent.{Stays};
 ghost use Rattle.keep_run.specs.Live.{IsReady};
 ghost use Rattle.keep_run.specs.code.Playing.{AnswersAll, Comes, Waits, Wakes, next_in, requests_in};
 ghost use Rattle.keep_run.specs.Stops.{both};
@@ -33,14 +32,13 @@ pub(crate) fn wake(
 ) -> Result<Option<Woken>, Stop>
     requires ready { IsReady agent.old.keeper }
     requires comes { Comes agent.old.keeper.last (Some due) }
-    requires port { agent.old.port ≡ 8200 }
     ensures memory { IfErr result (λ stop. stop ≡ stops.Memory) }
     ensures wakes { IfOk result (λ woken. Wakes agent.old.credentials (both agent.old.keeper (Some exchange.old)) due woken (both agent.new.keeper (Some exchange.new)) text.old.items text.new.items) }
     ensures few { IfOk result (λ woken. requests_in woken ≤ 4096) }
     ensures shaped { IfOk result (λ _. IsShaped agent.old.keeper.forest agent.new.keeper.forest) }
     ensures ready { IfOk result (λ _. IsReady agent.new.keeper) }
     ensures comes { IfOk result (λ woken. Comes agent.new.keeper.last (next_in woken)) }
-    ensures stays { Stays agent.old agent.new }
+    ensures credentials { agent.new.credentials ≡ agent.old.credentials }
 {
     let Some(opened) = open(alloc, agent, due, text)? else {
         return Ok(None);
@@ -68,11 +66,11 @@ pub(crate) fn round<E: Exchange>(
     requires some { asked.now ≢ [] }
     requires quiet { agent.old.keeper.shortened ≡ [] }
     ensures memory { IfErr result (λ stop. stop ≡ stops.Memory) }
-    ensures answers { IfOk result (λ next. AnswersAll agent.old.port agent.old.credentials t (both agent.old.keeper (E.behind exchange.old)) asked.now next (both agent.new.keeper (E.behind exchange.new)) text.old.items text.new.items) }
+    ensures answers { IfOk result (λ next. AnswersAll (E.host_port exchange.old) agent.old.credentials t (both agent.old.keeper (E.behind exchange.old)) asked.now next (both agent.new.keeper (E.behind exchange.new)) text.old.items text.new.items) }
     ensures shaped { IfOk result (λ _. IsShaped agent.old.keeper.forest agent.new.keeper.forest) }
     ensures ready { IfOk result (λ _. IsReady agent.new.keeper) }
     ensures comes { IfOk result (λ next. Comes agent.new.keeper.last next) }
-    ensures stays { Stays agent.old agent.new }
+    ensures credentials { agent.new.credentials ≡ agent.old.credentials }
 {
     let mut next = None;
     for i in asked {

@@ -34,17 +34,17 @@ new-requires g c =
 pub returns-in_err-keeper-clause-early : goal.returns-in_err-keeper-clause-early
 returns-in_err-keeper-clause-early g c =
     for_err c.from_residual-in_err-keeper.result c.in_err-keeper.field-0.0 _ c.from_residual-in_err-keeper.ensures
-    (planning_ends c.args.port c.args.start (record { inventory = c.args.inventory; behind = g.E.Exchange.behind c.args.exchange.now }) c.look_all_up.new.inventory (g.E.Exchange.behind c.look_all_up.new.exchange)
+    (planning_ends (g.E.Exchange.host_port c.args.exchange.now) c.args.start (record { inventory = c.args.inventory; behind = g.E.Exchange.behind c.args.exchange.now }) c.look_all_up.new.inventory (g.E.Exchange.behind c.look_all_up.new.exchange)
     (g.W.Device.written c.args.out.now) (g.W.Device.written c.look_all_up.new.out) (g.W.Device.written c.look_all_up.new.out) (g.W.Device.failed_calls c.args.out.now) (g.W.Device.failed_calls c.look_all_up.new.out) (g.W.Device.failed_calls c.look_all_up.new.out)
-    (g.W.Device.is_flushed c.args.out.now) (g.W.Device.is_flushed c.look_all_up.new.out) (g.W.Device.is_flushed c.look_all_up.new.out) g.W.Device.is_in_memory c.in_ok-look_all_up.ensures
+    (g.W.Device.is_flushed c.args.out.now) (g.W.Device.is_flushed c.look_all_up.new.out) (g.W.Device.is_flushed c.look_all_up.new.out) g.W.Device.is_in_memory c.in_ok-look_all_up.ensures.looked
     c.into_parts-forest.result.0 c.in_err-keeper.field-0.0 c.into_parts-forest.ensures.forest (stopped_as c.into_parts-forest.result.0 c.args.start c.new-made.result c.in_err-keeper.field-0.0 c.new-made.ensures.refused c.in_err-keeper.ensures.keeper c.in_err-keeper.ensures.stop))
 
 pub returns-in_err-push_short_lines-clause-early : goal.returns-in_err-push_short_lines-clause-early
 returns-in_err-push_short_lines-clause-early g c =
     for_err c.from_residual-in_err-push_short_lines.result stops.Memory _ c.from_residual-in_err-push_short_lines.ensures
-    (memory_ends c.args.port c.args.start (record { inventory = c.args.inventory; behind = g.E.Exchange.behind c.args.exchange.now }) c.look_all_up.new.inventory (g.E.Exchange.behind c.look_all_up.new.exchange)
+    (memory_ends (g.E.Exchange.host_port c.args.exchange.now) c.args.start (record { inventory = c.args.inventory; behind = g.E.Exchange.behind c.args.exchange.now }) c.look_all_up.new.inventory (g.E.Exchange.behind c.look_all_up.new.exchange)
     (g.W.Device.written c.args.out.now) (g.W.Device.written c.look_all_up.new.out) (g.W.Device.written c.look_all_up.new.out) (g.W.Device.failed_calls c.args.out.now) (g.W.Device.failed_calls c.look_all_up.new.out) (g.W.Device.failed_calls c.look_all_up.new.out)
-    (g.W.Device.is_flushed c.args.out.now) (g.W.Device.is_flushed c.look_all_up.new.out) (g.W.Device.is_flushed c.look_all_up.new.out) g.W.Device.is_in_memory c.in_ok-look_all_up.ensures stops.Memory refl)
+    (g.W.Device.is_flushed c.args.out.now) (g.W.Device.is_flushed c.look_all_up.new.out) (g.W.Device.is_flushed c.look_all_up.new.out) g.W.Device.is_in_memory c.in_ok-look_all_up.ensures.looked stops.Memory refl)
 
 pub returns-in_err-send-clause-early : goal.returns-in_err-send-clause-early
 returns-in_err-send-clause-early g c =
@@ -55,9 +55,9 @@ returns-in_err-send-clause-early g c =
     ∙ ap (λ h. short_lines h c.list.result.now) (c.forest.ensures ∙ ap (λ (s : State). s.forest) c.take_shortened-short.ensures.after)
     ∙ ap (short_lines k.forest) (c.list.ensures ∙ c.take_shortened-short.ensures.value) in
     for_err c.from_residual-in_err-send.result c.in_err-send.field-0.0 _ c.from_residual-in_err-send.ensures
-    (sending_ends c.args.port c.args.start (record { inventory = c.args.inventory; behind = g.E.Exchange.behind c.args.exchange.now }) c.look_all_up.new.inventory (g.E.Exchange.behind c.look_all_up.new.exchange)
+    (sending_ends (g.E.Exchange.host_port c.args.exchange.now) c.args.start (record { inventory = c.args.inventory; behind = g.E.Exchange.behind c.args.exchange.now }) c.look_all_up.new.inventory (g.E.Exchange.behind c.look_all_up.new.exchange)
     (g.W.Device.written c.args.out.now) (g.W.Device.written c.look_all_up.new.out) (g.W.Device.written c.send.new.out) (g.W.Device.failed_calls c.args.out.now) (g.W.Device.failed_calls c.look_all_up.new.out) (g.W.Device.failed_calls c.send.new.out)
-    (g.W.Device.is_flushed c.args.out.now) (g.W.Device.is_flushed c.look_all_up.new.out) (g.W.Device.is_flushed c.send.new.out) g.W.Device.is_in_memory c.in_ok-look_all_up.ensures
+    (g.W.Device.is_flushed c.args.out.now) (g.W.Device.is_flushed c.look_all_up.new.out) (g.W.Device.is_flushed c.send.new.out) g.W.Device.is_in_memory c.in_ok-look_all_up.ensures.looked
     c.into_parts-forest.result.0 k c.deref.result.now c.in_err-send.field-0.0 c.into_parts-forest.ensures.forest (planned_as c.into_parts-forest.result.0 c.args.start c.new-made.result c.in_ok-keeper.keeper c.new-made.ensures.opened c.in_ok-keeper.ensures.keeper c.in_ok-keeper.ensures.stop) lines c.in_err-send.ensures.sent)
 
 pub returns-clause-opened : goal.returns-clause-opened
@@ -78,10 +78,10 @@ returns-clause-opened g c =
       is_in_memory = g.W.Device.is_in_memory;
     } in
     let before : Looked = record { inventory = c.args.inventory; behind = g.E.Exchange.behind c.args.exchange.now } in
-    subst (λ (agent : Agent). IsOpened agent.port c.args.start before agent.credentials agent.keeper (g.E.Exchange.behind c.look_all_up.new.exchange) out) (sym c.new.ensures)
-    (opens c.args.port c.args.start (record { inventory = c.args.inventory; behind = g.E.Exchange.behind c.args.exchange.now }) c.look_all_up.new.inventory (g.E.Exchange.behind c.look_all_up.new.exchange)
+    subst (λ (agent : Agent). IsOpened (g.E.Exchange.host_port c.args.exchange.now) c.args.start before agent.credentials agent.keeper (g.E.Exchange.behind c.look_all_up.new.exchange) out) (sym c.new.ensures)
+    (opens (g.E.Exchange.host_port c.args.exchange.now) c.args.start (record { inventory = c.args.inventory; behind = g.E.Exchange.behind c.args.exchange.now }) c.look_all_up.new.inventory (g.E.Exchange.behind c.look_all_up.new.exchange)
     (g.W.Device.written c.args.out.now) (g.W.Device.written c.look_all_up.new.out) (g.W.Device.written c.send.new.out) (g.W.Device.failed_calls c.args.out.now) (g.W.Device.failed_calls c.look_all_up.new.out) (g.W.Device.failed_calls c.send.new.out)
-    (g.W.Device.is_flushed c.args.out.now) (g.W.Device.is_flushed c.look_all_up.new.out) (g.W.Device.is_flushed c.send.new.out) g.W.Device.is_in_memory c.in_ok-look_all_up.ensures
+    (g.W.Device.is_flushed c.args.out.now) (g.W.Device.is_flushed c.look_all_up.new.out) (g.W.Device.is_flushed c.send.new.out) g.W.Device.is_in_memory c.in_ok-look_all_up.ensures.looked
     c.into_parts-forest.result.0 c.into_parts-forest.result.1 k c.take_shortened-short.new.self c.deref.result.now c.into_parts-forest.ensures.forest c.into_parts-forest.ensures.credentials (planned_as c.into_parts-forest.result.0 c.args.start c.new-made.result c.in_ok-keeper.keeper c.new-made.ensures.opened c.in_ok-keeper.ensures.keeper c.in_ok-keeper.ensures.stop)
     c.take_shortened-short.ensures.after lines c.in_ok-send.ensures.sent c.in_ok-send.ensures.count)
 

@@ -1,6 +1,5 @@
 -- A live run is cut off by its inventory or its beginning, or else goes as far as it listens.
-use Rattle.std.proofs.Common.{◌∙◌}
-use Rattle.keep_run.proofs.LiveListening.{at_port, early_lives, listened_lives, read_lives}
+use Rattle.keep_run.proofs.LiveListening.{early_lives, listened_lives, read_lives}
 use Rattle.keep_run.proofs.live.live.Goals as goal
 
 pub returns-in_err-inventory : goal.returns-in_err-inventory
@@ -9,14 +8,11 @@ returns-in_err-inventory g c =
 
 pub returns-in_err-agent : goal.returns-in_err-agent
 returns-in_err-agent g c =
-    at_port c.port-port.result c.args.bytes.now c.args.start (g.E.Exchange.behind c.args.exchange.now) c.from_residual-in_err-agent.result _ _ (g.E.Exchange.behind c.begin.new.exchange) _ c.port-port.ensures
-    (early_lives c.port-port.result c.args.bytes.now c.args.start (g.E.Exchange.behind c.args.exchange.now) c.from_residual-in_err-agent.result c.in_err-agent.field-0.0 c.in_ok-inventory.inventory
+    early_lives (g.E.Exchange.host_port c.args.exchange.now) c.args.bytes.now c.args.start (g.E.Exchange.behind c.args.exchange.now) c.from_residual-in_err-agent.result c.in_err-agent.field-0.0 c.in_ok-inventory.inventory
     (g.R.Device.remaining c.args.events.now) (g.R.Device.reads_made c.args.events.now) (g.R.Device.failed_calls c.args.events.now) _
-    (g.E.Exchange.behind c.begin.new.exchange) c.in_ok-inventory.ensures c.from_residual-in_err-agent.ensures c.in_err-agent.ensures.early)
+    (g.E.Exchange.behind c.begin.new.exchange) c.in_ok-inventory.ensures c.from_residual-in_err-agent.ensures c.in_err-agent.ensures.early
 
 pub returns : goal.returns
 returns g c =
-    let port = c.in_ok-agent.agent.port in
-    at_port port c.args.bytes.now c.args.start (g.E.Exchange.behind c.args.exchange.now) c.listen.result _ _ (g.E.Exchange.behind c.listen.new.exchange) _ (c.in_ok-agent.ensures.port ∙ c.port-port.ensures)
-    (listened_lives port c.args.bytes.now c.args.start (g.E.Exchange.behind c.args.exchange.now) c.in_ok-inventory.inventory _ _ _ _ _ _ _ _ _ _ _ _ _ c.listen.result _ _
-    c.in_ok-inventory.ensures c.in_ok-agent.ensures.opened c.listen.ensures.listens)
+    listened_lives (g.E.Exchange.host_port c.args.exchange.now) c.args.bytes.now c.args.start (g.E.Exchange.behind c.args.exchange.now) (g.E.Exchange.host_port c.begin.new.exchange) c.in_ok-inventory.inventory _ _ _ _ _ _ _ _ _ _ _ _ _ c.listen.result _ _
+    c.in_ok-inventory.ensures c.in_ok-agent.ensures.port c.in_ok-agent.ensures.opened c.listen.ensures.listens

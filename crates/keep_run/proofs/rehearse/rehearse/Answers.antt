@@ -17,7 +17,7 @@ use Rattle.keep_run.proofs.rehearse.rehearse.Goals as goal
 
 pub returns-in_err-set_faults : goal.returns-in_err-set_faults
 returns-in_err-set_faults g c =
-    words_stopped c.args.inventory.now c.args.start c.args.words.now c.in_ok-inventory.inventory c.from_residual-in_err-set_faults.result c.in_err-set_faults.field-0.0 c.in_ok-table.table c.set_faults.new.table _ _ _ _ c.args.exchange.now
+    words_stopped c.args.inventory.now c.args.script.now.start c.args.script.now.faults.now c.in_ok-inventory.inventory c.from_residual-in_err-set_faults.result c.in_err-set_faults.field-0.0 c.in_ok-table.table c.set_faults.new.table _ _ _ _ c.args.exchange.now
     c.in_ok-inventory.ensures c.from_residual-in_err-set_faults.ensures c.in_err-set_faults.ensures
 
 pub returns-in_err-keeper : goal.returns-in_err-keeper
@@ -25,33 +25,33 @@ returns-in_err-keeper g c =
     let sets = c.in_ok-set_faults.ensures in
     let table = sets.2 ∙ ap (λ (t : Table). record t { faults = sets.0 }) c.in_ok-table.ensures in
     let behind = c.give.ensures ∙ ap (λ (t : Table). record { table = t; wire = [] }) table in
-    opening_stopped c.args.inventory.now c.args.start c.args.words.now c.in_ok-inventory.inventory sets.0 c.into_parts-forest.result.0 c.from_residual-in_err-keeper.result c.in_err-keeper.field-0.0 _ _ _ _ c.args.exchange.now c.give.new.self
-    c.in_ok-inventory.ensures sets.1 c.into_parts-forest.ensures.forest behind c.from_residual-in_err-keeper.ensures (stopped_as c.into_parts-forest.result.0 c.args.start c.new-made.result c.in_err-keeper.field-0.0 c.new-made.ensures.refused c.in_err-keeper.ensures.keeper c.in_err-keeper.ensures.stop)
+    opening_stopped c.args.inventory.now c.args.script.now.start c.args.script.now.faults.now c.in_ok-inventory.inventory sets.0 c.into_parts-forest.result.0 c.from_residual-in_err-keeper.result c.in_err-keeper.field-0.0 _ _ _ _ c.args.exchange.now c.give.new.self
+    c.in_ok-inventory.ensures sets.1 c.into_parts-forest.ensures.forest behind c.from_residual-in_err-keeper.ensures (stopped_as c.into_parts-forest.result.0 c.args.script.now.start c.new-made.result c.in_err-keeper.field-0.0 c.new-made.ensures.refused c.in_err-keeper.ensures.keeper c.in_err-keeper.ensures.stop)
 
 pub push_short_lines-requires : goal.push_short_lines-requires
 push_short_lines-requires g c =
     let k = c.in_ok-keeper.keeper in
-    let all = replan_within _ c.args.start k refl (planned_as c.into_parts-forest.result.0 c.args.start c.new-made.result c.in_ok-keeper.keeper c.new-made.ensures.opened c.in_ok-keeper.ensures.keeper c.in_ok-keeper.ensures.stop) in
+    let all = replan_within _ c.args.script.now.start k refl (planned_as c.into_parts-forest.result.0 c.args.script.now.start c.new-made.result c.in_ok-keeper.keeper c.new-made.ensures.opened c.in_ok-keeper.ensures.keeper c.in_ok-keeper.ensures.stop) in
     subst (λ n. AreOf n c.list.result.now) (sym (ap (λ (h : Forest). length h.entries) (c.forest.ensures ∙ ap (λ (s : State). s.forest) c.take_shortened-short.ensures.after)))
     (subst (AreOf (length k.forest.entries)) (sym (c.list.ensures ∙ c.take_shortened-short.ensures.value)) all)
 
 pub returns-in_err-push_short_lines : goal.returns-in_err-push_short_lines
 returns-in_err-push_short_lines g c =
-    memory_stopped c.args.inventory.now c.args.start c.args.words.now c.from_residual-in_err-push_short_lines.result _ _ _ _ c.args.exchange.now c.give.new.self c.from_residual-in_err-push_short_lines.ensures
+    memory_stopped c.args.inventory.now c.args.script.now.start c.args.script.now.faults.now c.from_residual-in_err-push_short_lines.result _ _ _ _ c.args.exchange.now c.give.new.self c.from_residual-in_err-push_short_lines.ensures
 
 pub play-requires-clause-ready : goal.play-requires-clause-ready
 play-requires-clause-ready g c =
-    subst (λ (agent : Agent). IsReady agent.keeper) (sym c.new-agent.ensures) (ready_opened c.into_parts-forest.result.0 c.args.start c.in_ok-keeper.keeper c.take_shortened-short.new.self (planned_as c.into_parts-forest.result.0 c.args.start c.new-made.result c.in_ok-keeper.keeper c.new-made.ensures.opened c.in_ok-keeper.ensures.keeper c.in_ok-keeper.ensures.stop) c.take_shortened-short.ensures.after)
+    subst (λ (agent : Agent). IsReady agent.keeper) (sym c.new-agent.ensures) (ready_opened c.into_parts-forest.result.0 c.args.script.now.start c.in_ok-keeper.keeper c.take_shortened-short.new.self (planned_as c.into_parts-forest.result.0 c.args.script.now.start c.new-made.result c.in_ok-keeper.keeper c.new-made.ensures.opened c.in_ok-keeper.ensures.keeper c.in_ok-keeper.ensures.stop) c.take_shortened-short.ensures.after)
 
 pub new-agent-requires : goal.new-agent-requires
 new-agent-requires g c =
-    fit_opened c.in_ok-inventory.inventory c.into_parts-forest.result.0 c.into_parts-forest.result.1 c.args.start c.in_ok-keeper.keeper c.take_shortened-short.new.self c.into_parts-forest.ensures.sound
-    c.into_parts-forest.ensures.forest c.into_parts-forest.ensures.credentials (planned_as c.into_parts-forest.result.0 c.args.start c.new-made.result c.in_ok-keeper.keeper c.new-made.ensures.opened c.in_ok-keeper.ensures.keeper c.in_ok-keeper.ensures.stop) c.take_shortened-short.ensures.after
+    fit_opened c.in_ok-inventory.inventory c.into_parts-forest.result.0 c.into_parts-forest.result.1 c.args.script.now.start c.in_ok-keeper.keeper c.take_shortened-short.new.self c.into_parts-forest.ensures.sound
+    c.into_parts-forest.ensures.forest c.into_parts-forest.ensures.credentials (planned_as c.into_parts-forest.result.0 c.args.script.now.start c.new-made.result c.in_ok-keeper.keeper c.new-made.ensures.opened c.in_ok-keeper.ensures.keeper c.in_ok-keeper.ensures.stop) c.take_shortened-short.ensures.after
 
 pub play-requires-clause-comes : goal.play-requires-clause-comes
 play-requires-clause-comes g c =
     subst (λ (agent : Agent). Comes agent.keeper.last (Some c.get.result)) (sym c.new-agent.ensures)
-    (comes_first c.into_parts-forest.result.0 c.args.start c.get.result c.in_ok-keeper.keeper c.take_shortened-short.new.self (planned_as c.into_parts-forest.result.0 c.args.start c.new-made.result c.in_ok-keeper.keeper c.new-made.ensures.opened c.in_ok-keeper.ensures.keeper c.in_ok-keeper.ensures.stop) c.take_shortened-short.ensures.after c.get.ensures.value (subst (λ n. n ≤ LAST) c.get.ensures.value c.get.ensures.within))
+    (comes_first c.into_parts-forest.result.0 c.args.script.now.start c.get.result c.in_ok-keeper.keeper c.take_shortened-short.new.self (planned_as c.into_parts-forest.result.0 c.args.script.now.start c.new-made.result c.in_ok-keeper.keeper c.new-made.ensures.opened c.in_ok-keeper.ensures.keeper c.in_ok-keeper.ensures.stop) c.take_shortened-short.ensures.after c.get.ensures.value (subst (λ n. n ≤ LAST) c.get.ensures.value c.get.ensures.within))
 
 pub returns : goal.returns
 returns g c =
@@ -76,9 +76,9 @@ returns g c =
     } in
     let final = both c.play.new.agent.keeper (Some c.play.new.exchange) in
     let plays = subst (λ (agent : Agent). Plays agent.credentials (both agent.keeper (Some c.give.new.self)) c.get.result c.deref.result.now c.play.result final out) c.new-agent.ensures c.play.ensures in
-    plays_on c.args.inventory.now c.args.words.now c.in_ok-inventory.inventory sets.0 c.args.start c.get.result c.into_parts-forest.result.0 c.into_parts-forest.result.1 k now c.give.new.self c.deref.result.now c.play.result
-    final c.play.new.exchange out c.args.exchange.now c.in_ok-inventory.ensures sets.1 c.into_parts-forest.ensures.forest c.into_parts-forest.ensures.credentials behind (planned_as c.into_parts-forest.result.0 c.args.start c.new-made.result c.in_ok-keeper.keeper c.new-made.ensures.opened c.in_ok-keeper.ensures.keeper c.in_ok-keeper.ensures.stop)
+    plays_on c.args.inventory.now c.args.script.now.faults.now c.in_ok-inventory.inventory sets.0 c.args.script.now.start c.get.result c.into_parts-forest.result.0 c.into_parts-forest.result.1 k now c.give.new.self c.deref.result.now c.play.result
+    final c.play.new.exchange out c.args.exchange.now c.in_ok-inventory.ensures sets.1 c.into_parts-forest.ensures.forest c.into_parts-forest.ensures.credentials behind (planned_as c.into_parts-forest.result.0 c.args.script.now.start c.new-made.result c.in_ok-keeper.keeper c.new-made.ensures.opened c.in_ok-keeper.ensures.keeper c.in_ok-keeper.ensures.stop)
     c.take_shortened-short.ensures.after c.get.ensures.value lines plays refl
 
 pub opened-requires : goal.opened-requires
-opened-requires g c = refused_as c.into_parts-forest.result.0 c.args.start c.new-made.result c.new-made.ensures.refused
+opened-requires g c = refused_as c.into_parts-forest.result.0 c.args.script.now.start c.new-made.result c.new-made.ensures.refused

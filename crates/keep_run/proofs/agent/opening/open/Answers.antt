@@ -54,7 +54,7 @@ returns-in_default c = record {
   memory = tt;
   leaves = leaves_closed c.args.t c.in_ok-asked.field-0 c.tick.new.agent.keeper c.in_default.not-Ask c.in_default.not-Sleep c.in_ok-asked.ensures.leaves;
   few = omega arith;
-  stays = c.in_ok-asked.ensures.stays;
+  credentials = c.in_ok-asked.ensures.credentials;
   taken = ap (λ (s : State). s.shortened) c.in_ok-asked.ensures.ticks.is;
   shaped = ticks_shaped c.args.t c.args.agent.now.keeper c.tick.new.agent.keeper c.in_ok-asked.field-0 c.args.text.now.items c.tick.new.text.items c.in_ok-asked.ensures.ticks;
 }

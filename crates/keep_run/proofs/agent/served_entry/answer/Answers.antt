@@ -47,12 +47,12 @@ returns-clause-answers g c =
     let old = c.args.agent.now.keeper in
     let event = c.in_ok-event.event in
     let reply = c.in_ok-reply.reply in
-    let asks = c.in_ok-reply.ensures in
+    let asks = c.in_ok-reply.ensures.asked in
     let means : event ≡ event_for cs old.forest i reply =
     c.in_ok-event.ensures.is
     ∙ ap (λ (q : Entry). event_of q.kind c.credential.result.now i reply) (c.get.ensures.value ∙ ap (λ (h : Forest). entry_at h.entries i) c.forest.ensures)
     ∙ ap (λ id. event_of (entry_at old.forest.entries i).kind id i reply) c.credential.ensures in
-    one_answer (g.E.Exchange.behind c.args.exchange.now) (g.E.Exchange.behind c.ask.new.exchange) c.args.agent.now.port cs c.args.t i old reply event c.in-Ok.output c.step.new.self.keeper c.take_shortened-short.new.self.keeper
+    one_answer (g.E.Exchange.behind c.args.exchange.now) (g.E.Exchange.behind c.ask.new.exchange) (g.E.Exchange.host_port c.args.exchange.now) cs c.args.t i old reply event c.in-Ok.output c.step.new.self.keeper c.take_shortened-short.new.self.keeper
     c.args.text.now.items c.push_answer_line.new.text.items c.push_short_lines.new.text.items asks means c.in-Ok.ensures.turn c.take_shortened-short.ensures.after
     (c.in_ok-push_answer_line.ensures ∙ ap (λ (h : Forest). c.args.text.now.items ++ answer_line h event reply) c.forest-2.ensures)
     (c.in_ok-push_short_lines.ensures

@@ -19,8 +19,8 @@ returns-in_err-hear_need-in-Need-clause-hears g c =
       flushed = g.W.Device.is_flushed c.args.out.now;
       is_in_memory = g.W.Device.is_in_memory;
     } in
-    handed_on c.from_residual.result c.in_err-hear_need-in-Need.field-0.0 (λ r. HearsTo c.args.agent.now.port c.args.agent.now.credentials (both c.args.agent.now.keeper o) c.args.heard r (both c.hear_need.new.agent.keeper o) out) c.from_residual.ensures
-    (need_halts c.args.agent.now.port c.args.agent.now.credentials o c.args.agent.now.keeper c.hear_need.new.agent.keeper c.in-Need.i c.in-Need.until c.args.heard c.in_err-hear_need-in-Need.field-0.0 out c.in-Need.is refl refl refl (c.in_err-hear_need-in-Need.ensures.stops o))
+    handed_on c.from_residual.result c.in_err-hear_need-in-Need.field-0.0 (λ r. HearsTo (g.E.Exchange.host_port c.args.exchange.now) c.args.agent.now.credentials (both c.args.agent.now.keeper o) c.args.heard r (both c.hear_need.new.agent.keeper o) out) c.from_residual.ensures
+    (need_halts (g.E.Exchange.host_port c.args.exchange.now) c.args.agent.now.credentials o c.args.agent.now.keeper c.hear_need.new.agent.keeper c.in-Need.i c.in-Need.until c.args.heard c.in_err-hear_need-in-Need.field-0.0 out c.in-Need.is refl refl refl (c.in_err-hear_need-in-Need.ensures.stops o))
 
 pub returns-in_ok-hear_need-in-Need-clause-hears : goal.returns-in_ok-hear_need-in-Need-clause-hears
 returns-in_ok-hear_need-in-Need-clause-hears g c =
@@ -33,7 +33,7 @@ returns-in_ok-hear_need-in-Need-clause-hears g c =
       flushed = g.W.Device.is_flushed c.send.new.out;
       is_in_memory = g.W.Device.is_in_memory;
     } in
-    need_sent c.args.agent.now.port c.args.agent.now.credentials (g.E.Exchange.behind c.args.exchange.now) c.args.agent.now.keeper c.hear_need.new.agent.keeper c.in-Need.i c.in-Need.until c.args.heard c.new-text.result.items c.hear_need.new.text.items
+    need_sent (g.E.Exchange.host_port c.args.exchange.now) c.args.agent.now.credentials (g.E.Exchange.behind c.args.exchange.now) c.args.agent.now.keeper c.hear_need.new.agent.keeper c.in-Need.i c.in-Need.until c.args.heard c.new-text.result.items c.hear_need.new.text.items
     c.send.result out c.in-Need.is c.new-text.ensures.items (c.in_ok-hear_need-in-Need.ensures.needed (g.E.Exchange.behind c.args.exchange.now)) (subst (λ l. Sends c.send.result l out) c.deref.ensures.value c.send.ensures.sent) c.requires.flushed
 
 pub returns-in-Unknown-clause-hears : goal.returns-in-Unknown-clause-hears
@@ -47,4 +47,4 @@ returns-in-Unknown-clause-hears g c =
       flushed = g.W.Device.is_flushed c.send-in-Unknown.new.out;
       is_in_memory = g.W.Device.is_in_memory;
     } in
-    unknown_sent c.args.agent.now.port c.args.agent.now.credentials (g.E.Exchange.behind c.args.exchange.now) c.args.agent.now.keeper c.args.heard c.send-in-Unknown.result out c.in-Unknown.is c.send-in-Unknown.ensures.sent c.requires.flushed
+    unknown_sent (g.E.Exchange.host_port c.args.exchange.now) c.args.agent.now.credentials (g.E.Exchange.behind c.args.exchange.now) c.args.agent.now.keeper c.args.heard c.send-in-Unknown.result out c.in-Unknown.is c.send-in-Unknown.ensures.sent c.requires.flushed

@@ -9,7 +9,6 @@ use Rattle.keep_run.specs.Live.{HearsTo, next_line}
 use Rattle.keep_run.specs.declared.live.event_line.Heard.TheVariants as heards
 use Rattle.keep_run.specs.Stops.{both}
 use Rattle.keep_run.specs.code.Telling.{TellsRound}
-use Rattle.keep_run.proofs.Agents.{as_begun}
 use Rattle.keep_run.proofs.LineByLine.{handed_on, joined}
 use Rattle.keep_run.proofs.LiveTicks.{on_ok, only_idle, round_as, ticks_as, ticks_ready}
 use Rattle.keep_run.proofs.Refusing.{leaves_closed, leaves_sleeping}
@@ -20,11 +19,11 @@ pub returns-then-get-clause-hears : goal.returns-then-get-clause-hears
 returns-then-get-clause-hears g c =
     let late : c.args.t < c.args.agent.now.keeper.last =
     (let h = c.if-get.true in let a = c.get.ensures.value in let b = c.get-2.ensures.value in let n = c.now.ensures ∙ ap (λ (s : State). s.last) c.keeper.ensures.value in omega arith) in
-    late_sent c.args.agent.now.port c.args.agent.now.credentials (g.E.Exchange.behind c.args.exchange.now) c.args.t c.args.agent.now.keeper c.send.result _ late c.send.ensures.sent c.requires.flushed
+    late_sent (g.E.Exchange.host_port c.args.exchange.now) c.args.agent.now.credentials (g.E.Exchange.behind c.args.exchange.now) c.args.t c.args.agent.now.keeper c.send.result _ late c.send.ensures.sent c.requires.flushed
 
 pub returns-in_err-send-in-Ask-clause-hears : goal.returns-in_err-send-in-Ask-clause-hears
 returns-in_err-send-in-Ask-clause-hears g c =
-    let port = c.args.agent.now.port in
+    let port = g.E.Exchange.host_port c.args.exchange.now in
     let cs = c.args.agent.now.credentials in
     let o = g.E.Exchange.behind c.args.exchange.now in
     let w : Sent = record {
@@ -44,7 +43,7 @@ returns-in_err-send-in-Ask-clause-hears g c =
 
 pub returns-in_err-next-in-Ask-clause-hears : goal.returns-in_err-next-in-Ask-clause-hears
 returns-in_err-next-in-Ask-clause-hears g c =
-    let port = c.args.agent.now.port in
+    let port = g.E.Exchange.host_port c.args.exchange.now in
     let cs = c.args.agent.now.credentials in
     let o = g.E.Exchange.behind c.args.exchange.now in
     let n = g.E.Exchange.behind c.tell_round.new.exchange in
@@ -72,11 +71,11 @@ returns-in_err-next-in-Ask-clause-hears g c =
     handed_on c.from_residual-in_err-next-in-Ask.result c.in_err-next-in-Ask.field-0.0 (λ q. HearsTo port cs (both c.args.agent.now.keeper o) (heards.Tick c.args.t) q (both c.tell_round.new.agent.keeper n) (joined w r)) c.from_residual-in_err-next-in-Ask.ensures
     (round_stops port cs c.args.t o n c.args.agent.now.keeper c.tick.new.agent.keeper c.tell_round.new.agent.keeper c.in-Ask.asked c.tick.new.text.items ticks w r refl refl before c.in_err-next-in-Ask.field-0.0
     (round_as port cs c.args.t (both c.tick.new.agent.keeper o) (both c.tell_round.new.agent.keeper n) c.list-asked.result.now c.in-Ask.asked (Err c.in_err-next-in-Ask.field-0.0) r c.list-asked.ensures
-    (as_begun c.args.agent.now c.tick.new.agent c.in_ok-asked.ensures.stays (λ p ks. TellsRound p ks c.args.t (both c.tick.new.agent.keeper o) c.list-asked.result.now (Err c.in_err-next-in-Ask.field-0.0) (both c.tell_round.new.agent.keeper n) r) c.in_err-next-in-Ask.ensures.tells)))
+    (subst (λ ks. TellsRound port ks c.args.t (both c.tick.new.agent.keeper o) c.list-asked.result.now (Err c.in_err-next-in-Ask.field-0.0) (both c.tell_round.new.agent.keeper n) r) c.in_ok-asked.ensures.credentials c.in_err-next-in-Ask.ensures.tells)))
 
 pub returns-in_err-push_next-in-Ask-clause-hears : goal.returns-in_err-push_next-in-Ask-clause-hears
 returns-in_err-push_next-in-Ask-clause-hears g c =
-    let port = c.args.agent.now.port in
+    let port = g.E.Exchange.host_port c.args.exchange.now in
     let cs = c.args.agent.now.credentials in
     let o = g.E.Exchange.behind c.args.exchange.now in
     let n = g.E.Exchange.behind c.tell_round.new.exchange in
@@ -104,11 +103,11 @@ returns-in_err-push_next-in-Ask-clause-hears g c =
     handed_on c.from_residual-in_err-push_next-in-Ask.result stops.Memory (λ q. HearsTo port cs (both c.args.agent.now.keeper o) (heards.Tick c.args.t) q (both c.tell_round.new.agent.keeper n) (joined w r)) c.from_residual-in_err-push_next-in-Ask.ensures
     (round_memory port cs c.args.t o n c.args.agent.now.keeper c.tick.new.agent.keeper c.tell_round.new.agent.keeper c.in-Ask.asked c.tick.new.text.items ticks w r refl refl before c.in_ok-next-in-Ask.next
     (round_as port cs c.args.t (both c.tick.new.agent.keeper o) (both c.tell_round.new.agent.keeper n) c.list-asked.result.now c.in-Ask.asked (Ok c.in_ok-next-in-Ask.next) r c.list-asked.ensures
-    (as_begun c.args.agent.now c.tick.new.agent c.in_ok-asked.ensures.stays (λ p ks. TellsRound p ks c.args.t (both c.tick.new.agent.keeper o) c.list-asked.result.now (Ok c.in_ok-next-in-Ask.next) (both c.tell_round.new.agent.keeper n) r) c.in_ok-next-in-Ask.ensures.tells)))
+    (subst (λ ks. TellsRound port ks c.args.t (both c.tick.new.agent.keeper o) c.list-asked.result.now (Ok c.in_ok-next-in-Ask.next) (both c.tell_round.new.agent.keeper n) r) c.in_ok-asked.ensures.credentials c.in_ok-next-in-Ask.ensures.tells)))
 
 pub returns-in-Ask-clause-hears : goal.returns-in-Ask-clause-hears
 returns-in-Ask-clause-hears g c =
-    let port = c.args.agent.now.port in
+    let port = g.E.Exchange.host_port c.args.exchange.now in
     let cs = c.args.agent.now.credentials in
     let o = g.E.Exchange.behind c.args.exchange.now in
     let n = g.E.Exchange.behind c.tell_round.new.exchange in
@@ -145,7 +144,7 @@ returns-in-Ask-clause-hears g c =
     let last : c.push_next.new.text.items ≡ next_line c.in_ok-next-in-Ask.next = c.in_ok-push_next-in-Ask.ensures ∙ ap (λ x. x ++ next_line c.in_ok-next-in-Ask.next) c.new-last.ensures.items in
     round_sent port cs c.args.t o n c.args.agent.now.keeper c.tick.new.agent.keeper c.tell_round.new.agent.keeper c.in-Ask.asked c.tick.new.text.items ticks w r refl refl before c.in_ok-next-in-Ask.next c.push_next.new.text.items c.send-in-Ask-2.result l refl
     refl last (round_as port cs c.args.t (both c.tick.new.agent.keeper o) (both c.tell_round.new.agent.keeper n) c.list-asked.result.now c.in-Ask.asked (Ok c.in_ok-next-in-Ask.next) r c.list-asked.ensures
-    (as_begun c.args.agent.now c.tick.new.agent c.in_ok-asked.ensures.stays (λ p ks. TellsRound p ks c.args.t (both c.tick.new.agent.keeper o) c.list-asked.result.now (Ok c.in_ok-next-in-Ask.next) (both c.tell_round.new.agent.keeper n) r) c.in_ok-next-in-Ask.ensures.tells))
+    (subst (λ ks. TellsRound port ks c.args.t (both c.tick.new.agent.keeper o) c.list-asked.result.now (Ok c.in_ok-next-in-Ask.next) (both c.tell_round.new.agent.keeper n) r) c.in_ok-asked.ensures.credentials c.in_ok-next-in-Ask.ensures.tells))
     (subst (λ x. Sends c.send-in-Ask-2.result x l) c.deref-in-Ask.ensures.value c.send-in-Ask-2.ensures.sent)
 
 pub returns-in-Sleep-clause-hears : goal.returns-in-Sleep-clause-hears
@@ -161,7 +160,7 @@ returns-in-Sleep-clause-hears g c =
     } in
     let ticks = ticks_as c.get-3.result c.args.t c.args.agent.now.keeper c.tick.new.agent.keeper c.in_ok-asked.field-0 (out.Sleep c.in-Sleep.later) c.new-text.result.items c.tick.new.text.items c.get-3.ensures.value c.in-Sleep.is
     c.new-text.ensures.items c.in_ok-asked.ensures.ticks in
-    quiet_sent c.args.agent.now.port c.args.agent.now.credentials (g.E.Exchange.behind c.args.exchange.now) c.args.t c.args.agent.now.keeper c.tick.new.agent.keeper (out.Sleep c.in-Sleep.later) c.tick.new.text.items c.push_sleep.new.text.items c.send-in-Sleep.result w ticks
+    quiet_sent (g.E.Exchange.host_port c.args.exchange.now) c.args.agent.now.credentials (g.E.Exchange.behind c.args.exchange.now) c.args.t c.args.agent.now.keeper c.tick.new.agent.keeper (out.Sleep c.in-Sleep.later) c.tick.new.text.items c.push_sleep.new.text.items c.send-in-Sleep.result w ticks
     refl refl c.in_ok-push_sleep-in-Sleep.ensures (subst (λ x. Sends c.send-in-Sleep.result x w) c.deref-in-Sleep.ensures.value c.send-in-Sleep.ensures.sent) c.requires.flushed
 
 pub returns-in-Sleep-clause-ready : goal.returns-in-Sleep-clause-ready
@@ -185,10 +184,11 @@ returns g c =
     let idle = only_idle c.get-3.result c.args.agent.now.keeper first.keeper c.in_ok-asked.field-0 first.turn c.in_default.not-Ask c.in_default.not-Sleep in
     let ticks = ticks_as c.get-3.result c.args.t c.args.agent.now.keeper c.tick.new.agent.keeper c.in_ok-asked.field-0 out.Idle c.new-text.result.items c.tick.new.text.items c.get-3.ensures.value idle c.new-text.ensures.items first in
     record {
-      hears = quiet_sent c.args.agent.now.port c.args.agent.now.credentials (g.E.Exchange.behind c.args.exchange.now) c.args.t c.args.agent.now.keeper c.tick.new.agent.keeper out.Idle c.tick.new.text.items c.extend_from_slice.new.self.items c.send-in_default.result w ticks
+      hears = quiet_sent (g.E.Exchange.host_port c.args.exchange.now) c.args.agent.now.credentials (g.E.Exchange.behind c.args.exchange.now) c.args.t c.args.agent.now.keeper c.tick.new.agent.keeper out.Idle c.tick.new.text.items c.extend_from_slice.new.self.items c.send-in_default.result w ticks
           refl refl c.in_ok-extend_from_slice-in_default.ensures.items (subst (λ x. Sends c.send-in_default.result x w) c.deref-in_default.ensures.value c.send-in_default.ensures.sent) c.requires.flushed;
       count = c.send-in_default.ensures.count;
-      stays = c.in_ok-asked.ensures.stays;
+      credentials = c.in_ok-asked.ensures.credentials;
+      port = refl;
       ready = on_ok c.send-in_default.result
           (ticks_ready c.get-3.result c.args.agent.now.keeper c.tick.new.agent.keeper c.in_ok-asked.field-0 c.new-text.result.items c.tick.new.text.items first
           (leaves_closed c.get-3.result c.in_ok-asked.field-0 c.tick.new.agent.keeper c.in_default.not-Ask c.in_default.not-Sleep c.in_ok-asked.ensures.leaves));

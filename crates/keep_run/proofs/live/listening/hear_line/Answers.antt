@@ -22,6 +22,8 @@ returns-clause-hears g c =
       flushed = g.W.Device.is_flushed c.hear.new.out;
       is_in_memory = g.W.Device.is_in_memory;
     } in
-    line_hears c.args.agent.now.port c.args.agent.now.credentials c.args.number (both c.args.agent.now.keeper before) line c.in-Some.heard (both c.hear.new.agent.keeper after) c.hear.result out
+    line_hears (g.E.Exchange.host_port c.args.exchange.now) c.args.agent.now.credentials c.args.number (both c.args.agent.now.keeper before) line c.in-Some.heard (both c.hear.new.agent.keeper after) c.hear.result out
     (sym (c.in-Some.ensures.heard ∙ ap (λ (h : Forest). heard_in h line) c.forest.ensures)) c.requires.flushed
-    (subst (λ o. HearsTo c.args.agent.now.port c.args.agent.now.credentials (both c.args.agent.now.keeper o) c.in-Some.heard c.hear.result (both c.hear.new.agent.keeper after) out) c.begin_line.ensures.behind c.hear.ensures.hears) c.hear.ensures.count
+    (subst (λ p. HearsTo p c.args.agent.now.credentials (both c.args.agent.now.keeper before) c.in-Some.heard c.hear.result (both c.hear.new.agent.keeper after) out) c.begin_line.ensures.port
+    (subst (λ o. HearsTo (g.E.Exchange.host_port c.begin_line.new.self) c.args.agent.now.credentials (both c.args.agent.now.keeper o) c.in-Some.heard c.hear.result (both c.hear.new.agent.keeper after) out) c.begin_line.ensures.behind c.hear.ensures.hears))
+    c.hear.ensures.count

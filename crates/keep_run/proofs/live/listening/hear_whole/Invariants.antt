@@ -1,7 +1,6 @@
 -- The lines before `rest` are heard, and `rest` is what stands behind them.
 use Rattle.std.proofs.Common.{◌≡◌, ◌+◌, ◌-◌, ◌≤◌, drop, length}
 use Rattle.keep_words.specs.Pieces.{pieces}
-use Rattle.keep_run.specs.Agent.{Stays}
 use Rattle.keep_run.specs.code.LineByLine.{HearsUpTo}
 use Rattle.keep_run.specs.Live.{IsReady}
 use Rattle.keep_run.specs.Stops.{both}
@@ -9,7 +8,7 @@ use Rattle.keep_run.proofs.live.listening.hear_whole.Given as goal
 
 abbrev pub invariant-loop-line : goal.invariant-loop-line
 invariant-loop-line g l = record {
-  up_to : HearsUpTo l.fn.agent.port l.fn.agent.credentials l.fn.lines (both l.fn.agent.keeper (g.E.Exchange.behind l.fn.exchange)) l.bytes (pieces 10 l.rest) (both l.agent.keeper (g.E.Exchange.behind l.exchange)) l.lines
+  up_to : HearsUpTo (g.E.Exchange.host_port l.fn.exchange) l.fn.agent.credentials l.fn.lines (both l.fn.agent.keeper (g.E.Exchange.behind l.fn.exchange)) l.bytes (pieces 10 l.rest) (both l.agent.keeper (g.E.Exchange.behind l.exchange)) l.lines
       (record {
         old = g.W.Device.written l.fn.out;
         new = g.W.Device.written l.out;
@@ -23,7 +22,8 @@ invariant-loop-line g l = record {
   within : length l.rest ≤ length l.bytes;
   few : l.lines + length l.rest ≤ l.fn.lines + length l.bytes;
   ready : IsReady l.agent.keeper;
-  stays : Stays l.fn.agent l.agent;
+  credentials : l.agent.credentials ≡ l.fn.agent.credentials;
+  port : g.E.Exchange.host_port l.exchange ≡ g.E.Exchange.host_port l.fn.exchange;
 }
 
 abbrev pub decreases-loop-line : goal.decreases-loop-line

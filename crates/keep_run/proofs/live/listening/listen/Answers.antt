@@ -12,7 +12,7 @@ use Rattle.keep_run.proofs.live.listening.listen.Goals as goal
 
 pub returns-in_err-room-clause-listens : goal.returns-in_err-room-clause-listens
 returns-in_err-room-clause-listens g c =
-    let port = c.args.agent.now.port in
+    let port = g.E.Exchange.host_port c.args.exchange.now in
     let cs = c.args.agent.now.credentials in
     let old : World = both c.args.agent.now.keeper (g.E.Exchange.behind c.args.exchange.now) in
     let fed : Fed = record {

@@ -9,14 +9,14 @@ use Rattle.keep_run.specs.code.LineByLine.{HaltsWithin, HearsUpTo, IsListening}
 use Rattle.keep_run.specs.Listening.{Fed, Listens}
 use Rattle.keep_run.specs.Stops.{both}
 use Rattle.keep_run.specs.Closed.{World}
-use Rattle.keep_run.proofs.Agents.{as_begun, stays_first, stays_on}
+use Rattle.keep_run.proofs.Agents.{as_begun}
 use Rattle.keep_run.proofs.EventsRead.{ended_as, halted, listening_first, listening_more, no_memory, no_more, read_failed, too_many}
 use Rattle.keep_run.proofs.LineByLine.{handed_on, joined}
 use Rattle.keep_run.proofs.live.listening.listen_to.Goals as goal
 
 pub loop-init : goal.loop-init
 loop-init g c =
-    let port = c.args.agent.now.port in
+    let port = g.E.Exchange.host_port c.args.exchange.now in
     let cs = c.args.agent.now.credentials in
     let old : World = both c.args.agent.now.keeper (g.E.Exchange.behind c.args.exchange.now) in
     let fed : Fed = record {
@@ -39,13 +39,14 @@ loop-init g c =
     record {
       listening = subst (λ p. IsListening port cs old 0 p 1048576 old 0 fed a) (sym c.new-pending.ensures.items) (listening_first port cs old fed a refl refl refl ((Appends-nil (g.W.Device.written c.args.out.now), c.requires.flushed), refl));
       ready = c.requires.ready;
-      stays = stays_first c.args.agent.now;
+      credentials = refl;
+      port = refl;
       written = Keeps-refl (g.R.Device.written c.args.events.now);
     }
 
 pub returns-in_default-clause-listens : goal.returns-in_default-clause-listens
 returns-in_default-clause-listens g c =
-    let port = c.args.agent.now.port in
+    let port = g.E.Exchange.host_port c.args.exchange.now in
     let cs = c.args.agent.now.credentials in
     let old : World = both c.args.agent.now.keeper (g.E.Exchange.behind c.args.exchange.now) in
     let now : World = both c.loop.agent.keeper (g.E.Exchange.behind c.loop.exchange) in
@@ -74,7 +75,7 @@ returns-in_default-clause-listens g c =
 
 pub returns-then-n-eq0-clause-listens : goal.returns-then-n-eq0-clause-listens
 returns-then-n-eq0-clause-listens g c =
-    let port = c.args.agent.now.port in
+    let port = g.E.Exchange.host_port c.args.exchange.now in
     let cs = c.args.agent.now.credentials in
     let old : World = both c.args.agent.now.keeper (g.E.Exchange.behind c.args.exchange.now) in
     let now : World = both c.loop.agent.keeper (g.E.Exchange.behind c.loop.exchange) in
@@ -111,7 +112,7 @@ returns-then-n-eq0-clause-listens g c =
 
 pub returns-in_err-extend_from_slice-clause-listens : goal.returns-in_err-extend_from_slice-clause-listens
 returns-in_err-extend_from_slice-clause-listens g c =
-    let port = c.args.agent.now.port in
+    let port = g.E.Exchange.host_port c.args.exchange.now in
     let cs = c.args.agent.now.credentials in
     let old : World = both c.args.agent.now.keeper (g.E.Exchange.behind c.args.exchange.now) in
     let now : World = both c.loop.agent.keeper (g.E.Exchange.behind c.loop.exchange) in
@@ -153,7 +154,7 @@ returns-in_err-extend_from_slice-clause-listens g c =
 
 pub returns-in_err-hear_pending-clause-listens : goal.returns-in_err-hear_pending-clause-listens
 returns-in_err-hear_pending-clause-listens g c =
-    let port = c.args.agent.now.port in
+    let port = g.E.Exchange.host_port c.args.exchange.now in
     let cs = c.args.agent.now.credentials in
     let old : World = both c.args.agent.now.keeper (g.E.Exchange.behind c.args.exchange.now) in
     let now : World = both c.loop.agent.keeper (g.E.Exchange.behind c.loop.exchange) in
@@ -206,13 +207,13 @@ returns-in_err-hear_pending-clause-listens g c =
     } in
     let stop = c.in_err-hear_pending.field-0.0 in
     let halts = subst (λ p. HaltsWithin port cs c.loop.lines now p stop new b) items
-    (as_begun c.args.agent.now c.loop.agent c.loop.invariant.stays (λ p ks. HaltsWithin p ks c.loop.lines now c.extend_from_slice.new.self.items stop new b) c.in_err-hear_pending.ensures.halts) in
+    (as_begun c.loop.invariant.port c.loop.invariant.credentials (λ p ks. HaltsWithin p ks c.loop.lines now c.extend_from_slice.new.self.items stop new b) c.in_err-hear_pending.ensures.halts) in
     handed_on c.from_residual-in_err-hear_pending.result stop (λ (r : Result (Unit {0}) Stop). Listens port cs old r new after (joined a b)) c.from_residual-in_err-hear_pending.ensures
     (halted port cs old c.loop.counter c.loop.pending.items c.loop.left now c.loop.lines fed a here rest reads failures c.read_some.new.buf c.in-Ok.n c.in-Ok.ensures.bytes.0 c.in-Ok.ensures.made c.in-Ok.ensures.count c.in-Ok.ensures.bound fits c.loop-test.true b refl refl stop new halts)
 
 pub returns-then-taken-n-clause-listens : goal.returns-then-taken-n-clause-listens
 returns-then-taken-n-clause-listens g c =
-    let port = c.args.agent.now.port in
+    let port = g.E.Exchange.host_port c.args.exchange.now in
     let cs = c.args.agent.now.credentials in
     let old : World = both c.args.agent.now.keeper (g.E.Exchange.behind c.args.exchange.now) in
     let now : World = both c.loop.agent.keeper (g.E.Exchange.behind c.loop.exchange) in
@@ -258,12 +259,12 @@ returns-then-taken-n-clause-listens g c =
     let less = c.if-taken-n.true in
     let over : c.loop.left < c.in-Ok.n = omega arith in
     let heard = subst (λ p. HearsUpTo port cs c.loop.lines now p (c.hear_pending.new.pending.items ∷ []) new c.hear_pending.new.lines b) items
-    (as_begun c.args.agent.now c.loop.agent c.loop.invariant.stays (λ p ks. HearsUpTo p ks c.loop.lines now c.extend_from_slice.new.self.items (c.hear_pending.new.pending.items ∷ []) new c.hear_pending.new.lines b) c.in_ok-hear_pending.ensures.heard) in
+    (as_begun c.loop.invariant.port c.loop.invariant.credentials (λ p ks. HearsUpTo p ks c.loop.lines now c.extend_from_slice.new.self.items (c.hear_pending.new.pending.items ∷ []) new c.hear_pending.new.lines b) c.in_ok-hear_pending.ensures.heard) in
     too_many port cs old c.loop.counter c.loop.pending.items c.loop.left now c.loop.lines fed a here rest reads failures c.read_some.new.buf c.in-Ok.n c.in-Ok.ensures.bytes.0 c.in-Ok.ensures.made c.in-Ok.ensures.count c.in-Ok.ensures.bound fits c.loop-test.true b refl refl c.hear_pending.new.pending.items new c.hear_pending.new.lines over c.in_ok-hear_pending.ensures.short heard
 
 pub loop-preserved : goal.loop-preserved
 loop-preserved g c =
-    let port = c.args.agent.now.port in
+    let port = g.E.Exchange.host_port c.args.exchange.now in
     let cs = c.args.agent.now.credentials in
     let old : World = both c.args.agent.now.keeper (g.E.Exchange.behind c.args.exchange.now) in
     let now : World = both c.loop.agent.keeper (g.E.Exchange.behind c.loop.exchange) in
@@ -317,19 +318,20 @@ loop-preserved g c =
     let no_less = c.if-taken-n.false in
     let within : c.in-Ok.n ≤ c.loop.left = omega arith in
     let heard = subst (λ p. HearsUpTo port cs c.loop.lines now p (c.hear_pending.new.pending.items ∷ []) new c.hear_pending.new.lines b) items
-    (as_begun c.args.agent.now c.loop.agent c.loop.invariant.stays (λ p ks. HearsUpTo p ks c.loop.lines now c.extend_from_slice.new.self.items (c.hear_pending.new.pending.items ∷ []) new c.hear_pending.new.lines b) c.in_ok-hear_pending.ensures.heard) in
+    (as_begun c.loop.invariant.port c.loop.invariant.credentials (λ p ks. HearsUpTo p ks c.loop.lines now c.extend_from_slice.new.self.items (c.hear_pending.new.pending.items ∷ []) new c.hear_pending.new.lines b) c.in_ok-hear_pending.ensures.heard) in
     let fewer = subst (λ (p : List ℕ). c.hear_pending.new.lines + length c.hear_pending.new.pending.items ≤ c.loop.lines + length p) items c.in_ok-hear_pending.ensures.fewer in
     let on = listening_more port cs old c.loop.counter c.loop.pending.items c.loop.left now c.loop.lines fed a here rest reads failures c.read_some.new.buf c.in-Ok.n c.in-Ok.ensures.bytes.0 c.in-Ok.ensures.made c.in-Ok.ensures.count c.in-Ok.ensures.bound fits c.loop-test.true b refl refl c.hear_pending.new.pending.items new c.hear_pending.new.lines within c.in_ok-hear_pending.ensures.short fewer heard in
     record {
       listening = subst (λ m. IsListening port cs old (c.loop.counter + 1) c.hear_pending.new.pending.items (c.loop.left - m) new c.hear_pending.new.lines after (joined a b)) (sym taken) on;
       ready = c.in_ok-hear_pending.ensures.ready;
-      stays = stays_on c.args.agent.now c.loop.agent c.hear_pending.new.agent c.loop.invariant.stays c.in_ok-hear_pending.ensures.stays;
+      credentials = c.in_ok-hear_pending.ensures.credentials ∙ c.loop.invariant.credentials;
+      port = c.in_ok-hear_pending.ensures.port ∙ c.loop.invariant.port;
       written = Keeps-trans _ _ _ c.loop.invariant.written c.in-Ok.ensures.written;
     }
 
 pub returns-clause-listens : goal.returns-clause-listens
 returns-clause-listens g c =
-    let port = c.args.agent.now.port in
+    let port = g.E.Exchange.host_port c.args.exchange.now in
     let cs = c.args.agent.now.credentials in
     let old : World = both c.args.agent.now.keeper (g.E.Exchange.behind c.args.exchange.now) in
     let now : World = both c.loop.agent.keeper (g.E.Exchange.behind c.loop.exchange) in

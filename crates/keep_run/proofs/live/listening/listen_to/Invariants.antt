@@ -1,6 +1,6 @@
 -- What was read so far is heard line by line.
+use Rattle.std.proofs.Common.{◌≡◌}
 use Rattle.std.specs.Io.KnownBytes.{Keeps}
-use Rattle.keep_run.specs.Agent.{Stays}
 use Rattle.keep_run.specs.code.LineByLine.{IsListening}
 use Rattle.keep_run.specs.Live.{IsReady}
 use Rattle.keep_run.specs.Stops.{both}
@@ -8,7 +8,7 @@ use Rattle.keep_run.proofs.live.listening.listen_to.Given as goal
 
 abbrev pub invariant-loop : goal.invariant-loop
 invariant-loop g l = record {
-  listening : IsListening l.fn.agent.port l.fn.agent.credentials (both l.fn.agent.keeper (g.E.Exchange.behind l.fn.exchange)) l.counter l.pending.items l.left (both l.agent.keeper (g.E.Exchange.behind l.exchange)) l.lines
+  listening : IsListening (g.E.Exchange.host_port l.fn.exchange) l.fn.agent.credentials (both l.fn.agent.keeper (g.E.Exchange.behind l.fn.exchange)) l.counter l.pending.items l.left (both l.agent.keeper (g.E.Exchange.behind l.exchange)) l.lines
       (record {
         old = g.R.Device.remaining l.fn.events;
         new = g.R.Device.remaining l.events;
@@ -27,6 +27,7 @@ invariant-loop g l = record {
         is_in_memory = g.W.Device.is_in_memory;
       });
   ready : IsReady l.agent.keeper;
-  stays : Stays l.fn.agent l.agent;
+  credentials : l.agent.credentials ≡ l.fn.agent.credentials;
+  port : g.E.Exchange.host_port l.exchange ≡ g.E.Exchange.host_port l.fn.exchange;
   written : Keeps (g.R.Device.written l.fn.events) (g.R.Device.written l.events);
 }

@@ -1,7 +1,6 @@
 -- Those before the index were asked, and each of their answers is told.
 use Rattle.std.proofs.Common.{◌≡◌, List, [], ℕ, drop, take}
 use Rattle.keep_core.specs.LawsOfSteps.{IsShaped}
-use Rattle.keep_run.specs.Agent.{Stays}
 use Rattle.keep_run.specs.code.LineByLine.{IsSent}
 use Rattle.keep_run.specs.code.Playing.{AnswersAll}
 use Rattle.keep_run.specs.Stops.{both}
@@ -10,7 +9,7 @@ use Rattle.keep_run.proofs.live.telling.tell_round.Given as goal
 
 abbrev pub invariant-loop-i : goal.invariant-loop-i
 invariant-loop-i g l = record {
-  told : (text : List ℕ) × (AnswersAll l.fn.agent.port l.fn.agent.credentials l.t (both l.fn.agent.keeper (g.E.Exchange.behind l.fn.exchange)) (take l.i-index l.asked) l.next (both l.agent.keeper (g.E.Exchange.behind l.exchange)) [] text
+  told : (text : List ℕ) × (AnswersAll (g.E.Exchange.host_port l.fn.exchange) l.fn.agent.credentials l.t (both l.fn.agent.keeper (g.E.Exchange.behind l.fn.exchange)) (take l.i-index l.asked) l.next (both l.agent.keeper (g.E.Exchange.behind l.exchange)) [] text
       × IsSent text (record {
         old = g.W.Device.written l.fn.out;
         new = g.W.Device.written l.out;
@@ -21,7 +20,8 @@ invariant-loop-i g l = record {
         is_in_memory = g.W.Device.is_in_memory;
       }));
   shaped : IsShaped l.fn.agent.keeper.forest l.agent.keeper.forest;
-  stays : Stays l.fn.agent l.agent;
+  credentials : l.agent.credentials ≡ l.fn.agent.credentials;
+  port : g.E.Exchange.host_port l.exchange ≡ g.E.Exchange.host_port l.fn.exchange;
   quiet : l.agent.keeper.shortened ≡ [];
   stands : Stands l.t (drop l.i-index l.asked) l.next l.agent.keeper;
 }

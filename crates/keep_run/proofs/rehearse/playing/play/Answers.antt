@@ -6,7 +6,6 @@ use Rattle.keep_report.specs.Sent.{Sent}
 use Rattle.keep_run.specs.code.Playing.{Comes, Goes, Wakes, next_in, requests_in}
 use Rattle.keep_run.specs.Stops.{both}
 use Rattle.keep_run.specs.Text.{inventory_with}
-use Rattle.keep_run.proofs.Agents.{as_begun, stays_first, stays_on}
 use Rattle.keep_run.proofs.Written.{Going, for_memory, going_done, going_first, going_more, going_stops, going_to_end, going_unwritten, last_played, piece_goes, unwritten_before}
 use Rattle.keep_run.proofs.rehearse.playing.play.Goals as goal
 
@@ -19,7 +18,7 @@ pub loop-wakes-init : goal.loop-wakes-init
 loop-wakes-init g c =
     record {
       going = going_first c.args.agent.now.credentials (both c.args.agent.now.keeper (Some c.args.exchange.now)) c.args.start c.args.lines.now _ _ _ _ c.requires.ready c.requires.comes c.in_ok-write_all.ensures.written c.in_ok-write_all.ensures.count;
-      stays = stays_first c.args.agent.now;
+      credentials = refl;
     }
 
 pub returns-in_err-woken : goal.returns-in_err-woken
@@ -45,7 +44,7 @@ returns-in_default g c =
     let cs = c.args.agent.now.credentials in
     let now = both c.loop-wakes.agent.keeper (Some c.loop-wakes.exchange) in
     let new = both c.wake.new.agent.keeper (Some c.wake.new.exchange) in
-    let wakes = as_begun c.args.agent.now c.loop-wakes.agent c.loop-wakes.invariant.stays (λ p ks. Wakes ks now c.loop-wakes.due c.in_ok-woken.field-0 new c.new-text.result.items c.wake.new.text.items) c.in_ok-woken.ensures.wakes in
+    let wakes = subst (λ ks. Wakes ks now c.loop-wakes.due c.in_ok-woken.field-0 new c.new-text.result.items c.wake.new.text.items) c.loop-wakes.invariant.credentials c.in_ok-woken.ensures.wakes in
     let piece = subst (λ w. Wakes cs now c.loop-wakes.due w new c.new-text.result.items c.wake.new.text.items) c.in_default.is wakes in
     let more = piece_goes cs now new c.loop-wakes.due None 0 0 c.new-text.result.items c.wake.new.text.items c.new-text.ensures.items piece in
     going_to_end cs (both c.args.agent.now.keeper (Some c.args.exchange.now)) c.args.start c.args.lines.now _ _ now c.loop-wakes.due c.loop-wakes.wakes c.loop-wakes.requests _ _ new c.wake.new.text.items c.finish.result _ _ c.loop-wakes.invariant.going more
@@ -56,7 +55,7 @@ returns-in_err-write_all-2 g c =
     let cs = c.args.agent.now.credentials in
     let now = both c.loop-wakes.agent.keeper (Some c.loop-wakes.exchange) in
     let new = both c.wake.new.agent.keeper (Some c.wake.new.exchange) in
-    let wakes = as_begun c.args.agent.now c.loop-wakes.agent c.loop-wakes.invariant.stays (λ p ks. Wakes ks now c.loop-wakes.due c.in_ok-woken.field-0 new c.new-text.result.items c.wake.new.text.items) c.in_ok-woken.ensures.wakes in
+    let wakes = subst (λ ks. Wakes ks now c.loop-wakes.due c.in_ok-woken.field-0 new c.new-text.result.items c.wake.new.text.items) c.loop-wakes.invariant.credentials c.in_ok-woken.ensures.wakes in
     let piece = subst (λ w. Wakes cs now c.loop-wakes.due w new c.new-text.result.items c.wake.new.text.items) c.in-Some.is wakes in
     let more = piece_goes cs now new c.loop-wakes.due c.in-Some.woken.next 1 c.in-Some.woken.requests c.new-text.result.items c.wake.new.text.items c.new-text.ensures.items piece in
     let front = subst (AppendsFront (g.W.Device.written c.loop-wakes.out) (g.W.Device.written c.write_all-in-loop-wakes.new.sink)) c.deref.ensures.value c.in_err-write_all-2.ensures.front in
@@ -69,7 +68,7 @@ returns-in_default-next g c =
     let cs = c.args.agent.now.credentials in
     let now = both c.loop-wakes.agent.keeper (Some c.loop-wakes.exchange) in
     let new = both c.wake.new.agent.keeper (Some c.wake.new.exchange) in
-    let wakes = as_begun c.args.agent.now c.loop-wakes.agent c.loop-wakes.invariant.stays (λ p ks. Wakes ks now c.loop-wakes.due c.in_ok-woken.field-0 new c.new-text.result.items c.wake.new.text.items) c.in_ok-woken.ensures.wakes in
+    let wakes = subst (λ ks. Wakes ks now c.loop-wakes.due c.in_ok-woken.field-0 new c.new-text.result.items c.wake.new.text.items) c.loop-wakes.invariant.credentials c.in_ok-woken.ensures.wakes in
     let piece = subst (λ w. Wakes cs now c.loop-wakes.due w new c.new-text.result.items c.wake.new.text.items) c.in-Some.is wakes in
     let more = subst (λ n. Goes (inventory_with cs now.keeper.forest) now (Some c.loop-wakes.due) new n 1 c.in-Some.woken.requests c.wake.new.text.items) c.in_default-next.is
     (piece_goes cs now new c.loop-wakes.due c.in-Some.woken.next 1 c.in-Some.woken.requests c.new-text.result.items c.wake.new.text.items c.new-text.ensures.items piece) in
@@ -82,7 +81,7 @@ loop-wakes-preserved g c =
     let cs = c.args.agent.now.credentials in
     let now = both c.loop-wakes.agent.keeper (Some c.loop-wakes.exchange) in
     let new = both c.wake.new.agent.keeper (Some c.wake.new.exchange) in
-    let wakes = as_begun c.args.agent.now c.loop-wakes.agent c.loop-wakes.invariant.stays (λ p ks. Wakes ks now c.loop-wakes.due c.in_ok-woken.field-0 new c.new-text.result.items c.wake.new.text.items) c.in_ok-woken.ensures.wakes in
+    let wakes = subst (λ ks. Wakes ks now c.loop-wakes.due c.in_ok-woken.field-0 new c.new-text.result.items c.wake.new.text.items) c.loop-wakes.invariant.credentials c.in_ok-woken.ensures.wakes in
     let piece = subst (λ w. Wakes cs now c.loop-wakes.due w new c.new-text.result.items c.wake.new.text.items) c.in-Some.is wakes in
     let more = subst (λ n. Goes (inventory_with cs now.keeper.forest) now (Some c.loop-wakes.due) new n 1 c.in-Some.woken.requests c.wake.new.text.items) c.in-Some-next.is
     (piece_goes cs now new c.loop-wakes.due c.in-Some.woken.next 1 c.in-Some.woken.requests c.new-text.result.items c.wake.new.text.items c.new-text.ensures.items piece) in
@@ -92,7 +91,7 @@ loop-wakes-preserved g c =
     record {
       going = going_more cs (both c.args.agent.now.keeper (Some c.args.exchange.now)) c.args.start c.args.lines.now _ _ now c.loop-wakes.due c.loop-wakes.wakes c.loop-wakes.requests _ _ c.loop-wakes.invariant.going new c.in-Some-next.next c.in-Some.woken.requests
           c.wake.new.text.items _ _ more c.in_ok-woken.ensures.shaped c.in_ok-woken.ensures.ready comes few all c.in_ok-write_all-2.ensures.count;
-      stays = stays_on c.args.agent.now c.loop-wakes.agent c.wake.new.agent c.loop-wakes.invariant.stays c.in_ok-woken.ensures.stays;
+      credentials = c.in_ok-woken.ensures.credentials ∙ c.loop-wakes.invariant.credentials;
     }
 
 pub returns : goal.returns

@@ -1,6 +1,5 @@
 -- The wake-ups so far are those of the run, and their lines are written behind those that came before.
-use Rattle.std.proofs.Common.{Some}
-use Rattle.keep_run.specs.Agent.{Stays}
+use Rattle.std.proofs.Common.{◌≡◌, Some}
 use Rattle.keep_run.specs.Stops.{both}
 use Rattle.keep_run.proofs.Written.{Going}
 use Rattle.keep_run.proofs.rehearse.playing.play.Given as goal
@@ -9,5 +8,5 @@ abbrev pub invariant-loop-wakes : goal.invariant-loop-wakes
 invariant-loop-wakes g l = record {
   going : Going l.fn.agent.credentials (both l.fn.agent.keeper (Some l.fn.exchange)) l.fn.start l.fn.lines (g.W.Device.written l.fn.out) (g.W.Device.failed_calls l.fn.out) (both l.agent.keeper (Some l.exchange)) l.due l.wakes l.requests
       (g.W.Device.written l.out) (g.W.Device.failed_calls l.out);
-  stays : Stays l.fn.agent l.agent;
+  credentials : l.agent.credentials ≡ l.fn.agent.credentials;
 }

@@ -1,26 +1,27 @@
 -- One asked entry more has its answer, and when all have, the round is closed and the keeper ready.
-use Rattle.std.proofs.Common.{ap, ◌+◌, ◌++◌, ◌∷◌, [], drop, sym, subst, take, get_or, arith}
+use Rattle.std.proofs.Common.{ap, ◌+◌, ◌++◌, ◌∷◌, ◌∙◌, [], drop, refl, sym, subst, take, get_or, arith}
 use Rattle.std.proofs.lemmas.List.{take_all, take_more}
 use Rattle.keep_core.proofs.Shaped.{both_shaped, same}
 use Rattle.keep_run.specs.code.Playing.{Answers, AnswersAll}
 use Rattle.keep_run.specs.Stops.{both}
-use Rattle.keep_run.proofs.Agents.{as_begun, stays_first, stays_on}
+use Rattle.keep_run.proofs.Agents.{as_begun}
 use Rattle.keep_run.proofs.Refusing.{Stands, first_waits, first_within, hears_leads, hears_shaped, stands_first, stands_last, stands_now}
 use Rattle.keep_run.proofs.Rounds.{answers_more, none_answered}
 use Rattle.keep_run.proofs.rehearse.waking.round.Goals as goal
 
 pub loop-i-init : goal.loop-i-init
 loop-i-init g c = record {
-  answers = none_answered c.args.agent.now.port c.args.agent.now.credentials c.args.t (both c.args.agent.now.keeper (g.E.Exchange.behind c.args.exchange.now)) c.args.text.now.items;
+  answers = none_answered (g.E.Exchange.host_port c.args.exchange.now) c.args.agent.now.credentials c.args.t (both c.args.agent.now.keeper (g.E.Exchange.behind c.args.exchange.now)) c.args.text.now.items;
   shaped = same c.args.agent.now.keeper.forest;
-  stays = stays_first c.args.agent.now;
+  credentials = refl;
+  port = refl;
   quiet = c.requires.quiet;
   stands = stands_first c.args.t c.args.asked.now _ c.args.agent.now.keeper c.requires.waits c.requires.some;
 }
 
 pub loop-i-preserved : goal.loop-i-preserved
 loop-i-preserved g c =
-    let port = c.args.agent.now.port in
+    let port = g.E.Exchange.host_port c.args.exchange.now in
     let cs = c.args.agent.now.credentials in
     let asked = c.args.asked.now in
     let k = c.loop-i.i-index in
@@ -38,9 +39,10 @@ loop-i-preserved g c =
       answers = subst (λ is. AnswersAll port cs c.args.t first is c.told_next-next.result next before after) (sym (take_more asked k 0 c.loop-i-test.true))
           (subst (λ n. AnswersAll port cs c.args.t first (take k asked ++ get_or asked k 0 ∷ []) n next before after) (sym c.told_next-next.ensures)
           (answers_more port cs c.args.t first now next (take k asked) (get_or asked k 0) c.loop-i.next c.in_ok-output.output before middle after c.loop-i.invariant.shaped c.loop-i.invariant.answers
-          (as_begun c.args.agent.now c.loop-i.agent c.loop-i.invariant.stays (λ p ks. Answers p ks c.args.t now (get_or asked k 0) c.in_ok-output.output next middle after) c.in_ok-output.ensures.answers)));
+          (as_begun c.loop-i.invariant.port c.loop-i.invariant.credentials (λ p ks. Answers p ks c.args.t now (get_or asked k 0) c.in_ok-output.output next middle after) c.in_ok-output.ensures.answers)));
       shaped = both_shaped start.forest c.loop-i.agent.keeper.forest c.answer.new.agent.keeper.forest c.loop-i.invariant.shaped like;
-      stays = stays_on c.args.agent.now c.loop-i.agent c.answer.new.agent c.loop-i.invariant.stays c.in_ok-output.ensures.stays;
+      credentials = c.in_ok-output.ensures.credentials ∙ c.loop-i.invariant.credentials;
+      port = c.in_ok-output.ensures.port ∙ c.loop-i.invariant.port;
       quiet = ap (λ s. s.shortened) hears.is;
       stands = subst (λ n. Stands c.args.t (drop (k + 1) asked) n c.answer.new.agent.keeper) (sym c.told_next-next.ensures)
           (hears_leads c.loop-i.agent.keeper c.answer.new.agent.keeper c.args.t (get_or asked k 0) (drop (k + 1) asked) c.in_ok-output.output c.loop-i.next waits hears);
@@ -58,7 +60,7 @@ answer-requires-clause-waits g c =
 
 pub returns-clause-answers : goal.returns-clause-answers
 returns-clause-answers g c =
-    subst (λ is. AnswersAll c.args.agent.now.port c.args.agent.now.credentials c.args.t (both c.args.agent.now.keeper (g.E.Exchange.behind c.args.exchange.now)) is c.loop-i.next (both c.loop-i.agent.keeper (g.E.Exchange.behind c.loop-i.exchange)) c.args.text.now.items c.loop-i.text.items)
+    subst (λ is. AnswersAll (g.E.Exchange.host_port c.args.exchange.now) c.args.agent.now.credentials c.args.t (both c.args.agent.now.keeper (g.E.Exchange.behind c.args.exchange.now)) is c.loop-i.next (both c.loop-i.agent.keeper (g.E.Exchange.behind c.loop-i.exchange)) c.args.text.now.items c.loop-i.text.items)
     (take_all c.loop-i.i-index c.args.asked.now (let past = c.loop-i-test.false in omega arith)) c.loop-i.invariant.answers
 
 pub returns-clause-ready : goal.returns-clause-ready

@@ -5,7 +5,6 @@ use Rattle.keep_run.specs.code.Playing.{AnswersAll, Goes, LeavesOpen, OpensOrEnd
 use Rattle.keep_core.specs.declared.event.Output.TheVariants as out
 use Rattle.keep_run.specs.Stops.{both}
 use Rattle.keep_run.specs.Text.{inventory_with}
-use Rattle.keep_run.proofs.Agents.{as_begun}
 use Rattle.keep_run.proofs.Goes.{ends_go, round_goes_on}
 use Rattle.keep_run.proofs.Within.{told_in_range}
 use Rattle.keep_run.proofs.rehearse.waking.wake.Goals as goal
@@ -29,11 +28,8 @@ returns-clause-wakes c =
     let at : c.in-Some-new.at ≡ c.in-Some.opened.at = c.in-Some-new.ensures.value in
     let answers = subst (λ t. AnswersAll 8200 cs t (both c.open.new.agent.keeper (Some c.args.exchange.now)) c.in-Some.opened.asked c.in_ok-next.next (both c.round.new.agent.keeper (Some c.round.new.exchange)) c.open.new.text.items c.round.new.text.items) at
     (subst (λ is. AnswersAll 8200 cs c.in-Some-new.at (both c.open.new.agent.keeper (Some c.args.exchange.now)) is c.in_ok-next.next (both c.round.new.agent.keeper (Some c.round.new.exchange)) c.open.new.text.items c.round.new.text.items) c.list.ensures
-    (subst (λ p. AnswersAll p cs c.in-Some-new.at (both c.open.new.agent.keeper (Some c.args.exchange.now)) c.list.result.now c.in_ok-next.next (both c.round.new.agent.keeper (Some c.round.new.exchange)) c.open.new.text.items c.round.new.text.items)
-    c.requires.port
-    (as_begun c.args.agent.now c.open.new.agent c.in_ok-opened.ensures.stays
-    (λ p ks. AnswersAll p ks c.in-Some-new.at (both c.open.new.agent.keeper (Some c.args.exchange.now)) c.list.result.now c.in_ok-next.next (both c.round.new.agent.keeper (Some c.round.new.exchange)) c.open.new.text.items c.round.new.text.items)
-    c.in_ok-next.ensures.answers))) in
+    (subst (λ ks. AnswersAll 8200 ks c.in-Some-new.at (both c.open.new.agent.keeper (Some c.args.exchange.now)) c.list.result.now c.in_ok-next.next (both c.round.new.agent.keeper (Some c.round.new.exchange)) c.open.new.text.items c.round.new.text.items)
+    c.in_ok-opened.ensures.credentials c.in_ok-next.ensures.answers)) in
     let goes = round_goes_on cs (Some c.args.exchange.now) c.args.agent.now.keeper c.open.new.agent.keeper (both c.round.new.agent.keeper (Some c.round.new.exchange)) c.args.due c.in-Some.opened.at c.in-Some.opened.asked c.args.text.now.items c.open.new.text.items c.round.new.text.items
     c.in_ok-next.next c.in_ok-opened.ensures.shaped opens answers in
     subst (λ n. (text : List ℕ) × (Goes (inventory_with cs c.args.agent.now.keeper.forest) (both c.args.agent.now.keeper (Some c.args.exchange.now)) (Some c.args.due) (both c.round.new.agent.keeper (Some c.round.new.exchange)) c.in_ok-next.next 1 n text × (c.round.new.text.items ≡ c.args.text.now.items ++ text)))
