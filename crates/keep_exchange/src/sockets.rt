@@ -43,7 +43,7 @@ impl<'a, R: Net> Model for SocketSlices<'a, R> {
 impl<'a, R: Net> SocketSlices<'a, R> {
     /// With the broker that listens there, with time-outs of so many seconds. It takes no memory, and connects to nothing yet.
     pub fn new(rt: &'a R, place: Place<'a>, seconds: u32) -> SocketSlices<'a, R>
-        ensures { result ≡ record { place = place; seconds = seconds; failures = 0 } }
+        ensures { result ≡ record { place = place.entry; seconds = seconds; failures = 0 } }
     {
         SocketSlices {
             rt,
