@@ -36,7 +36,7 @@ pub use keep_exchange::{
 };
 pub use keep_plan::LIMIT;
 pub use keep_report::{Exit, Stop, tell};
-pub use keep_run::{MOST_WAKES, run_live, run_rehearse};
+pub use keep_run::{MOST_WAKES, Script, run_live, run_rehearse};
 pub use laws::{
     bound_law, no_secret_shows, own_certificates_are_accepted, secrets_change_no_run, until_law,
 };

@@ -1,7 +1,7 @@
 ghost use Rattle.keep_engine.specs.LiveFrom.{LiveFrom};
 
 use crate::command::tell_unread;
-use keep_device::{Sink, Source};
+use keep_device::{Sink, Source, Streams};
 use keep_exchange::Exchange;
 use keep_files::Inputs;
 use keep_inventory::MOST_INVENTORY;
@@ -11,7 +11,7 @@ use keep_run::{Feeding, run_live};
 use std::alloc::Global;
 
 /// The command `run`: [`run_live`](keep_run::run_live) over the bytes of an inventory's file, from `start` on, with event lines
-/// from `events` and renewals over `exchange`.
+/// from `streams.lines` and renewals over `exchange`.
 ///
 /// The file is read first, at most [`MOST_INVENTORY`] bytes. Exit 6, with the line of a read: it was not read to its end, or is
 /// longer. Exit 7: memory for it was refused. Then no event is read, and nothing is asked or written.
@@ -20,18 +20,13 @@ pub fn keep_alive<I: Inputs, R: Source, X: Exchange, W: Sink, E: Sink>(
     file: &str,
     start: Moment,
     inputs: &mut I,
-    events: &mut R,
     exchange: &mut X,
-    out: &mut W,
-    errors: &mut E,
+    streams: &mut Streams<R, W, E>,
 ) -> Exit
-    ensures { LiveFrom (I.bytes_at inputs.old file.now) (X.host_port exchange.old) start (X.behind exchange.old) result (⟦<R as Feeding>⟧.fed events.old events.new) (⟦<W as Watched>⟧.sent out.old out.new) (⟦<E as Watched>⟧.sent errors.old errors.new) (X.behind exchange.new) }
+    ensures { LiveFrom (I.bytes_at inputs.old file.now) (X.host_port exchange.old) start (X.behind exchange.old) result (⟦<R as Feeding>⟧.fed streams.old.lines streams.new.lines) (⟦<W as Watched>⟧.sent streams.old.out streams.new.out) (⟦<E as Watched>⟧.sent streams.old.errors streams.new.errors) (X.behind exchange.new) }
 {
     match inputs.read(alloc, file, MOST_INVENTORY) {
-        Ok(inventory) => {
-            let bytes = inventory.list();
-            run_live(alloc, bytes, start, events, exchange, out, errors)
-        }
-        Err(fault) => tell_unread(fault, errors),
+        Ok(inventory) => run_live(alloc, inventory.list(), start, exchange, streams),
+        Err(fault) => tell_unread(fault, &mut streams.errors),
     }
 }

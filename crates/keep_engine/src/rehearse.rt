@@ -9,7 +9,7 @@ use keep_exchange::MemoryExchange;
 use keep_inventory::read;
 use keep_moment::{Moment, Text};
 use keep_report::{Exit, Stop, Watched};
-use keep_run::run_rehearse;
+use keep_run::{Script, run_rehearse};
 use mini_broker::Table;
 use std::alloc::Global;
 
@@ -25,10 +25,12 @@ pub(crate) fn rehearse<W: Sink, E: Sink>(
 ) -> Exit
     ensures { Rehearses inventory.now start words.now result (⟦<W as Watched>⟧.sent out.old out.new) (⟦<E as Watched>⟧.sent errors.old errors.new) }
 {
+    let script = Script {
+        start,
+        faults: words,
+    };
     match nobody(alloc) {
-        Ok(mut exchange) => {
-            run_rehearse(alloc, inventory, start, words, out, errors, &mut exchange)
-        }
+        Ok(mut exchange) => run_rehearse(alloc, inventory, &script, out, errors, &mut exchange),
         Err(stop) => stop.report(PROGRAM, errors),
     }
 }

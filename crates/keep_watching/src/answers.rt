@@ -85,7 +85,7 @@ impl Watching {
                 date,
             } => {
                 let seconds = u64::from(seconds);
-                self.push_told(alloc, name, request.operation, seconds, date, text)?;
+                self.push_told(alloc, request, seconds, date, text)?;
                 let end = self.end_here(request.entry, seconds);
                 push_end(alloc, name, end, renewable, text)
             }
@@ -98,15 +98,16 @@ impl Watching {
     fn push_told(
         &self,
         alloc: Global,
-        name: &[u8],
-        operation: Operation,
+        request: Request,
         seconds: u64,
         date: Option<u64>,
         text: &mut Vec<u8>,
     ) -> Result<(), AllocError>
-        ensures { OnOk result (text.new.items ≡ text.old.items ++ told_as operation name.now self.now.machine seconds date) }
+        requires { request.entry < length self.now.inventory.forest.entries }
+        ensures { OnOk result (text.new.items ≡ text.old.items ++ told_as request.operation (name_of self.now.inventory.forest request.entry) self.now.machine seconds date) }
     {
-        match operation {
+        let name = name_of(self.names(), request.entry);
+        match request.operation {
             Operation::Look => {
                 let end = self.told_at(date).saturating_add(seconds);
                 push_entry(alloc, name, end, text)

@@ -5,6 +5,7 @@ ghost use Rattle.keep_watching.specs.Clocked.{IsClocked, IsCommanded, IsDone, Is
 ghost use Rattle.keep_watching.specs.Watching.{IsClosed};
 
 use crate::shorts::push_shorts;
+use crate::slice::Outgoing;
 use crate::texts::{name_of, push_begin, push_next, push_wait, push_wake};
 use crate::watching::Watching;
 use keep_exchange::Abreast;
@@ -51,7 +52,8 @@ impl Watching {
     {
         match command {
             Command::Ask { requests, patience } => {
-                self.ask(alloc, exchange, wall, requests.list(), patience, text)?;
+                let slice = Outgoing { requests, patience };
+                self.ask(alloc, exchange, wall, &slice, text)?;
                 text.extend_from_slice(b"clock\n")
             }
             Command::Wait(until) => self.wait(alloc, until, text),

@@ -37,43 +37,33 @@ pub(crate) fn listen<R: Source, E: Abreast, W: Sink>(
     ensures stops { IfErr result IsListenStop }
 {
     let mut room = zeros(alloc, EVENT_ROOM)?;
-    let mut pending = Vec::new(alloc);
-    listen_to(
-        alloc,
-        watching,
-        lines,
-        exchange,
-        &mut room,
-        &mut pending,
-        out,
-    )
+    listen_to(alloc, watching, lines, exchange, &mut room, out)
 }
 
-/// Answers lines behind `pending`, which is empty, until they end.
+/// Answers lines until they end. They are read into `room`.
 fn listen_to<R: Source, E: Abreast, W: Sink>(
     alloc: Global,
     watching: &mut Watching,
     lines: &mut R,
     exchange: &mut E,
     room: &mut [u8],
-    pending: &mut Vec<u8>,
     out: &mut W,
 ) -> Result<(), Stop>
     requires closed { IsClosed watching.old.machine }
     requires room { length room.old ≡ EVENT_ROOM }
-    requires none { pending.old.items ≡ [] }
     ensures { Listens (E.host_port exchange.old) (side watching.old (E.table exchange.old)) result (side watching.new (E.table exchange.new)) (⟦<R as Feeding>⟧.fed lines.old lines.new) (⟦<W as Watched>⟧.sent out.old out.new) }
 {
+    let mut pending = Vec::new(alloc);
     let mut count: u64 = 0;
     for _ in 0..u64::MAX {
         let Ok(n) = lines.read_some(room) else {
             return Err(Stop::Read);
         };
         if n == 0 {
-            return at_end(pending, count);
+            return at_end(&pending, count);
         }
         pending.extend_from_slice(&room[..n])?;
-        answer_pending(alloc, watching, exchange, pending, &mut count, out)?;
+        answer_pending(alloc, watching, exchange, &mut pending, &mut count, out)?;
     }
     Err(Stop::Read)
 }

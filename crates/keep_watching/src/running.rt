@@ -4,35 +4,40 @@ ghost use Rattle.keep_watching.specs.WatchRun.{IsWatchStop, WatchEnds, WatchRun,
 
 use crate::listening::listen;
 use crate::watching::Watching;
-use keep_device::{Sink, Source};
+use keep_device::{Sink, Source, Streams};
 use keep_exchange::Abreast;
 use keep_inventory::read;
 use keep_report::{Exit, Stop, Watched};
 use keep_run::Feeding;
 use std::alloc::Global;
 
-/// Watches over the entries of an inventory, and sends at most `width` requests abreast over the exchange, as `lines` hand in
-/// the time. `docs/commands/watch.md` says what each line means.
+/// Watches over the entries of an inventory, and sends at most `width` requests abreast over the exchange, as `streams.lines`
+/// hand in the time. `docs/commands/watch.md` says what each line means.
 ///
-/// A line is answered, and its lines written and flushed, before `lines` is read again. The exits: `Done`, the lines have ended;
-/// `Inventory`, the bytes are no inventory; `Device`, a line is none or has no line feed, or `lines` or the writer failed;
-/// `Memory`. Each but `Done` has its line on `errors`.
+/// A line is answered, and its lines written and flushed, before `streams.lines` is read again. The exits: `Done`, the lines have
+/// ended; `Inventory`, the bytes are no inventory; `Device`, a line is none or has no line feed, or `streams.lines` or the writer
+/// failed; `Memory`. Each but `Done` has its line on `streams.errors`.
 #[tactic(auto, using(crate::proofs::WatchEnding::ended))]
 pub fn run_watch<R: Source, E: Abreast, W: Sink, F: Sink>(
     alloc: Global,
     inventory: &[u8],
     width: u32,
-    lines: &mut R,
     exchange: &mut E,
-    out: &mut W,
-    errors: &mut F,
+    streams: &mut Streams<R, W, F>,
 ) -> Exit
-    ensures ends { WatchEnds inventory.now result (⟦<F as Watched>⟧.sent errors.old errors.new) }
-    ensures run { WatchRun (E.host_port exchange.old) inventory.now width (E.table exchange.old) result (⟦<R as Feeding>⟧.fed lines.old lines.new) (⟦<W as Watched>⟧.sent out.old out.new) (⟦<F as Watched>⟧.sent errors.old errors.new) (E.table exchange.new) }
+    ensures ends { WatchEnds inventory.now result (⟦<F as Watched>⟧.sent streams.old.errors streams.new.errors) }
+    ensures run { WatchRun (E.host_port exchange.old) inventory.now width (E.table exchange.old) result (⟦<R as Feeding>⟧.fed streams.old.lines streams.new.lines) (⟦<W as Watched>⟧.sent streams.old.out streams.new.out) (⟦<F as Watched>⟧.sent streams.old.errors streams.new.errors) (E.table exchange.new) }
 {
-    match watch(alloc, inventory, width, lines, exchange, out) {
+    match watch(
+        alloc,
+        inventory,
+        width,
+        &mut streams.lines,
+        exchange,
+        &mut streams.out,
+    ) {
         Ok(()) => Exit::Done,
-        Err(stop) => stop.report("leasekeep", errors),
+        Err(stop) => stop.report("leasekeep", &mut streams.errors),
     }
 }
 

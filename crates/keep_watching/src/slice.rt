@@ -10,9 +10,16 @@ use crate::watching::Watching;
 use keep_exchange::{Abreast, ExchangeFault};
 use keep_moment::{LAST, Moment};
 use keep_tree::Forest;
-use keep_watch::{Operation, Patience, Request};
+use keep_watch::{Operation, Patience, Request, Requests};
 use std::alloc::{AllocError, Global};
 use vault_http::DatedReply;
+
+/// Requests that go out together, and how long they may take.
+#[derive(Debug, Drop)]
+pub(crate) struct Outgoing {
+    pub(crate) requests: Requests,
+    pub(crate) patience: Patience,
+}
 
 /// The moment that a wall clock shows at so many milliseconds; after the last one, that.
 fn moment_of(wall: u64) -> Moment
@@ -38,28 +45,28 @@ fn place_of(asked: &[Request], entry: u32) -> Option<usize>
 }
 
 impl Watching {
-    /// Sends these requests, which are served at that moment of the wall clock, and takes their answers by the indices of their
-    /// entries, each for its own. Appends the lines of both: first of whom what is asked.
+    /// Sends the requests of a slice, which are served at that moment of the wall clock, and takes their answers by the indices
+    /// of their entries, each for its own. Appends the lines of both: first of whom what is asked.
     pub(crate) fn ask<E: Abreast>(
         &mut self,
         alloc: Global,
         exchange: &mut E,
         wall: u64,
-        asked: &[Request],
-        patience: Patience,
+        slice: &Outgoing,
         text: &mut Vec<u8>,
     ) -> Result<(), AllocError>
-        requires out { AreOut self.old.machine asked.now }
-        ensures slice { OnOk result (Appended text.old.items text.new.items (IsSlice (E.host_port exchange.old) self.old.inventory (moment_of wall) asked.now self.old.machine self.new.machine (E.table exchange.old) (E.table exchange.new))) }
+        requires out { AreOut self.old.machine slice.now.requests }
+        ensures slice { OnOk result (Appended text.old.items text.new.items (IsSlice (E.host_port exchange.old) self.old.inventory (moment_of wall) slice.now.requests self.old.machine self.new.machine (E.table exchange.old) (E.table exchange.new))) }
         ensures rest { OnOk result (self.new ≡ record self.old { machine = self.new.machine }) }
         ensures closed { OnOk result (IsClosed self.new.machine) }
         ensures port { OnOk result (E.host_port exchange.new ≡ E.host_port exchange.old) }
     {
+        let asked = slice.requests.list();
         push_asked_lines(self.names(), asked, text)?;
         let port = exchange.port();
         let messages = self.messages(alloc, port, asked)?;
         let t = moment_of(wall);
-        let answers = exchange.exchange_slice(alloc, t, &messages, waiting(patience))?;
+        let answers = exchange.exchange_slice(alloc, t, &messages, waiting(slice.patience))?;
         self.take_answers(alloc, asked, &answers, text)
     }
 

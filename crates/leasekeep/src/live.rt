@@ -1,9 +1,7 @@
-use keep_device::{Counted, Place, Sink};
+use keep_device::{Place, Sink, Source, Streams};
 use keep_engine::{Exchange, Exit, TcpExchange, UnixExchange, keep_alive};
 use keep_files::Disk;
 use keep_moment::Moment;
-use std::io;
-use std::io::Read;
 use std::net::Net;
 use std::rt::Files;
 use std::time::Duration;
@@ -21,41 +19,37 @@ pub struct Live<'a> {
     pub patience: u64,
 }
 
-/// Runs the agent: event lines come from `input`, and their lines go to standard output.
-pub fn keep<R: Files + AllocGlobal + Print + Net, I: Read + Drop, E: Sink>(
+/// Runs the agent: it takes event lines from these streams, and answers them there.
+pub fn keep<R: Files + AllocGlobal + Net, I: Source, W: Sink, E: Sink>(
     rt: &R,
     live: &Live<'_>,
-    input: I,
-    errors: &mut E,
+    streams: &mut Streams<I, W, E>,
 ) -> Exit {
     let longest = Duration::from_secs(live.patience);
     match live.place {
         Place::Port(port) => {
             let mut exchange = TcpExchange::patient(rt, port, longest);
-            keep_over(rt, live, input, &mut exchange, errors)
+            keep_over(rt, live, &mut exchange, streams)
         }
         Place::Path(path) => {
             let mut exchange = UnixExchange::patient(rt, path, longest);
-            keep_over(rt, live, input, &mut exchange, errors)
+            keep_over(rt, live, &mut exchange, streams)
         }
     }
 }
 
-fn keep_over<R: Files + AllocGlobal + Print + Net, I: Read + Drop, X: Exchange, E: Sink>(
+fn keep_over<R: Files + AllocGlobal, X: Exchange, I: Source, W: Sink, E: Sink>(
     rt: &R,
     live: &Live<'_>,
-    input: I,
     exchange: &mut X,
-    errors: &mut E,
+    streams: &mut Streams<I, W, E>,
 ) -> Exit {
     keep_alive(
         rt.alloc(),
         live.file,
         live.start,
         &mut Disk { rt },
-        &mut Counted::new(input),
         exchange,
-        &mut Counted::new(io::writer(rt)),
-        errors,
+        streams,
     )
 }

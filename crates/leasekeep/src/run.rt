@@ -2,7 +2,7 @@ use crate::live::keep;
 use crate::watch::watch;
 use crate::words::{Job, read_command};
 use keep_command::words;
-use keep_device::Counted;
+use keep_device::{Counted, Streams};
 use keep_engine::{Exit, PROGRAM, obey};
 use keep_files::Disk;
 use std::io;
@@ -16,24 +16,25 @@ pub fn run<R: Env + Files + AllocGlobal + Print + Eprint + Net, I: Read + Drop, 
     input: I,
     errors: E,
 ) -> Exit {
-    let mut errors = Counted::new(errors);
-    let words = match words(rt, PROGRAM, &mut errors) {
+    let mut streams = Streams {
+        lines: Counted::new(input),
+        out: Counted::new(io::writer(rt)),
+        errors: Counted::new(errors),
+    };
+    let words = match words(rt, PROGRAM, &mut streams.errors) {
         Ok(words) => words,
         Err(exit) => return exit,
     };
-    match read_command(rt, &words, &mut errors) {
-        Ok(Job::Live(live)) => keep(rt, &live, input, &mut errors),
-        Ok(Job::Watch(watched)) => watch(rt, &watched, input, &mut errors),
-        Ok(Job::Offline(command)) => {
-            let mut out = Counted::new(io::writer(rt));
-            obey(
-                rt.alloc(),
-                &command,
-                &mut Disk { rt },
-                &mut out,
-                &mut errors,
-            )
-        }
+    match read_command(rt, &words, &mut streams.errors) {
+        Ok(Job::Live(live)) => keep(rt, &live, &mut streams),
+        Ok(Job::Watch(watched)) => watch(rt, &watched, &mut streams),
+        Ok(Job::Offline(command)) => obey(
+            rt.alloc(),
+            &command,
+            &mut Disk { rt },
+            &mut streams.out,
+            &mut streams.errors,
+        ),
         Err(exit) => exit,
     }
 }

@@ -1,11 +1,9 @@
-use keep_device::{Counted, Place, Sink};
+use keep_device::{Place, Sink, Source, Streams};
 use keep_engine::Exit;
 use keep_exchange::SocketSlices;
 use keep_files::Disk;
 use keep_watch::WIDTH_MAX;
 use keep_watching::watch_file;
-use std::io;
-use std::io::Read;
 use std::net::Net;
 use std::rt::Files;
 
@@ -22,12 +20,11 @@ pub struct Watched<'a> {
     pub width: u64,
 }
 
-/// Runs the watch: lines come from `input`, and what answers them goes to standard output.
-pub fn watch<R: Files + AllocGlobal + Print + Net, I: Read + Drop, E: Sink>(
+/// Runs the watch: it takes lines from these streams, and answers them there.
+pub fn watch<R: Files + AllocGlobal + Net, I: Source, W: Sink, E: Sink>(
     rt: &R,
     watched: &Watched<'_>,
-    input: I,
-    errors: &mut E,
+    streams: &mut Streams<I, W, E>,
 ) -> Exit {
     let seconds = watched.patience.min(60) as u32;
     let mut exchange = SocketSlices::new(rt, watched.place, seconds);
@@ -36,9 +33,7 @@ pub fn watch<R: Files + AllocGlobal + Print + Net, I: Read + Drop, E: Sink>(
         watched.file,
         watched.width.min(WIDTH_MAX as u64) as u32,
         &mut Disk { rt },
-        &mut Counted::new(input),
         &mut exchange,
-        &mut Counted::new(io::writer(rt)),
-        errors,
+        streams,
     )
 }

@@ -36,7 +36,7 @@ loop-init g c =
       is_in_memory = g.W.Device.is_in_memory;
     } in
     record {
-      listening = subst (λ p. IsListening port old 0 p old 0 fed a) (sym c.requires.none) (listening_first port old fed a refl refl (inr (refl, (Keeps-refl (g.W.Device.written c.args.out.now), refl, refl)), refl));
+      listening = subst (λ p. IsListening port old 0 p old 0 fed a) (sym c.new-pending.ensures.items) (listening_first port old fed a refl refl (inr (refl, (Keeps-refl (g.W.Device.written c.args.out.now), refl, refl)), refl));
       counted = omega arith;
       closed = c.requires.closed;
       port = refl;
