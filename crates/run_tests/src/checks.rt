@@ -1,7 +1,7 @@
-use crate::inventories::{IN_TURN, ONE_DUE, TOKEN_AND_LEASE, WEB, inventory_of};
-use crate::moments::moment;
-use crate::outcomes::Outcome;
 use crate::plans::{OF_ONE_TOKEN, PLANNED, plans};
+use agent_tests::inventories::{IN_TURN, ONE_DUE, TOKEN_AND_LEASE, WEB, inventory_of};
+use agent_tests::moments::moment;
+use agent_tests::outcomes::Outcome;
 use keep_device::MemorySink;
 use keep_engine::{Exit, run_check};
 use keep_moment::Moment;
@@ -59,7 +59,8 @@ pub(crate) fn judges<R: AllocGlobal + Abort>(
     } else {
         Exit::No
     };
-    checks(rt.alloc(), inventory, certificate, None).is(rt, exit, line, "");
+    let outcome = checks(rt.alloc(), inventory, certificate, None);
+    assert!(rt; outcome.is(exit, line, ""), "{line}");
 }
 
 // What `plan` writes from 1000 on gets `yes`.
@@ -294,7 +295,8 @@ fn a_certificate_has_the_start_that_is_asked_for(rt: HostRuntime) -> Result<(), 
         } else {
             Exit::No
         };
-        checks_from(rt.alloc(), WEB, text.as_bytes(), asked, None).is(&rt, exit, line, "");
+        let outcome = checks_from(rt.alloc(), WEB, text.as_bytes(), asked, None);
+        assert!(rt; outcome.is(exit, line, ""), "{lines}");
     }
     Ok(())
 }
@@ -303,6 +305,7 @@ fn a_certificate_has_the_start_that_is_asked_for(rt: HostRuntime) -> Result<(), 
 #[test]
 fn a_failed_write_of_an_answer_is_exit_6(rt: HostRuntime) {
     for call in 0..2u64 {
-        checks(rt.alloc(), WEB, IN_RUNS.as_bytes(), Some(call)).is_a_failed_write(&rt);
+        let outcome = checks(rt.alloc(), WEB, IN_RUNS.as_bytes(), Some(call));
+        assert!(rt; outcome.is_a_failed_write(), "{call}");
     }
 }

@@ -1,9 +1,9 @@
-use crate::inventories::{
+use agent_tests::inventories::{
     HIDDEN, IN_TURN, LOW_CEILING, PAY, TOKEN_AND_LEASE, WEB, WEB_BASE_AND_BIG, WEB_BY_DATE,
     WITH_MARGIN,
 };
-use crate::moments::moment;
-use crate::outcomes::Outcome;
+use agent_tests::moments::moment;
+use agent_tests::outcomes::Outcome;
 use keep_device::MemorySink;
 use keep_engine::{Exit, run_ends};
 use keep_moment::Moment;
@@ -100,7 +100,8 @@ pub(crate) fn ends(
 #[test]
 fn ends_are_written(rt: HostRuntime) -> Result<(), Fail> {
     for (inventory, moments, text) in &KEPT_OR_NOT {
-        ends(rt.alloc(), inventory, moments, None)?.is(&rt, Exit::Done, text, "");
+        let outcome = ends(rt.alloc(), inventory, moments, None)?;
+        assert!(rt; outcome.is(Exit::Done, text, ""), "{text}");
     }
     Ok(())
 }
@@ -108,7 +109,8 @@ fn ends_are_written(rt: HostRuntime) -> Result<(), Fail> {
 #[test]
 fn what_has_no_ends_leaves_the_output(rt: HostRuntime) -> Result<(), Fail> {
     for (inventory, moments, exit, fault) in &REFUSED {
-        ends(rt.alloc(), inventory, moments, None)?.is(&rt, *exit, "", fault);
+        let outcome = ends(rt.alloc(), inventory, moments, None)?;
+        assert!(rt; outcome.is(*exit, "", fault), "{fault}");
     }
     Ok(())
 }
@@ -118,7 +120,8 @@ fn what_has_no_ends_leaves_the_output(rt: HostRuntime) -> Result<(), Fail> {
 fn a_failed_write_is_exit_6(rt: HostRuntime) -> Result<(), Fail> {
     let alloc = rt.alloc();
     for call in 0..2u64 {
-        ends(alloc, WEB, &[], Some(call))?.is_a_failed_write(&rt);
+        let outcome = ends(alloc, WEB, &[], Some(call))?;
+        assert!(rt; outcome.is_a_failed_write(), "{call}");
     }
     let mut out = MemorySink::new(alloc, None);
     let mut errors = MemorySink::new(alloc, Some(0));

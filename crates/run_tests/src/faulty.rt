@@ -1,7 +1,7 @@
 use crate::checks::checks;
 use crate::ends::ends;
-use crate::outcomes::Outcome;
 use crate::plans::plans;
+use agent_tests::outcomes::Outcome;
 use keep_engine::Exit;
 use std::process::Abort;
 use std::test::Fail;
@@ -58,7 +58,7 @@ const FAULTY: [(&str, &str); 15] = [
 // What a command of a text that is no inventory comes to: exit 1, one fault line, and nothing on the output.
 fn is_refused<R: AllocGlobal + Abort>(rt: &R, outcome: &Outcome, fault: &str) -> Result<(), Fail> {
     let line = format!(in rt.alloc(); "leasekeep: inventory: {fault}\n")?;
-    outcome.is(rt, Exit::Inventory, "", line.as_str());
+    assert!(rt; outcome.is(Exit::Inventory, "", line.as_str()), "{fault}");
     Ok(())
 }
 

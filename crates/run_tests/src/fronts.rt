@@ -1,5 +1,5 @@
 use crate::checks::{IN_RUNS, IN_WAKES, judges};
-use crate::inventories::WEB;
+use agent_tests::inventories::WEB;
 use std::process::Abort;
 use std::test::Fail;
 

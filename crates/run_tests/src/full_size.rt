@@ -2,7 +2,7 @@
 //! contract forbids a call to give up for want of memory past some size: these tests would see it.
 
 use crate::margins::margins;
-use crate::moments::moment;
+use agent_tests::moments::moment;
 use http::Method;
 use keep_check::{Answer, check};
 use keep_core::{Event, Keeper, Output};
@@ -92,7 +92,7 @@ fn the_plan_of_every_entry_is_printed(rt: HostRuntime) -> Result<(), Fail> {
 fn every_entry_has_its_say_in_a_margin(rt: HostRuntime) -> Result<(), Fail> {
     let text = fleet_text(rt.alloc())?;
     let outcome = margins(rt.alloc(), text.as_str(), (None, true), None)?;
-    outcome.is(&rt, Exit::Done, "1 3\n13 3\n", "");
+    assert!(rt; outcome.is(Exit::Done, "1 3\n13 3\n", ""));
     Ok(())
 }
 

@@ -1,6 +1,6 @@
-use crate::inventories::{LOW_CEILING, TOKEN_AND_LEASE, WEB, Web, inventory_of};
-use crate::moments::moment;
-use crate::outcomes::Outcome;
+use agent_tests::inventories::{LOW_CEILING, TOKEN_AND_LEASE, WEB, Web, inventory_of};
+use agent_tests::moments::moment;
+use agent_tests::outcomes::Outcome;
 use keep_device::MemorySink;
 use keep_engine::{Exit, MarginQuery, run_margin};
 use std::alloc::Global;
@@ -121,12 +121,15 @@ pub(crate) fn margins(
 fn margins_are_written(rt: HostRuntime) -> Result<(), Fail> {
     let alloc = rt.alloc();
     for (asked, exit, text) in &OF_WEB {
-        margins(alloc, WEB, *asked, None)?.is(&rt, *exit, text, "");
+        let outcome = margins(alloc, WEB, *asked, None)?;
+        assert!(rt; outcome.is(*exit, text, ""), "{text}");
     }
-    margins(alloc, "", AS_IT_IS, None)?.is(&rt, Exit::Done, "1 0\n3600 0\n", "");
-    margins(alloc, TOKEN_AND_LEASE, AS_IT_IS, None)?.is(&rt, Exit::Done, "1 3\n13 3\n", "");
-    let pair = "unkeepable T L\n";
-    margins(alloc, LOW_CEILING, AS_IT_IS, None)?.is(&rt, Exit::Unkeepable, pair, "");
+    let empty = margins(alloc, "", AS_IT_IS, None)?;
+    assert!(rt; empty.is(Exit::Done, "1 0\n3600 0\n", ""));
+    let both = margins(alloc, TOKEN_AND_LEASE, AS_IT_IS, None)?;
+    assert!(rt; both.is(Exit::Done, "1 3\n13 3\n", ""));
+    let low = margins(alloc, LOW_CEILING, AS_IT_IS, None)?;
+    assert!(rt; low.is(Exit::Unkeepable, "unkeepable T L\n", ""));
     Ok(())
 }
 
@@ -134,7 +137,8 @@ fn margins_are_written(rt: HostRuntime) -> Result<(), Fail> {
 fn margins_of_one_token_are_written(rt: HostRuntime) -> Result<(), Fail> {
     for (web, asked, exit, text) in &OF_ONE_TOKEN {
         let inventory = inventory_of(rt.alloc(), *web)?;
-        margins(rt.alloc(), inventory.as_str(), *asked, None)?.is(&rt, *exit, text, "");
+        let outcome = margins(rt.alloc(), inventory.as_str(), *asked, None)?;
+        assert!(rt; outcome.is(*exit, text, ""), "{text}");
     }
     Ok(())
 }
@@ -143,7 +147,8 @@ fn margins_of_one_token_are_written(rt: HostRuntime) -> Result<(), Fail> {
 fn what_has_no_margin_leaves_the_output(rt: HostRuntime) -> Result<(), Fail> {
     for (web, exit, fault) in &STOPPED {
         let inventory = inventory_of(rt.alloc(), *web)?;
-        margins(rt.alloc(), inventory.as_str(), AS_IT_IS, None)?.is(&rt, *exit, "", fault);
+        let outcome = margins(rt.alloc(), inventory.as_str(), AS_IT_IS, None)?;
+        assert!(rt; outcome.is(*exit, "", fault), "{fault}");
     }
     Ok(())
 }
@@ -152,7 +157,8 @@ fn what_has_no_margin_leaves_the_output(rt: HostRuntime) -> Result<(), Fail> {
 #[test]
 fn a_failed_write_of_margins_is_exit_6(rt: HostRuntime) -> Result<(), Fail> {
     for call in 0..2u64 {
-        margins(rt.alloc(), WEB, AS_IT_IS, Some(call))?.is_a_failed_write(&rt);
+        let outcome = margins(rt.alloc(), WEB, AS_IT_IS, Some(call))?;
+        assert!(rt; outcome.is_a_failed_write(), "{call}");
     }
     Ok(())
 }

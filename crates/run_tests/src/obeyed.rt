@@ -1,9 +1,9 @@
 ghost use Rattle.std.specs.Prelude.{None};
 
 use crate::checks::IN_RUNS;
-use crate::inventories::WEB;
-use crate::moments::moment;
-use crate::outcomes::Outcome;
+use agent_tests::inventories::WEB;
+use agent_tests::moments::moment;
+use agent_tests::outcomes::{Outcome, streams_to};
 use keep_device::{InputFault, MemorySink, MemorySource};
 use keep_engine::{Command, Exit, MarginQuery, keep_alive, obey};
 use keep_exchange::MemoryExchange;
@@ -213,7 +213,8 @@ fn obeys(alloc: Global, asked: Asked, file: &str, certificate: &str) -> Result<O
 #[test]
 fn commands_are_obeyed_over_files(rt: HostRuntime) -> Result<(), Fail> {
     for (asked, file, certificate, exit, text, fault) in &OBEYED {
-        obeys(rt.alloc(), *asked, file, certificate)?.is(&rt, *exit, text, fault);
+        let outcome = obeys(rt.alloc(), *asked, file, certificate)?;
+        assert!(rt; outcome.is(*exit, text, fault), "{text}{fault}");
     }
     Ok(())
 }
@@ -223,30 +224,27 @@ fn keeps_alive(alloc: Global, file: &str) -> Result<(Outcome, u64), Fail> {
     let table = Table::load(alloc, &read(alloc, WEB.as_bytes())?)?;
     let mut exchange = MemoryExchange::new(alloc, table);
     let lines = Vec::from_slice(alloc, b"tick 1059\n")?;
-    let mut events = MemorySource::new(lines, Vec::new(alloc), None);
-    let mut inputs = Folder;
-    let mut out = MemorySink::new(alloc, None);
-    let mut errors = MemorySink::new(alloc, None);
+    let events = MemorySource::new(lines, Vec::new(alloc), None);
+    let mut streams = streams_to(alloc, events, MemorySink::new(alloc, None));
     let exit = keep_alive(
         alloc,
         file,
         moment(1000)?,
-        &mut inputs,
-        &mut events,
+        &mut Folder,
         &mut exchange,
-        &mut out,
-        &mut errors,
+        &mut streams,
     );
-    Ok((Outcome { exit, out, errors }, events.reads()))
+    let reads = streams.lines.reads();
+    Ok((Outcome::of(exit, streams), reads))
 }
 
 #[test]
 fn a_live_run_reads_its_file_first(rt: HostRuntime) -> Result<(), Fail> {
     let text = "entry web 1060\nwake 1059 web\ntold web 60\nnext 1118\n";
     let (kept, _) = keeps_alive(rt.alloc(), "web.toml")?;
-    kept.is(&rt, Exit::Done, text, "");
+    assert!(rt; kept.is(Exit::Done, text, ""));
     let (unread, reads) = keeps_alive(rt.alloc(), "other.toml")?;
-    unread.is(&rt, Exit::Device, "", "leasekeep: read\n");
+    assert!(rt; unread.is(Exit::Device, "", "leasekeep: read\n"));
     assert!(rt; reads == 0, "{reads}");
     Ok(())
 }
@@ -256,33 +254,24 @@ fn watches(alloc: Global, file: &str) -> Result<(Outcome, u64), Fail> {
     let table = Table::load(alloc, &read(alloc, WEB.as_bytes())?)?;
     let mut exchange = MemoryExchange::new(alloc, table);
     let text = Vec::from_slice(alloc, b"clock 1000000 1000000\n")?;
-    let mut lines = MemorySource::new(text, Vec::new(alloc), None);
-    let mut inputs = Folder;
-    let mut out = MemorySink::new(alloc, None);
-    let mut errors = MemorySink::new(alloc, None);
-    let exit = watch_file(
-        alloc,
-        file,
-        8,
-        &mut inputs,
-        &mut lines,
-        &mut exchange,
-        &mut out,
-        &mut errors,
-    );
-    Ok((Outcome { exit, out, errors }, lines.reads()))
+    let lines = MemorySource::new(text, Vec::new(alloc), None);
+    let mut streams = streams_to(alloc, lines, MemorySink::new(alloc, None));
+    let exit = watch_file(alloc, file, 8, &mut Folder, &mut exchange, &mut streams);
+    let reads = streams.lines.reads();
+    Ok((Outcome::of(exit, streams), reads))
 }
 
 #[test]
 fn a_watch_reads_its_file_first(rt: HostRuntime) -> Result<(), Fail> {
     let text = "begin start\nlook web\nentry web 1060\nend web 1060000 yes\nclock\n";
     let (watched, _) = watches(rt.alloc(), "web.toml")?;
-    watched.is(&rt, Exit::Done, text, "");
+    assert!(rt; watched.is(Exit::Done, text, ""));
     let (unread, reads) = watches(rt.alloc(), "other.toml")?;
-    unread.is(&rt, Exit::Device, "", "leasekeep: read\n");
+    assert!(rt; unread.is(Exit::Device, "", "leasekeep: read\n"));
     assert!(rt; reads == 0, "{reads}");
     let (no_inventory, reads) = watches(rt.alloc(), "web.plan")?;
-    no_inventory.is(&rt, Exit::Inventory, "", "leasekeep: inventory: not-toml\n");
+    let fault = "leasekeep: inventory: not-toml\n";
+    assert!(rt; no_inventory.is(Exit::Inventory, "", fault));
     assert!(rt; reads == 0, "{reads}");
     Ok(())
 }

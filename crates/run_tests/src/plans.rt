@@ -1,9 +1,9 @@
-use crate::inventories::{
+use agent_tests::inventories::{
     BESIDE, CHILD, HIDDEN, IN_TURN, LOW_CEILING, PAY, PAY_LONGER, TOKEN_AND_LEASE, WEB,
     WEB_BASE_AND_BIG, WEB_BY_DATE, Web, inventory_of,
 };
-use crate::moments::moment;
-use crate::outcomes::Outcome;
+use agent_tests::moments::moment;
+use agent_tests::outcomes::Outcome;
 use keep_device::MemorySink;
 use keep_engine::{Exit, run_plan};
 use std::alloc::Global;
@@ -112,7 +112,8 @@ fn plans_are_written(rt: HostRuntime) -> Result<(), Fail> {
     let alloc = rt.alloc();
     for (inventory, exit, lines) in &PLANNED {
         let text = format!(in alloc; "leasekeep-plan 2\nstart 1000\n{lines}")?;
-        plans(alloc, inventory, None)?.is(&rt, *exit, text.as_str(), "");
+        let outcome = plans(alloc, inventory, None)?;
+        assert!(rt; outcome.is(*exit, text.as_str(), ""), "{lines}");
     }
     Ok(())
 }
@@ -123,7 +124,8 @@ fn plans_of_one_token_are_written(rt: HostRuntime) -> Result<(), Fail> {
     for (web, exit, lines) in &OF_ONE_TOKEN {
         let inventory = inventory_of(alloc, *web)?;
         let text = format!(in alloc; "leasekeep-plan 2\nstart 1000\n{lines}")?;
-        plans(alloc, inventory.as_str(), None)?.is(&rt, *exit, text.as_str(), "");
+        let outcome = plans(alloc, inventory.as_str(), None)?;
+        assert!(rt; outcome.is(*exit, text.as_str(), ""), "{lines}");
     }
     Ok(())
 }
@@ -133,7 +135,8 @@ fn plans_of_one_token_are_written(rt: HostRuntime) -> Result<(), Fail> {
 fn what_has_no_plan_leaves_the_output(rt: HostRuntime) -> Result<(), Fail> {
     for (web, exit, fault) in &STOPPED {
         let inventory = inventory_of(rt.alloc(), *web)?;
-        plans(rt.alloc(), inventory.as_str(), None)?.is(&rt, *exit, "", fault);
+        let outcome = plans(rt.alloc(), inventory.as_str(), None)?;
+        assert!(rt; outcome.is(*exit, "", fault), "{fault}");
     }
     Ok(())
 }
@@ -142,7 +145,8 @@ fn what_has_no_plan_leaves_the_output(rt: HostRuntime) -> Result<(), Fail> {
 #[test]
 fn a_failed_write_of_a_plan_is_exit_6(rt: HostRuntime) -> Result<(), Fail> {
     for call in 0..2u64 {
-        plans(rt.alloc(), WEB, Some(call))?.is_a_failed_write(&rt);
+        let outcome = plans(rt.alloc(), WEB, Some(call))?;
+        assert!(rt; outcome.is_a_failed_write(), "{call}");
     }
     Ok(())
 }

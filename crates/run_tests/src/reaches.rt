@@ -1,6 +1,6 @@
-use crate::inventories::{CHILD, LOW_CEILING, PAY, PAY_LONGER, TOKEN_AND_LEASE, WEB};
-use crate::moments::moment;
-use crate::outcomes::Outcome;
+use agent_tests::inventories::{CHILD, LOW_CEILING, PAY, PAY_LONGER, TOKEN_AND_LEASE, WEB};
+use agent_tests::moments::moment;
+use agent_tests::outcomes::Outcome;
 use keep_device::MemorySink;
 use keep_engine::{Exit, run_reach};
 use std::alloc::Global;
@@ -57,7 +57,8 @@ fn reaches(alloc: Global, inventory: &str, dates: bool) -> Result<Outcome, Fail>
 #[test]
 fn reaches_are_written(rt: HostRuntime) -> Result<(), Fail> {
     for (inventory, dates, text) in &REACHES {
-        reaches(rt.alloc(), inventory, *dates)?.is(&rt, Exit::Done, text, "");
+        let outcome = reaches(rt.alloc(), inventory, *dates)?;
+        assert!(rt; outcome.is(Exit::Done, text, ""), "{text}");
     }
     Ok(())
 }

@@ -1,13 +1,13 @@
 //! Live runs in memory: exit, output and fault line, however the event lines come.
 use crate::inventories::{TOKEN_AND_LEASE, WEB};
 use crate::moments::moment;
-use crate::outcomes::Outcome;
+use crate::outcomes::{Outcome, streams_to};
+use crate::sources::{source, table_of};
 use keep_device::{MemorySink, MemorySource};
 use keep_exchange::MemoryExchange;
-use keep_inventory::read;
 use keep_report::Exit;
 use keep_run::run_live;
-use mini_broker::{Fault, Table};
+use mini_broker::Fault;
 use std::alloc::Global;
 use std::process::Abort;
 use std::test::Fail;
@@ -116,19 +116,6 @@ const HEARD: [Heard; 11] = [
     ),
 ];
 
-pub(crate) fn table_of<R: AllocGlobal + Abort>(
-    rt: &R,
-    inventory: &str,
-    fault: Option<Fault>,
-) -> Result<Table, Fail> {
-    let entries = read(rt.alloc(), inventory.as_bytes())?;
-    let mut table = Table::load(rt.alloc(), &entries)?;
-    if let Some(fault) = fault {
-        assert!(rt; table.set_fault(1, fault).is_ok(), "a fault");
-    }
-    Ok(table)
-}
-
 // A run from 1000 on over the inventory's own table, with a fault at the first renewal, if there is one; and how many reads
 // it made.
 fn runs<R: AllocGlobal + Abort>(
@@ -139,40 +126,24 @@ fn runs<R: AllocGlobal + Abort>(
 ) -> Result<(Outcome, u64), Fail> {
     let alloc = rt.alloc();
     let mut exchange = MemoryExchange::new(alloc, table_of(rt, inventory, fault)?);
-    let mut out = MemorySink::new(alloc, None);
-    let mut errors = MemorySink::new(alloc, None);
-    let mut events = events;
+    let mut streams = streams_to(alloc, events, MemorySink::new(alloc, None));
+    let start = moment(1000)?;
     let exit = run_live(
         alloc,
         inventory.as_bytes(),
-        moment(1000)?,
-        &mut events,
+        start,
         &mut exchange,
-        &mut out,
-        &mut errors,
+        &mut streams,
     );
-    Ok((Outcome { exit, out, errors }, events.reads()))
-}
-
-// Event lines that come in pieces of these lengths, and then whole.
-fn source(
-    alloc: Global,
-    events: &[u8],
-    pieces: &[usize],
-    before_failure: Option<u64>,
-) -> Result<MemorySource, Fail> {
-    Ok(MemorySource::new(
-        Vec::from_slice(alloc, events)?,
-        Vec::from_slice(alloc, pieces)?,
-        before_failure,
-    ))
+    let reads = streams.lines.reads();
+    Ok((Outcome::of(exit, streams), reads))
 }
 
 fn is_written<R: AllocGlobal + Abort>(rt: &R, row: &Heard) -> Result<(), Fail> {
     let (inventory, lines, before_failure, exit, text, fault) = *row;
-    let events = source(rt.alloc(), lines.as_bytes(), &[], before_failure)?;
+    let events = source(rt.alloc(), lines, &[], before_failure)?;
     let (outcome, _) = runs(rt, inventory, None, events)?;
-    outcome.is(rt, exit, text, fault);
+    assert!(rt; outcome.is(exit, text, fault), "{text}{fault}");
     Ok(())
 }
 
@@ -194,9 +165,9 @@ const CUTS: [(&[usize], u64); 5] = [
 ];
 
 fn is_the_same<R: AllocGlobal + Abort>(rt: &R, pieces: &[usize], reads: u64) -> Result<(), Fail> {
-    let events = source(rt.alloc(), TWO_TICKS.as_bytes(), pieces, None)?;
+    let events = source(rt.alloc(), TWO_TICKS, pieces, None)?;
     let (outcome, made) = runs(rt, WEB, None, events)?;
-    outcome.is(rt, Exit::Done, TWICE_RENEWED, "");
+    assert!(rt; outcome.is(Exit::Done, TWICE_RENEWED, ""), "{reads}");
     assert!(rt; made == reads, "{made} {reads}");
     Ok(())
 }
@@ -227,9 +198,9 @@ const ANSWERED: [(Fault, &str); 3] = [
 ];
 
 fn is_told<R: AllocGlobal + Abort>(rt: &R, fault: Fault, text: &str) -> Result<(), Fail> {
-    let events = source(rt.alloc(), b"tick 1059\n", &[], None)?;
+    let events = source(rt.alloc(), "tick 1059\n", &[], None)?;
     let (outcome, _) = runs(rt, WEB, Some(fault), events)?;
-    outcome.is(rt, Exit::Done, text, "");
+    assert!(rt; outcome.is(Exit::Done, text, ""), "{text}");
     Ok(())
 }
 

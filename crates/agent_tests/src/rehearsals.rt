@@ -7,7 +7,7 @@ use keep_exchange::MemoryExchange;
 use keep_inventory::read;
 use keep_moment::Text;
 use keep_report::Exit;
-use keep_run::run_rehearse;
+use keep_run::{Script, run_rehearse};
 use mini_broker::Table;
 use std::alloc::Global;
 use std::process::Abort;
@@ -185,13 +185,15 @@ pub(crate) fn rehearses(
 ) -> Result<Outcome, Fail> {
     let mut out = MemorySink::new(alloc, None);
     let mut errors = MemorySink::new(alloc, None);
-    let start = moment(1000)?;
     let faults = words_of(alloc, words)?;
+    let script = Script {
+        start: moment(1000)?,
+        faults: &faults,
+    };
     let exit = run_rehearse(
         alloc,
         inventory.as_bytes(),
-        start,
-        &faults,
+        &script,
         &mut out,
         &mut errors,
         exchange,
@@ -202,7 +204,8 @@ pub(crate) fn rehearses(
 fn rehearse_all<R: AllocGlobal + Abort>(rt: &R, rows: &[(&str, &str, &str)]) -> Result<(), Fail> {
     let alloc = rt.alloc();
     for (inventory, words, text) in rows {
-        rehearses(alloc, inventory, words, &mut nobody(alloc)?)?.is(rt, Exit::Done, text, "");
+        let outcome = rehearses(alloc, inventory, words, &mut nobody(alloc)?)?;
+        assert!(rt; outcome.is(Exit::Done, text, ""), "{text}");
     }
     Ok(())
 }
@@ -217,11 +220,10 @@ fn a_fault_word_at_fault_is_told(rt: HostRuntime) -> Result<(), Fail> {
     let alloc = rt.alloc();
     for (words, place) in &BAD_WORDS {
         let fault = format!(in alloc; "leasekeep: fault word {place}\n")?;
-        rehearses(alloc, WEB, words, &mut nobody(alloc)?)?.is(
-            &rt,
-            Exit::CommandLine,
-            "",
-            fault.as_str(),
+        let outcome = rehearses(alloc, WEB, words, &mut nobody(alloc)?)?;
+        assert!(rt;
+            outcome.is(Exit::CommandLine, "", fault.as_str()),
+            "{fault}"
         );
     }
     Ok(())
@@ -231,12 +233,8 @@ fn a_fault_word_at_fault_is_told(rt: HostRuntime) -> Result<(), Fail> {
 #[test]
 fn an_inventory_at_fault_is_told_first(rt: HostRuntime) -> Result<(), Fail> {
     let alloc = rt.alloc();
-    rehearses(alloc, "x", "drop", &mut nobody(alloc)?)?.is(
-        &rt,
-        Exit::Inventory,
-        "",
-        "leasekeep: inventory: not-toml\n",
-    );
+    let outcome = rehearses(alloc, "x", "drop", &mut nobody(alloc)?)?;
+    assert!(rt; outcome.is(Exit::Inventory, "", "leasekeep: inventory: not-toml\n"));
     Ok(())
 }
 
@@ -253,7 +251,8 @@ const REPLY: &[u8] =
 #[test]
 fn the_wire_of_a_rehearsal_is_its_last_exchange(rt: HostRuntime) -> Result<(), Fail> {
     let mut exchange = nobody(rt.alloc())?;
-    rehearses(rt.alloc(), WEB, "", &mut exchange)?.is(&rt, Exit::Done, AS_PLANNED, "");
+    let outcome = rehearses(rt.alloc(), WEB, "", &mut exchange)?;
+    assert!(rt; outcome.is(Exit::Done, AS_PLANNED, ""));
     assert!(rt; exchange.table().end_of(b"web") == Some(1237), "the end");
     is_the_wire(&rt, exchange.wire());
     is_asked(&rt, REQUEST)?;

@@ -5,7 +5,7 @@ use crate::rehearsals::{AS_PLANNED, nobody};
 use crate::wanting::Wanting;
 use keep_device::{MemorySink, Sink};
 use keep_report::Exit;
-use keep_run::run_rehearse;
+use keep_run::{Script, run_rehearse};
 use std::alloc::Global;
 use std::process::Abort;
 use std::test::Fail;
@@ -20,17 +20,12 @@ fn rehearses_to<S: Sink>(
     out: &mut S,
     errors: &mut MemorySink,
 ) -> Result<Exit, Fail> {
-    let start = moment(1000)?;
+    let script = Script {
+        start: moment(1000)?,
+        faults: &[],
+    };
     let mut exchange = nobody(alloc)?;
-    Ok(run_rehearse(
-        alloc,
-        WEB.as_bytes(),
-        start,
-        &[],
-        out,
-        errors,
-        &mut exchange,
-    ))
+    Ok(run_rehearse(alloc, WEB.as_bytes(), &script, out, errors, &mut exchange))
 }
 
 // So many bytes of the rehearsal are held, and this is the fault line.

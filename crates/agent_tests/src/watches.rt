@@ -1,14 +1,13 @@
 //! Watches over memory: exit, output and fault line, however the lines come.
 use crate::inventories::{LOW_CEILING, TOKEN_AND_LEASE, WEB, WITH_MARGIN};
-use crate::outcomes::Outcome;
+use crate::outcomes::{Outcome, streams_to};
+use crate::sources::{source, table_of};
 use crate::wanting::Wanting;
-use keep_device::{MemorySink, MemorySource, Sink};
+use keep_device::{MemorySink, MemorySource, Sink, Streams};
 use keep_exchange::MemoryExchange;
-use keep_inventory::read;
 use keep_report::Exit;
 use keep_watching::run_watch;
-use mini_broker::{Fault, Table};
-use std::alloc::Global;
+use mini_broker::Fault;
 use std::process::Abort;
 use std::test::Fail;
 
@@ -99,53 +98,16 @@ fault unknown-name\nclock\nfault unknown-name\nclock\n",
     ),
 ];
 
-fn table_of<R: AllocGlobal + Abort>(
-    rt: &R,
-    inventory: &str,
-    fault: Option<Fault>,
-) -> Result<Table, Fail> {
-    let entries = read(rt.alloc(), inventory.as_bytes())?;
-    let mut table = Table::load(rt.alloc(), &entries)?;
-    if let Some(fault) = fault {
-        assert!(rt; table.set_fault(1, fault).is_ok(), "a fault");
-    }
-    Ok(table)
-}
-
-fn source(
-    alloc: Global,
-    lines: &str,
-    pieces: &[usize],
-    before_failure: Option<u64>,
-) -> Result<MemorySource, Fail> {
-    Ok(MemorySource::new(
-        Vec::from_slice(alloc, lines.as_bytes())?,
-        Vec::from_slice(alloc, pieces)?,
-        before_failure,
-    ))
-}
-
-// A watch over the inventory's own table, whose lines are written there: its exit.
+// A watch over the inventory's own table, at most eight requests abreast: its exit.
 fn watches_to<R: AllocGlobal + Abort, S: Sink>(
     rt: &R,
     inventory: &str,
     fault: Option<Fault>,
-    width: u32,
-    lines: &mut MemorySource,
-    out: &mut S,
-    errors: &mut MemorySink,
+    streams: &mut Streams<MemorySource, S, MemorySink>,
 ) -> Result<Exit, Fail> {
     let alloc = rt.alloc();
     let mut exchange = MemoryExchange::new(alloc, table_of(rt, inventory, fault)?);
-    Ok(run_watch(
-        alloc,
-        inventory.as_bytes(),
-        width,
-        lines,
-        &mut exchange,
-        out,
-        errors,
-    ))
+    Ok(run_watch(alloc, inventory.as_bytes(), 8, &mut exchange, streams))
 }
 
 fn watches<R: AllocGlobal + Abort>(
@@ -154,17 +116,16 @@ fn watches<R: AllocGlobal + Abort>(
     fault: Option<Fault>,
     lines: MemorySource,
 ) -> Result<Outcome, Fail> {
-    let mut lines = lines;
-    let mut out = MemorySink::new(rt.alloc(), None);
-    let mut errors = MemorySink::new(rt.alloc(), None);
-    let exit = watches_to(rt, inventory, fault, 8, &mut lines, &mut out, &mut errors)?;
-    Ok(Outcome { exit, out, errors })
+    let mut streams = streams_to(rt.alloc(), lines, MemorySink::new(rt.alloc(), None));
+    let exit = watches_to(rt, inventory, fault, &mut streams)?;
+    Ok(Outcome::of(exit, streams))
 }
 
 fn is_answered<R: AllocGlobal + Abort>(rt: &R, row: &Answered) -> Result<(), Fail> {
     let (inventory, fault, lines, text) = *row;
     let lines = source(rt.alloc(), lines, &[], None)?;
-    watches(rt, inventory, fault, lines)?.is(rt, Exit::Done, text, "");
+    let outcome = watches(rt, inventory, fault, lines)?;
+    assert!(rt; outcome.is(Exit::Done, text, ""), "{text}");
     Ok(())
 }
 
@@ -181,7 +142,8 @@ fn lines_are_answered(rt: HostRuntime) -> Result<(), Fail> {
 fn lines_in_pieces_are_answered_alike(rt: HostRuntime) -> Result<(), Fail> {
     let pieces = vec![in rt.alloc(); 1usize; EXAMPLE.len()]?;
     let lines = source(rt.alloc(), EXAMPLE, &pieces, None)?;
-    watches(&rt, WEB, None, lines)?.is(&rt, Exit::Done, EXAMPLE_ANSWERS, "");
+    let outcome = watches(&rt, WEB, None, lines)?;
+    assert!(rt; outcome.is(Exit::Done, EXAMPLE_ANSWERS, ""));
     Ok(())
 }
 
@@ -206,7 +168,11 @@ const NO_LINES: [&str; 14] = [
 fn is_refused<R: AllocGlobal + Abort>(rt: &R, behind: &str) -> Result<(), Fail> {
     let text = format!(in rt.alloc(); "{FIRST}{behind}")?;
     let lines = source(rt.alloc(), text.as_str(), &[], None)?;
-    watches(rt, WEB, None, lines)?.is(rt, Exit::Device, LOOKED, "leasekeep: line 2\n");
+    let outcome = watches(rt, WEB, None, lines)?;
+    assert!(rt;
+        outcome.is(Exit::Device, LOOKED, "leasekeep: line 2\n"),
+        "{behind}"
+    );
     Ok(())
 }
 
@@ -221,29 +187,23 @@ fn what_is_no_line_ends_it(rt: HostRuntime) -> Result<(), Fail> {
 #[test]
 fn a_read_that_fails_ends_it(rt: HostRuntime) -> Result<(), Fail> {
     let lines = source(rt.alloc(), FIRST, &[], Some(1))?;
-    watches(&rt, WEB, None, lines)?.is(&rt, Exit::Device, LOOKED, "leasekeep: read\n");
+    let later = watches(&rt, WEB, None, lines)?;
+    assert!(rt; later.is(Exit::Device, LOOKED, "leasekeep: read\n"));
     let lines = source(rt.alloc(), FIRST, &[], Some(0))?;
-    watches(&rt, WEB, None, lines)?.is(&rt, Exit::Device, "", "leasekeep: read\n");
+    let first = watches(&rt, WEB, None, lines)?;
+    assert!(rt; first.is(Exit::Device, "", "leasekeep: read\n"));
     Ok(())
 }
 
 #[test]
 fn no_inventory_is_named(rt: HostRuntime) -> Result<(), Fail> {
-    let mut errors = MemorySink::new(rt.alloc(), None);
-    let mut out = MemorySink::new(rt.alloc(), None);
-    let mut exchange = MemoryExchange::new(rt.alloc(), table_of(&rt, WEB, None)?);
-    let mut lines = source(rt.alloc(), FIRST, &[], None)?;
-    let exit = run_watch(
-        rt.alloc(),
-        b"x",
-        8,
-        &mut lines,
-        &mut exchange,
-        &mut out,
-        &mut errors,
-    );
-    let fault = "leasekeep: inventory: not-toml\n";
-    Outcome { exit, out, errors }.is(&rt, Exit::Inventory, "", fault);
+    let alloc = rt.alloc();
+    let mut exchange = MemoryExchange::new(alloc, table_of(&rt, WEB, None)?);
+    let lines = source(alloc, FIRST, &[], None)?;
+    let mut streams = streams_to(alloc, lines, MemorySink::new(alloc, None));
+    let exit = run_watch(alloc, b"x", 8, &mut exchange, &mut streams);
+    let outcome = Outcome::of(exit, streams);
+    assert!(rt; outcome.is(Exit::Inventory, "", "leasekeep: inventory: not-toml\n"));
     Ok(())
 }
 
@@ -256,14 +216,14 @@ const HELD: [(u64, usize); 4] = [(0, 0), (1, 14), (2, 14), (3, 28)];
 #[test]
 fn a_writer_that_fails_ends_it(rt: HostRuntime) -> Result<(), Fail> {
     for (calls, length) in &HELD {
-        let mut lines = source(rt.alloc(), TWO_NEEDS, &[], None)?;
-        let mut out = MemorySink::new(rt.alloc(), Some(*calls));
-        let mut errors = MemorySink::new(rt.alloc(), None);
-        let exit = watches_to(&rt, WEB, None, 8, &mut lines, &mut out, &mut errors)?;
+        let lines = source(rt.alloc(), TWO_NEEDS, &[], None)?;
+        let out = MemorySink::new(rt.alloc(), Some(*calls));
+        let mut streams = streams_to(rt.alloc(), lines, out);
+        let exit = watches_to(&rt, WEB, None, &mut streams)?;
         assert!(rt; exit == Exit::Device, "{calls}");
-        assert!(rt; out.bytes().len() == *length, "{calls}");
+        assert!(rt; streams.out.bytes().len() == *length, "{calls}");
         assert!(rt;
-            errors.bytes() == b"leasekeep: write\n".as_slice(),
+            streams.errors.bytes() == b"leasekeep: write\n".as_slice(),
             "{calls}"
         );
     }
@@ -273,14 +233,14 @@ fn a_writer_that_fails_ends_it(rt: HostRuntime) -> Result<(), Fail> {
 #[test]
 fn a_writer_that_wants_memory_ends_it(rt: HostRuntime) -> Result<(), Fail> {
     for (calls, length) in &HELD {
-        let mut lines = source(rt.alloc(), TWO_NEEDS, &[], None)?;
-        let mut out = Wanting::behind(rt.alloc(), *calls);
-        let mut errors = MemorySink::new(rt.alloc(), None);
-        let exit = watches_to(&rt, WEB, None, 8, &mut lines, &mut out, &mut errors)?;
+        let lines = source(rt.alloc(), TWO_NEEDS, &[], None)?;
+        let out = Wanting::behind(rt.alloc(), *calls);
+        let mut streams = streams_to(rt.alloc(), lines, out);
+        let exit = watches_to(&rt, WEB, None, &mut streams)?;
         assert!(rt; exit == Exit::Memory, "{calls}");
-        assert!(rt; out.held().bytes().len() == *length, "{calls}");
+        assert!(rt; streams.out.held().bytes().len() == *length, "{calls}");
         assert!(rt;
-            errors.bytes() == b"leasekeep: memory\n".as_slice(),
+            streams.errors.bytes() == b"leasekeep: memory\n".as_slice(),
             "{calls}"
         );
     }

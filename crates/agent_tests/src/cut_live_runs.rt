@@ -1,9 +1,10 @@
 //! Live runs whose writer fails: who was asked by then, the exit, the fault line, and what `out` holds.
 use crate::inventories::WEB;
-use crate::live::{ONCE_RENEWED, table_of};
+use crate::live::ONCE_RENEWED;
 use crate::moments::moment;
-use crate::outcomes::Outcome;
-use keep_device::{MemorySink, MemorySource};
+use crate::outcomes::{Outcome, streams_to};
+use crate::sources::{source, table_of};
+use keep_device::MemorySink;
 use keep_exchange::MemoryExchange;
 use keep_report::Exit;
 use keep_run::run_live;
@@ -28,22 +29,16 @@ fn is_cut_off<R: AllocGlobal + Abort>(
 ) -> Result<(), Fail> {
     let alloc = rt.alloc();
     let mut exchange = MemoryExchange::new(alloc, table_of(rt, WEB, None)?);
-    let mut out = MemorySink::new(alloc, Some(calls));
-    let mut errors = MemorySink::new(alloc, None);
-    let line = Vec::from_slice(alloc, b"tick 1059\n")?;
-    let mut events = MemorySource::new(line, Vec::new(alloc), None);
-    let exit = run_live(
-        alloc,
-        WEB.as_bytes(),
-        moment(1000)?,
-        &mut events,
-        &mut exchange,
-        &mut out,
-        &mut errors,
-    );
+    let events = source(alloc, "tick 1059\n", &[], None)?;
+    let mut streams = streams_to(alloc, events, MemorySink::new(alloc, Some(calls)));
+    let start = moment(1000)?;
+    let exit = run_live(alloc, WEB.as_bytes(), start, &mut exchange, &mut streams);
     assert!(rt; exchange.table().end_of(b"web") == Some(end), "{calls}");
-    let outcome = Outcome { exit, out, errors };
-    outcome.is(rt, Exit::Device, text, "leasekeep: write\n");
+    let outcome = Outcome::of(exit, streams);
+    assert!(rt;
+        outcome.is(Exit::Device, text, "leasekeep: write\n"),
+        "{calls}"
+    );
     Ok(())
 }
 

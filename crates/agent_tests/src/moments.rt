@@ -1,0 +1,9 @@
+//! Moments by their seconds.
+
+use keep_moment::Moment;
+use std::test::Fail;
+
+/// The moment so many seconds after 1970-01-01T00:00:00Z.
+pub fn moment(seconds: u64) -> Result<Moment, Fail> {
+    Ok(Moment::new(seconds).ok_or("a moment")?)
+}
