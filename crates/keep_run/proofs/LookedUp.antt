@@ -1,5 +1,5 @@
--- LookedUp: looking the entries of an inventory up, one after another: for `look_all_up` and `look_one_up`.
-use Rattle.std.specs.Prelude.{◌≢◌, OnOk, is_none}
+-- LookedUp: looking the entries of an inventory up, one after another: for `look_all_up`.
+use Rattle.std.specs.Prelude.{◌≢◌, is_none}
 use Rattle.std.specs.Result.{IsErr, IsErrAnd}
 use Rattle.std.proofs.Common.{◌≡◌, ℕ, zero, suc, ◌+◌, ◌<◌, ◌≤◌, ◌==◌, inl, inr, Bool, true, false, cond, IsTrue, List, [], ◌∷◌, ◌++◌, Option, Some, None, Result, Ok, Err, arith, flat_map, length, refl, sym, ap, ◌∙◌, subst}
 use Rattle.std.specs.List.{range_with_len}
@@ -17,9 +17,7 @@ use Rattle.keep_report.specs.declared.stop.Stop.{Stop}
 use Rattle.keep_report.specs.declared.stop.Stop.TheVariants as stops
 use Rattle.keep_report.specs.Sent.{IsUntouched, Sent}
 use Rattle.keep_run.specs.Live.{entry_line}
-use Rattle.keep_run.specs.Looking.{Applies, AreLookedUp, IsCut, IsLeft, IsSaid, Looked, LooksAllUp, LooksOneUp, first, looked_line, looked_text}
-use Rattle.keep_run.specs.code.Playing.{Finishes}
-use Rattle.keep_run.specs.Text.{name_of}
+use Rattle.keep_run.specs.Looking.{Applies, AreLookedUp, IsCut, IsSaid, Looked, LooksAllUp, LooksOneUp, first, looked_line, looked_text}
 use Rattle.keep_run.proofs.Written.{appends_then, front_then, keeps_appends, whole_front}
 use Rattle.keep_tree.specs.declared.entry.Entry.{Entry}
 use Rattle.keep_tree.specs.Forest.{entry_at}
@@ -123,34 +121,6 @@ pub left_alone : (port : ℕ) (o : Option Behind) (t : ℕ) (s : Inventory) (i :
 left_alone port None t s i new same = tt
 left_alone port (Some b) t s i new same = inl same
 
--- memory was wanting before the line was made
-pub one_memory :
-    (port t : ℕ) (old : Looked) (i : ℕ) (result : Result (Unit {0}) Stop) (inventory : Inventory) (after : Option Behind) (a : Option (List ℕ)) (n : ℕ) (p k : Bool) → IsErr result × IsErrAnd result (λ (q : Stop). q ≡ stops.Memory) →
-    IsLeft port t old i after → LooksOneUp port t old i result (sent_by a a n n p p k) inventory after
-one_memory port t old i (Ok u) inventory after a n p k is left = absurd (let no = is.0 in cc)
-one_memory port t old i (Err stop) inventory after a n p k is left =
-    subst (λ (q : Stop). LooksOneUp port t old i (Err q) (sent_by a a n n p p k) inventory after) (sym is.1) (inl (untouched a n p k, left))
-
-pub one_refused :
-    (port t : ℕ) (old : Looked) (i : ℕ) (name : List ℕ) (inventory : Inventory) (after : Option Behind) (a : Option (List ℕ)) (n : ℕ) (p k : Bool) → name ≡ name_of old.inventory.forest i → inventory ≡ old.inventory →
-    IsLookedUp port old.behind t old.inventory i false inventory after → LooksOneUp port t old i (Err (stops.Broker name)) (sent_by a a n n p p k) inventory after
-one_refused port t old i name inventory after a n p k named same looked_up =
-    (named, subst (λ (u : Inventory). IsLookedUp port old.behind t old.inventory i false u after) same looked_up, untouched a n p k)
-
-pub one_written :
-    (port t : ℕ) (old : Looked) (i : ℕ) (result : Result (Unit {0}) Stop) (inventory : Inventory) (after : Option Behind) (out : Sent) → IsLookedUp port old.behind t old.inventory i true inventory after →
-    Finishes (looked_line inventory i) result out → OnOk result (out.failed_after ≡ out.failed_before) → LooksOneUp port t old i result out inventory after
-one_written port t old i (Ok u) inventory after out looked_up ends kept = (looked_up, ends, kept)
-one_written port t old i (Err stops.Write) inventory after out looked_up ends kept = (looked_up, ends.0, ends.1)
-one_written port t old i (Err stops.Memory) inventory after out looked_up ends kept = inr (looked_up, ends)
-one_written port t old i (Err stops.TooLong) inventory after out looked_up ends kept = absurd ends
-one_written port t old i (Err stops.Read) inventory after out looked_up ends kept = absurd ends
-one_written port t old i (Err (stops.Inventory fault)) inventory after out looked_up ends kept = absurd ends
-one_written port t old i (Err (stops.Moments fault)) inventory after out looked_up ends kept = absurd ends
-one_written port t old i (Err (stops.FaultWord n)) inventory after out looked_up ends kept = absurd ends
-one_written port t old i (Err (stops.Broker name)) inventory after out looked_up ends kept = absurd ends
-one_written port t old i (Err (stops.Line n)) inventory after out looked_up ends kept = absurd ends
-
 -- ---- the loop
 
 -- the first n entries were looked up, and their lines written and flushed
@@ -235,13 +205,3 @@ pub looking_stops :
 looking_stops port t old i mid middle a b c n m l p q r k new after (Ok u) stop is g below one = absurd (let no = is.0 in cc)
 looking_stops port t old i mid middle a b c n m l p q r k new after (Err u) stop is g below one =
     subst (λ (v : Stop). LooksAllUp port t old (Err v) (sent_by a c n l p r k) new after) (sym is.1) (ends port t old i mid middle a b c n m l p q r k g below stop new after one)
-
-pub looking_done :
-    (port t : ℕ) (old : Looked) (i : ℕ) (now : Inventory) (behind : Option Behind) (out : Sent) → Looking port t old i now behind out → length now.forest.entries ≤ i → LooksAllUp port t old (Ok tt) out now behind
-looking_done port t old i now behind out g past =
-    let all : i ≡ length old.inventory.forest.entries = (let e = g.count in let w = g.within in omega arith) in
-    record {
-      looked = subst (λ x. AreLookedUp port t old (first x) (record { inventory = now; behind = behind })) all g.looked;
-      said = subst (λ x. IsSaid (looked_text now (first x)) out) all g.said;
-      kept = g.kept;
-    }
