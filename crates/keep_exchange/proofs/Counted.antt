@@ -1,5 +1,5 @@
 -- A read that failed is one failure more, and the same is so of the exchange that it ends.
-use Rattle.std.proofs.Common.{◌≡◌, ℕ, Result, Err, subst}
+use Rattle.std.proofs.Common.{◌≡◌, ℕ, Err, subst}
 use Rattle.keep_exchange.specs.Exchanges.{CountsExchange}
 use Rattle.keep_exchange.specs.declared.fault.ExchangeFault.TheVariants.{Http}
 use Rattle.vault_http.specs.Reading.{CountsMessage}

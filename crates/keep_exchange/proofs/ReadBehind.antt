@@ -1,5 +1,5 @@
 -- What is read behind a request is read of the bytes that were there before it was written.
-use Rattle.std.proofs.Common.{◌≡◌, ℕ, List, Option, Some, None, IfSome, Result, subst}
+use Rattle.std.proofs.Common.{ℕ, List, Option, Some, None, IfSome, Result, subst}
 use Rattle.std.specs.Io.KnownBytes.{Keeps}
 use Rattle.vault_http.specs.declared.known.TheConstants.{MOST_MESSAGE}
 use Rattle.vault_http.specs.declared.http_fault.HttpFault.{HttpFault}
