@@ -22,7 +22,9 @@ use std::alloc::Global;
 /// What a rehearsal plays: from when on, and the FAULT words that say what goes wrong.
 #[derive(Debug, Drop)]
 pub struct Script<'a> {
+    /// The moment of the first plan.
     pub start: Moment,
+    /// The FAULT words, as `2=drop`.
     pub faults: &'a [Text],
 }
 
