@@ -31,7 +31,7 @@ use Rattle.keep_exchange.specs.Exchanges.{Behind}
 use Rattle.keep_exchange.specs.Requests.{reply_in, request_of}
 use Rattle.keep_run.specs.Alike.{AreBrokersAlike, AreTablesAlike, IsKept}
 use Rattle.keep_run.specs.Closed.{AreAnswered, Exchanged, IsAnswered, World, closing, event_in, taken, told_next}
-use Rattle.keep_run.specs.Renewing.{event_of, refuses, told_by}
+use Rattle.keep_run.specs.Replies.{event_of, refuses, told_by}
 use Rattle.keep_run.specs.Stops.{both}
 use Rattle.keep_run.specs.Text.{answer_line, answer_text, line, name_of, short_lines, status_in}
 use Rattle.keep_run.proofs.AlikeKept.{kept_shaped, renewals_both}

@@ -22,7 +22,7 @@ use Rattle.keep_run.specs.Closed.{Exchanged, World, next_by, taken}
 use Rattle.keep_run.specs.declared.live.event_line.Heard.{Heard}
 use Rattle.keep_run.specs.declared.live.event_line.Heard.TheVariants.{Tick, Need, Unknown}
 use Rattle.keep_run.specs.Listening.{AreHeard, IsLineHeard}
-use Rattle.keep_run.specs.Live.{IsHeard, IsNeeded, TicksLive, last_line, next_line}
+use Rattle.keep_run.specs.Hearing.{IsHeard, IsNeeded, TicksLive, last_line, next_line}
 use Rattle.keep_run.specs.Stops.{both}
 use Rattle.keep_run.specs.Text.{beat_text, inventory_with, short_lines}
 use Rattle.keep_run.proofs.AlikeKept.{kept_shaped}

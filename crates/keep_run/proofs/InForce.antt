@@ -20,7 +20,7 @@ use Rattle.keep_core.proofs.Shortening.{shorten_at, shorten_count, shorten_fores
 use Rattle.keep_core.proofs.Standing.{best_keepable}
 use Rattle.keep_run.specs.Closed.{Beat, IsOpening, World, rounds, taken}
 use Rattle.keep_run.specs.Laws.{LeastLaw}
-use Rattle.keep_run.specs.Listed.{with_forest}
+use Rattle.keep_run.specs.Mirrors.{with_forest}
 use Rattle.keep_run.proofs.Mirroring.{row_by, row_is}
 use Rattle.keep_run.proofs.Whole.{so_far}
 

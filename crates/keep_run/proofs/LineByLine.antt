@@ -13,7 +13,7 @@ use Rattle.keep_report.specs.declared.stop.Stop.TheVariants as stops
 use Rattle.keep_report.specs.Sent.{IsAll, Sent}
 use Rattle.keep_run.specs.code.LineByLine.{HaltsWithin, HearsLine, HearsUpTo, IsSent}
 use Rattle.keep_run.specs.Listening.{AreHeard, Halts, IsCutShort, IsLineHeard, IsNoEvent}
-use Rattle.keep_run.specs.Live.{HearsTo, IsBrokenOff, IsCutOff}
+use Rattle.keep_run.specs.Hearing.{HearsTo, IsBrokenOff, IsCutOff}
 use Rattle.keep_run.specs.EventLines.{heard_in}
 use Rattle.keep_run.specs.declared.live.event_line.Heard.{Heard}
 use Rattle.keep_run.specs.declared.live.event_line.TheConstants.{MOST_LINE}

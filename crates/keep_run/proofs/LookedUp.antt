@@ -16,7 +16,7 @@ use Rattle.keep_inventory.specs.Inventories.{Inventory}
 use Rattle.keep_report.specs.declared.stop.Stop.{Stop}
 use Rattle.keep_report.specs.declared.stop.Stop.TheVariants as stops
 use Rattle.keep_report.specs.Sent.{IsUntouched, Sent}
-use Rattle.keep_run.specs.Live.{entry_line}
+use Rattle.keep_run.specs.Hearing.{entry_line}
 use Rattle.keep_run.specs.Looking.{Applies, AreLookedUp, IsCut, IsSaid, Looked, LooksAllUp, LooksOneUp, first, looked_line, looked_text}
 use Rattle.keep_run.proofs.Written.{appends_then, front_then, keeps_appends, whole_front}
 use Rattle.keep_tree.specs.declared.entry.Entry.{Entry}

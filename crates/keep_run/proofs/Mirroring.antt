@@ -27,7 +27,7 @@ use Rattle.mini_broker.proofs.Ranges.{filter_range, map_of_map, map_range}
 use Rattle.mini_broker.proofs.Swept.{swept_later}
 use Rattle.mini_broker.proofs.Sweeping.{lone_name, name_in, swept_inventory}
 use Rattle.mini_broker.specs.Sweep.{swept}
-use Rattle.keep_run.specs.Listed.{Mirrors, ended, with_forest}
+use Rattle.keep_run.specs.Mirrors.{Mirrors, ended, with_forest}
 
 -- ---- an entry's end alone is changed
 

@@ -24,7 +24,7 @@ use Rattle.keep_core.specs.State.{State}
 use Rattle.keep_core.proofs.Shaped.{shape}
 use Rattle.keep_run.specs.Closed.{event_in, taken}
 use Rattle.keep_run.specs.code.Playing.{Answers}
-use Rattle.keep_run.specs.Renewing.{IsAnswerOf, event_for, event_of, of_lease, of_token, told_by}
+use Rattle.keep_run.specs.Replies.{IsAnswerOf, event_for, event_of, of_lease, of_token, told_by}
 use Rattle.keep_run.specs.Stops.{both}
 use Rattle.keep_run.specs.Text.{answer_line, answer_text, short_lines}
 use Rattle.keep_run.proofs.Texts.{same_shorts}

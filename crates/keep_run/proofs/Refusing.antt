@@ -32,7 +32,7 @@ use Rattle.keep_core.proofs.Standing.{best_first}
 use Rattle.keep_report.specs.declared.stop.Stop.TheVariants as stops
 use Rattle.keep_run.specs.Closed.{AreAnswered, Beat, Exchanged, IsAnswered, Played, World, asked_in, closing, event_in, next_by, next_tick, taken, told_next}
 use Rattle.keep_run.specs.code.Playing.{Comes, Hears, IsPlanFault, Leaves, Waits, stop_of}
-use Rattle.keep_run.specs.Renewing.{IsAnswerOf, event_for}
+use Rattle.keep_run.specs.Replies.{IsAnswerOf, event_for}
 use Rattle.keep_run.specs.Stops.{IsTaken, NeverRefusedLaw}
 use Rattle.keep_run.proofs.Midway.{filter_rises, here_first, without_first}
 use Rattle.keep_run.proofs.OneAnswer.{answers_for}

@@ -24,7 +24,7 @@ use Rattle.keep_report.specs.Sent.{IsUntouched, Sent}
 use Rattle.keep_report.specs.Told.{Reports}
 use Rattle.keep_run.specs.Closed.{IsOpening, World, taken}
 use Rattle.keep_run.specs.FaultWords.{SetsFaults, faults_of}
-use Rattle.keep_run.specs.Live.{IsReady}
+use Rattle.keep_run.specs.Hearing.{IsReady}
 use Rattle.keep_run.specs.code.Playing.{Comes, Goes, IsText, Plays, PlaysFront}
 use Rattle.keep_run.specs.Rehearse.{IsCalled, IsRunText, Rehearses, RehearseRun, RehearseTold, WritesFront, fresh}
 use Rattle.keep_run.specs.Stops.{SoFar, both}

@@ -19,7 +19,7 @@ use Rattle.mini_broker.specs.declared.served.Served.TheVariants as served
 use Rattle.mini_broker.specs.Rows.{row_of}
 use Rattle.mini_broker.specs.Step.{IsBody, Says, Tells, seconds_to, tells}
 use Rattle.keep_core.specs.declared.event.Event.TheVariants.{Told, Refused, Lost}
-use Rattle.keep_run.specs.Renewing.{event_of, of_lease, of_token, refuses, told_by}
+use Rattle.keep_run.specs.Replies.{event_of, of_lease, of_token, refuses, told_by}
 use Rattle.keep_exchange.specs.Requests.{reply_in}
 use Rattle.keep_run.proofs.Mirroring.{renewal_within}
 use Rattle.mini_broker.specs.Granted.{call_for}

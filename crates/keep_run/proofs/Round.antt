@@ -28,8 +28,8 @@ use Rattle.keep_core.proofs.Standing.{tail_kept}
 use Rattle.keep_run.specs.Closed.{AreAnswered, Exchanged, IsAnswered, World, closing, event_in, taken, told_next}
 use Rattle.keep_run.specs.Laws.{IsToldByRule}
 use Rattle.mini_broker.specs.Listed.{listed}
-use Rattle.keep_run.specs.Listed.{Mirrors, ended, with_forest}
-use Rattle.keep_run.specs.Renewing.{event_for, event_of}
+use Rattle.keep_run.specs.Mirrors.{Mirrors, ended, with_forest}
+use Rattle.keep_run.specs.Replies.{event_for, event_of}
 use Rattle.keep_exchange.specs.Exchanges.{Behind}
 use Rattle.keep_exchange.specs.Requests.{IsAsked, request_of}
 use Rattle.keep_run.proofs.Mirroring.{ended_other, ended_same, ended_supplied, mirrors_listed, renewal_within, with_row_listed}

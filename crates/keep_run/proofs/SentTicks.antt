@@ -13,7 +13,7 @@ use Rattle.keep_report.specs.declared.stop.Stop.TheVariants as stops
 use Rattle.keep_report.specs.Sent.{Sends, Sent}
 use Rattle.keep_run.specs.Closed.{World, asked_in, asks_some}
 use Rattle.keep_run.specs.code.LineByLine.{IsSent}
-use Rattle.keep_run.specs.Live.{HearsTo, IsBrokenOff, IsCutOff, IsHeard, IsHeardUpTo, IsNeeded, IsOverlong, last_line, next_line}
+use Rattle.keep_run.specs.Hearing.{HearsTo, IsBrokenOff, IsCutOff, IsHeard, IsHeardUpTo, IsNeeded, IsOverlong, last_line, next_line}
 use Rattle.keep_run.specs.declared.live.event_line.Heard.{Heard}
 use Rattle.keep_run.specs.declared.live.event_line.Heard.TheVariants as heards
 use Rattle.keep_run.specs.declared.live.event_line.Heard.TheVariants.{Need}

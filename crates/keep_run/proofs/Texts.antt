@@ -11,7 +11,7 @@ use Rattle.keep_core.specs.declared.event.Output.{Output}
 use Rattle.keep_core.specs.declared.event.Output.TheVariants as out
 use Rattle.keep_core.specs.declared.shortened.ShortNeed.{ShortNeed}
 use Rattle.keep_run.specs.Closed.{Beat, Exchanged, event_in}
-use Rattle.keep_run.specs.Renewing.{event_of}
+use Rattle.keep_run.specs.Replies.{event_of}
 use Rattle.keep_run.specs.Text.{answer_line, answer_text, beat_text, line, name_of, names_of, short_line, short_lines, status_in, wake_line}
 
 module _ (g h : Forest) (like : IsShaped g h) where

@@ -38,12 +38,12 @@ use Rattle.keep_core.proofs.Once.{once}
 use Rattle.keep_core.proofs.Shortening.{needed_within}
 use Rattle.keep_core.proofs.Standing.{best_from, best_keepable}
 use Rattle.keep_run.specs.Closed.{Beat, IsOpening, World, requests_of, rounds, taken, Played}
-use Rattle.keep_run.specs.Renewing.{event_for}
+use Rattle.keep_run.specs.Replies.{event_for}
 use Rattle.keep_run.specs.Text.{beat_text, course_text, done_text, short_lines}
 use Rattle.keep_run.specs.Stops.{IsTaken}
 use Rattle.keep_run.specs.Laws.{AnswersTakenLaw, PlannedRunLaw, RehearsalLaw, SoFarLaw, StandsLaw}
 use Rattle.mini_broker.specs.Listed.{is_alive, listed}
-use Rattle.keep_run.specs.Listed.{with_forest}
+use Rattle.keep_run.specs.Mirrors.{with_forest}
 use Rattle.keep_run.proofs.Midway.{settled}
 use Rattle.keep_run.proofs.Mirroring.{mirrors_first}
 use Rattle.keep_run.proofs.Round.{AtRest, InRound, next_turn, part_goes}

@@ -20,7 +20,7 @@ use Rattle.keep_report.specs.Exits.{stop_of_sink}
 use Rattle.keep_report.proofs.Counting.{failed_once}
 use Rattle.keep_report.specs.Sent.{Sent}
 use Rattle.keep_run.specs.Closed.{World}
-use Rattle.keep_run.specs.Live.{IsReady}
+use Rattle.keep_run.specs.Hearing.{IsReady}
 use Rattle.keep_run.specs.code.Playing.{Comes, Ends, Finishes, Goes, IsText, LastFront, LastPlays, Plays, PlaysFront}
 use Rattle.keep_run.specs.Stops.{both}
 use Rattle.keep_run.specs.Text.{done_text, inventory_with}

@@ -18,7 +18,7 @@ use Rattle.keep_core.specs.Replan.{Replan}
 use Rattle.keep_core.specs.History.{Turn}
 use Rattle.keep_core.specs.State.{State, unplanned}
 use Rattle.keep_run.specs.declared.rehearse.playing.TheConstants.{MOST_WAKES}
-use Rattle.keep_run.specs.Renewing.{event_for}
+use Rattle.keep_run.specs.Replies.{event_for}
 
 -- both sides: the keeper, whose shortened needs were taken, and what stands behind the exchange, where it is known: the broker's
 -- table, and the bytes of the last request and its reply

@@ -29,7 +29,7 @@ use Rattle.keep_core.specs.History.{Turn}
 use Rattle.keep_core.specs.State.{State}
 use Rattle.keep_run.specs.declared.rehearse.playing.TheConstants.{MOST_WAKES}
 use Rattle.keep_run.specs.Closed.{AreAnswered, Beat, Course, Exchanged, IsClosedRun, IsOpening, Played, World, event_in, requests_of, rounds, taken}
-use Rattle.keep_run.specs.Renewing.{event_for}
+use Rattle.keep_run.specs.Replies.{event_for}
 use Rattle.keep_exchange.specs.Exchanges.{Behind}
 use Rattle.keep_exchange.specs.Requests.{IsAsked, request_of}
 use Rattle.vault_http.specs.declared.reply.Reply.{Reply}

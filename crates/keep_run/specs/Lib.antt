@@ -1,7 +1,7 @@
-pub mod Renewing
+pub mod Replies
 pub mod Closed
 pub mod Text
-pub mod Listed
+pub mod Mirrors
 pub mod Laws
 pub mod Stops
 pub mod FaultWords
@@ -9,7 +9,7 @@ pub mod Rehearse
 pub mod PlannedRehearsal
 pub mod EventLines
 pub mod Agent
-pub mod Live
+pub mod Hearing
 pub mod Looking
 pub mod Listening
 pub mod LiveRun

@@ -14,7 +14,7 @@ use Rattle.keep_run.specs.declared.live.event_line.TheConstants.{MOST_LINE}
 use Rattle.keep_run.specs.declared.live.listening.TheConstants.{EVENT_ROOM, MOST_EVENTS, MOST_EVENT_READS}
 use Rattle.keep_run.specs.Closed.{World}
 use Rattle.keep_run.specs.EventLines.{heard_in}
-use Rattle.keep_run.specs.Live.{IsBrokenOff, IsCutOff, IsHeard, IsOverlong}
+use Rattle.keep_run.specs.Hearing.{IsBrokenOff, IsCutOff, IsHeard, IsOverlong}
 
 -- ---- lines
 

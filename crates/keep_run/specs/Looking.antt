@@ -10,7 +10,7 @@ use Rattle.keep_inventory.specs.Inventories.{Inventory}
 use Rattle.keep_report.specs.declared.stop.Stop.{Stop}
 use Rattle.keep_report.specs.declared.stop.Stop.TheVariants as stops
 use Rattle.keep_report.specs.Sent.{IsAll, IsUntouched, Sent}
-use Rattle.keep_run.specs.Live.{entry_line}
+use Rattle.keep_run.specs.Hearing.{entry_line}
 use Rattle.keep_run.specs.Text.{name_of}
 use Rattle.keep_tree.specs.Forest.{entry_at}
 

@@ -17,7 +17,7 @@ use Rattle.keep_core.specs.History.{Turn}
 use Rattle.keep_core.specs.Refusal.{TellsSpan}
 use Rattle.keep_core.specs.State.{State}
 use Rattle.keep_run.specs.declared.rehearse.playing.TheConstants.{MOST_WAKES}
-use Rattle.keep_run.specs.Renewing.{IsAnswerOf}
+use Rattle.keep_run.specs.Replies.{IsAnswerOf}
 use Rattle.keep_run.specs.Closed.{AreAnswered, Beat, Course, Exchanged, IsAnswered, IsBeat, IsClosedRun, IsOpening, Played, World, closing, next_tick, requests_of, rounds, taken, told_next}
 use Rattle.keep_run.specs.Text.{beat_text, course_text, done_text, short_lines}
 

@@ -6,11 +6,11 @@ ghost use Rattle.keep_inventory.specs.Inventories.{credential_at};
 ghost use Rattle.keep_run.specs.Agent.{IsFit};
 ghost use Rattle.keep_run.specs.Closed.{taken};
 
+pub(crate) mod answering;
 pub(crate) mod lines;
-pub(crate) mod opening;
 pub(crate) mod refused;
-pub(crate) mod renewing;
-pub(crate) mod served_entry;
+pub(crate) mod reply;
+pub(crate) mod ticking;
 
 use keep_core::{Event, Keeper, Output, Shortened, StepFault};
 use keep_exchange::{Exchange, ask};
@@ -50,7 +50,7 @@ impl Agent {
         }
     }
 
-    /// The keeper.
+    /// The keeper, with the entries, their ends as told, and the plan in force.
     pub fn keeper(&self) -> &Keeper
         ensures value { result.now ≡ self.now.keeper }
         ensures fit { IsFit self.now }

@@ -1,4 +1,5 @@
-//! Laws of the Closed run without faults.
+//! Laws of runs: what a rehearsal is where the broker has no faults, how any run goes on and ends, and that no secret changes
+//! what a live run says.
 ghost use Rattle.std.specs.Prelude.{◌≡◌};
 ghost use Rattle.keep_run.specs.declared.live.event_line.TheConstants.{MOST_LINE};
 ghost use Rattle.keep_run.specs.declared.rehearse.fault_words.TheConstants.{MOST_NUMBER};

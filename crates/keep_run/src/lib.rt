@@ -2,13 +2,14 @@
 //! is a table in memory behind an exchange that passes real messages, and the live run, in which event lines hand in the time.
 //!
 //! The contracts for the program above are those of [`run_rehearse`], over a table in memory, and [`run_live`], over any
-//! exchange; both are made of one definition of an answer. The laws say what a rehearsal is where the broker has no faults.
+//! exchange; both are made of one definition of an answer. The laws say what a rehearsal is where the broker has no faults,
+//! how any run goes on and ends, and that no secret changes what a live run says.
 //! Who asks is an [`Agent`]: the keeper with the credentials of its entries.
 //!
 //! There are three rooms: `agent` has who asks and what one answer comes to, `rehearse` the wake-ups and the FAULT words, and
 //! `live` the lookups and the event lines. Begin with `specs/Closed.antt` and `specs/Text.antt`, then `rehearse`. Of the live
 //! run `specs/LiveRun.antt` says the whole, over its lookups (`specs/Looking.antt`), its event lines one after another
-//! (`specs/Listening.antt`) and what one of them comes to (`specs/Live.antt`, [`hear`]).
+//! (`specs/Listening.antt`) and what one of them comes to (`specs/Hearing.antt`, [`hear`]).
 #![tactic(auto)]
 
 mod agent;
@@ -18,7 +19,7 @@ mod rehearse;
 
 pub use agent::Agent;
 pub use agent::lines::push_numbered;
-pub use agent::renewing::event_from;
+pub use agent::reply::event_from;
 pub use live::event_line::{Heard, MOST_LINE, heard_in};
 pub use live::feeding::Feeding;
 pub use live::hearing::hear;

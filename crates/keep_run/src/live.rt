@@ -1,7 +1,7 @@
 //! The live run: lookups, and then event lines as they come.
 ghost use Rattle.std.specs.Prelude.{◌≡◌, IfOk, IsTrue, OnOk};
 ghost use Rattle.std.specs.Result.{IfErr};
-ghost use Rattle.keep_run.specs.Live.{IsReady};
+ghost use Rattle.keep_run.specs.Hearing.{IsReady};
 ghost use Rattle.keep_run.specs.LiveRun.{EndsEarly, IsOpened, LiveRun, LivesTo};
 
 pub(crate) mod event_line;
@@ -26,7 +26,7 @@ use keep_report::{Exit, Stop, Watched, send};
 use std::alloc::Global;
 
 /// Keeps the entries of an inventory alive: looks each of them up at `start`, takes event lines, and renews over the exchange.
-/// `docs/running.md` says what each line means.
+/// `docs/commands/run.md` says what each line means.
 ///
 /// What is written is the keeper's, whatever the exchange: the lines of the replies that came, one after another. Where the
 /// broker's table is known, these are the replies of the Broker step.

@@ -16,7 +16,7 @@ use Rattle.keep_core.specs.declared.fault.StepFault.TheVariants.{TooLong, OutOfM
 use Rattle.keep_core.specs.History.{Turn}
 use Rattle.keep_core.specs.State.{State}
 use Rattle.keep_run.specs.declared.rehearse.playing.TheConstants.{MOST_WAKES}
-use Rattle.keep_run.specs.declared.agent.opening.Opened.{Opened}
+use Rattle.keep_run.specs.declared.rehearse.waking.Opened.{Opened}
 use Rattle.keep_run.specs.declared.rehearse.waking.Woken.{Woken}
 use Rattle.keep_run.specs.Closed.{AreAnswered, Beat, Exchanged, IsAnswered, Played, World, closing, requests_of, rounds, taken}
 use Rattle.keep_device.specs.Failures.{HasFailed}
@@ -24,7 +24,7 @@ use Rattle.keep_device.specs.Front.{AppendsFront}
 use Rattle.keep_report.specs.declared.stop.Stop.{Stop}
 use Rattle.keep_report.specs.declared.stop.Stop.TheVariants as stops
 use Rattle.keep_report.specs.Sent.{IsAll, Sent}
-use Rattle.keep_run.specs.Renewing.{IsAnswerOf}
+use Rattle.keep_run.specs.Replies.{IsAnswerOf}
 use Rattle.keep_run.specs.Stops.{IsDue, both}
 use Rattle.keep_run.specs.Text.{answer_text, beat_text, done_text, inventory_with, short_lines, wake_line}
 

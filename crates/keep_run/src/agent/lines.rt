@@ -3,8 +3,8 @@ ghost use Rattle.std.specs.Prelude.{◌≡◌, ◌++◌, ◌∷◌, [], ◌<◌,
 ghost use Rattle.std.specs.List.{All};
 ghost use Rattle.keep_run.specs.Text.{answer_line, done_text, name_of, short_line, short_lines, wake_line};
 ghost use Rattle.keep_core.specs.declared.event.Output.TheVariants as out;
-ghost use Rattle.keep_run.specs.Live.{entry_line, next_line, sleep_line};
-ghost use Rattle.keep_run.specs.Renewing.{IsAnswerOf};
+ghost use Rattle.keep_run.specs.Hearing.{entry_line, next_line, sleep_line};
+ghost use Rattle.keep_run.specs.Replies.{IsAnswerOf};
 
 use keep_core::{Event, ShortNeed};
 use keep_tree::Forest;

@@ -1,17 +1,17 @@
-//! Event lines, one after another: each is heard by the keeper, and whom it then asks is asked.
+//! An event line: the keeper hears it, and whom it then asks is asked.
 ghost use Rattle.std.specs.Prelude.{◌≡◌, ◌++◌, ◌<◌, List, Option, ℕ, IsTrue, OnOk, length};
 ghost use Rattle.std.specs.Result.{IfErr};
 ghost use Rattle.keep_exchange.specs.Exchanges.{Behind};
 ghost use Rattle.keep_run.specs.EventLines.{IsWithin};
-ghost use Rattle.keep_run.specs.Live.{HearsTo, IsNeeded, IsReady};
+ghost use Rattle.keep_run.specs.Hearing.{HearsTo, IsNeeded, IsReady};
 ghost use Rattle.keep_run.specs.declared.live.event_line.Heard.TheVariants as heards;
 ghost use Rattle.keep_run.specs.Stops.{both};
 ghost use Rattle.keep_run.specs.code.Telling.{StopsNeed};
 
 use crate::agent::Agent;
 use crate::agent::lines::{push_next, push_short_lines, push_sleep};
-use crate::agent::opening::tick;
 use crate::agent::refused::stop_of;
+use crate::agent::ticking::tick;
 use crate::live::event_line::Heard;
 use crate::live::telling::tell_round;
 use keep_core::{Event, Output};
@@ -26,10 +26,11 @@ use std::alloc::Global;
 ///
 /// A tick before the last moment is `fault clock-back`, and an unknown name `fault unknown-name`; both change nothing. Errors:
 /// `TooLong`, the plan with a new need would have more than 10,000,000 wake-ups; `Write`, `out` failed, and nobody was asked
-/// behind that; `Memory`.
+/// after that; `Memory`.
 ///
 /// What the keeper makes of a reply is said of any exchange. Where the broker's table is known, the reply is that of the Broker
-/// step. The line has begun at the exchange: the first request may take as long as any.
+/// step. Call [`Exchange::begin_line`] first, so that the first request may take as long as any; and all that was written to
+/// `out` before is flushed.
 pub fn hear<E: Exchange, W: Sink>(
     alloc: Global,
     agent: &mut Agent,

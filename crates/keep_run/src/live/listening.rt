@@ -6,7 +6,7 @@ ghost use Rattle.keep_report.specs.declared.stop.Stop.TheVariants as stops;
 ghost use Rattle.keep_run.specs.declared.live.event_line.TheConstants.{MOST_LINE};
 ghost use Rattle.keep_run.specs.code.LineByLine.{HaltsWithin, HearsLine, HearsUpTo};
 ghost use Rattle.keep_run.specs.Listening.{Listens};
-ghost use Rattle.keep_run.specs.Live.{IsReady};
+ghost use Rattle.keep_run.specs.Hearing.{IsReady};
 ghost use Rattle.keep_run.specs.Stops.{both};
 
 use crate::agent::Agent;

@@ -2,13 +2,13 @@
 ghost use Rattle.std.specs.Prelude.{◌≡◌, ◌≢◌, ◌<◌, [], IfOk, IsTrue, OnOk, length, true};
 ghost use Rattle.keep_core.specs.LawsOfSteps.{IsShaped};
 ghost use Rattle.keep_core.specs.Refusal.{waits_for};
-ghost use Rattle.keep_run.specs.Live.{IsReady};
+ghost use Rattle.keep_run.specs.Hearing.{IsReady};
 ghost use Rattle.keep_run.specs.code.Playing.{Hears, Waits};
 ghost use Rattle.keep_run.specs.Stops.{both};
 ghost use Rattle.keep_run.specs.code.Telling.{TellsOne, TellsRound};
 
 use crate::agent::Agent;
-use crate::agent::served_entry::{answer, told_next};
+use crate::agent::answering::{answer, told_next};
 use keep_core::Output;
 use keep_device::Sink;
 use keep_exchange::Exchange;

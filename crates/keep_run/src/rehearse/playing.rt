@@ -2,14 +2,13 @@
 ghost use Rattle.std.specs.Prelude.{◌≡◌, ◌++◌, List, None, Option, Some, ℕ};
 ghost use Rattle.keep_exchange.specs.Exchanges.{Behind};
 ghost use Rattle.keep_run.specs.Text.{done_text};
-ghost use Rattle.keep_run.specs.Live.{IsReady};
+ghost use Rattle.keep_run.specs.Hearing.{IsReady};
 ghost use Rattle.keep_run.specs.code.Playing.{Comes, Finishes, LastPlays, Plays};
 ghost use Rattle.keep_run.specs.Stops.{both};
 
 use crate::agent::Agent;
 use crate::agent::lines::push_done;
-use crate::agent::opening::open;
-use crate::rehearse::waking::wake;
+use crate::rehearse::waking::{open, wake};
 use keep_device::{Sink, write_all};
 use keep_exchange::MemoryExchange;
 use keep_report::{Stop, Watched, send};

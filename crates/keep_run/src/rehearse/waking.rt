@@ -1,19 +1,29 @@
 //! One wake-up: ticks until one asks, and the answers of those who are asked.
-ghost use Rattle.std.specs.Prelude.{◌≡◌, ◌≢◌, ◌≤◌, [], IfOk, Some};
+ghost use Rattle.std.specs.Prelude.{◌≡◌, ◌≢◌, ◌≤◌, [], IfOk, List, None, Option, Some, ℕ, length};
 ghost use Rattle.std.specs.Result.{IfErr};
 ghost use Rattle.keep_report.specs.declared.stop.Stop.TheVariants as stops;
 ghost use Rattle.keep_core.specs.LawsOfSteps.{IsShaped};
-ghost use Rattle.keep_run.specs.Live.{IsReady};
-ghost use Rattle.keep_run.specs.code.Playing.{AnswersAll, Comes, Waits, Wakes, next_in, requests_in};
+ghost use Rattle.keep_exchange.specs.Exchanges.{Behind};
+ghost use Rattle.keep_run.specs.Hearing.{IsReady};
+ghost use Rattle.keep_run.specs.code.Playing.{AnswersAll, Comes, LeavesOpen, OpensOrEnds, Waits, Wakes, asked_of, next_in, requests_in};
 ghost use Rattle.keep_run.specs.Stops.{both};
 
 use crate::agent::Agent;
-use crate::agent::opening::open;
-use crate::agent::served_entry::{answer, told_next};
+use crate::agent::answering::{answer, told_next};
+use crate::agent::ticking::tick;
+use keep_core::Output;
 use keep_exchange::{Exchange, MemoryExchange};
 use keep_moment::Moment;
 use keep_report::Stop;
+use keep_tree::Indices;
 use std::alloc::Global;
+
+/// A wake-up that is opened: its moment, and the entries that are asked.
+#[derive(Debug, Drop)]
+pub(crate) struct Opened {
+    pub at: u64,
+    pub asked: Indices,
+}
 
 /// What a wake-up came to: how many requests it made, and the moment of the next tick, if there is one.
 #[derive(Clone, Copy, Debug, PartialEq, Eq)]
@@ -54,7 +64,7 @@ pub(crate) fn wake(
 }
 
 /// The asked entries send their requests at `t`, one after another; the moment of the next tick, if there is one.
-pub(crate) fn round<E: Exchange>(
+fn round<E: Exchange>(
     alloc: Global,
     agent: &mut Agent,
     exchange: &mut E,
@@ -78,4 +88,31 @@ pub(crate) fn round<E: Exchange>(
         next = told_next(next, &output);
     }
     Ok(next)
+}
+
+/// Tells the keeper the moments from `t` on, until it asks; `None` where it has nothing to do any more.
+pub(crate) fn open(
+    alloc: Global,
+    agent: &mut Agent,
+    t: u64,
+    text: &mut Vec<u8>,
+) -> Result<Option<Opened>, Stop>
+    requires ready { IsReady agent.old.keeper }
+    requires comes { Comes agent.old.keeper.last (Some t) }
+    ensures memory { IfErr result (λ stop. stop ≡ stops.Memory) }
+    ensures opens { IfOk result (λ opened. (cs : List (List ℕ)) (behind : Option Behind) → OpensOrEnds cs behind agent.old.keeper t opened agent.new.keeper text.old.items text.new.items) }
+    ensures leaves { IfOk result (λ opened. LeavesOpen opened agent.new.keeper) }
+    ensures few { IfOk result (λ opened. length (asked_of opened) ≤ 4096) }
+    ensures taken { IfOk result (λ _. agent.new.keeper.shortened ≡ []) }
+    ensures shaped { IfOk result (λ _. IsShaped agent.old.keeper.forest agent.new.keeper.forest) }
+    ensures credentials { agent.new.credentials ≡ agent.old.credentials }
+{
+    match tick(alloc, agent, t, text)? {
+        Output::Ask(asked) => Ok(Some(Opened { at: t, asked })),
+        Output::Sleep(later) => match tick(alloc, agent, later, text)? {
+            Output::Ask(asked) => Ok(Some(Opened { at: later, asked })),
+            _ => unreachable!(),
+        },
+        _ => Ok(None),
+    }
 }

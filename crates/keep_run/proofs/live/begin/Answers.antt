@@ -4,7 +4,7 @@ use Rattle.keep_report.specs.declared.stop.Stop.TheVariants as stops
 use Rattle.keep_tree.specs.Forest.{Forest}
 use Rattle.keep_core.specs.State.{State}
 use Rattle.keep_run.specs.Agent.{Agent}
-use Rattle.keep_run.specs.Live.{IsReady}
+use Rattle.keep_run.specs.Hearing.{IsReady}
 use Rattle.keep_run.specs.LiveRun.{IsOpened}
 use Rattle.keep_run.specs.Looking.{Looked}
 use Rattle.keep_report.specs.Sent.{Sent}

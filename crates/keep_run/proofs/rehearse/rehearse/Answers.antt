@@ -6,7 +6,7 @@ use Rattle.keep_core.specs.State.{State}
 use Rattle.mini_broker.specs.Table.{Table}
 use Rattle.keep_run.specs.Agent.{Agent}
 use Rattle.keep_report.specs.Sent.{Sent}
-use Rattle.keep_run.specs.Live.{IsReady}
+use Rattle.keep_run.specs.Hearing.{IsReady}
 use Rattle.keep_run.specs.code.Playing.{Comes, Plays}
 use Rattle.keep_run.specs.Stops.{both}
 use Rattle.keep_run.specs.Text.{short_lines}

@@ -1,7 +1,7 @@
 -- The lines of a need, or of an unknown name, are sent at once.
 use Rattle.std.proofs.Common.{refl, subst}
 use Rattle.keep_report.specs.Sent.{Sends, Sent}
-use Rattle.keep_run.specs.Live.{HearsTo}
+use Rattle.keep_run.specs.Hearing.{HearsTo}
 use Rattle.keep_run.specs.Stops.{both}
 use Rattle.keep_run.proofs.LineByLine.{handed_on}
 use Rattle.keep_run.proofs.SentTicks.{need_halts, need_sent, unknown_sent}

@@ -5,7 +5,7 @@ use Rattle.keep_core.specs.State.{State}
 use Rattle.keep_report.specs.declared.stop.Stop.TheVariants as stops
 use Rattle.keep_report.specs.Sent.{IsAll, Sends, Sent}
 use Rattle.keep_run.specs.code.LineByLine.{IsSent}
-use Rattle.keep_run.specs.Live.{HearsTo, next_line}
+use Rattle.keep_run.specs.Hearing.{HearsTo, next_line}
 use Rattle.keep_run.specs.declared.live.event_line.Heard.TheVariants as heards
 use Rattle.keep_run.specs.Stops.{both}
 use Rattle.keep_run.specs.code.Telling.{TellsRound}

@@ -3,7 +3,7 @@ use Rattle.std.proofs.Common.{ap, sym, subst, ◌∙◌}
 use Rattle.keep_report.specs.Sent.{Sent}
 use Rattle.keep_tree.specs.Forest.{Forest}
 use Rattle.keep_run.specs.EventLines.{heard_in}
-use Rattle.keep_run.specs.Live.{HearsTo}
+use Rattle.keep_run.specs.Hearing.{HearsTo}
 use Rattle.keep_run.specs.Stops.{both}
 use Rattle.keep_run.proofs.LineByLine.{line_hears}
 use Rattle.keep_run.proofs.live.listening.hear_line.Goals as goal

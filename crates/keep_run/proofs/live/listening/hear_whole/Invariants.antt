@@ -2,7 +2,7 @@
 use Rattle.std.proofs.Common.{◌≡◌, ◌+◌, ◌-◌, ◌≤◌, drop, length}
 use Rattle.keep_words.specs.Pieces.{pieces}
 use Rattle.keep_run.specs.code.LineByLine.{HearsUpTo}
-use Rattle.keep_run.specs.Live.{IsReady}
+use Rattle.keep_run.specs.Hearing.{IsReady}
 use Rattle.keep_run.specs.Stops.{both}
 use Rattle.keep_run.proofs.live.listening.hear_whole.Given as goal
 

@@ -2,7 +2,7 @@
 use Rattle.std.proofs.Common.{◌≡◌}
 use Rattle.std.specs.Io.KnownBytes.{Keeps}
 use Rattle.keep_run.specs.code.LineByLine.{IsListening}
-use Rattle.keep_run.specs.Live.{IsReady}
+use Rattle.keep_run.specs.Hearing.{IsReady}
 use Rattle.keep_run.specs.Stops.{both}
 use Rattle.keep_run.proofs.live.listening.listen_to.Given as goal
 

@@ -3,12 +3,12 @@ use Rattle.std.proofs.Common.{◌≡◌, ap, ◌∙◌, ◌++◌, Err, length, s
 use Rattle.keep_tree.specs.declared.entry.Entry.{Entry}
 use Rattle.keep_tree.specs.Forest.{Forest, entry_at}
 use Rattle.keep_core.specs.State.{State}
-use Rattle.keep_run.specs.Renewing.{IsAnswerOf, event_for, event_of}
+use Rattle.keep_run.specs.Replies.{IsAnswerOf, event_for, event_of}
 use Rattle.keep_run.specs.Text.{answer_line, short_lines}
 use Rattle.keep_run.proofs.OneAnswer.{answers_for, one_answer}
 use Rattle.keep_run.proofs.Refusing.{answer_taken, taken_stop}
 use Rattle.keep_run.proofs.Within.{AreOf, short_within}
-use Rattle.keep_run.proofs.agent.served_entry.answer.Goals as goal
+use Rattle.keep_run.proofs.agent.answering.answer.Goals as goal
 
 pub push_answer_line-requires-clause-answers : goal.push_answer_line-requires-clause-answers
 push_answer_line-requires-clause-answers g c =

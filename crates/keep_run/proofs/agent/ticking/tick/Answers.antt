@@ -9,7 +9,7 @@ use Rattle.keep_core.specs.declared.event.Event.TheVariants.{Tick}
 use Rattle.keep_core.proofs.Shaped.{shape}
 use Rattle.keep_run.proofs.Refusing.{taken_stop, tick_leaves, tick_taken}
 use Rattle.keep_run.proofs.Within.{AreOf, short_within, asked_few, asked_within}
-use Rattle.keep_run.proofs.agent.opening.tick.Goals as goal
+use Rattle.keep_run.proofs.agent.ticking.tick.Goals as goal
 
 pub push_short_lines-requires : goal.push_short_lines-requires
 push_short_lines-requires c =

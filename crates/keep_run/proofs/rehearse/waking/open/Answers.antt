@@ -6,7 +6,7 @@ use Rattle.keep_run.specs.code.Playing.{Ticks}
 use Rattle.keep_run.proofs.LiveTicks.{ticks_ready}
 use Rattle.keep_run.proofs.Opens.{after_sleep, at_once, ends, then_asks, ticks_shaped}
 use Rattle.keep_run.proofs.Refusing.{leaves_asked, leaves_closed, leaves_sleeping}
-use Rattle.keep_run.proofs.agent.opening.open.Goals as goal
+use Rattle.keep_run.proofs.rehearse.waking.open.Goals as goal
 
 pub unreachable-requires : goal.unreachable-requires
 unreachable-requires c =

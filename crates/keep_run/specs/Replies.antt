@@ -1,4 +1,4 @@
--- Renewing: the event that a reply to a renewal gives.
+-- Replies: the event that a reply to a renewal gives.
 -- Source: Vault, HTTP API: `auth/token`, "Renew a token (self)"; `sys/leases`, "Renew lease". Which status means what is this
 -- project's own.
 use Rattle.std.specs.Prelude.{◌≡◌, ℕ, ◌==◌, ◌&&◌, not, List, Option, Some, None, Result, Ok, Err, bytes_eq, nat_le, nat_lt, if◌then◌else◌}

@@ -1,4 +1,4 @@
--- Live: what an event line comes to: what the keeper puts out, whom it asks, and the lines that say so.
+-- Hearing: what an event line comes to: what the keeper puts out, whom it asks, and the lines that say so.
 -- Source: this project's own.
 use Rattle.std.specs.Prelude.{◌≡◌, ℕ, ◌<◌, ◌⊎◌, IsTrue, true, List, [], ◌∷◌, ◌++◌, Option, Some, None, Result, Ok, Err, codes, decimal, if◌then◌else◌, map, take}
 use Rattle.std.specs.Io.KnownBytes.{Appends}
@@ -51,8 +51,8 @@ abbrev pub TicksLive : ℕ → List (List ℕ) → ℕ → World → World → L
 TicksLive port cs t old new text = (b : Beat) × ((b.at ≡ t) × (IsBeat port cs old b new × (text ≡ tick_text (inventory_with cs old.keeper.forest) b)))
 
 -- a tick before the last moment is refused
-abbrev pub IsLate : ℕ → World → World → List ℕ → Type 0
-IsLate t old new text = (t < old.keeper.last) × ((new ≡ old) × (text ≡ codes "fault clock-back\n"))
+abbrev pub IsClockBack : ℕ → World → World → List ℕ → Type 0
+IsClockBack t old new text = (t < old.keeper.last) × ((new ≡ old) × (text ≡ codes "fault clock-back\n"))
 
 -- the new need is in force
 pub record IsNeeded (i until : ℕ) (old : World) (new : World) (text : List ℕ) : Type 0 where
@@ -63,7 +63,7 @@ pub record IsNeeded (i until : ℕ) (old : World) (new : World) (text : List ℕ
 
 -- what an event line comes to; its requests name this port
 abbrev pub IsHeard : ℕ → List (List ℕ) → World → Heard → World → List ℕ → Type 0
-IsHeard port cs old (Tick t) new text = IsLate t old new text ⊎ TicksLive port cs t old new text
+IsHeard port cs old (Tick t) new text = IsClockBack t old new text ⊎ TicksLive port cs t old new text
 IsHeard port cs old (Need i until) new text = IsNeeded i until old new text
 IsHeard port cs old Unknown new text = (new ≡ old) × (text ≡ codes "fault unknown-name\n")
 
@@ -104,7 +104,7 @@ TicksSoFar port cs t old new told = (b : Beat) × ((others : List ℕ) × ((b.at
 
 -- an event up to a write: what it had told, and the lines of that write, which are all but for a tick that asks somebody
 abbrev pub IsHeardUpTo : ℕ → List (List ℕ) → World → Heard → World → List ℕ → List ℕ → Type 0
-IsHeardUpTo port cs old (Tick t) new told own = ((told ≡ []) × IsLate t old new own) ⊎ TicksUpTo port cs t old new told own
+IsHeardUpTo port cs old (Tick t) new told own = ((told ≡ []) × IsClockBack t old new own) ⊎ TicksUpTo port cs t old new told own
 IsHeardUpTo port cs old heard new told own = (told ≡ []) × IsHeard port cs old heard new own
 
 -- an event is heard up to a write: behind this text what it had told before is written, and no more than a front of the lines of

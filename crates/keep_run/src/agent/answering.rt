@@ -10,7 +10,7 @@ ghost use Rattle.keep_run.specs.Stops.{both};
 use crate::agent::Agent;
 use crate::agent::lines::{push_answer_line, push_short_lines};
 use crate::agent::refused::stop_of;
-use crate::agent::renewing::event_from;
+use crate::agent::reply::event_from;
 use keep_core::Output;
 use keep_exchange::Exchange;
 use keep_moment::Moment;

@@ -1,7 +1,7 @@
 //! The event that a reply to a renewal gives.
 ghost use Rattle.std.specs.Prelude.{◌≡◌, IfOk};
 ghost use Rattle.keep_core.specs.Refusal.{TellsSpan};
-ghost use Rattle.keep_run.specs.Renewing.{event_of, told_by};
+ghost use Rattle.keep_run.specs.Replies.{event_of, told_by};
 
 use keep_core::Event;
 use keep_tree::Kind;
