@@ -11,7 +11,7 @@ use vault_json::{ReplyFault, read_renew_lease, read_renew_self};
 
 /// The event that a reply to the request for an entry gives; `None`: no reply came, or none that could be read. The only
 /// error is want of memory.
-#[tactic(auto, unfolding(crate::specs::Renewing::event_of))]
+#[tactic(auto, unfolding(crate::specs::Replies::event_of))]
 pub fn event_from(
     alloc: Global,
     kind: Kind,
