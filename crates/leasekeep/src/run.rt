@@ -16,25 +16,38 @@ pub fn run<R: Env + Files + AllocGlobal + Print + Eprint + Net, I: Read + Drop, 
     input: I,
     errors: E,
 ) -> Exit {
-    let mut streams = Streams {
-        lines: Counted::new(input),
-        out: Counted::new(io::writer(rt)),
-        errors: Counted::new(errors),
-    };
-    let words = match words(rt, PROGRAM, &mut streams.errors) {
+    let mut errors = Counted::new(errors);
+    let words = match words(rt, PROGRAM, &mut errors) {
         Ok(words) => words,
         Err(exit) => return exit,
     };
-    match read_command(rt, &words, &mut streams.errors) {
-        Ok(Job::Live(live)) => keep(rt, &live, &mut streams),
-        Ok(Job::Watch(watched)) => watch(rt, &watched, &mut streams),
-        Ok(Job::Offline(command)) => obey(
-            rt.alloc(),
-            &command,
-            &mut Disk { rt },
-            &mut streams.out,
-            &mut streams.errors,
-        ),
+    match read_command(rt, &words, &mut errors) {
+        Ok(Job::Live(live)) => {
+            let mut streams = Streams {
+                lines: Counted::new(input),
+                out: Counted::new(io::writer(rt)),
+                errors,
+            };
+            keep(rt, &live, &mut streams)
+        }
+        Ok(Job::Watch(watched)) => {
+            let mut streams = Streams {
+                lines: Counted::new(input),
+                out: Counted::new(io::writer(rt)),
+                errors,
+            };
+            watch(rt, &watched, &mut streams)
+        }
+        Ok(Job::Offline(command)) => {
+            let mut out = Counted::new(io::writer(rt));
+            obey(
+                rt.alloc(),
+                &command,
+                &mut Disk { rt },
+                &mut out,
+                &mut errors,
+            )
+        }
         Err(exit) => exit,
     }
 }
