@@ -10,7 +10,7 @@ from __future__ import annotations
 from collections.abc import Callable, Iterator
 from html import escape
 
-from leasekeep_draw import table
+from leasekeep_draw import colours, table
 from leasekeep_draw.axis import Axis, moment_text
 from leasekeep_draw.chart import Chart, Lane
 from leasekeep_draw.entries import Kind
@@ -29,13 +29,7 @@ _HEADING = 24
 _FAINTEST = 0.12
 _NEAR = 3.2
 """Marks of a kind that are nearer to each other than this are drawn as one."""
-_STYLE = """
-svg { --page: #ffffff; --ink: #1b2733; --faint: #4a5a68; --band: #f3f6f8; --token: #8fb8d8; --token-mark: #1b4e79;
-  --lease: #b9d7b0; --lease-mark: #2f6b25; --wake: #7d8c99; --bad: #a23b2a; --flag: #e5a823; }
-@media (prefers-color-scheme: dark) {
-  svg { --page: #0d1117; --ink: #e3e9ee; --faint: #9fb0bf; --band: #161d26; --token: #2f5f86; --token-mark: #a9d4f5;
-    --lease: #3c6334; --lease-mark: #b9e3ac; --wake: #8b9aa8; --bad: #ff8f7a; --flag: #e5a823; }
-}
+_RULES = """
 text { font-family: 'DejaVu Sans', 'Segoe UI', Helvetica, Arial, sans-serif; fill: var(--ink); }
 .page { fill: var(--page); }
 .title { font-size: 17px; font-weight: 600; }
@@ -86,7 +80,7 @@ def svg(chart: Chart) -> str:
         f'height="{layout.height}" role="img" aria-labelledby="title table">',
         f'<title id="title">{escape(chart.title)}</title>',
         f'<desc id="table">{escape(table.text(chart))}</desc>',
-        f"<style>{_STYLE}</style>",
+        f"<style>{colours.style(_RULES)}</style>",
         f'<rect class="page" width="{WIDTH}" height="{layout.height}"/>',
         f'<text class="title" x="{_MARGIN}" y="28">{escape(chart.title)}</text>',
         f'<text class="small" x="{WIDTH - _MARGIN}" y="28" text-anchor="end">{escape(_span(chart))}</text>',
