@@ -28,7 +28,7 @@ def refusals(reading: Reading, timeout: int, names_are_secrets: bool, mode: int)
         if not row.has_credential and not names_are_secrets:
             key = "secret" if row.kind is Kind.TOKEN else "lease_id"
             refuse(reading.lines.of_key(row.head, row.place, key), row.label, key,
-                   "is missing: the name would be sent instead",
+                   "is missing; the entry's name would be sent to Vault as the credential",
                    f"add {key} (--names-are-secrets allows this, for trials)")
     return found
 

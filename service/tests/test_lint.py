@@ -86,7 +86,7 @@ class Lint(unittest.TestCase):
             (old("increment = 900\n", "", 1), 0o600, "f:2: fault: app increment: is missing; add increment:"),
             (old('name = "app"', 'nam = "app"'), 0o600, "f:3: fault: token 1 nam: is not a key of this table"),
             (old('token = "app"', 'token = "nobody"'), 0o600, "f:12: fault: db token: names no token of this inventory"),
-            (old('secret = "hvs.app-secret"\n', ""), 0o600, "f:2: fault: app secret: is missing: the name would be"),
+            (old('secret = "hvs.app-secret"\n', ""), 0o600, "f:2: fault: app secret: is missing; the entry's name would be sent to Vault as the credential"),
             (old("margin = 20", "margin = 19"), 0o600, "f:1: fault: margin: is 19 s, under four times the time-out"),
             (old("margin = 20", "margin = 1000"), 0o600, "f:6: fault: app increment: is not greater than the margin"),
             (old("need = 1050000", "need = 9050000", 1), 0o600, "f:7: doubt: app need: is 62 d past its maximum TTL"),
