@@ -17,6 +17,7 @@ text { font-family: 'DejaVu Sans', 'Segoe UI', Helvetica, Arial, sans-serif; fil
 .title { font-size: 17px; font-weight: 600; }
 .small { font-size: 11px; fill: var(--faint); }
 .name { font-size: 13px; font-weight: 600; }
+.inside { font-size: 11px; }
 .proved { fill: var(--token); stroke: var(--token-mark); stroke-width: 1; }
 .program { fill: var(--lease); stroke: var(--lease-mark); stroke-width: 2.4; }
 .tested { fill: var(--band); stroke: var(--wake); stroke-width: 1.4; stroke-dasharray: 4 3; }
@@ -48,7 +49,7 @@ class Box:
         """The box with its name, and smaller lines below it; the hint is what a reader is told who points at it."""
         top = self.y + 5 - 7.5 * len(lines)
         words = [text(self.x, top, name, "name", "middle")]
-        words += [text(self.x, top + 15 * place, line, "small", "middle") for place, line in enumerate(lines, 1)]
+        words += [text(self.x, top + 15 * place, line, "inside", "middle") for place, line in enumerate(lines, 1)]
         return f"<g>{f'<title>{escape(hint)}</title>' if hint else ''}{self.shape()}{''.join(words)}</g>"
 
 

@@ -70,5 +70,5 @@ class Colours(unittest.TestCase):
         for picture in PICTURES:
             with self.subTest(picture=picture.name):
                 shown = rendered_colours(picture)
-                wanted = {bytes.fromhex(colours.LIGHT[name][1:]) for name in ("page", "ink", "token", "lease")}
+                wanted = {bytes.fromhex(colours.LIGHT[name][1:]) for name in ("page", "ink", "token")}
                 self.assertEqual(wanted - shown, set())
