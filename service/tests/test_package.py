@@ -2,7 +2,9 @@
 
 from __future__ import annotations
 
+import gzip
 import os
+import re
 import shutil
 import stat
 import subprocess
@@ -55,6 +57,8 @@ class Package(unittest.TestCase):
             ("usr/share/bash-completion/completions/leasekeepd", 0o644), ("usr/share/zsh/vendor-completions/_leasekeep", 0o644),
             ("usr/share/fish/vendor_completions.d/minibroker.fish", 0o644), ("usr/share/doc/leasekeep/examples/haproxy.cfg", 0o644),
             ("usr/share/doc/leasekeep/examples/web.toml", 0o644), ("DEBIAN/postinst", 0o755), ("DEBIAN/prerm", 0o755),
+            ("usr/share/man/man5/leasekeep-inventory.5.gz", 0o644), ("usr/share/doc/leasekeep/docs/running.md", 0o644),
+            ("usr/share/doc/leasekeep/docs/commands/watch.md", 0o644), ("usr/share/doc/leasekeep/README.md", 0o644),
         ):
             with self.subTest(file=file):
                 self.assertEqual(stat.S_IMODE((self.root / file).stat().st_mode), mode)
@@ -67,6 +71,18 @@ class Package(unittest.TestCase):
         for file in self.root.rglob("*"):
             if file.is_file() and not file.is_symlink() and file.suffix not in (".gz", ".md5sums"):
                 self.assertNotIn(str(TOP).encode(), file.read_bytes(), file)
+
+    def test_each_document_that_a_page_names_is_in_it(self) -> None:
+        for file in sorted(self.root.glob("usr/share/man/man*/*.gz")):
+            page = gzip.decompress(file.read_bytes()).decode().replace("\\-", "-")
+            for document in re.findall(r"\bdocs/[\w/-]+\.md\b", page):
+                with self.subTest(page=file.name, document=document):
+                    self.assertTrue((self.root / "usr/share/doc/leasekeep" / document).is_file())
+
+    def test_its_news_has_its_version(self) -> None:
+        news = gzip.decompress((self.root / "usr/share/doc/leasekeep/NEWS.md.gz").read_bytes()).decode()
+        self.assertRegex(news, rf"(?m)^## {re.escape(VERSION)}, of commit [0-9a-f]+ of \d{{4}}-\d\d-\d\d$")
+        self.assertNotIn("Unreleased", news)
 
     def test_its_fields(self) -> None:
         shown = subprocess.run(["dpkg-deb", "-f", str(self.deb), "Package", "Version", "Depends"], check=True, capture_output=True,
