@@ -69,7 +69,8 @@ def _set(words: str) -> str:
     words = _LINK.sub(lambda link: link[1], words)
     for mark in _MARKED.finditer(words):
         face = "I" if mark[3] else "B"
-        found += roff(words[at : mark.start()], is_start=not found) + f"\\f{face}{roff(mark[1] or mark[2] or mark[3], is_start=False)}\\fR"
+        inner = roff((mark[1] or mark[2] or mark[3]).replace("`", ""), is_start=False)
+        found += roff(words[at : mark.start()], is_start=not found) + f"\\f{face}{inner}\\fR"
         at = mark.end()
     return found + roff(words[at:], is_start=not found)
 

@@ -94,6 +94,22 @@ class Help(unittest.TestCase):
                 self.assertEqual(heads[:3], ["NAME", "SYNOPSIS", "DESCRIPTION"])
                 self.assertEqual(heads[-1], "SEE ALSO")
 
+    @unittest.skipIf(shutil.which("man") is None, "man is not installed")
+    def test_files_and_signals_of_the_service(self) -> None:
+        page = shown(written("leasekeepd")[""])
+        heads = re.findall(r"^[A-Z][A-Z ]+$", page, re.M)
+        self.assertEqual(heads[-4:], ["FILES", "SIGNALS", "ENVIRONMENT", "SEE ALSO"])
+        for words in ("/var/lib/leasekeepd/journal", "/run/leasekeepd/control.sock", "SIGHUP", "leasekeep-inventory(5)"):
+            self.assertIn(words, page)
+
+    @unittest.skipIf(shutil.which("man") is None, "man is not installed")
+    def test_the_page_of_the_inventory_has_each_key_and_is_set_without_a_warning(self) -> None:
+        made = subprocess.run([sys.executable, str(MAN), "--inventory"], check=True, capture_output=True, text=True, timeout=60).stdout
+        page = shown(made)
+        for key in ("system_max", "margin", "parent", "issued", "increment", "explicit_max_ttl", "lease_id", "secret_file", "bad-value"):
+            self.assertIn(key, page)
+        self.assertNotRegex(page, r"\*\*|\]\(|`")
+
     def test_the_page_names_the_version_of_the_file(self) -> None:
         self.assertIn(f'"leasekeep {(TOP / "VERSION").read_text().strip()}"', written("leasekeepd")[""])
 
