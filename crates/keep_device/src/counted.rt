@@ -50,6 +50,13 @@ impl<S> Counted<S> {
         inner
     }
 
+    /// The reader or writer itself, lent.
+    pub fn get_ref(&self) -> &S
+        ensures { result.now ≡ self.now.inner }
+    {
+        &self.inner
+    }
+
     /// Counts one failure.
     fn fail(&mut self) -> Failed
         ensures inner { self.new.inner ≡ self.old.inner }

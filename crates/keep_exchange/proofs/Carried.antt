@@ -3,7 +3,7 @@ use Rattle.std.proofs.Common.{◌≡◌, ℕ, inr, Bool, true, false, List, [], 
 use Rattle.vault_http.specs.declared.known.TheConstants.{MOST_MESSAGE}
 use Rattle.keep_exchange.specs.declared.fault.ExchangeFault.{ExchangeFault}
 use Rattle.keep_exchange.specs.declared.fault.ExchangeFault.TheVariants.{ConnectFailed, WriteFailed, Http, OutOfMemory}
-use Rattle.keep_exchange.specs.Exchanges.{Behind, Exchanges, IsExchanged, IsGivenUp, received}
+use Rattle.keep_exchange.specs.Exchanges.{Behind, Exchanges, IsExchanged, IsGivenUp, received, reply_of, wire_of}
 use Rattle.mini_broker.specs.declared.served.Served.{Served}
 use Rattle.mini_broker.specs.declared.served.Served.TheVariants as served
 use Rattle.mini_broker.specs.Table.{Table}
@@ -16,7 +16,7 @@ use Rattle.vault_http.specs.declared.http_fault.HttpFault.TheVariants as https
 use Rattle.vault_http.specs.declared.reply.Reply.{Reply}
 use Rattle.vault_http.specs.declared.request.Request.{Request}
 use Rattle.vault_http.specs.RoundTripRequest.{without_port}
-use Rattle.vault_http.specs.Written.{reply_text, request_text}
+use Rattle.vault_http.specs.Written.{reply_text}
 
 port_unread : (l : Table) (t : ℕ) (r : Request) → step l t (without_port r) ≡ step l t r
 unfolding step renews renewal subject
@@ -46,18 +46,27 @@ settled old t r (Err WriteFailed) new done = done
 settled old t r (Err (Http fault)) new done = done
 settled old t r (Err OutOfMemory) new done = absurd (received_some done.sent done.received_as)
 
+-- what is received of what was sent is its text
+pub text_received : (sent : Served) (reply : Reply) → ◌≡◌ {A = Result Reply ExchangeFault} (Ok reply) (received sent) → sent_of sent ≡ reply_text reply
+text_received served.Dropped reply e = absurd cc
+text_received (served.Reply sent) reply e = by_length (nat_le (length (reply_text sent)) MOST_MESSAGE) sent e
+  where
+    by_length : (b : Bool) (sent : Reply) → ◌≡◌ {A = Result Reply ExchangeFault} (Ok reply) (if b then Ok sent else Err (Http https.TooLong)) → reply_text sent ≡ reply_text reply
+    by_length true sent e = let same : reply ≡ sent = cc in ap reply_text (sym same)
+    by_length false sent e = absurd cc
+
 -- the whole way
 pub exchanged :
-    (old table : Table) (t : ℕ) (r heard : Request) (sent : Served) (wire text : List ℕ) (result : Result Reply ExchangeFault) →
-    heard ≡ without_port r → Says t (step old t heard).answer sent → table ≡ (step old t heard).table → result ≡ received sent → wire ≡ request_text r ++ text → text ≡ sent_of sent →
+    (old table : Table) (t : ℕ) (r heard : Request) (sent : Served) (wire : List ℕ) (result : Result Reply ExchangeFault) →
+    heard ≡ without_port r → Says t (step old t heard).answer sent → table ≡ (step old t heard).table → result ≡ received sent → wire ≡ wire_of r (reply_of result) →
     Exchanges old t r result (Some (record { table = table; wire = wire }))
-exchanged old table t r heard sent wire text result is says after gives carried delivered =
+exchanged old table t r heard sent wire result is says after gives carried =
     let same = portless old t r heard is in
     settled old t r result (Some (record { table = table; wire = wire })) (record {
       sent = sent;
       says = subst (λ o. Says t o.answer sent) same says;
       received_as = gives;
-      is = behind (after ∙ ap (λ o. o.table) same) (carried ∙ ap (λ bs. request_text r ++ bs) delivered);
+      is = behind (after ∙ ap (λ o. o.table) same) carried;
     })
   where
     behind : {a b : Table} {v w : List ℕ} → a ≡ b → v ≡ w → ◌≡◌ {A = Option Behind} (Some (record { table = a; wire = v })) (Some (record { table = b; wire = w }))

@@ -17,7 +17,7 @@ of_lookup :
     LooksUp port before t s i result after new
 of_lookup before new port t i s after reply (Ok is) done applied = record { came = Ok reply; exchanged = done; applied_is = applied }
 of_lookup None new port t i s after reply (Err fault) done applied = tt
-of_lookup (Some old) new port t i s after reply (Err fault) done applied = inr (inr (done.sent, (done.says, done.is)))
+of_lookup (Some old) new port t i s after reply (Err fault) done applied = inr (inr (reply, done))
 
 pub looked_up :
     {E : Type 0} (before new : Option Behind) (port t i : ℕ) (s after : Inventory) (request : Request) (reply : Reply) (result : Result Bool E) → request ≡ lookup_of port s.credentials s.forest i →

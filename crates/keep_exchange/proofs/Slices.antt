@@ -3,14 +3,12 @@ use Rattle.std.proofs.Common.{◌≡◌, ℕ, inl, inr, List, [], ◌∷◌, ◌
 use Rattle.keep_exchange.specs.declared.fault.ExchangeFault.{ExchangeFault}
 use Rattle.keep_exchange.specs.declared.fault.ExchangeFault.TheVariants.{ConnectFailed, WriteFailed, Http, OutOfMemory}
 use Rattle.keep_exchange.specs.Abreast.{Answer, AreAnswered, IsAnswered, IsCutShort, after_answer, after_answers, undated}
-use Rattle.keep_exchange.specs.Exchanges.{Behind, CountsExchange, Exchanges, IsExchanged}
+use Rattle.keep_exchange.specs.Exchanges.{Behind, CountsExchange, Exchanges, IsExchanged, reply_of, wire_of}
 use Rattle.mini_broker.specs.Table.{Table}
 use Rattle.mini_broker.specs.Step.{step}
-use Rattle.mini_broker.specs.Stream.{sent_of}
 use Rattle.vault_http.specs.declared.http_fault.HttpFault.TheVariants as https
 use Rattle.vault_http.specs.declared.reply.Reply.{Reply}
 use Rattle.vault_http.specs.declared.request.Request.{Request}
-use Rattle.vault_http.specs.Written.{request_text}
 
 -- one request more
 pub answered_more : (old mid new : Table) (t : ℕ) (rs : List Request) (r : Request) (xs : List Answer) (a : Answer)
@@ -32,7 +30,7 @@ pub answered : (old new : Behind) (t : ℕ) (r : Request) (result : Result Reply
     → Exchanges old.table t r result (Some new) → IsAnswered old.table t r a new.table
 answered old new t r result a whole e h =
     let is = exchanged old.table t r result (Some new) whole h in
-    let new_is : new ≡ record { table = (step old.table t r).table; wire = request_text r ++ sent_of is.sent } = cc is.is in
+    let new_is : new ≡ record { table = (step old.table t r).table; wire = wire_of r (reply_of result) } = cc is.is in
     record { sent = is.sent; says = is.says; answer_is = e ∙ ap undated is.received_as; new_is = ap (λ b. b.table) new_is }
 
 -- out of memory in the exchange of one of the requests

@@ -1,6 +1,6 @@
 -- Exchange in memory: the Broker step's reply, through the texts of the request and of the reply.
 -- Source: RFC 9112 (the texts); this project's own (the Broker step, and which fault is which).
-use Rattle.std.specs.Prelude.{◌≡◌, ℕ, ◌⊎◌, List, [], ◌++◌, Option, Some, Result, Ok, Err, length, nat_le, if◌then◌else◌}
+use Rattle.std.specs.Prelude.{◌≡◌, ℕ, ◌⊎◌, List, [], ◌++◌, Option, Some, None, Result, Ok, Err, length, nat_le, if◌then◌else◌}
 use Rattle.vault_http.specs.declared.known.TheConstants.{MOST_MESSAGE}
 use Rattle.keep_exchange.specs.declared.fault.ExchangeFault.{ExchangeFault}
 use Rattle.keep_exchange.specs.declared.fault.ExchangeFault.TheVariants.{ConnectFailed, WriteFailed, Http, OutOfMemory}
@@ -8,7 +8,6 @@ use Rattle.mini_broker.specs.declared.served.Served.{Served}
 use Rattle.mini_broker.specs.declared.served.Served.TheVariants as served
 use Rattle.mini_broker.specs.Table.{Table}
 use Rattle.mini_broker.specs.Step.{Says, after_sweep, step}
-use Rattle.mini_broker.specs.Stream.{sent_of}
 use Rattle.vault_http.specs.declared.http_fault.HttpFault.{HttpFault}
 use Rattle.vault_http.specs.declared.http_fault.HttpFault.TheVariants as https
 use Rattle.vault_http.specs.declared.reply.Reply.{Reply}
@@ -18,7 +17,7 @@ use Rattle.vault_http.specs.declared.writing.SendFault.TheVariants as sends
 use Rattle.keep_device.specs.Failures.{one_more}
 use Rattle.vault_http.specs.Written.{reply_text, request_text}
 
--- what stands behind an exchange in memory: the broker's table, and the bytes of the last request and its reply
+-- what stands behind an exchange in memory: the broker's table, and the bytes of the last request and its reply, if one came
 pub record Behind : Type 0 where
   pub table : Table
   pub wire : List ℕ
@@ -29,12 +28,22 @@ abbrev pub received : Served → Result Reply ExchangeFault
 received (served.Reply reply) = if nat_le (length (reply_text reply)) MOST_MESSAGE then Ok reply else Err (Http https.TooLong)
 received served.Dropped = Err (Http https.Truncated)
 
+-- the reply that came, if one did
+abbrev pub reply_of : Result Reply ExchangeFault → Option Reply
+reply_of (Ok reply) = Some reply
+reply_of (Err fault) = None
+
+-- the bytes that an exchange leaves: those of the request and of its reply, one after the other; and none where no reply came
+abbrev pub wire_of : Request → Option Reply → List ℕ
+wire_of r (Some reply) = request_text r ++ reply_text reply
+wire_of r None = []
+
 -- the request is served at t by the Broker step, and the messages of both are carried
 pub record IsExchanged (old : Table) (t : ℕ) (r : Request) (result : Result Reply ExchangeFault) (new : Option Behind) : Type 0 where
   pub sent : Served
   pub says : Says t (step old t r).answer sent
   pub received_as : result ≡ received sent
-  pub is : new ≡ Some (record { table = (step old t r).table; wire = request_text r ++ sent_of sent })
+  pub is : new ≡ Some (record { table = (step old t r).table; wire = wire_of r (reply_of result) })
 
 -- memory was wanting, before, while or after the request was served: nothing is told of the messages
 pub record IsGivenUp (old : Table) (t : ℕ) (r : Request) (new : Option Behind) : Type 0 where

@@ -1,7 +1,7 @@
 -- Lookups: what a broker's reply to a lookup makes of an inventory.
 -- Source: Vault, HTTP API: `auth/token`, "Lookup a token (self)"; `sys/leases`, "Read lease". That nothing but a 200 is taken
 -- is this project's own.
-use Rattle.std.specs.Prelude.{◌≡◌, ℕ, ◌==◌, ◌⊎◌, List, ◌++◌, Bool, Option, Some, None, Result, Ok, Err, IfSome, is_none, if◌then◌else◌}
+use Rattle.std.specs.Prelude.{◌≡◌, ℕ, ◌==◌, ◌⊎◌, List, Bool, Option, Some, None, Result, Ok, Err, IfSome, is_none, if◌then◌else◌}
 use Rattle.keep_exchange.specs.declared.fault.ExchangeFault.{ExchangeFault}
 use Rattle.keep_exchange.specs.Exchanges.{Behind, IsExchanged, IsGivenUp}
 use Rattle.keep_exchange.specs.Requests.{lookup_of}
@@ -10,13 +10,9 @@ use Rattle.keep_inventory.specs.Inventories.{Inventory}
 use Rattle.keep_tree.specs.declared.entry.Kind.{Kind}
 use Rattle.keep_tree.specs.declared.entry.Kind.TheVariants.{Token, Lease}
 use Rattle.keep_tree.specs.Forest.{entry_at}
-use Rattle.mini_broker.specs.declared.served.Served.{Served}
 use Rattle.mini_broker.specs.Table.{Table}
-use Rattle.mini_broker.specs.Step.{Says, step}
-use Rattle.mini_broker.specs.Stream.{sent_of}
 use Rattle.vault_http.specs.declared.reply.Reply.{Reply}
 use Rattle.vault_http.specs.declared.request.Request.{Request}
-use Rattle.vault_http.specs.Written.{request_text}
 use Rattle.vault_json.specs.declared.fault.ReplyFault.{ReplyFault}
 use Rattle.vault_json.specs.declared.lookup.Lookup.{Lookup}
 use Rattle.vault_json.specs.Lookup.{lookup_lease_answer, lookup_self_answer}
@@ -47,10 +43,9 @@ pub record IsLookedUp (port : ℕ) (old : Option Behind) (t : ℕ) (s : Inventor
   pub exchanged : IfSome old (λ b. IsExchanged b.table t (lookup_of port s.credentials s.forest i) came new)
   pub applied_is : looked s i t came ≡ behind_if is_applied after
 
--- the request was served, and what was sent for it carried
+-- the request was served, and a reply came
 abbrev pub IsServed : Table → ℕ → Request → Option Behind → Type 0
-IsServed old t r new =
-    (sent : Served) × (Says t (step old t r).answer sent × (new ≡ Some (record { table = (step old t r).table; wire = request_text r ++ sent_of sent })))
+IsServed old t r new = (reply : Reply) × IsExchanged old t r (Ok reply) new
 
 -- where memory was wanting, and the table is known, there may have been no exchange, or one whose reply was not read
 abbrev pub IsLookupLeft : ℕ → Option Behind → ℕ → Inventory → ℕ → Option Behind → Type 0

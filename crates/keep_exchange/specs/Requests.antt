@@ -2,7 +2,7 @@
 -- Source: Vault, HTTP API: `auth/token`, "Renew a token (self)" and "Lookup a token (self)"; `sys/leases`, "Renew lease" and
 -- "Read lease".
 use Rattle.std.specs.Prelude.{◌≡◌, ℕ, ◌≤◌, ◌⊎◌, List, [], ◌++◌, Option, Some, None, Result, Ok, Err, codes, length, option_map}
-use Rattle.keep_exchange.specs.Exchanges.{Behind, IsGivenUp}
+use Rattle.keep_exchange.specs.Exchanges.{Behind, IsGivenUp, wire_of}
 use Rattle.keep_inventory.specs.Inventories.{credential_at}
 use Rattle.keep_tree.specs.declared.entry.Entry.{Entry}
 use Rattle.keep_tree.specs.declared.entry.Kind.{Kind}
@@ -13,7 +13,6 @@ use Rattle.mini_broker.specs.declared.served.Served.TheVariants as served
 use Rattle.vault_http.specs.declared.known.TheConstants.{MOST_MESSAGE}
 use Rattle.mini_broker.specs.Table.{Table}
 use Rattle.mini_broker.specs.Step.{Says, step}
-use Rattle.mini_broker.specs.Stream.{sent_of}
 use Rattle.vault_http.specs.declared.reply.Reply.{Reply}
 use Rattle.vault_http.specs.declared.request.Request.{Request}
 use Rattle.vault_http.specs.RoundTripRequest.{IsWritable}
@@ -77,7 +76,7 @@ pub record IsAsked (old : Table) (t : ℕ) (r : Request) (reply : Option Reply) 
   pub sent : Served
   pub says : Says t (step old t r).answer sent
   pub reply_is : reply ≡ reply_in sent
-  pub is : new ≡ Some (record { table = (step old t r).table; wire = request_text r ++ sent_of sent })
+  pub is : new ≡ Some (record { table = (step old t r).table; wire = wire_of r reply })
 
 -- what asking comes to; where memory was wanting there may have been no exchange
 abbrev pub Asks : {E : Type 0} → Behind → ℕ → Request → Result (Option Reply) E → Option Behind → Type 0

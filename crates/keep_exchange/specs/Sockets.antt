@@ -1,6 +1,6 @@
 -- Exchanges over sockets, to contracts: where the broker listens, and how long a call may take.
 -- Source: this project's own.
-use Rattle.std.specs.Prelude.{◌≡◌, ℕ, ◌⊎◌, ◌∷◌, [], Bool, true, min, Option, Some, None, Result, Ok, Err, if◌then◌else◌}
+use Rattle.std.specs.Prelude.{◌≡◌, ℕ, ◌⊎◌, ◌∷◌, [], Bool, true, false, ◌||◌, min, Option, Some, None, Result, Ok, Err, if◌then◌else◌}
 use Rattle.std.specs.Net.Addr.{ipv4_octets, MatchIp}
 use Rattle.std.specs.Net.Socket.{socket_ip, socket_port}
 use Rattle.std.specs.declared.net.socket_addr.SocketAddr.{SocketAddr}
@@ -37,6 +37,11 @@ quarter_of longest = min longest 250_000_000
 -- how long the next connect, read or write may take
 abbrev pub limit_of : ℕ → Bool → ℕ
 limit_of longest is_short = if is_short then quarter_of longest else longest
+
+-- whether the next ones may take a quarter of a second at most, behind an exchange: not once there is a reply; else where a call
+-- of it took too long, or where it was so before
+abbrev pub learned : Bool → Bool → Bool → Bool
+learned has_reply is_late is_short = if has_reply then false else (is_late || is_short)
 
 -- behind an exchange without a reply: what it was, or a quarter of a second
 abbrev pub Slows : ℕ → ℕ → ℕ → Type 0

@@ -2,7 +2,7 @@ ghost use Rattle.std.specs.Prelude.{◌≡◌, [], Some};
 
 use crate::exchange::Exchange;
 use crate::fault::ExchangeFault;
-use crate::texts::{deliver, request_of_text, text_of_request};
+use crate::texts::{Delivery, deliver, request_of_text, text_of_request};
 use keep_moment::Moment;
 use mini_broker::Table;
 use std::alloc::Global;
@@ -66,8 +66,8 @@ impl MemoryExchange {
         &self.table
     }
 
-    /// The bytes of the last request and of its reply, one after the other. Of a reply that was dropped there are none; and
-    /// there are none at all before the first exchange, and where memory was wanting in the last.
+    /// The bytes of the last request and of its reply, one after the other. There are none before the first exchange, and none
+    /// where the last gave no reply.
     pub fn wire(&self) -> &[u8]
         ensures { result.now ≡ self.now.wire }
     {
@@ -102,9 +102,14 @@ impl Exchange for MemoryExchange {
         let mut wire = text_of_request(alloc, request)?;
         let heard = request_of_text(alloc, &mut self.room, &wire, request)?;
         let served = self.table.serve(t, &heard)?;
-        let delivery = deliver(alloc, &mut self.room, &served)?;
-        wire.extend_from_slice(&delivery.text)?;
-        self.wire = wire;
-        delivery.reply
+        let Delivery { text, reply } = deliver(alloc, &mut self.room, &served)?;
+        match reply {
+            Ok(reply) => {
+                wire.extend_from_slice(&text)?;
+                self.wire = wire;
+                Ok(reply)
+            }
+            Err(fault) => Err(fault),
+        }
     }
 }

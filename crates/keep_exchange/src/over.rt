@@ -1,33 +1,32 @@
 //! What exchanges over connections share.
-ghost use Rattle.std.specs.Prelude.{◌≡◌};
-ghost use Rattle.std.specs.Duration.{as_nanos};
+ghost use Rattle.std.specs.Prelude.{◌≡◌, is_ok};
 ghost use Rattle.keep_exchange.specs.Exchanges.{CountsExchange};
-ghost use Rattle.keep_exchange.specs.Sockets.{IsHere, Paces, limit_of};
+ghost use Rattle.keep_exchange.specs.Lines.{Carries};
+ghost use Rattle.keep_exchange.specs.Sockets.{IsHere, learned};
 ghost use Rattle.vault_http.specs.RoundTripRequest.{IsWritable};
 
 use crate::fault::ExchangeFault;
 use crate::line::carry;
-use crate::patience::{Patience, Watched};
+use crate::patience::{Patience, Timed};
 use std::alloc::Global;
-use std::io::{Read, Write};
 use std::net::{IpAddr, Ipv4Addr, SocketAddr};
-use vault_http::{Counted, HttpFault, Reply, Request, Room};
+use vault_http::{HttpFault, Reply, Request, Room, Sink, Source};
 
-/// Writes the request and reads the reply, and learns from it how long the next ones may take.
-pub(crate) fn exchange_over<S: Read + Write + Drop>(
+/// Writes the request to the line, once, and reads the reply, and learns from it how long the next ones may take.
+pub(crate) fn exchange_over<L: Source + Sink + Timed>(
     alloc: Global,
-    stream: S,
+    line: &mut L,
     room: &mut Room,
     request: &Request,
     patience: &mut Patience,
 ) -> Result<Reply, ExchangeFault>
     requires { IsWritable request.now }
-    ensures longest { patience.new.longest ≡ patience.old.longest }
-    ensures limit { Paces result (as_nanos patience.old.longest) (limit_of (as_nanos patience.old.longest) patience.old.is_short) (limit_of (as_nanos patience.old.longest) patience.new.is_short) }
+    ensures carried { Carries request.now (record { remaining = L.remaining line.old; rest = L.remaining line.new; reads_left = L.reads_left line.old; old = L.written line.old; new = L.written line.new; flushed = L.is_flushed line.new }) result }
+    ensures count { CountsExchange result (L.failed_calls line.old) (L.failed_calls line.new) }
+    ensures learned { patience.new ≡ record patience.old { is_short = learned (is_ok result) (L.late line.new) patience.old.is_short } }
 {
-    let mut line = Counted::new(Watched::new(stream));
-    let result = carry(alloc, &mut line, room, request);
-    patience.learn(line.into_inner().is_late(), result.is_ok());
+    let result = carry(alloc, line, room, request);
+    patience.learn(line.is_late(), result.is_ok());
     result
 }
 

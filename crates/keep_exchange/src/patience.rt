@@ -1,11 +1,17 @@
-ghost use Rattle.std.specs.Prelude.{◌≡◌, ◌⊎◌, ◌↔◌, IsTrue, MatchResult, true, false, if◌then◌else◌};
+ghost use Rattle.std.specs.Prelude.{◌≡◌, ◌≢◌, ◌⊎◌, ◌↔◌, Bool, IsTrue, MatchResult, OnOk, Ok, Err, true, false};
+ghost use Rattle.std.specs.Result.{IfErr};
 ghost use Rattle.std.specs.Duration.{as_nanos};
+ghost use Rattle.std.specs.Io.{ReadsAtMost, WritesAtMost};
+ghost use Rattle.std.specs.Io.KnownBytes.{Keeps, ReadConsumes, WriteAppends};
 ghost use Rattle.std.specs.IoError.{error_kind};
-ghost use Rattle.keep_exchange.specs.Sockets.{limit_of};
+ghost use Rattle.keep_exchange.specs.declared.fault.ExchangeFault.TheVariants.{ConnectFailed};
+ghost use Rattle.keep_exchange.specs.Sockets.{learned, limit_of};
 
+use crate::fault::ExchangeFault;
 use std::io;
 use std::io::{ErrorKind, Read, Write};
 use std::time::Duration;
+use vault_http::Counted;
 
 /// How long one connect, read or write may take where nothing else is said, in seconds.
 pub const PATIENCE: u64 = 5;
@@ -56,12 +62,30 @@ impl Patience {
 
     /// What an exchange says of those to come: it has its reply, or took too long, or neither.
     pub(crate) fn learn(&mut self, is_late: bool, has_reply: bool)
-        ensures { self.new ≡ record self.old { is_short = if has_reply then false else (if is_late then true else self.old.is_short) } }
+        ensures { self.new ≡ record self.old { is_short = learned has_reply is_late self.old.is_short } }
     {
         if has_reply {
             self.restore();
         } else if is_late {
             self.shorten();
+        }
+    }
+
+    /// The connection that was opened; `ConnectFailed` where none was, and what is learned where that took too long.
+    pub(crate) fn settle<T: Drop>(&mut self, opened: io::Result<T>) -> Result<T, ExchangeFault>
+        ensures opened { MatchResult opened (λ stream. result ≡ Ok stream) (λ _. result ≡ Err ConnectFailed) }
+        ensures open { OnOk opened (self.new ≡ self.old) }
+        ensures late { IfErr opened (λ e. (error_kind e ≡ ErrorKind.TimedOut) ⊎ (error_kind e ≡ ErrorKind.WouldBlock) → self.new ≡ record self.old { is_short = true }) }
+        ensures prompt { IfErr opened (λ e. error_kind e ≢ ErrorKind.TimedOut → error_kind e ≢ ErrorKind.WouldBlock → self.new ≡ self.old) }
+    {
+        match opened {
+            Ok(stream) => Ok(stream),
+            Err(error) => {
+                if is_late(&error) {
+                    self.shorten();
+                }
+                Err(ExchangeFault::ConnectFailed)
+            }
         }
     }
 }
@@ -98,7 +122,15 @@ impl<S> Watched<S> {
 }
 
 impl<S: Read> Read for Watched<S> {
-    fn read(&mut self, buf: &mut [u8]) -> io::Result<usize> {
+    // What the stream itself hands out, where its bytes are known.
+    ghost remaining = { λ w. S.remaining w.stream };
+
+    fn read(&mut self, buf: &mut [u8]) -> io::Result<usize>
+        ensures bound { ReadsAtMost result buf.new }
+        ensures bytes { ReadConsumes (S.remaining self.old.stream) (S.remaining self.new.stream) result buf.new }
+        ensures prompt { OnOk result (self.new.is_late ≡ self.old.is_late) }
+        ensures late { IfErr result (λ e. IsTrue self.new.is_late ↔ (IsTrue self.old.is_late ⊎ ((error_kind e ≡ ErrorKind.TimedOut) ⊎ (error_kind e ≡ ErrorKind.WouldBlock)))) }
+    {
         match self.stream.read(buf) {
             Ok(n) => Ok(n),
             Err(error) => {
@@ -110,7 +142,15 @@ impl<S: Read> Read for Watched<S> {
 }
 
 impl<S: Write> Write for Watched<S> {
-    fn write(&mut self, piece: &[u8]) -> io::Result<usize> {
+    // What the stream itself takes, where its bytes are known.
+    ghost contents = { λ w. S.contents w.stream };
+
+    fn write(&mut self, piece: &[u8]) -> io::Result<usize>
+        ensures bound { WritesAtMost result piece.now }
+        ensures bytes { WriteAppends (S.contents self.old.stream) (S.contents self.new.stream) result piece.now }
+        ensures prompt { OnOk result (self.new.is_late ≡ self.old.is_late) }
+        ensures late { IfErr result (λ e. IsTrue self.new.is_late ↔ (IsTrue self.old.is_late ⊎ ((error_kind e ≡ ErrorKind.TimedOut) ⊎ (error_kind e ≡ ErrorKind.WouldBlock)))) }
+    {
         match self.stream.write(piece) {
             Ok(n) => Ok(n),
             Err(error) => {
@@ -120,7 +160,28 @@ impl<S: Write> Write for Watched<S> {
         }
     }
 
-    fn flush(&mut self) -> io::Result<()> {
+    fn flush(&mut self) -> io::Result<()>
+        ensures bytes { Keeps (S.contents self.old.stream) (S.contents self.new.stream) }
+        ensures kept { self.new.is_late ≡ self.old.is_late }
+    {
         self.stream.flush()
+    }
+}
+
+/// A line of which is known whether one of its calls took too long.
+pub(crate) trait Timed {
+    /// Whether one did.
+    ghost late: { Self → Bool };
+
+    /// Whether one did.
+    fn is_late(&self) -> bool
+        ensures { result ≡ late self.now };
+}
+
+impl<S> Timed for Counted<Watched<S>> {
+    ghost late = { λ c. c.inner.is_late };
+
+    fn is_late(&self) -> bool {
+        self.get_ref().is_late()
     }
 }

@@ -9,13 +9,13 @@ ghost use Rattle.keep_device.specs.declared.place.Place.TheVariants as places;
 use crate::exchange::Exchange;
 use crate::fault::ExchangeFault;
 use crate::over::{count_after, exchange_over, here};
-use crate::patience::{PATIENCE, Patience, is_late};
+use crate::patience::{PATIENCE, Patience, Watched};
 use keep_moment::Moment;
 use std::alloc::Global;
 use std::marker::Model;
 use std::net::{Net, OpenStream, TcpStream};
 use std::time::Duration;
-use vault_http::{Device, Reply, Request, Room};
+use vault_http::{Counted, Device, Reply, Request, Room};
 
 /// An exchange with the broker that listens on 127.0.0.1 at a port: one connection for each request, over plain HTTP.
 #[derive(Drop)]
@@ -67,15 +67,8 @@ impl<'a, R: Net> TcpExchange<'a, R> {
         ensures short { (self.new ≡ self.old) ⊎ (self.new ≡ record self.old { is_short = true }) }
     {
         let limit = self.patience.limit();
-        let stream = match TcpStream::connect_timeout(self.rt, &here(self.port), limit) {
-            Ok(stream) => stream,
-            Err(error) => {
-                if is_late(&error) {
-                    self.patience.shorten();
-                }
-                return Err(ExchangeFault::ConnectFailed);
-            }
-        };
+        let opened = TcpStream::connect_timeout(self.rt, &here(self.port), limit);
+        let stream = self.patience.settle(opened)?;
         if stream.set_read_timeout(Some(limit)).is_err()
             || stream.set_write_timeout(Some(limit)).is_err()
         {
@@ -118,7 +111,13 @@ impl<'a, R: Net> Exchange for TcpExchange<'a, R> {
     ) -> Result<Reply, ExchangeFault> {
         let before = self.failures;
         let result = match self.connect() {
-            Ok(stream) => exchange_over(alloc, stream, &mut self.room, request, &mut self.patience),
+            Ok(stream) => exchange_over(
+                alloc,
+                &mut Counted::new(Watched::new(stream)),
+                &mut self.room,
+                request,
+                &mut self.patience,
+            ),
             Err(fault) => Err(fault),
         };
         self.failures = count_after(before, &result);

@@ -9,7 +9,7 @@ use crate::exchange::Exchange;
 use crate::fault::ExchangeFault;
 use crate::link::{Bell, Shared, connect_unix};
 use crate::over::{count_after, exchange_over};
-use crate::patience::{Patience, is_late};
+use crate::patience::{Patience, Watched};
 use crate::waits::Waits;
 use keep_moment::Moment;
 use std::alloc::Global;
@@ -17,7 +17,7 @@ use std::marker::Model;
 use std::net::Net;
 use std::os::unix::net::UnixStream;
 use std::time::Duration;
-use vault_http::{Device, Reply, Request, Room};
+use vault_http::{Counted, Device, Reply, Request, Room};
 
 /// An exchange with the broker that listens on a UNIX socket: whoever may not enter the socket's folder can neither listen
 /// in its place nor connect to it.
@@ -68,15 +68,8 @@ impl<'a, R: Net> UnixExchange<'a, R> {
             bell: Bell::new(self.rt, alloc)?,
             waits: Waits::of(limit),
         };
-        let stream = match connect_unix(self.rt, self.path, &mut shared, &mut 0) {
-            Ok(stream) => UnixStream::from(stream),
-            Err(error) => {
-                if is_late(&error) {
-                    self.patience.shorten();
-                }
-                return Err(ExchangeFault::ConnectFailed);
-            }
-        };
+        let opened = connect_unix(self.rt, self.path, &mut shared, &mut 0);
+        let stream = UnixStream::from(self.patience.settle(opened)?);
         if stream.set_nonblocking(false).is_err()
             || stream.set_read_timeout(Some(limit)).is_err()
             || stream.set_write_timeout(Some(limit)).is_err()
@@ -118,7 +111,13 @@ impl<'a, R: Net> Exchange for UnixExchange<'a, R> {
     ) -> Result<Reply, ExchangeFault> {
         let before = self.failures;
         let result = match self.connect(alloc) {
-            Ok(stream) => exchange_over(alloc, stream, &mut self.room, request, &mut self.patience),
+            Ok(stream) => exchange_over(
+                alloc,
+                &mut Counted::new(Watched::new(stream)),
+                &mut self.room,
+                request,
+                &mut self.patience,
+            ),
             Err(fault) => Err(fault),
         };
         self.failures = count_after(before, &result);
