@@ -1,11 +1,15 @@
 //! The words of a command line, and what is said of those that ask nothing.
+ghost use Rattle.std.specs.Prelude.{◌≡◌, IfOk};
+ghost use Rattle.std.specs.Vec.Iter.{into_iter_items};
 ghost use Rattle.clap.specs.Values.{kind_of};
-ghost use Rattle.keep_command.specs.Refusals.{GivesWords, Shows};
+ghost use Rattle.keep_command.specs.Refusals.{GivesWords, Says, Shows};
 
 use clap::Error;
 use clap::error::ErrorKind;
 use keep_device::Sink;
-use keep_report::{Exit, Stop, Watched, tell};
+use keep_report::{Exit, Stop, Watched, send, tell};
+use std::alloc::{AllocError, Global};
+use std::env::Args;
 use std::rt::Env;
 use std::{env, io};
 
@@ -32,28 +36,52 @@ pub fn words<R: Env + AllocGlobal, E: Sink>(
 }
 
 fn collect<R: Env + AllocGlobal>(rt: &R) -> io::Result<Vec<String>> {
-    Ok(env::args(rt)?.collect(rt.alloc())?)
+    Ok(all_of(rt.alloc(), env::args(rt)?)?)
 }
 
-/// Shows the text of a command line that asks nothing, and gives the exit: a mistake's on standard error, which is
-/// `CommandLine`; help and the version on standard output, which is `Done`, or `Device` with its line where it could not be
-/// written. `Memory`, with its line: memory was refused, and there is no text.
-pub fn show<R: Print + Eprint, E: Sink>(
-    rt: &R,
+/// All words, in their order. The only error is out of memory.
+fn all_of(alloc: Global, words: Args) -> Result<Vec<String>, AllocError>
+    ensures { IfOk result (λ all. all.items ≡ into_iter_items words) }
+{
+    words.collect(alloc)
+}
+
+/// Shows the text of a command line that asks nothing, as [`say`] does. `Memory`, with its line: memory for that text was refused.
+pub fn show<W: Sink, E: Sink>(
+    alloc: Global,
     program: &str,
     error: &Error,
+    out: &mut W,
     errors: &mut E,
 ) -> Exit
-    ensures { Shows program.now (kind_of error.now) result (⟦<E as Watched>⟧.sent errors.old errors.new) }
+    ensures { Shows program.now (kind_of error.now) result (⟦<W as Watched>⟧.sent out.old out.new) (⟦<E as Watched>⟧.sent errors.old errors.new) }
 {
-    match error.kind() {
+    match format!(in alloc; "{error}") {
+        Ok(text) => say(program, error.kind(), text.as_str(), out, errors),
+        Err(_) => Stop::Memory.report(program, errors),
+    }
+}
+
+/// Says the text of a command line that asks nothing, by what the parser found, and gives the exit: a mistake's on `errors`, which
+/// is `CommandLine`; help and the version on `out`, which is `Done`, or `Device` with its line on `errors` where it could not be
+/// written. `Memory`, with its line: memory was refused, and there is no text.
+pub fn say<W: Sink, E: Sink>(
+    program: &str,
+    kind: ErrorKind,
+    text: &str,
+    out: &mut W,
+    errors: &mut E,
+) -> Exit
+    ensures { Says program.now kind text.now result (⟦<W as Watched>⟧.sent out.old out.new) (⟦<E as Watched>⟧.sent errors.old errors.new) }
+{
+    match kind {
         ErrorKind::OutOfMemory => Stop::Memory.report(program, errors),
-        ErrorKind::DisplayHelp | ErrorKind::DisplayVersion => match error.print(rt) {
+        ErrorKind::DisplayHelp | ErrorKind::DisplayVersion => match send(out, text.as_bytes()) {
             Ok(()) => Exit::Done,
-            Err(_) => Stop::Write.report(program, errors),
+            Err(stop) => stop.report(program, errors),
         },
         _ => {
-            let _ = error.print(rt);
+            tell(errors, text.as_bytes());
             Exit::CommandLine
         }
     }

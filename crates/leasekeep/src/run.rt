@@ -11,7 +11,7 @@ use std::net::Net;
 use std::rt::{Env, Files};
 
 /// Runs the command that the words of the command line ask, and gives the exit.
-pub fn run<R: Env + Files + AllocGlobal + Print + Eprint + Net, I: Read + Drop, E: Write + Drop>(
+pub fn run<R: Env + Files + AllocGlobal + Print + Net, I: Read + Drop, E: Write + Drop>(
     rt: &R,
     input: I,
     errors: E,

@@ -4,12 +4,13 @@ use crate::watch::Watched;
 use clap::error::ErrorKind;
 use clap::{ArgMatches, Error};
 use keep_command::{number_or, place_to_ask, show};
-use keep_device::{Place, Sink};
+use keep_device::{Counted, Place, Sink};
 use keep_engine::{Command, Exit, MarginQuery, PROGRAM, Stop, tell};
 use keep_exchange::PATIENCE;
 use keep_moment::{Moment, Text};
 use keep_watch::WIDTH;
 use std::alloc::{AllocError, AllocFailed, Global};
+use std::io;
 
 const PORT_MISTAKE: &str =
     "invalid value for '<PORT>': a port is 1 to 65535, and the path of a UNIX socket has a `/` in it";
@@ -55,7 +56,7 @@ impl<T: Drop> From<AllocFailed<T>> for Unread {
 }
 
 /// What the words of the command line ask; or the exit, once it was told or shown why they ask nothing.
-pub fn read_command<'a, R: AllocGlobal + Print + Eprint, E: Sink>(
+pub fn read_command<'a, R: AllocGlobal + Print, E: Sink>(
     rt: &R,
     words: &'a [String],
     errors: &mut E,
@@ -80,12 +81,12 @@ pub fn read_command<'a, R: AllocGlobal + Print + Eprint, E: Sink>(
 }
 
 /// Shows the text of a command line that asks nothing, and tells behind a mistake of a moment what a moment is.
-fn show_with_tip<R: AllocGlobal + Print + Eprint, E: Sink>(
+fn show_with_tip<R: AllocGlobal + Print, E: Sink>(
     rt: &R,
     error: &Error,
     errors: &mut E,
 ) -> Exit {
-    let exit = show(rt, PROGRAM, error, errors);
+    let exit = show(rt.alloc(), PROGRAM, error, &mut Counted::new(io::writer(rt)), errors);
     if is_of_a_moment(rt.alloc(), error) {
         tell(errors, MOMENT_TIP);
     }

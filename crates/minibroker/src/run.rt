@@ -12,7 +12,7 @@ use std::net::Net;
 use std::rt::{Env, Files};
 
 /// Runs the program by the words of the command line, and gives the exit.
-pub fn run<R: Env + Files + AllocGlobal + Print + Eprint + Net, I: Read + Drop, E: Write + Drop>(
+pub fn run<R: Env + Files + AllocGlobal + Print + Net, I: Read + Drop, E: Write + Drop>(
     rt: &R,
     input: I,
     errors: E,

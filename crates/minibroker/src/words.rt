@@ -1,10 +1,11 @@
 use crate::parser::{mistake, parse};
 use clap::ArgMatches;
 use keep_command::{number_or, place_to_listen, show};
-use keep_device::{Place, Sink};
+use keep_device::{Counted, Place, Sink};
 use keep_moment::Moment;
 use keep_report::{Exit, Stop};
 use mini_broker::Moments;
+use std::io;
 
 /// The program's name, in front of its fault lines.
 pub const PROGRAM: &str = "minibroker";
@@ -37,20 +38,21 @@ pub struct Command<'a> {
 }
 
 /// What the words of the command line ask; or the exit, once it was told or shown why they ask nothing.
-pub fn read_command<'a, R: AllocGlobal + Print + Eprint, E: Sink>(
+pub fn read_command<'a, R: AllocGlobal + Print, E: Sink>(
     rt: &R,
     words: &'a [String],
     errors: &mut E,
 ) -> Result<Command<'a>, Exit> {
     let alloc = rt.alloc();
+    let mut out = Counted::new(io::writer(rt));
     let matches = match parse(alloc, words) {
         Ok(matches) => matches,
-        Err(error) => return Err(show(rt, PROGRAM, &error, errors)),
+        Err(error) => return Err(show(alloc, PROGRAM, &error, &mut out, errors)),
     };
     match command_of(&matches) {
         Ok(command) => Ok(command),
         Err(text) => match mistake(alloc, text) {
-            Ok(error) => Err(show(rt, PROGRAM, &error, errors)),
+            Ok(error) => Err(show(alloc, PROGRAM, &error, &mut out, errors)),
             Err(_) => Err(Stop::Memory.report(PROGRAM, errors)),
         },
     }
