@@ -11,7 +11,7 @@ use Rattle.keep_core.specs.State.{State, unplanned}
 use Rattle.keep_core.proofs.Orders.{replan_once}
 use Rattle.keep_exchange.specs.declared.fault.ExchangeFault.{ExchangeFault}
 use Rattle.keep_exchange.specs.declared.fault.ExchangeFault.TheVariants.{Http}
-use Rattle.keep_exchange.specs.Exchanges.{Behind, IsExchanged, received}
+use Rattle.keep_exchange.specs.Exchanges.{Behind, IsExchanged, received, reply_of, wire_of}
 use Rattle.keep_exchange.specs.Lookups.{IsLookedUp, applied, behind_if, looked, lookup_in}
 use Rattle.keep_exchange.specs.Requests.{Fits, lookup_of, looked_as}
 use Rattle.keep_exchange.proofs.Lengths.{looked_lease_short, ok_short, reply_short, status_short}
@@ -35,14 +35,13 @@ use Rattle.mini_broker.specs.declared.row.Row.{Row}
 use Rattle.mini_broker.specs.declared.served.Served.{Served}
 use Rattle.mini_broker.specs.declared.served.Served.TheVariants as served
 use Rattle.mini_broker.specs.Request.{status_of}
-use Rattle.mini_broker.specs.Stream.{sent_of}
 use Rattle.mini_broker.specs.Table.{Table}
 use Rattle.mini_broker.specs.Step.{Answer, IsBody, Says, Tells, drops, refuses, seconds_to, step, tells}
 use Rattle.vault_http.specs.declared.http_fault.HttpFault.TheVariants as https
 use Rattle.vault_http.specs.declared.known.TheConstants.{MOST_MESSAGE}
 use Rattle.vault_http.specs.declared.reply.Reply.{Reply}
 use Rattle.vault_http.specs.declared.request.Request.{Request}
-use Rattle.vault_http.specs.Written.{reply_text, request_text}
+use Rattle.vault_http.specs.Written.{reply_text}
 use Rattle.vault_json.specs.declared.fault.ReplyFault.{ReplyFault}
 use Rattle.vault_json.specs.declared.lookup.Lookup.{Lookup}
 use Rattle.vault_json.specs.declared.lookup.Lookup.TheVariants as lookups
@@ -291,7 +290,7 @@ module _ (g : Forest) (cs ds : List (List ℕ)) (ts : List Terms) (one : IsInven
 
   -- where the table is known, so it is behind a lookup
   table_behind : (old : Table) (t : ℕ) (r : Request) (came : Result Reply ExchangeFault) (new : Option Behind) → IsExchanged old t r came new → (b : Behind) × ((new ≡ Some b) × (b.table ≡ (step old t r).table))
-  table_behind old t r came new is = (record { table = (step old t r).table; wire = request_text r ++ sent_of is.sent }, (is.is, refl))
+  table_behind old t r came new is = (record { table = (step old t r).table; wire = wire_of r (reply_of came) }, (is.is, refl))
 
   module _ (port other t i : ℕ) (old begun : Looked) (within : i < length g.entries) (alike : AreLookedAlike g cs ds old begun) where
     abbrev l : Table

@@ -100,7 +100,7 @@ not_begun port cs old fed out same reads failed none = record {
   text = [];
   heard = subst (λ bs. IsHeardFirst port cs old bs [] ([] ∷ []) old []) (sym (take_all MOST_EVENTS [] (omega arith))) (record { cut = nothing_cut; heard = (refl, refl) });
   prompt = record { before = []; last = []; parts = refl; room = omega arith; few = omega arith; first = []; later = []; heard = refl; rest = []; cut = nothing_cut; short = omega arith };
-  ends = (failed, inl (subst (λ o. Appends out.old o []) (sym none) (Appends-nil out.old)));
+  ends = (failed, inl (refl, subst (λ o. Appends out.old o []) (sym none) (Appends-nil out.old)));
 }
 
 -- a front of a piece that was read, as far as more may be read
@@ -279,11 +279,11 @@ module _ (port : ℕ) (cs : List (List ℕ)) (old : World) (k : ℕ) (pending : 
     }
 
     -- memory for them was wanting
-    pub no_memory : (new : World) → Listens port cs old (Err stops.Memory) new after a
-    no_memory new =
+    pub no_memory : (new : World) → new.behind ≡ now.behind → Listens port cs old (Err stops.Memory) new after a
+    no_memory new as_it_was =
         listens_more (Err stops.Memory) [] (pieces 10 (pending ++ took)) now h.up_to.text new a
         (subst (λ ls. IsHeardFirst port cs old (h.read ++ took) ls (pieces 10 (pending ++ took)) now h.up_to.text) (sym (append-nil h.up_to.lines)) behind_read.heard)
-        (failed ∙ h.failed, inl h.up_to.sent.0.0)
+        (failed ∙ h.failed, inl (as_it_was, h.up_to.sent.0.0))
 
     module _ (b : Sent) (same : a.new ≡ b.old) (failures' : a.failed_after ≡ b.failed_before) where
       -- a line stops the run

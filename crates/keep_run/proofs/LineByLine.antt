@@ -56,14 +56,17 @@ module _ (a b : Sent) (same : a.new ≡ b.old) (failures : a.failed_after ≡ b.
         front = subst (Appends a.old b.new) (sym (append_assoc t u rest)) (appends t (u ++ rest) first.0.0 second.front);
       }
 
-  broken_then : (port : ℕ) (cs : List (List ℕ)) (old : World) (heard : Heard) (t u : List ℕ) → IsSent t a → IsBrokenOff port cs old heard u b → IsBrokenOff port cs old heard (t ++ u) (joined a b)
-  broken_then port cs old heard t u first second = record {
+  broken_then :
+      (port : ℕ) (cs : List (List ℕ)) (old new : World) (heard : Heard) (t u : List ℕ) → IsSent t a → IsBrokenOff port cs old heard new u b → IsBrokenOff port cs old heard new (t ++ u) (joined a b)
+  broken_then port cs old new heard t u first second = record {
     t = second.t;
     is = second.is;
     told = second.told;
     mid = second.mid;
+    others = second.others;
     so_far = second.so_far;
     written = subst (Appends a.old b.new) (sym (append_assoc t u second.told)) (appends t (u ++ second.told) first.0.0 second.written);
+    left = second.left;
   }
 
   short_then :
@@ -87,14 +90,14 @@ module _ (a b : Sent) (same : a.new ≡ b.old) (failures : a.failed_after ≡ b.
   halts_then port cs number old behind t u (stops.Line n) new P first h = (h.0, (h.1.0, (h.1.1.0, all_then t u first h.1.1.1)))
   halts_then port cs number old behind t u stops.Memory new P first h =
       elim h [
-        | inl none ↦ inl (appends t u first.0.0 none)
+        | inl none ↦ inl (none.0, appends t u first.0.0 none.1)
         | inr some ↦
             inr (
               some.0,
               (
                 some.1.0,
                 elim some.1.1 [
-                  | inl broken ↦ inl (broken.0, (broken.1.0, broken_then port cs old broken.0 t u first broken.1.1))
+                  | inl broken ↦ inl (broken.0, (broken.1.0, broken_then port cs old new broken.0 t u first broken.1.1))
                   | inr cut ↦ inr (cut.0, short_then port cs old new some.0 t u first cut.1)
                 ],
               ),
@@ -139,7 +142,7 @@ line_hears port cs number old line says new (Err stops.TooLong) out is flushed h
 line_hears port cs number old line says new (Err stops.Write) out is flushed h count = λ next more. (h.0, (line, (refl, (says, (is, h.1)))))
 line_hears port cs number old line says new (Err stops.Memory) out is flushed h count = λ next more.
     elim h [
-      | inl none ↦ inl none
+      | inl none ↦ inl none.1
       | inr some ↦ inr (line, (refl, elim some [ inl broken ↦ inl (says, (is, broken)) | inr cut ↦ inr (cut.0, (says, (is, cut.1))) ]))
     ]
 line_hears port cs number old line says new (Err (stops.Inventory fault)) out is flushed h count = absurd h

@@ -49,7 +49,7 @@ module _ (port : ℕ) (cs : List (List ℕ)) (read : List ℕ) (number : ℕ) (m
         ),
       )
 
-  broken_short : (line : List ℕ) (old : World) → IsBrokenShort port cs old line text (sent_by b c m l q r k) → IsBrokenShort port cs old line (before ++ text) (sent_by a c n l p r k)
+  broken_short : (line : List ℕ) (old : World) → IsBrokenShort port cs old line new text (sent_by b c m l q r k) → IsBrokenShort port cs old line new (before ++ text) (sent_by a c n l p r k)
   broken_short line old h =
       let broken = h.1.1 in (
         h.0,
@@ -60,8 +60,10 @@ module _ (port : ℕ) (cs : List (List ℕ)) (read : List ℕ) (number : ℕ) (m
             is = broken.is;
             told = broken.told;
             mid = broken.mid;
+            others = broken.others;
             so_far = broken.so_far;
             written = subst (Appends a c) (sym (append_assoc before text broken.told)) (appends_then a b c before (text ++ broken.told) first broken.written);
+            left = broken.left;
           },
         ),
       )
@@ -75,7 +77,7 @@ module _ (port : ℕ) (cs : List (List ℕ)) (read : List ℕ) (number : ℕ) (m
   halts old (stops.Line x) HasEnded h = (h.0, (h.1.0, (h.1.1.0, whole h.1.1.1)))
   halts old stops.TooLong HasEnded h = (h.0, (h.1.0, (h.1.1.0, whole h.1.1.1)))
   halts old stops.Write HasEnded h = (subst (λ x. HasFailed x l) kept h.0, (h.1.0, (h.1.1.0, cut_short h.1.0 old h.1.1.1)))
-  halts old stops.Memory HasEnded (inl h) = inl (appends_then a b c before text first h)
+  halts old stops.Memory HasEnded (inl h) = inl (h.0, appends_then a b c before text first h.1)
   halts old stops.Memory HasEnded (inr h) =
       inr (h.0, (h.1.0, elim h.1.1 [ inl broken ↦ inl (broken_short h.0 old broken) | inr cut ↦ inr (cut.0, cut_short h.0 old cut.1) ]))
   halts old stops.Read HasEnded h = absurd h

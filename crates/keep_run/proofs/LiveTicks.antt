@@ -107,9 +107,9 @@ module _ (port : ℕ) (cs : List (List ℕ)) (t : ℕ) (old : State) where
     none_asked b = (beat [], (asked, (refl, (under_way b [] asked (both k b) refl refl, inl (refl, (refl, sym (append-nil mid) ∙ told_text []))))))
 
     -- some are answered
-    pub some_answered : (b : Option Behind) (new : World) (told : List ℕ) → IsRoundSoFar port cs t (both k b) asked new told → TicksSoFar port cs t (both old b) new (mid ++ told)
+    pub some_answered : (b : Option Behind) (new : World) (told : List ℕ) (r : IsRoundSoFar port cs t (both k b) asked new told) → TicksSoFar port cs t (both old b) r.others new (mid ++ told)
     unfolding s
-    some_answered b new told r = (beat r.xs, (r.others, (refl, (under_way b r.xs r.others new r.who r.answered, ap (λ l. mid ++ l) r.told_is ∙ told_text r.xs))))
+    some_answered b new told r = (beat r.xs, (refl, (refl, (under_way b r.xs r.others new r.who r.answered, ap (λ l. mid ++ l) r.told_is ∙ told_text r.xs))))
 
     -- and the lines of the last answer are under way
     pub one_more : (b : Option Behind) (new : World) (told own : List ℕ) → IsRoundUpTo port cs t (both k b) asked new told own → TicksUpTo port cs t (both old b) new (mid ++ told) own

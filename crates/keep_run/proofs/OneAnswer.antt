@@ -9,11 +9,9 @@ use Rattle.vault_json.specs.declared.renewed.RenewedLease.{RenewedLease}
 use Rattle.vault_json.specs.Renewed.{renew_lease_answer, renew_self_answer}
 use Rattle.vault_http.specs.declared.reply.Reply.{Reply}
 use Rattle.vault_http.specs.declared.request.Request.{Request}
-use Rattle.vault_http.specs.Written.{request_text}
 use Rattle.mini_broker.specs.Step.{step}
-use Rattle.mini_broker.specs.Stream.{sent_of}
 use Rattle.mini_broker.specs.Table.{Table}
-use Rattle.keep_exchange.specs.Exchanges.{Behind}
+use Rattle.keep_exchange.specs.Exchanges.{Behind, wire_of}
 use Rattle.keep_exchange.specs.Requests.{IsAsked, request_of}
 use Rattle.keep_core.specs.LawsOfSteps.{IsShaped}
 use Rattle.keep_core.specs.declared.event.Event.{Event}
@@ -61,7 +59,7 @@ asked_known o b t request reply new known asked = subst (λ (q : Option Behind).
 
 -- and then it is known again
 pub table_after : (old : Table) (t : ℕ) (request : Request) (reply : Option Reply) (new : Option Behind) → IsAsked old t request reply new → (b : Behind) × ((new ≡ Some b) × (b.table ≡ (step old t request).table))
-table_after old t request reply new asked = (record { table = (step old t request).table; wire = request_text request ++ sent_of asked.sent }, (asked.is, refl))
+table_after old t request reply new asked = (record { table = (step old t request).table; wire = wire_of request reply }, (asked.is, refl))
 
 -- ---- the answer
 

@@ -13,7 +13,7 @@ use Rattle.keep_report.specs.declared.stop.Stop.TheVariants as stops
 use Rattle.keep_report.specs.Sent.{Sends, Sent}
 use Rattle.keep_run.specs.Closed.{World, asked_in, asks_some}
 use Rattle.keep_run.specs.code.LineByLine.{IsSent}
-use Rattle.keep_run.specs.Hearing.{HearsTo, IsBrokenOff, IsCutOff, IsHeard, IsHeardUpTo, IsNeeded, IsOverlong, last_line, next_line}
+use Rattle.keep_run.specs.Hearing.{HearsTo, IsBrokenOff, IsCutOff, IsHeard, IsHeardUpTo, IsNeeded, IsOverlong, MayWant, last_line, next_line}
 use Rattle.keep_run.specs.declared.live.event_line.Heard.{Heard}
 use Rattle.keep_run.specs.declared.live.event_line.Heard.TheVariants as heards
 use Rattle.keep_run.specs.declared.live.event_line.Heard.TheVariants.{Need}
@@ -91,14 +91,16 @@ module _ (port : ℕ) (cs : List (List ℕ)) where
           front = subst (Appends a.old b.new) (sym (append_assoc mid cut.told rest)) (appends a b same failures mid (cut.told ++ rest) before.0.0 cut.front);
         }
 
-    round_broken : IsRoundBroken port cs t (both k o) asked b → IsBrokenOff port cs (both old o) (heards.Tick t) [] (joined a b)
+    round_broken : IsRoundBroken port cs t (both k o) asked (both final new) b → IsBrokenOff port cs (both old o) (heards.Tick t) (both final new) [] (joined a b)
     round_broken broken = record {
       t = t;
       is = refl;
       told = mid ++ broken.told;
       mid = broken.mid;
+      others = broken.so_far.others;
       so_far = some_answered port cs t old k asked mid ticks o broken.mid broken.told broken.so_far;
       written = appends a b same failures mid broken.told before.0.0 broken.written;
+      left = broken.left;
     }
 
     pub round_stops : (stop : Stop) → TellsRound port cs t (both k o) asked (Err stop) (both final new) b → HearsTo port cs (both old o) (heards.Tick t) (Err stop) (both final new) (joined a b)
@@ -119,6 +121,7 @@ module _ (port : ℕ) (cs : List (List ℕ)) where
       told = h.0;
       mid = both final new;
       so_far = so_far port cs t (both k o) (both final new) asked asked [] next h.0 (append-nil asked) h.1.0;
+      left = refl;
       written = h.1.1.0.0;
     })))
 
@@ -149,7 +152,7 @@ module _ (port : ℕ) (cs : List (List ℕ)) (o : Option Behind) (old new : Stat
   need_halts i until heard stops.Write out is same count flushed h = absurd h
   need_halts i until heard (stops.Broker name) out is same count flushed h = absurd h
   need_halts i until heard (stops.Line n) out is same count flushed h = absurd h
-  need_halts i until heard stops.Memory out is same count flushed h = inl (subst (λ (w : Option (List ℕ)). Appends out.old w []) (sym same) (Appends-nil out.old))
+  need_halts i until heard stops.Memory out is same count flushed h = inl (subst (λ (q : Heard). MayWant old q) (sym is) tt, (refl, subst (λ (w : Option (List ℕ)). Appends out.old w []) (sym same) (Appends-nil out.old)))
 
   -- the lines of a need are sent
   pub need_sent :

@@ -14,6 +14,7 @@ use Rattle.keep_report.specs.Sent.{Sent}
 use Rattle.keep_run.specs.Closed.{Exchanged, World, told_next}
 use Rattle.keep_run.specs.code.LineByLine.{IsSent}
 use Rattle.keep_run.specs.code.Playing.{Answers, AnswersAll}
+use Rattle.keep_run.specs.Hearing.{IsAskLeft}
 use Rattle.keep_run.specs.Stops.{both}
 use Rattle.keep_run.specs.code.Telling.{IsOneCut, IsRoundBroken, IsRoundCut, IsRoundSoFar, IsRoundUpTo, TellsOne, TellsRound}
 use Rattle.keep_run.specs.Text.{inventory_with}
@@ -25,7 +26,7 @@ use Rattle.keep_run.proofs.Texts.{same_answer_text}
 -- ---- a round so far
 
 -- these were asked, and those behind them were not
-pub so_far :
+abbrev pub so_far :
     (port : ℕ) (cs : List (List ℕ)) (t : ℕ) (old new : World) (asked done others : List ℕ) (next : Option ℕ) (text : List ℕ) → done ++ others ≡ asked → AnswersAll port cs t old done next new [] text →
     IsRoundSoFar port cs t old asked new text
 so_far port cs t old new asked done others next text parts a = record {
@@ -106,11 +107,12 @@ module _ (port : ℕ) (cs : List (List ℕ)) (t : ℕ) (o mid : Option Behind) (
     front = Appends-trans a.old a.new b.new h.0 (take one.1.1.1.0 one.1.0) h.1.1.0.0 (subst (λ (w : Option (List ℕ)). Appends w b.new (take one.1.1.1.0 one.1.0)) (sym same) one.1.1.1.1);
   }
 
-  broken_on : Before → Keeps b.old b.new → IsRoundBroken port cs t (both start o) asked (joined a b)
-  broken_on h none = record {
+  broken_on : (new : World) → Before → Keeps b.old b.new → IsAskLeft port cs t (both now mid) (i ∷ []) new.behind → IsRoundBroken port cs t (both start o) asked new (joined a b)
+  broken_on new h none left = record {
     told = h.0;
     mid = both now mid;
-    so_far = so_far port cs t (both start o) (both now mid) asked (take k asked) (drop k asked) next h.0 (take-append-drop k asked) h.1.0;
+    so_far = so_far port cs t (both start o) (both now mid) asked (take k asked) (i ∷ drop (k + 1) asked) next h.0 parts h.1.0;
+    left = left;
     written = Appends-kept a.old a.new b.new h.0 h.1.1.0.0 (subst (λ (w : Option (List ℕ)). Keeps w b.new) (sym same) none);
   }
 
@@ -125,5 +127,5 @@ module _ (port : ℕ) (cs : List (List ℕ)) (t : ℕ) (o mid : Option Behind) (
   stopped_on stops.Write new after h one = (subst (λ n. HasFailed n b.failed_after) (sym failures ∙ h.1.1.1) one.0, cut_on new after h one.1)
   stopped_on (stops.Broker name) new after h one = absurd one
   stopped_on (stops.Line n) new after h one = absurd one
-  stopped_on stops.Memory new after h (inl none) = inl (broken_on h none)
+  stopped_on stops.Memory new after h (inl none) = inl (broken_on (both after new) h none.0 none.1)
   stopped_on stops.Memory new after h (inr cut) = inr (cut.0, cut_on new after h cut.1)

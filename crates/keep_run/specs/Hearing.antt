@@ -1,7 +1,8 @@
 -- Hearing: what an event line comes to: what the keeper puts out, whom it asks, and the lines that say so.
 -- Source: this project's own.
-use Rattle.std.specs.Prelude.{◌≡◌, ℕ, ◌<◌, ◌⊎◌, IsTrue, true, List, [], ◌∷◌, ◌++◌, Option, Some, None, Result, Ok, Err, codes, decimal, if◌then◌else◌, map, take}
+use Rattle.std.specs.Prelude.{◌≡◌, ℕ, ◌<◌, ◌≤◌, ◌⊎◌, IsTrue, IfSome, true, List, [], ◌∷◌, ◌++◌, Option, Some, None, Result, Ok, Err, codes, decimal, if◌then◌else◌, map, take}
 use Rattle.std.specs.Io.KnownBytes.{Appends}
+use Rattle.std.specs.declared.alloc.AllocError.{AllocError}
 use Rattle.keep_core.specs.declared.event.Event.TheVariants as events
 use Rattle.keep_core.specs.declared.event.Output.{Output}
 use Rattle.keep_core.specs.declared.event.Output.TheVariants as out
@@ -9,6 +10,8 @@ use Rattle.keep_core.specs.declared.fault.StepFault.TheVariants as steps
 use Rattle.keep_core.specs.History.{Turn}
 use Rattle.keep_core.specs.State.{State}
 use Rattle.keep_device.specs.Failures.{HasFailed}
+use Rattle.keep_exchange.specs.Exchanges.{Behind}
+use Rattle.keep_exchange.specs.Requests.{Asks, request_of}
 use Rattle.keep_inventory.specs.Inventories.{Inventory}
 use Rattle.keep_report.specs.declared.stop.Stop.{Stop}
 use Rattle.keep_report.specs.declared.stop.Stop.TheVariants as stops
@@ -17,6 +20,7 @@ use Rattle.keep_run.specs.Closed.{AreAnswered, Beat, Exchanged, IsBeat, World, a
 use Rattle.keep_run.specs.declared.live.event_line.Heard.{Heard}
 use Rattle.keep_run.specs.declared.live.event_line.Heard.TheVariants.{Tick, Need, Unknown}
 use Rattle.keep_run.specs.Stops.{both}
+use Rattle.vault_http.specs.declared.reply.Reply.{Reply}
 use Rattle.keep_run.specs.Text.{answer_text, beat_text, inventory_with, line, short_lines}
 
 -- ---- lines
@@ -99,8 +103,10 @@ abbrev pub TicksUpTo : ℕ → List (List ℕ) → ℕ → World → World → L
 TicksUpTo port cs t old new told own =
     (b : Beat) × ((others : List ℕ) × ((b.at ≡ t) × (IsUnderWay port cs old b others new × IsWriting (inventory_with cs old.keeper.forest) b others told own)))
 
-abbrev pub TicksSoFar : ℕ → List (List ℕ) → ℕ → World → World → List ℕ → Type 0
-TicksSoFar port cs t old new told = (b : Beat) × ((others : List ℕ) × ((b.at ≡ t) × (IsUnderWay port cs old b others new × (told ≡ beat_text (inventory_with cs old.keeper.forest) b))))
+-- a tick at t that asks somebody, up to some answer, with its lines so far; the others were not asked
+abbrev pub TicksSoFar : ℕ → List (List ℕ) → ℕ → World → List ℕ → World → List ℕ → Type 0
+TicksSoFar port cs t old others new told =
+    (b : Beat) × ((b.at ≡ t) × ((asks_some b.output ≡ true) × (IsUnderWay port cs old b others new × (told ≡ beat_text (inventory_with cs old.keeper.forest) b))))
 
 -- an event up to a write: what it had told, and the lines of that write, which are all but for a tick that asks somebody
 abbrev pub IsHeardUpTo : ℕ → List (List ℕ) → World → Heard → World → List ℕ → List ℕ → Type 0
@@ -116,14 +122,32 @@ pub record IsCutOff (port : ℕ) (cs : List (List ℕ)) (old : World) (heard : H
   pub n : ℕ
   pub front : Appends out.old out.new (text ++ (told ++ take n own))
 
--- a tick is heard up to some answer: behind this text its lines so far are written
-pub record IsBrokenOff (port : ℕ) (cs : List (List ℕ)) (old : World) (heard : Heard) (text : List ℕ) (out : Sent) : Type 0 where
+-- where memory was wanting, and the table is known: the exchange is as it was, or as asking the first of these at t has left it
+abbrev pub IsAskLeft : ℕ → List (List ℕ) → ℕ → World → List ℕ → Option Behind → Type 0
+IsAskLeft port cs t old [] new = new ≡ old.behind
+IsAskLeft port cs t old (i ∷ others) new =
+    (new ≡ old.behind) ⊎ IfSome old.behind (λ b. (came : Result (Option Reply) AllocError) × Asks b t (request_of port cs old.keeper.forest i) came new)
+
+-- a tick is heard up to some answer: behind this text its lines so far are written, and nobody was asked behind it, or the next was
+pub record IsBrokenOff (port : ℕ) (cs : List (List ℕ)) (old : World) (heard : Heard) (new : World) (text : List ℕ) (out : Sent) : Type 0 where
   pub t : ℕ
   pub is : heard ≡ Tick t
   pub told : List ℕ
   pub mid : World
-  pub so_far : TicksSoFar port cs t old mid told
+  pub others : List ℕ
+  pub so_far : TicksSoFar port cs t old others mid told
   pub written : Appends out.old out.new (text ++ told)
+  pub left : IsAskLeft port cs t mid others new.behind
+
+-- whether hearing an event may ask for memory before anybody is asked: a tick that is not before the last moment, and a need
+abbrev pub MayWant : State → Heard → Type 0
+MayWant old (Tick t) = old.last ≤ t
+MayWant old (Need i until) = Unit {0}
+MayWant old Unknown = ⊥
+
+-- memory was wanting before anybody was asked: nothing is written, and the exchange is as it was
+abbrev pub IsWanting : World → Heard → World → Sent → Type 0
+IsWanting old heard new out = MayWant old.keeper heard × ((new.behind ≡ old.behind) × Appends out.old out.new [])
 
 -- the plan with a new need would be too long, and nothing is changed
 abbrev pub IsOverlong : World → Heard → World → Type 0
@@ -137,5 +161,5 @@ HearsTo port cs old heard (Ok u) new out = (text : List ℕ) × (IsHeard port cs
 HearsTo port cs old heard (Err stops.TooLong) new out = IsOverlong old heard new × IsUntouched out
 HearsTo port cs old heard (Err stops.Write) new out = HasFailed out.failed_before out.failed_after × IsCutOff port cs old heard new [] out
 HearsTo port cs old heard (Err stops.Memory) new out =
-    Appends out.old out.new [] ⊎ (IsBrokenOff port cs old heard [] out ⊎ (IsTrue out.is_in_memory × IsCutOff port cs old heard new [] out))
+    IsWanting old heard new out ⊎ (IsBrokenOff port cs old heard new [] out ⊎ (IsTrue out.is_in_memory × IsCutOff port cs old heard new [] out))
 HearsTo port cs old heard (Err stop) new out = ⊥

@@ -58,8 +58,8 @@ abbrev pub IsCutShort : ℕ → List (List ℕ) → World → List ℕ → World
 IsCutShort port cs old line new text out = (says : Heard) × ((heard_in old.keeper.forest line ≡ Some says) × IsCutOff port cs old says new text out)
 
 -- the line is a tick that is heard up to some answer
-abbrev pub IsBrokenShort : ℕ → List (List ℕ) → World → List ℕ → List ℕ → Sent → Type 0
-IsBrokenShort port cs old line text out = (says : Heard) × ((heard_in old.keeper.forest line ≡ Some says) × IsBrokenOff port cs old says text out)
+abbrev pub IsBrokenShort : ℕ → List (List ℕ) → World → List ℕ → World → List ℕ → Sent → Type 0
+IsBrokenShort port cs old line new text out = (says : Heard) × ((heard_in old.keeper.forest line ≡ Some says) × IsBrokenOff port cs old says new text out)
 
 -- why a run stops behind the lines of this text, at the piece that stands first, which would be the line of that number
 abbrev pub Halts : ℕ → List (List ℕ) → ℕ → World → List (List ℕ) → List ℕ → Stop → World → Type 0 → Sent → Type 0
@@ -68,8 +68,8 @@ Halts port cs number old behind text stops.TooLong new HasEnded out = (line : Li
 Halts port cs number old behind text stops.Write new HasEnded out =
     HasFailed out.failed_before out.failed_after × ((line : List ℕ) × ((whole_line behind ≡ Some line) × IsCutShort port cs old line new text out))
 Halts port cs number old behind text stops.Memory new HasEnded out =
-    Appends out.old out.new text
-    ⊎ ((line : List ℕ) × ((whole_line behind ≡ Some line) × (IsBrokenShort port cs old line text out ⊎ (IsTrue out.is_in_memory × IsCutShort port cs old line new text out))))
+    ((new.behind ≡ old.behind) × Appends out.old out.new text)
+    ⊎ ((line : List ℕ) × ((whole_line behind ≡ Some line) × (IsBrokenShort port cs old line new text out ⊎ (IsTrue out.is_in_memory × IsCutShort port cs old line new text out))))
 Halts port cs number old behind text stop new HasEnded out = ⊥
 
 -- ---- the events

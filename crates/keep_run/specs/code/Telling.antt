@@ -11,7 +11,7 @@ use Rattle.keep_report.specs.declared.stop.Stop.TheVariants as stops
 use Rattle.keep_report.specs.Sent.{Sent}
 use Rattle.keep_run.specs.Closed.{AreAnswered, Exchanged, World}
 use Rattle.keep_run.specs.code.LineByLine.{IsSent}
-use Rattle.keep_run.specs.Hearing.{IsOverlong}
+use Rattle.keep_run.specs.Hearing.{IsAskLeft, IsOverlong}
 use Rattle.keep_run.specs.declared.live.event_line.Heard.{Heard}
 use Rattle.keep_run.specs.code.Playing.{Answers, AnswersAll}
 use Rattle.keep_run.specs.Text.{answer_text, inventory_with}
@@ -26,7 +26,7 @@ IsOneCut port cs t old i new out = (output : Output) × ((text : List ℕ) × (A
 abbrev pub TellsOne : ℕ → List (List ℕ) → ℕ → World → ℕ → Result Output Stop → World → Sent → Type 0
 TellsOne port cs t old i (Ok output) new out = (text : List ℕ) × (Answers port cs t old i output new [] text × IsSent text out)
 TellsOne port cs t old i (Err stops.Write) new out = HasFailed out.failed_before out.failed_after × IsOneCut port cs t old i new out
-TellsOne port cs t old i (Err stops.Memory) new out = Keeps out.old out.new ⊎ (IsTrue out.is_in_memory × IsOneCut port cs t old i new out)
+TellsOne port cs t old i (Err stops.Memory) new out = (Keeps out.old out.new × IsAskLeft port cs t old (i ∷ []) new.behind) ⊎ (IsTrue out.is_in_memory × IsOneCut port cs t old i new out)
 TellsOne port cs t old i (Err stop) new out = ⊥
 
 -- ---- a round
@@ -57,18 +57,19 @@ pub record IsRoundCut (port : ℕ) (cs : List (List ℕ)) (t : ℕ) (old : World
   pub n : ℕ
   pub front : Appends out.old out.new (told ++ take n own)
 
--- the lines of some answers were written
-pub record IsRoundBroken (port : ℕ) (cs : List (List ℕ)) (t : ℕ) (old : World) (asked : List ℕ) (out : Sent) : Type 0 where
+-- the lines of some answers were written, and nobody was asked behind them, or the next was
+pub record IsRoundBroken (port : ℕ) (cs : List (List ℕ)) (t : ℕ) (old : World) (asked : List ℕ) (new : World) (out : Sent) : Type 0 where
   pub told : List ℕ
   pub mid : World
   pub so_far : IsRoundSoFar port cs t old asked mid told
+  pub left : IsAskLeft port cs t mid so_far.others new.behind
   pub written : Appends out.old out.new told
 
 -- what a round comes to: the lines of each answer were written and flushed before the next was asked, or why not
 abbrev pub TellsRound : ℕ → List (List ℕ) → ℕ → World → List ℕ → Result (Option ℕ) Stop → World → Sent → Type 0
 TellsRound port cs t old asked (Ok next) new out = (text : List ℕ) × (AnswersAll port cs t old asked next new [] text × IsSent text out)
 TellsRound port cs t old asked (Err stops.Write) new out = HasFailed out.failed_before out.failed_after × IsRoundCut port cs t old asked new out
-TellsRound port cs t old asked (Err stops.Memory) new out = IsRoundBroken port cs t old asked out ⊎ (IsTrue out.is_in_memory × IsRoundCut port cs t old asked new out)
+TellsRound port cs t old asked (Err stops.Memory) new out = IsRoundBroken port cs t old asked new out ⊎ (IsTrue out.is_in_memory × IsRoundCut port cs t old asked new out)
 TellsRound port cs t old asked (Err stop) new out = ⊥
 
 -- ---- a need

@@ -1,10 +1,11 @@
 //! Event lines as they come: they are read in pieces, cut at their line feeds, and heard one after another.
-ghost use Rattle.std.specs.Prelude.{◌≡◌, ◌+◌, ◌∷◌, [], ◌<◌, ◌≤◌, IfOk, IsTrue, OnOk, drop, length};
+ghost use Rattle.std.specs.Prelude.{◌≡◌, ◌+◌, ◌∷◌, [], ◌<◌, ◌≤◌, IfOk, IsErrOf, IsSome, IsTrue, OnOk, drop, length};
 ghost use Rattle.std.specs.Result.{IfErr};
 ghost use Rattle.std.specs.Io.KnownBytes.{Keeps};
 ghost use Rattle.keep_report.specs.declared.stop.Stop.TheVariants as stops;
 ghost use Rattle.keep_run.specs.declared.live.event_line.TheConstants.{MOST_LINE};
 ghost use Rattle.keep_run.specs.code.LineByLine.{HaltsWithin, HearsLine, HearsUpTo};
+ghost use Rattle.keep_run.specs.EventLines.{heard_in};
 ghost use Rattle.keep_run.specs.Listening.{Listens};
 ghost use Rattle.keep_run.specs.Hearing.{IsReady};
 ghost use Rattle.keep_run.specs.Stops.{both};
@@ -171,6 +172,7 @@ fn hear_line<E: Exchange, W: Sink>(
 ) -> Result<(), Stop>
     requires ready { IsReady agent.old.keeper }
     requires flushed { IsTrue (W.is_flushed out.old) }
+    ensures event { IsErrOf result stops.Memory → IsSome (heard_in agent.old.keeper.forest line.now) }
     ensures hears { HearsLine (E.host_port exchange.old) agent.old.credentials number (both agent.old.keeper (E.behind exchange.old)) line.now result (both agent.new.keeper (E.behind exchange.new)) (⟦<W as Watched>⟧.sent out.old out.new) }
     ensures ready { OnOk result (IsReady agent.new.keeper) }
     ensures credentials { agent.new.credentials ≡ agent.old.credentials }

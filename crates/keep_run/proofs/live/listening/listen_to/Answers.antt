@@ -150,7 +150,7 @@ returns-in_err-extend_from_slice-clause-listens g c =
     let length_first = c.requires.room in
     let fits : length c.read_some.new.buf ≡ 4096 = omega arith in
     handed_on c.from_residual.result stops.Memory (λ (r : Result (Unit {0}) Stop). Listens port cs old r now after a) c.from_residual.ensures
-    (no_memory port cs old c.loop.counter c.loop.pending.items c.loop.left now c.loop.lines fed a here rest reads failures c.read_some.new.buf c.in-Ok.n c.in-Ok.ensures.bytes.0 c.in-Ok.ensures.made c.in-Ok.ensures.count c.in-Ok.ensures.bound fits c.loop-test.true now)
+    (no_memory port cs old c.loop.counter c.loop.pending.items c.loop.left now c.loop.lines fed a here rest reads failures c.read_some.new.buf c.in-Ok.n c.in-Ok.ensures.bytes.0 c.in-Ok.ensures.made c.in-Ok.ensures.count c.in-Ok.ensures.bound fits c.loop-test.true now refl)
 
 pub returns-in_err-hear_pending-clause-listens : goal.returns-in_err-hear_pending-clause-listens
 returns-in_err-hear_pending-clause-listens g c =
