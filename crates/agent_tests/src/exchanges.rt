@@ -95,7 +95,7 @@ fn drops_a_reply(rt: HostRuntime) -> Result<(), Fail> {
     let mut exchange = MemoryExchange::new(rt.alloc(), dropping);
     let cut = ExchangeFault::Http(HttpFault::Truncated);
     fails_with(&rt, &mut exchange, cut, 0)?;
-    assert!(rt; exchange.wire() == &WIRE[..172]);
+    assert!(rt; exchange.wire().is_empty());
     assert!(rt; exchange.table().end_of(b"web") == Some(1119));
     Ok(())
 }
