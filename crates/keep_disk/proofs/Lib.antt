@@ -1,0 +1,2 @@
+pub mod Moments
+mod Runs

@@ -1,0 +1,101 @@
+-- Memory: a disk in memory is the files that it began with, and what its calls did to them.
+-- Source: this project's own.
+use Rattle.std.specs.Prelude.{◌≡◌, ◌⊎◌, ℕ, zero, suc, ◌+◌, ◌≤◌, List, [], ◌∷◌, ◌++◌, Vec, Result, Ok, Err, Option, None, Some, Bool, true, false, if◌then◌else◌}
+use mathlib.Core.Logic.{inl, inr}
+use Rattle.std.specs.Str.{bytes_eq}
+use Rattle.keep_disk.specs.Image.{File, Image}
+use Rattle.keep_disk.specs.State.{State, Beside}
+use Rattle.keep_disk.specs.History.{after, after_all}
+use Rattle.keep_disk.specs.declared.call.Stored.{Stored}
+use Rattle.keep_disk.specs.declared.call.Call.{Call}
+use Rattle.keep_disk.specs.declared.call.Held.{Held}
+use Rattle.std.specs.declared.alloc.Global.{Global}
+use Rattle.keep_disk.specs.declared.call.What.{What}
+use Rattle.keep_disk.specs.declared.fault.DiskFault.{DiskFault}
+use Rattle.keep_disk.specs.declared.fault.DiskFault.TheVariants as faults
+use Rattle.keep_disk.specs.declared.failing.Failing.{Failing}
+use Rattle.keep_disk.specs.declared.failing.Failing.TheVariants as failing
+use Rattle.keep_disk.specs.declared.fault.Why.{Why}
+use Rattle.keep_disk.specs.declared.memory.MemoryDisk.{MemoryDisk}
+use Rattle.keep_disk.specs.declared.call.Draft.{Draft}
+
+-- a file that code holds
+abbrev pub held : Option Held → Option File
+held None = None
+held (Some file) = Some (record { mode = file.mode; bytes = file.bytes.items })
+
+-- the files as they stood before the first call
+abbrev pub image_of : List Stored → Image
+image_of [] path = None
+image_of (stored ∷ rest) path = if bytes_eq stored.path.items path then held (Some stored.file) else image_of rest path
+
+abbrev pub beside_of : Option Draft → Option Beside
+beside_of None = None
+beside_of (Some draft) = Some (record { path = draft.path.items; file = record { mode = draft.file.mode; bytes = draft.file.bytes.items }; is_synced = draft.is_synced })
+
+-- all of them on the disk
+abbrev pub at_first : Image → Why → State
+at_first image why = record {
+  seen = image;
+  beside = None;
+  is_sound = λ path. true;
+  may_leave = λ c. c ≡ image;
+  moment = 0;
+  left_since = λ t c. (t ≤ 0) × (c ≡ image);
+  faults = 0;
+  fault = why;
+}
+
+-- what these calls made of these files
+abbrev pub state_of : List Call → List Stored → Option Draft → ℕ → Why → State
+state_of calls files beside faults fault = record (after_all calls (at_first (image_of files) fault)) { beside = beside_of beside; faults = faults; fault = fault }
+
+abbrev pub memory_state : MemoryDisk → State
+memory_state m = state_of m.calls.items m.files.items m.beside m.faults m.fault
+
+-- but for its calls and their failures, a disk is as it was
+pub record IsSame (old new : MemoryDisk) : Type 0 where
+  pub files : new.files.items ≡ old.files.items
+  pub beside : new.beside ≡ old.beside
+  pub fault : new.fault ≡ old.fault
+
+-- one call more was made, on this path
+pub record HasEntered (path : List ℕ) (what : What) (old new : MemoryDisk) : Type 0 where
+  pub name : Vec ℕ Global
+  pub name_is : name.items ≡ path
+  pub calls : new.calls.items ≡ old.calls.items ++ record { path = name; what = what } ∷ []
+
+-- a call is entered unless there was no memory for it
+abbrev pub Enters : List ℕ → What → MemoryDisk → MemoryDisk → Result Unit DiskFault → Type 0
+Enters path what old new (Err faults.OutOfMemory) = new.calls.items ≡ old.calls.items
+Enters path what old new answer = HasEntered path what old new
+
+-- whether the call whose turn it is fails, and what is to fail after it
+abbrev pub is_turn : Failing → Bool
+is_turn failing.Never = false
+is_turn (failing.Once zero) = true
+is_turn (failing.Once (suc n)) = false
+is_turn (failing.From zero) = true
+is_turn (failing.From (suc n)) = false
+
+abbrev pub next_turn : Failing → Failing
+next_turn failing.Never = failing.Never
+next_turn (failing.Once zero) = failing.Never
+next_turn (failing.Once (suc n)) = failing.Once n
+next_turn (failing.From zero) = failing.From zero
+next_turn (failing.From (suc n)) = failing.From n
+
+-- nothing has happened yet: these files are on the disk, and no call has failed
+pub record IsFirst (image : Image) (why : Why) (s : State) : Type 0 where
+  pub seen : s.seen ≡ image
+  pub beside : s.beside ≡ None
+  pub sound : (path : List ℕ) → s.is_sound path ≡ true
+  pub durable : (c : Image) → s.may_leave c → c ≡ image
+  pub faults : s.faults ≡ 0
+  pub fault : s.fault ≡ why
+
+-- a crash at this moment counts as one since any moment before, and of the present moment there is no other
+pub record IsLawful (s : State) : Type 0 where
+  pub counts : (t : ℕ) (c : Image) → t ≤ s.moment → s.may_leave c → s.left_since t c
+  pub only : (t : ℕ) (c : Image) → s.moment ≤ t → s.left_since t c → s.may_leave c
+  pub none_later : (t : ℕ) (c : Image) → s.left_since t c → t ≤ s.moment

@@ -1,0 +1,34 @@
+-- What the trait asks of the moments of a disk in memory.
+use Rattle.std.specs.Prelude.{◌≡◌, ◌⊎◌, ℕ, ◌+◌, ◌≤◌, List, [], ◌∷◌}
+use Rattle.std.proofs.Common.{inl, inr, ⊎_elim, le_trans, le_of_lt, lt-suc_self}
+use Rattle.std.proofs.Math.Nat.{not-suc-le_self}
+use Rattle.keep_disk.specs.Image.{Image}
+use Rattle.keep_disk.specs.State.{State}
+use Rattle.keep_disk.specs.History.{after, after_all}
+use Rattle.keep_disk.specs.Memory.{at_first, image_of, memory_state, IsLawful}
+use Rattle.keep_disk.specs.declared.call.Call.{Call}
+use Rattle.keep_disk.specs.declared.fault.Why.{Why}
+use Rattle.keep_disk.specs.declared.memory.MemoryDisk.{MemoryDisk}
+
+lawful_first : (image : Image) (why : Why) → IsLawful (at_first image why)
+lawful_first image why = record {
+  counts = λ t c le now. (le, now);
+  only = λ t c le left. left.1;
+  none_later = λ t c left. left.0;
+}
+
+lawful_after : (call : Call) (s : State) → IsLawful s → IsLawful (after call s)
+lawful_after call s laws = record {
+  counts = λ t c le now. inr (le, now);
+  only = λ t c le left. ⊎_elim (λ was. absurd (not-suc-le_self s.moment (le_trans le (laws.none_later t c was)))) (λ now. now.1) left;
+  none_later = λ t c left. ⊎_elim (λ was. le_trans (laws.none_later t c was) (le_of_lt (lt-suc_self s.moment))) (λ now. now.0) left;
+}
+
+lawful_all : (calls : List Call) (s : State) → IsLawful s → IsLawful (after_all calls s)
+lawful_all [] s laws = laws
+lawful_all (call ∷ calls) s laws = lawful_all calls (after call s) (lawful_after call s laws)
+
+pub memory_lawful : (m : MemoryDisk) → IsLawful (memory_state m)
+memory_lawful m =
+    let laws = lawful_all m.calls.items (at_first (image_of m.files.items) m.fault) (lawful_first (image_of m.files.items) m.fault) in
+    record { counts = laws.counts; only = laws.only; none_later = laws.none_later }

@@ -1,0 +1,23 @@
+//! A disk: files at paths that are read, written, cut, synced and replaced, and what a crash at any moment may leave of them.
+//!
+//! The contract for the layers above is the trait [`Disk`] over one record, `specs/State.antt`; [`replace`] makes a file anew.
+//! Begin with `specs/Image.antt` and `specs/Torn.antt`, what a crash makes of a call that was under way.
+#![tactic(auto)]
+
+mod call;
+mod content;
+mod disk;
+mod failing;
+mod fault;
+mod memory;
+mod places;
+mod replacing;
+mod system;
+
+pub use call::{Call, Draft, Held, Stored, What};
+pub use disk::{Disk, Stamp};
+pub use failing::Failing;
+pub use fault::{DiskFault, Why};
+pub use memory::MemoryDisk;
+pub use replacing::replace;
+pub use system::{FILE_MODE, FOLDER_MODE, SystemDisk};

@@ -1,0 +1,238 @@
+ghost use Rattle.std.specs.Prelude.{◌≡◌, false};
+ghost use Rattle.keep_disk.specs.State.{Tells};
+ghost use Rattle.keep_disk.specs.System.{system_state, refused};
+
+use crate::places::{beside_of, folder_of};
+use crate::{Disk, DiskFault, Stamp, Why};
+use keep_device::{Counted, InputFault, read_all};
+use keep_moment::Text;
+use std::alloc::Global;
+use std::fs::{self, DirBuilder, File, OpenOptions, Permissions, TryLockError};
+use std::io::{self, ErrorKind, Write};
+use std::os::unix::fs::{DirBuilderExt, FileExt, MetadataExt, OpenOptionsExt, PermissionsExt};
+use std::rt::Files;
+
+/// The permission bits of a file that holds secrets.
+pub const FILE_MODE: u32 = 0o600;
+
+/// The permission bits of a folder that holds such files.
+pub const FOLDER_MODE: u32 = 0o700;
+
+/// The disks of the system, of which contracts know nothing.
+///
+/// Each call opens the file by its path and closes it. A file that is moved to its place is on the disk once the folder is
+/// synced: that is done by the next sync of the path.
+#[derive(Drop)]
+pub struct SystemDisk<'a, R> {
+    rt: &'a R,
+    faults: u64,
+    fault: Why,
+    // A file was moved to this path, and its folder is not synced yet.
+    moved: Option<String>,
+    // Held until the process ends.
+    locks: Vec<File>,
+}
+
+impl<'a, R: Files<File = File> + AllocGlobal> SystemDisk<'a, R> {
+    /// The disks of the system.
+    pub fn new(rt: &'a R) -> SystemDisk<'a, R> {
+        SystemDisk {
+            rt,
+            faults: 0,
+            fault: Why::Other,
+            moved: None,
+            locks: Vec::new(rt.alloc()),
+        }
+    }
+
+    /// Makes the folder at `path` with mode 0700 where there is none.
+    pub fn make_folder(&mut self, path: &str) -> Result<(), DiskFault>
+        ensures cause { Tells (system_state self.old.faults self.old.fault) (system_state self.new.faults self.new.fault) result }
+    {
+        match DirBuilder::new().mode(FOLDER_MODE).create(self.rt, path) {
+            Err(error) if error.kind() != ErrorKind::AlreadyExists => Err(self.fail(&error)),
+            _ => Ok(()),
+        }
+    }
+
+    /// Counts a call that failed, but for want of memory.
+    fn fail(&mut self, error: &io::Error) -> DiskFault
+        ensures { Tells (system_state self.old.faults self.old.fault) (system_state self.new.faults self.new.fault) (refused result) }
+    {
+        let why = match error.kind() {
+            ErrorKind::OutOfMemory => return DiskFault::OutOfMemory,
+            ErrorKind::StorageFull | ErrorKind::QuotaExceeded => Why::Full,
+            ErrorKind::ReadOnlyFilesystem => Why::ReadOnly,
+            ErrorKind::PermissionDenied => Why::Denied,
+            ErrorKind::NotFound => Why::Missing,
+            _ => Why::Other,
+        };
+        self.faults = self.faults.saturating_add(1);
+        self.fault = why;
+        DiskFault::Failed(why)
+    }
+
+    /// What the system answered.
+    fn answer<T: Drop>(&mut self, answer: io::Result<T>) -> Result<T, DiskFault>
+        ensures { Tells (system_state self.old.faults self.old.fault) (system_state self.new.faults self.new.fault) result }
+    {
+        match answer {
+            Ok(x) => Ok(x),
+            Err(error) => Err(self.fail(&error)),
+        }
+    }
+
+    fn open_to_write(&self, path: &str) -> io::Result<File> {
+        OpenOptions::new().write(true).open(self.rt, path)
+    }
+
+    fn try_write_beside(&self, path: &str, mode: u32, bytes: &[u8]) -> io::Result<()> {
+        let beside = beside_of(self.rt.alloc(), path)?;
+        match fs::remove_file(self.rt, beside.as_str()) {
+            Err(error) if error.kind() != ErrorKind::NotFound => return Err(error),
+            _ => {}
+        }
+        let mut file = OpenOptions::new()
+            .write(true)
+            .create_new(true)
+            .mode(mode)
+            .open(self.rt, beside.as_str())?;
+        // The process's umask may have taken bits away.
+        file.set_permissions(Permissions::from_mode(mode))?;
+        file.write_all(bytes)
+    }
+
+    fn try_sync_beside(&self, path: &str) -> io::Result<()> {
+        let beside = beside_of(self.rt.alloc(), path)?;
+        self.open_to_write(beside.as_str())?.sync_all()
+    }
+
+    fn sync_folder(&self, path: &str) -> io::Result<()> {
+        File::open(self.rt, folder_of(path))?.sync_all()
+    }
+
+    // One move at a time waits for its folder.
+    fn try_move_beside(&mut self, path: &str) -> io::Result<()>
+        ensures faults { self.new.faults ≡ self.old.faults }
+        ensures fault { self.new.fault ≡ self.old.fault }
+    {
+        if let Some(before) = &self.moved {
+            self.sync_folder(before.as_str())?;
+        }
+        let beside = beside_of(self.rt.alloc(), path)?;
+        self.moved = Some(String::from_str(self.rt.alloc(), path)?);
+        fs::rename(self.rt, beside.as_str(), path)
+    }
+
+    fn try_sync(&mut self, path: &str) -> io::Result<()>
+        ensures faults { self.new.faults ≡ self.old.faults }
+        ensures fault { self.new.fault ≡ self.old.fault }
+    {
+        self.open_to_write(path)?.sync_all()?;
+        if let Some(moved) = &self.moved {
+            self.sync_folder(moved.as_str())?;
+            self.moved = None;
+        }
+        Ok(())
+    }
+
+    fn try_lock(&mut self, path: &str) -> io::Result<bool>
+        ensures faults { self.new.faults ≡ self.old.faults }
+        ensures fault { self.new.fault ≡ self.old.fault }
+    {
+        let file = OpenOptions::new()
+            .write(true)
+            .create(true)
+            .mode(FILE_MODE)
+            .open(self.rt, path)?;
+        match file.try_lock() {
+            Ok(()) => {}
+            Err(TryLockError::WouldBlock) => return Ok(false),
+            Err(TryLockError::Error(error)) => return Err(error),
+        }
+        self.locks.push(file)?;
+        Ok(true)
+    }
+}
+
+/// The stamp of the file at a path, `None` where there is none.
+fn stamp_of<R: Files>(rt: &R, path: &str) -> io::Result<Option<Stamp>> {
+    match fs::metadata(rt, path) {
+        Ok(found) => Ok(Some(Stamp {
+            modified: (found.mtime(), found.mtime_nsec()),
+            size: found.len(),
+            mode: found.mode() & 0o7777,
+            is_regular: found.is_file(),
+        })),
+        Err(error) if error.kind() == ErrorKind::NotFound => Ok(None),
+        Err(error) => Err(error),
+    }
+}
+
+impl<'a, R: Files<File = File> + AllocGlobal> Disk for SystemDisk<'a, R> {
+    ghost is_known = { false };
+
+    ghost state = { λ d. system_state d.faults d.fault };
+
+    ghost counts_now = { λ d t c le now. now };
+
+    ghost only_now = { λ d c left. left };
+
+    fn read(&mut self, alloc: Global, path: &str, max: usize) -> Result<Option<Text>, DiskFault> {
+        let file = match File::open(self.rt, path) {
+            Ok(file) => file,
+            Err(error) if error.kind() == ErrorKind::NotFound => return Ok(None),
+            Err(error) => return Err(self.fail(&error)),
+        };
+        match read_all(alloc, &mut Counted::new(file), max) {
+            Ok(text) => Ok(Some(text)),
+            Err(InputFault::TooLong) => Err(DiskFault::TooLong),
+            Err(InputFault::OutOfMemory) => Err(DiskFault::OutOfMemory),
+            Err(InputFault::ReadFailed) => Err(self.fail(&ErrorKind::Other.into())),
+        }
+    }
+
+    fn stamp(&mut self, path: &str) -> Result<Option<Stamp>, DiskFault> {
+        let found = stamp_of(self.rt, path);
+        self.answer(found)
+    }
+
+    fn write_at(&mut self, path: &str, at: usize, bytes: &[u8]) -> Result<(), DiskFault> {
+        let written = self
+            .open_to_write(path)
+            .and_then(|file| file.write_all_at(bytes, at as u64));
+        self.answer(written)
+    }
+
+    fn cut(&mut self, path: &str, len: usize) -> Result<(), DiskFault> {
+        let cut = self
+            .open_to_write(path)
+            .and_then(|file| file.set_len(len as u64));
+        self.answer(cut)
+    }
+
+    fn sync(&mut self, path: &str) -> Result<(), DiskFault> {
+        let synced = self.try_sync(path);
+        self.answer(synced)
+    }
+
+    fn write_beside(&mut self, path: &str, mode: u32, bytes: &[u8]) -> Result<(), DiskFault> {
+        let written = self.try_write_beside(path, mode, bytes);
+        self.answer(written)
+    }
+
+    fn sync_beside(&mut self, path: &str) -> Result<(), DiskFault> {
+        let synced = self.try_sync_beside(path);
+        self.answer(synced)
+    }
+
+    fn move_beside(&mut self, path: &str) -> Result<(), DiskFault> {
+        let moved = self.try_move_beside(path);
+        self.answer(moved)
+    }
+
+    fn lock(&mut self, path: &str) -> Result<bool, DiskFault> {
+        let held = self.try_lock(path);
+        self.answer(held)
+    }
+}
