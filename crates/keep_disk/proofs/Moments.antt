@@ -1,5 +1,5 @@
 -- How a run of calls of a disk goes on.
-use Rattle.std.proofs.Common.{◌≡◌, inl, inr, ⊎_elim, ℕ, ◌≤◌, arith}
+use Rattle.std.proofs.Common.{inl, inr, ⊎_elim, arith}
 use Rattle.keep_disk.specs.Image.{Image}
 use Rattle.keep_disk.specs.State.{State, Elapses, LeavesOnly}
 

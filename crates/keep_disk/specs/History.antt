@@ -1,6 +1,6 @@
 -- History: the calls of a disk in memory, and what each does to what is known of it.
 -- Source: this project's own.
-use Rattle.std.specs.Prelude.{◌≡◌, ◌⊎◌, ℕ, suc, ◌/◌, ◌≤◌, List, [], ◌∷◌, length, take, Option, None, Some, Bool, true, false, if◌then◌else◌}
+use Rattle.std.specs.Prelude.{◌≡◌, ◌⊎◌, ℕ, suc, ◌/◌, ◌≤◌, List, [], ◌∷◌, length, take, Option, Some, Bool, true, false, if◌then◌else◌}
 use Rattle.std.specs.Str.{bytes_eq}
 use Rattle.keep_disk.specs.Image.{File, Image, changed, with_bytes, overwritten}
 use Rattle.keep_disk.specs.Torn.{Torn, Cut, Tears, Moves}

@@ -1,6 +1,6 @@
 -- Image: what stands on a disk, a file or none at each path.
 -- Source: this project's own.
-use Rattle.std.specs.Prelude.{◌≡◌, ℕ, ◌+◌, List, ◌++◌, length, take, drop, Option, None, Some, Bool, false, if◌then◌else◌}
+use Rattle.std.specs.Prelude.{◌≡◌, ℕ, ◌+◌, List, ◌++◌, length, take, drop, Option, None, Some, false, if◌then◌else◌}
 use Rattle.std.specs.Str.{bytes_eq}
 
 -- the permission bits and the bytes of a file

@@ -1,11 +1,10 @@
 -- Memory: a disk in memory is the files that it began with, and what its calls did to them.
 -- Source: this project's own.
-use Rattle.std.specs.Prelude.{◌≡◌, ◌⊎◌, ℕ, zero, suc, ◌+◌, ◌≤◌, List, [], ◌∷◌, ◌++◌, Vec, Result, Ok, Err, Option, None, Some, Bool, true, false, if◌then◌else◌}
-use mathlib.Core.Logic.{inl, inr}
+use Rattle.std.specs.Prelude.{◌≡◌, ℕ, zero, suc, ◌≤◌, List, [], ◌∷◌, ◌++◌, Vec, Result, Err, Option, None, Some, Bool, true, false, if◌then◌else◌}
 use Rattle.std.specs.Str.{bytes_eq}
 use Rattle.keep_disk.specs.Image.{File, Image}
 use Rattle.keep_disk.specs.State.{State, Beside}
-use Rattle.keep_disk.specs.History.{after, after_all}
+use Rattle.keep_disk.specs.History.{after_all}
 use Rattle.keep_disk.specs.declared.call.Stored.{Stored}
 use Rattle.keep_disk.specs.declared.call.Call.{Call}
 use Rattle.keep_disk.specs.declared.call.Held.{Held}

@@ -1,6 +1,6 @@
 -- What the trait asks of the moments of a disk in memory.
-use Rattle.std.specs.Prelude.{◌≡◌, ◌⊎◌, ℕ, ◌+◌, ◌≤◌, List, [], ◌∷◌}
-use Rattle.std.proofs.Common.{inl, inr, ⊎_elim, le_trans, le_of_lt, lt-suc_self}
+use Rattle.std.specs.Prelude.{List, [], ◌∷◌}
+use Rattle.std.proofs.Common.{inr, ⊎_elim, le_trans, le_of_lt, lt-suc_self}
 use Rattle.std.proofs.Math.Nat.{not-suc-le_self}
 use Rattle.keep_disk.specs.Image.{Image}
 use Rattle.keep_disk.specs.State.{State}

@@ -1,9 +1,9 @@
 -- State: all that contracts know of a disk.
 -- Source: this project's own.
-use Rattle.std.specs.Prelude.{◌≡◌, ◌⊎◌, ℕ, ◌≤◌, List, Bool, true, false, Option, None, Some, Result, Ok, Err}
+use Rattle.std.specs.Prelude.{◌≡◌, ◌⊎◌, ℕ, ◌≤◌, List, Bool, true, false, Option, Some, Result, Ok, Err}
 use Rattle.std.specs.Str.{bytes_eq}
 use Rattle.keep_device.specs.Failures.{one_more}
-use Rattle.keep_disk.specs.Image.{Image, File, placed, SameElsewhere}
+use Rattle.keep_disk.specs.Image.{Image, File, SameElsewhere}
 use Rattle.keep_disk.specs.Torn.{Moves}
 use Rattle.keep_disk.specs.declared.fault.Why.{Why}
 use Rattle.keep_disk.specs.declared.fault.DiskFault.{DiskFault}

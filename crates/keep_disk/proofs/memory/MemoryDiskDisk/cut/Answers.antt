@@ -1,4 +1,4 @@
-use Rattle.std.proofs.Common.{sym, ◌∙◌, ap, subst, not}
+use Rattle.std.proofs.Common.{◌∙◌, ap, not}
 use Rattle.std.proofs.lemmas.Result.{on_ok_weaker}
 use Rattle.keep_disk.specs.declared.call.What.TheVariants as what
 use Rattle.keep_disk.proofs.Runs.{touches, elapses, at_ok, was_cut, cut_crash}

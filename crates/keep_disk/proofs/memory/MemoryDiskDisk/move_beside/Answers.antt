@@ -1,4 +1,4 @@
-use Rattle.std.proofs.Common.{◌≡◌, sym, ◌∙◌, ap, subst, not, true, ℕ, List, Option, Some}
+use Rattle.std.proofs.Common.{◌≡◌, sym, ◌∙◌, ap, subst, not, true, Option}
 use Rattle.std.proofs.lemmas.Result.{on_ok_weaker}
 use Rattle.keep_disk.specs.Image.{File, placed}
 use Rattle.keep_disk.specs.Torn.{Moves}

@@ -1,4 +1,4 @@
-use Rattle.std.proofs.Common.{◌≡◌, ℕ, List, length, sym, ◌∙◌, ap, subst, not}
+use Rattle.std.proofs.Common.{◌≡◌, ℕ, List, length, ◌∙◌, ap, subst, not}
 use Rattle.std.proofs.lemmas.Result.{on_ok_weaker}
 use Rattle.keep_disk.specs.Image.{changed, with_bytes, overwritten}
 use Rattle.keep_disk.specs.Torn.{Torn, Tears}
