@@ -4,6 +4,7 @@ from __future__ import annotations
 
 import asyncio
 import contextlib
+import errno
 import os
 import signal
 from dataclasses import dataclass
@@ -104,19 +105,48 @@ async def _front(stream: asyncio.StreamReader) -> str:
     return "".join(letter if " " <= letter <= "~" else "?" for letter in line)
 
 
+class _Streams(asyncio.subprocess.SubprocessStreamProtocol):
+    """The streams of a process. One of which nobody would be told when it ends is ended as soon as it is there."""
+
+    is_given_up = False
+
+    def connection_made(self, transport: asyncio.BaseTransport) -> None:
+        if self.is_given_up:
+            assert isinstance(transport, asyncio.SubprocessTransport)
+            kill_session(transport.get_pid())
+            transport.close()
+        else:
+            super().connection_made(transport)
+
+
+async def start_process(*command: str, stdin: int, stdout: int, stderr: int, limit: int = LINE_MOST, pass_fds: tuple[int, ...] = (),
+                        ) -> asyncio.subprocess.Process:
+    """Starts a process in a session of its own; OSError where it cannot be started, also where no thread can be that waits for
+    its end."""
+    loop = asyncio.get_running_loop()
+    streams = _Streams(limit, loop)
+    try:
+        transport, _ = await loop.subprocess_exec(lambda: streams, *command, stdin=stdin, stdout=stdout, stderr=stderr,
+                                                  pass_fds=pass_fds, start_new_session=True)
+    except RuntimeError:
+        streams.is_given_up = True
+        raise OSError(errno.EAGAIN, "no thread can be started") from None
+    return asyncio.subprocess.Process(transport, streams, loop)
+
+
 async def start_child(program: str, command: str, inventory: str, *words: str) -> ChildProcess:
     """Starts a command of `leasekeep` on the inventory, which holds secrets: the process reads it from memory, and it
     lies in no folder. LaunchFault where it cannot be started."""
-    handle = os.memfd_create("inventory")
+    handle = None
     try:
+        handle = os.memfd_create("inventory")
         with open(handle, "w", encoding="ascii", closefd=False) as file:
             file.write(inventory)
-        process = await asyncio.create_subprocess_exec(
-            program, command, f"/proc/self/fd/{handle}", *words, stdin=asyncio.subprocess.PIPE,
-            stdout=asyncio.subprocess.PIPE, stderr=asyncio.subprocess.PIPE, limit=LINE_MOST, pass_fds=(handle,),
-            start_new_session=True)
+        process = await start_process(program, command, f"/proc/self/fd/{handle}", *words, stdin=asyncio.subprocess.PIPE,
+                                      stdout=asyncio.subprocess.PIPE, stderr=asyncio.subprocess.PIPE, pass_fds=(handle,))
     except OSError as error:
         raise LaunchFault(f"cannot start {program}: {error.strerror}") from None
     finally:
-        os.close(handle)
+        if handle is not None:
+            os.close(handle)
     return ChildProcess(process)

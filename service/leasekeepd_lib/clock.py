@@ -30,17 +30,11 @@ class SystemClock:
 
 
 class Waiter:
-    """Sleeps that another part may cut short. `last_beat` is the loop's time of the last sign of life of who sleeps
-    here."""
+    """Sleeps that another part may cut short."""
 
     def __init__(self) -> None:
         self._sleeper: asyncio.Future[None] | None = None
         self._rung = False
-        self.last_beat: float | None = None
-
-    def beat(self) -> None:
-        """A sign of life."""
-        self.last_beat = asyncio.get_running_loop().time()
 
     def ring(self) -> None:
         """Ends the sleep that is under way, or the next one at once."""
@@ -50,7 +44,6 @@ class Waiter:
 
     async def sleep(self, seconds: float) -> bool:
         """Sleeps so long; True where it was cut short by `ring`."""
-        self.beat()
         if not self._rung and seconds > 0:
             loop = asyncio.get_running_loop()
             sleeper: asyncio.Future[None] = loop.create_future()

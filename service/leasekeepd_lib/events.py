@@ -11,7 +11,7 @@ from typing import Callable, Protocol
 
 from leasekeep_inventory.rfc3339 import date_text
 
-from .child import kill_session
+from .child import kill_session, start_process
 from .clock import Clock
 
 
@@ -75,6 +75,22 @@ class Log:
         self.say(Level.ALERT, word, *words)
 
 
+class HeldLog(Log):
+    """Holds what is said, by a thread for example, until it is passed on."""
+
+    def __init__(self) -> None:
+        self._held: list[tuple[Level, str, tuple[object, ...]]] = []
+
+    def say(self, level: Level, word: str, *words: object) -> None:
+        self._held.append((level, word, words))
+
+    def pass_on(self, log: Log) -> None:
+        """Says it all there."""
+        held, self._held = self._held, []
+        for level, word, words in held:
+            log.say(level, word, *words)
+
+
 ALERT_SECONDS = 30.0
 ALERTS_WAITING = 1000
 SAME_AGAIN = 600.0
@@ -82,23 +98,37 @@ SAME_AGAIN = 600.0
 
 
 class Alerts:
-    """Runs a program with the words of each warning: one at a time, half a minute at most each, the same words once
-    in ten minutes."""
+    """Runs a program with the words of each alert and warning, alerts first: one at a time, half a minute at most each, the same
+    words once in ten minutes. Where too many wait, the oldest goes, of warnings first. What goes is counted: `tell` hears the
+    number, and the program is run with it."""
 
-    def __init__(self, program: str, clock: Clock) -> None:
-        self._program, self._clock = program, clock
-        self._told: dict[str, float] = {}
-        self._waiting: deque[str] = deque(maxlen=ALERTS_WAITING)
+    def __init__(self, program: str, clock: Clock, tell: Callable[[int], None] = lambda count: None) -> None:
+        self._program, self._clock, self._tell = program, clock, tell
+        self._told: dict[str, float] = {}  # In the order of their moments.
+        self._alerts: deque[str] = deque()
+        self._warnings: deque[str] = deque()
+        self._untold = 0
         self._came = asyncio.Event()
+        self.dropped = 0
 
     def hear(self, level: Level, text: str) -> None:
         now = self._clock.elapsed()
-        if not level.is_alerted or now - self._told.get(text, -SAME_AGAIN) < SAME_AGAIN:
+        while self._told and now - next(iter(self._told.values())) >= SAME_AGAIN:
+            del self._told[next(iter(self._told))]
+        if not level.is_alerted or text in self._told:
             return
-        self._told = {words: told for words, told in self._told.items() if now - told < SAME_AGAIN}
         self._told[text] = now
-        self._waiting.append(text)
+        (self._alerts if level is Level.ALERT else self._warnings).append(text)
+        if len(self._alerts) + len(self._warnings) > ALERTS_WAITING:
+            self._drop()
         self._came.set()
+
+    def _drop(self) -> None:
+        """Drops the oldest, which is said when it comes again."""
+        dropped = (self._warnings or self._alerts).popleft()
+        self._told.pop(dropped, None)
+        self._untold += 1
+        self.dropped += 1
 
     async def serve(self) -> None:
         """Runs until it is cancelled."""
@@ -108,15 +138,23 @@ class Alerts:
             await self.run_waiting()
 
     async def run_waiting(self) -> None:
-        """Runs the program for each warning that waits."""
-        while self._waiting:
-            await self._run(self._waiting.popleft().split(" "))
+        """Runs the program for all that wait."""
+        while text := self._next():
+            await self._run(text.split(" "))
+
+    def _next(self) -> str:
+        """What is said next, empty where nothing is left."""
+        if self._untold and not self._alerts:
+            count, self._untold = self._untold, 0
+            self._tell(count)
+            return f"alerts dropped {count}"
+        waiting = self._alerts or self._warnings
+        return waiting.popleft() if waiting else ""
 
     async def _run(self, words: list[str]) -> None:
         try:
-            process = await asyncio.create_subprocess_exec(
-                self._program, *words, stdin=asyncio.subprocess.DEVNULL, stdout=asyncio.subprocess.DEVNULL,
-                stderr=asyncio.subprocess.DEVNULL, start_new_session=True)
+            process = await start_process(self._program, *words, stdin=asyncio.subprocess.DEVNULL,
+                                          stdout=asyncio.subprocess.DEVNULL, stderr=asyncio.subprocess.DEVNULL)
         except OSError:
             return
         try:

@@ -32,7 +32,8 @@ class KnownEnds:
     def __init__(self, path: Path, storage: Storage, boot: str) -> None:
         self._path, self._storage, self._boot = path, storage, boot
         self._ends: dict[str, tuple[str, str]] = {}
-        self._is_written = True
+        self.is_written = True
+        """Whether the file was given everything that is new."""
 
     def load(self) -> None:
         """Takes what the file holds of this boot; nothing where it is not as it was written. OSError where it cannot
@@ -45,7 +46,7 @@ class KnownEnds:
     def keep(self, entry: Entry, end: int, is_renewable: bool) -> None:
         """Keeps what an `end` line told."""
         told = (f"{end} {'yes' if is_renewable else 'no'}", _credential(entry))
-        self._is_written &= self._ends.get(entry.name) == told
+        self.is_written &= self._ends.get(entry.name) == told
         self._ends[entry.name] = told
 
     def known(self, inventory: Inventory) -> list[str]:
@@ -53,12 +54,17 @@ class KnownEnds:
         found = ((entry.name, *self._ends.get(entry.name, ("", "")), _credential(entry)) for entry in inventory.entries)
         return [f"known {name} {end}" for name, end, of, credential in found if of == credential]
 
-    def write(self) -> None:
-        """Writes the file where something is new; OSError where that fails."""
-        if not self._is_written:
-            rest = "".join(f"{name} {end} {of}\n" for name, (end, of) in self._ends.items()).encode()
-            self._storage.replace(self._path, self._head(rest) + b"\n" + rest, synced=False)
-            self._is_written = True
+    def fresh(self) -> bytes | None:
+        """What the file is to hold, where something is new since this was asked last; else None."""
+        if self.is_written:
+            return None
+        self.is_written = True
+        rest = "".join(f"{name} {end} {of}\n" for name, (end, of) in self._ends.items()).encode()
+        return self._head(rest) + b"\n" + rest
+
+    def write(self, text: bytes) -> None:
+        """Makes that the file; OSError where it cannot be."""
+        self._storage.replace(self._path, text, synced=False)
 
     def _head(self, rest: bytes) -> bytes:
         return f"{self._boot} {zlib.crc32(rest):08x}".encode()

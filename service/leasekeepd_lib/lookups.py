@@ -10,8 +10,9 @@ from leasekeep_inventory.inventory import ALWAYS, Entry, Inventory, Kind
 
 from .child import Child, LaunchFault
 from .clock import Clock
+from .patience import longest_silence
 from .watch_lines import Said, WatchLineFault, read_watch_line
-from .watch_process import WatchLauncher, clock_line, longest_silence
+from .watch_process import WatchLauncher, clock_line
 
 
 @dataclass(frozen=True)
@@ -39,7 +40,7 @@ class Lookups:
         except LaunchFault as fault:
             return Looked(missing=str(fault))
         try:
-            async with asyncio.timeout(longest_silence(self._launcher)):
+            async with asyncio.timeout(longest_silence(self._launcher.timeout)):
                 return await self._told(process, entry.name)
         except TimeoutError:
             return Looked(missing="leasekeep watch says nothing")

@@ -34,6 +34,7 @@ class Figures:
     margin: int
     clock_offset: float
     dropped_lines: int
+    dropped_alerts: int
     reading: FileReading
 
 
@@ -58,6 +59,7 @@ def _of_the_service(figures: Figures) -> Iterator[str]:
         yield _family(name, "gauge", words, [("", value)])
     yield _family("beginnings_total", "counter", "Beginnings: everything is looked up.", [("", figures.beginnings)])
     yield _family("log_dropped_lines_total", "counter", "Log lines that nobody took.", [("", figures.dropped_lines)])
+    yield _family("alerts_dropped_total", "counter", "Warnings and alerts that no program was run with.", [("", figures.dropped_alerts)])
 
 
 def _of_entries(entries: list[EntryStatus]) -> Iterator[str]:

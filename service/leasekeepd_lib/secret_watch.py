@@ -4,6 +4,7 @@ from __future__ import annotations
 
 import asyncio
 from dataclasses import dataclass
+from functools import partial
 from typing import Awaitable, Callable
 
 from leasekeep_inventory.inventory import Entry, Inventory
@@ -11,6 +12,7 @@ from leasekeep_inventory.secret_files import Found, SecretFiles, ready
 from leasekeepd_journal.changes import Change, ChangeFault, What
 from leasekeepd_journal.draft import changed
 
+from .aside import aside
 from .clock import Clock
 from .events import Log
 from .lookups import Looked
@@ -50,7 +52,7 @@ class SecretWatch:
 
     async def look(self) -> None:
         """Looks at each file once."""
-        for entry, found in await asyncio.to_thread(self._files.look_at_all, self._inventory()):
+        for entry, found in await aside(partial(self._files.look_at_all, self._inventory())):
             if found.secret is None:
                 self._say_once(entry, found, found.why)
             elif found.secret == entry.credential:

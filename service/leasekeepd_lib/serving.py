@@ -24,9 +24,10 @@ from .known_ends import KnownEnds, boot_id
 from .lookups import Lookups
 from .notify import Notifier
 from .outlet import Outlet
-from .service import Service, Surroundings
+from .service import Service
 from .source import Source, SourceFault
 from .spread import own_name, part_of
+from .surroundings import Surroundings
 from .watch_process import WatchCommand
 from .widest import widest_served
 
@@ -76,7 +77,8 @@ class _Serving:
     def __init__(self, arguments: argparse.Namespace, log: Log, outlet: Outlet) -> None:
         self._arguments, self._log = arguments, log
         clock, storage, state = SystemClock(), Storage(), arguments.state
-        self._alerts = Alerts(arguments.alert, clock) if arguments.alert else None
+        alerts = self._alerts = Alerts(
+            arguments.alert, clock, lambda count: log.note("alerts", "dropped", count)) if arguments.alert else None
         if self._alerts is not None:
             log.listeners.append(self._alerts.hear)
         logging.getLogger("asyncio").addHandler(_ToLog(log))
@@ -87,7 +89,7 @@ class _Serving:
         around = Surroundings(
             source, Journal(state / "journal", storage), KnownEnds(state / "ends", storage, boot_id(os.environ)),
             Notifier(os.environ), storage, arguments.metrics, self._alerts, lambda: outlet.dropped,
-            partial(widest_served, arguments.leasekeep), part, part)
+            lambda: 0 if alerts is None else alerts.dropped, partial(widest_served, arguments.leasekeep), part, part)
         command = WatchCommand(arguments.leasekeep, arguments.address, arguments.timeout, arguments.width)
         self._service: Service | Standby = Service(around, clock, Lookups(command, clock), command, log)
         if arguments.standby is not None:

@@ -4,24 +4,27 @@ process the ends that are known. It decides nothing about an entry."""
 from __future__ import annotations
 
 import asyncio
-from collections import deque
 from dataclasses import dataclass
+from itertools import islice
 from typing import Callable, Protocol
 
 from leasekeep_inventory.http_client import Address
 from leasekeep_inventory.inventory import Inventory, inventory_text
 
+from .aside import LaterFile
 from .child import Child, LaunchFault, start_child
 from .clock import Clock, Waiter
 from .events import Log
 from .known_ends import KnownEnds
+from .patience import least_left, least_own_margin, own_margin, pause_after, silence_within
 from .watch_lines import Said, WatchLine, WatchLineFault, read_watch_line
 
-SILENCE_BEYOND = 15.0
-"""Seconds beyond twice the time-out."""
 GOOD_STRETCH = 60.0
 """Seconds that a process goes on before the next one is started without a pause."""
-LONGEST_PAUSE = 30.0
+CHANGES_AT_ONCE = 8
+"""So many changes go before each clock, at most: however many come, the time is handed in."""
+LAST_WRITE = 0.5
+"""Seconds that the end waits for the disk."""
 TICK = 0.001
 """The clocks are handed in by the millisecond: nothing is gained by sleeping less."""
 NAP = 1.0
@@ -36,11 +39,6 @@ class WatchLauncher(Protocol):
 
     async def launch(self, inventory: Inventory) -> Child:
         """Starts one on that inventory; LaunchFault where it cannot be started."""
-
-
-def longest_silence(launcher: WatchLauncher) -> float:
-    """Seconds that a process may say nothing when it is asked: longer than any slice of requests takes."""
-    return 2 * launcher.timeout + SILENCE_BEYOND
 
 
 def milliseconds(seconds: float) -> int:
@@ -79,15 +77,14 @@ class Watch:
         self._launcher, self._clock, self._ends, self._log, self._heard = launcher, clock, ends, log, heard
         self._nap = nap
         self._inventory = self._wanted = Inventory()
-        self._changes: deque[str] = deque()
+        self._changes: dict[str, str] = {}  # By what they are about: of one name the last need counts.
         self._waiter = Waiter()
+        self._file = LaterFile(ends.write, self._hear_of_ends)
         self._held_until = 0
+        self._own_margin = 0.0
         self.starts = 0
-
-    @property
-    def last_beat(self) -> float | None:
-        """The event loop's time of the last sign of life: of a line handed in, or of a sleep that began."""
-        return self._waiter.last_beat
+        self.last_beat: float | None = None
+        """The event loop's time of the last sign of life: of a clock that was answered, or of the start."""
 
     def take(self, inventory: Inventory) -> None:
         """Goes on with another inventory, be it another entry or another secret: a new process is started on it, which is
@@ -102,7 +99,7 @@ class Watch:
     def begin(self) -> None:
         """Has everything looked up again."""
         if self._wanted is self._inventory:  # (Else a new process begins anyway.)
-            self._changes.append("begin")
+            self._changes["begin"] = "begin"
             self._waiter.ring()
 
     def need(self, inventory: Inventory, name: str, until: int) -> None:
@@ -111,14 +108,21 @@ class Watch:
         self._wanted = inventory
         if is_told:
             self._inventory = inventory
-            self._changes.append(f"need {name} {until}")
+            self._changes[f"need {name}"] = f"need {name} {until}"
         self._waiter.ring()
 
     async def serve(self) -> None:
         """Runs until it is cancelled."""
+        try:
+            await self._serve()
+        finally:
+            await self._file.finish(LAST_WRITE)
+
+    async def _serve(self) -> None:
+        self._beat()
         self._inventory = self._wanted
-        await self._sleep(self._held_until)
-        quick = 0
+        await self._sleep(self._held_until, self._beat)
+        failures = 0
         while True:
             began = self._clock.elapsed()
             self._inventory = self._wanted
@@ -127,13 +131,17 @@ class Watch:
             if why is None:
                 continue
             self._log.warn("watch", why)
-            quick = quick + 1 if self._clock.elapsed() - began < GOOD_STRETCH else 0
-            if quick > 1:
-                await asyncio.sleep(min(2.0 ** (quick - 2), LONGEST_PAUSE))
+            failures = failures + 1 if self._clock.elapsed() - began < GOOD_STRETCH else 0
+            await asyncio.sleep(pause_after(failures, self._left()))
+
+    def _left(self) -> float:
+        """Seconds to the first end."""
+        return least_left(self._inventory, self._ends.known(self._inventory), self._clock.wall(), self._clock.elapsed())
 
     async def _one_process(self) -> str | None:
         """From the start of a process to its end; why it ended, None where another inventory is to be served."""
         self.starts += 1
+        self._own_margin = least_own_margin(self._inventory)
         try:
             process = await self._launcher.launch(self._inventory)
         except LaunchFault as fault:
@@ -143,11 +151,12 @@ class Watch:
                 await self._hand_in(process, line)
             while self._wanted is self._inventory:
                 wake = await self._hand_in(process, clock_line(self._clock))
+                self._beat()
                 if wake is not None:
                     self._write_ends()
                     await self._sleep(wake)
-                while self._changes:
-                    await self._hand_in(process, self._changes.popleft())
+                for about in list(islice(self._changes, CHANGES_AT_ONCE)):
+                    await self._hand_in(process, self._changes.pop(about))
             return None
         except _Over as over:
             return str(over)
@@ -157,19 +166,22 @@ class Watch:
             if ending.fault:
                 self._log.warn("watch", "ended with", ending.code, ending.fault)
 
+    def _beat(self) -> None:
+        self.last_beat = asyncio.get_running_loop().time()
+
     def _elapsed(self) -> int:
         return milliseconds(self._clock.elapsed())
 
-    async def _sleep(self, wake: int) -> None:
+    async def _sleep(self, wake: int, beat: Callable[[], None] = lambda: None) -> None:
         """Sleeps until the elapsed clock is there, or a change comes."""
         while not self._changes and self._wanted is self._inventory and self._elapsed() < wake:
+            beat()
             await self._waiter.sleep(min(max(wake / 1000 - self._clock.elapsed(), TICK), self._nap))
 
     async def _hand_in(self, process: Child, line: str) -> int | None:
         """Hands a line in and reads to the last that answers it; the moment to wait for, None where there is none."""
-        self._waiter.beat()
-        patience = longest_silence(self._launcher)
-        silence = asyncio.timeout(patience)
+        loop = asyncio.get_running_loop()
+        silence = asyncio.timeout(self._patience())
         try:
             async with silence:
                 await process.write_line(line)
@@ -177,15 +189,19 @@ class Watch:
                     text = await process.read_line()
                     if text is None:
                         raise _Over("leasekeep watch ended")
-                    silence.reschedule(asyncio.get_running_loop().time() + patience)
                     said = read_watch_line(text)
                     self._hear(said)
+                    silence.reschedule(loop.time() + self._patience())
                     if said.said.ends_answer:
                         return int(said.words[0]) if said.words else None
         except TimeoutError:
             raise _Over("leasekeep watch says nothing") from None
         except WatchLineFault as fault:
             raise _Over(str(fault)) from None
+
+    def _patience(self) -> float:
+        """Seconds for which the process may say nothing."""
+        return silence_within(self._launcher.timeout, self._own_margin)
 
     def _hear(self, line: WatchLine) -> None:
         if line.said is Said.END:
@@ -194,10 +210,17 @@ class Watch:
             if entry is None:
                 raise WatchLineFault("leasekeep watch tells the end of an entry that it was not given")
             self._ends.keep(entry, int(end), is_renewable == "yes")
+        elif line.said is Said.TOLD:
+            self._own_margin = min(self._own_margin, own_margin(int(line.words[1]), self._inventory.margin))
         self._heard(line)
 
     def _write_ends(self) -> None:
-        try:
-            self._ends.write()
-        except OSError as error:
+        """Has the ends written where something is new; nothing waits for that."""
+        text = self._ends.fresh()
+        if text is not None:
+            self._file.give(text)
+
+    def _hear_of_ends(self, error: OSError | None) -> None:
+        if error is not None:
+            self._ends.is_written = False
             self._log.note("ends", "could not be kept:", error.strerror)

@@ -8,15 +8,18 @@ import re
 import subprocess
 from dataclasses import replace
 from pathlib import Path
-from typing import Mapping
+from typing import Awaitable, Callable, Mapping
 
 from leasekeep_inventory.inventory import Entry, Inventory, inventory_text
 
 from .child import LaunchFault, start_child
+from .clock import Clock
 
 _SECONDS = 20
 _PROMPT = 5.0
 """Seconds that `status` waits for it: 4,096 entries take a tenth of one."""
+_KEPT, _KEPT_OF_ANOTHER = 60.0, 5.0
+"""Seconds for which an answer counts, and for which it does though the inventory is another by then."""
 _TOLD = re.compile(r"(\d{1,4}) (\d{1,8})\n(\d{1,4}) \2\n", re.ASCII)
 """The inventory's own margin with its wake-ups, and the widest with as many."""
 _YEAR = 365 * 86400
@@ -49,6 +52,30 @@ async def widest_served(program: str, inventory: Inventory, now: int) -> int | N
     finally:
         await child.end()
     return _read(text)[1] or None
+
+
+class WidestServed:
+    """Asks one at a time, and keeps the answer for a while: however often somebody wants to know, one process is at it."""
+
+    def __init__(self, ask: Callable[[Inventory, int], Awaitable[int | None]], clock: Clock) -> None:
+        self._ask, self._clock = ask, clock
+        self._turn = asyncio.Lock()
+        self._answer: int | None = None
+        self._of: Inventory | None = None
+        self._at = 0.0
+
+    async def ask(self, served: Inventory, present: Callable[[], tuple[Inventory, int]]) -> int | None:
+        """The widest for what is served; `present` gives that as it stands, and the moment."""
+        async with self._turn:
+            if not self._is_fresh(served):
+                self._answer = await self._ask(*present())
+                self._of, self._at = served, self._clock.elapsed()
+            return self._answer
+
+    def _is_fresh(self, served: Inventory) -> bool:
+        if self._of is None:
+            return False
+        return self._clock.elapsed() - self._at < (_KEPT if self._of is served else _KEPT_OF_ANOTHER)
 
 
 def _read(text: str) -> tuple[int, int]:

@@ -14,8 +14,9 @@ from leasekeepd_lib.events import Log
 from leasekeepd_lib.known_ends import boot_id
 from leasekeepd_lib.lookups import Lookups
 from leasekeepd_lib.notify import Notifier
-from leasekeepd_lib.service import Service, Surroundings
+from leasekeepd_lib.service import Service
 from leasekeepd_lib.spread import own_name
+from leasekeepd_lib.surroundings import Surroundings
 from leasekeepd_lib.watch_process import WatchLauncher
 
 from .etcd_client import Etcd

@@ -23,9 +23,10 @@ from leasekeepd_lib.events import LineForm, Log
 from leasekeepd_lib.known_ends import KnownEnds
 from leasekeepd_lib.lookups import Looked, Lookups
 from leasekeepd_lib.notify import Notifier
-from leasekeepd_lib.service import Service, Surroundings
+from leasekeepd_lib.service import Service
 from leasekeepd_lib.source import Source, SourceFault
 from leasekeepd_lib.status import State
+from leasekeepd_lib.surroundings import Surroundings
 from leasekeepd_lib.watch_lines import read_watch_line
 
 from .model.asked import AskedLauncher
@@ -290,7 +291,7 @@ class Journals(InRoom):
             await service.command(["replace", "web", "s.web2"], WHO)
             await service.command(["need", "web", "+1h"], WHO)
             room.write(Inventory((INVENTORY.entries[0], token("web", BEGAN + 80_000, "s.newer")), 30))
-            service.reload()
+            await service.reload()
             self.assertEqual(room.state()["web"], (BEGAN + 3600, "s.newer"))
             self.assertIn("note: replace web: the file has changed since, and wins", room.output.getvalue())
         self.in_room(work)
@@ -299,7 +300,7 @@ class Journals(InRoom):
         async def work(room: Room) -> None:
             service = room.service()
             await service.command(["add", TABLE], WHO)
-            service.reload()
+            await service.reload()
             self.assertIn("fresh", meaning(service.inventory))
             self.assertNotIn("fresh", room.file.read_text())
             await service.command(["settle"], WHO)
@@ -338,7 +339,7 @@ class Journals(InRoom):
             await service.command(["need", "app", "1040000"], WHO)
             room.write(Inventory(INVENTORY.entries[:1], 30))
             self.assertIn("has changed since it was read", await self.refused(service, "settle"))
-            service.reload()
+            await service.reload()
             await service.command(["settle"], WHO)
             self.assertEqual(room.state(), {"app": (1_040_000, "s.app")})
         self.in_room(work)
@@ -349,7 +350,7 @@ class Journals(InRoom):
             await service.command(["add", TABLE.replace('"app"', '"web"')], WHO)
             await service.command(["need", "app", "1040000"], WHO)
             room.write(Inventory(INVENTORY.entries[:1], 30))
-            service.reload()
+            await service.reload()
             self.assertEqual(meaning(service.inventory), {"app": (1_040_000, "s.app")})
             self.assertIn("note: add fresh: fresh token: names no token of this inventory", room.output.getvalue())
         self.in_room(work)
@@ -364,6 +365,10 @@ class Journals(InRoom):
         self.in_room(work)
 
     def test_a_full_disk(self) -> None:
+        async def told(service: Service) -> None:
+            service.reports.tell()
+            await service.reports.finish()
+
         async def work(room: Room) -> None:
             storage = FullStorage()
             service = room.service(storage)
@@ -377,14 +382,14 @@ class Journals(InRoom):
             self.assertEqual((room.folder / "journal").read_bytes(), journal)
             self.assertEqual(meaning(read_inventory(room.file.read_bytes()).inventory or Inventory()),
                              meaning(INVENTORY))
-            service._write_metrics()
-            service._write_metrics()
+            await told(service)
+            await told(service)
             self.assertEqual(room.output.getvalue().count("metrics could not be written"), 1)
             storage.is_full = False
-            service._write_metrics()
+            await told(service)
             self.assertIn("leasekeepd_margin_seconds 30\n", (room.folder / "metrics").read_text())
             storage.is_full = True
-            service._write_metrics()
+            await told(service)
             self.assertEqual(room.output.getvalue().count("metrics could not be written"), 2)
         self.in_room(work)
 
@@ -416,7 +421,7 @@ class Refused(InRoom):
 
             async def look_up(inventory: Inventory, entry: Entry) -> Looked:
                 room.write(Inventory((INVENTORY.entries[0], token("web", BEGAN + 80_000, "s.newer")), 30))
-                service.reload()
+                await service.reload()
                 return Looked()
             setattr(service._lookups, "look_up", look_up)
             await service.command(["replace", "web", "s.web2"], WHO)
@@ -491,7 +496,7 @@ class Refused(InRoom):
                 service.watch._hear(read_watch_line(f"end {name} 600000 yes"))
                 service.watch._heard(read_watch_line(f"gone {name} 403"))
             room.write(Inventory((INVENTORY.entries[0], token("web", BEGAN + 80_000, "s.newer")), 30))
-            service.reload()
+            await service.reload()
             await room.world.until(BEGAN + 2)
             self.assertEqual(room.launcher.children[1].events[0], "known app 600000 yes")
             self.assertEqual([entry.state for entry in service.standings.entries(service.inventory)], [State.GONE, State.TRYING])
@@ -517,7 +522,7 @@ class Watchdog(InRoom):
             service = room.service()
             sent: list[str] = []
             setattr(service._around.notifier, "send", lambda *words: sent.extend(words))
-            tasks = [asyncio.create_task(service.watch.serve()), asyncio.create_task(service._report())]
+            tasks = [asyncio.create_task(service.watch.serve()), asyncio.create_task(service.reports.serve())]
             await room.world.until(BEGAN + 400)
             self.assertGreater(sent.count("WATCHDOG=1"), 20)
             self.assertIn("STATUS=next wake-up 1970-01-12T13:47:40Z", sent)
@@ -562,9 +567,10 @@ class Reports(InRoom):
         for environment, writes in cases:
             async def work(room: Room) -> None:
                 service = room.service()
-                service._around.notifier = Notifier(environment)
+                service.reports.notifier = Notifier(environment)
                 told = set()
-                task = asyncio.create_task(service._report())
+                task = asyncio.create_task(service.reports.serve())
+                await room.world.until(BEGAN + 0.5)
                 while room.world.now() < BEGAN + 60:
                     await room.world.until(room.world.now() + 1)
                     told.add((room.folder / "metrics").read_text())
@@ -583,7 +589,7 @@ class Files(InRoom):
             service = room.service()
             wanted = {"app": (ALWAYS, "s.app")}
             (room.folder / "app").write_text("")
-            service.reload()
+            await service.reload()
             self.assertEqual(meaning(service.inventory), wanted)
             (room.folder / "app").write_text("s.app\n")
             room.file.write_text("x")
@@ -601,7 +607,7 @@ class Files(InRoom):
                 room.file.unlink()
                 make(room.file)
                 room.output.truncate(0)
-                service.reload()
+                await service.reload()
                 self.assertIn(f"alert: file {room.file}: is no ordinary file\n", room.output.getvalue())
                 self.assertEqual((meaning(service.inventory), room.state()), (meaning(INVENTORY), meaning(INVENTORY)))
                 with self.assertRaises(OSError):

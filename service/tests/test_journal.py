@@ -154,10 +154,10 @@ class Unreadable(InRoom):
             storage.is_full = True
             (room.folder / "journal").write_bytes(BAD[0] + GOOD)
             service = room.service(storage)
-            service.reload()
+            await service.reload()
             self.assertEqual((room.folder / "journal").read_bytes(), BAD[0] + GOOD)
             storage.is_full = False
-            service.reload()
+            await service.reload()
             self.assertEqual((room.folder / "journal.set-aside").read_bytes(), BAD[0])
             (change,) = [Change.read(line) for line in (room.folder / "journal").read_bytes().splitlines()]
             self.assertEqual(change, Change.read(GOOD))
@@ -218,7 +218,7 @@ class Reloads(InRoom):
             await service.command(["add", TABLE], WHO)
             storage.is_broken = True
             room.write(Inventory((INVENTORY.entries[0], token("web", BEGAN + 90_000, "s.web")), 30))
-            service.reload()
+            await service.reload()
             wanted = {"app": (1_075_000, "s.app"), "web": (1_090_000, "s.web"), "fresh": (1_080_000, "db/creds/fresh")}
             self.assertEqual(meaning(service.inventory), wanted)
             self.assertIn("alert: journal cannot be used: Input/output error", room.output.getvalue())
@@ -234,14 +234,14 @@ class Reloads(InRoom):
             for spoiled in (b"", whole[:-1], whole.replace(b"1075000", b"1075001"), whole + b"x\n"):
                 journal.write_bytes(spoiled)
                 room.output.truncate(0)
-                service.reload()
+                await service.reload()
                 self.assertIn("alert: journal is not as it was written", room.output.getvalue())
                 self.assertEqual(journal.read_bytes(), whole)
             journal.unlink()
-            service.reload()
+            await service.reload()
             self.assertEqual(journal.read_bytes(), whole)
             room.output.truncate(0)
-            service.reload()
+            await service.reload()
             self.assertNotIn("journal", room.output.getvalue())
         self.in_room(work)
 
@@ -259,7 +259,7 @@ class Reloads(InRoom):
             storage.is_broken = False
             with self.assertRaises(OSError):  # What it holds is not among the changes yet.
                 await service.command(["settle"], WHO)
-            service.reload()
+            await service.reload()
             wanted = {"app": (1_075_002, "s.app"), "web": (1_090_000, "s.web")}
             self.assertEqual(meaning(service.inventory), wanted)
             await service.command(["settle"], WHO)
@@ -287,7 +287,7 @@ class Hangups(InRoom):
             for number in range(951):
                 room.write(Inventory(INVENTORY.entries[:1], 31 + number % 7))
                 service.hear_hangup()
-                await room.world.until(BEGAN + 10 + 20 * number / 950)
+                await room.world.until(BEGAN + 10 + 20 * (number + 1) / 951)
                 if number == 1:  # The first is heard at once, those that follow are heard together.
                     self.assertEqual(service.inventory.margin, 31)
             await room.world.until(BEGAN + 60)
@@ -298,6 +298,7 @@ class Hangups(InRoom):
             # A later one is heard at once again.
             room.write(INVENTORY)
             service.hear_hangup()
+            await asyncio.sleep(0.001)
             self.assertEqual(service.inventory, INVENTORY)
             task.cancel()
             await asyncio.gather(task, return_exceptions=True)

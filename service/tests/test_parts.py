@@ -94,7 +94,7 @@ class Events(unittest.TestCase):
             with mock.patch.object(events, "ALERT_SECONDS", 1.5):
                 asyncio.run(go())
             self.assertEqual((folder / "alert.log").read_text().splitlines(), [
-                "begin slow", "begin short web 1060", "end", "begin gone db", "end", "begin short web 1060", "end"])
+                "begin slow", "begin gone db", "end", "begin short web 1060", "end", "begin short web 1060", "end"])
 
     def heard(self, *said: tuple[float, str]) -> list[str]:
         """What the program would be run with, of warnings at these moments."""
@@ -119,7 +119,7 @@ class Events(unittest.TestCase):
 
     def test_so_many_wait_and_the_oldest_go(self) -> None:
         run = self.heard(*((1000.0, f"short e{number} 5") for number in range(1500)))
-        self.assertEqual(run, [f"short e{number} 5" for number in range(500, 1500)])
+        self.assertEqual(run, ["alerts dropped 500", *(f"short e{number} 5" for number in range(500, 1500))])
 
     def test_an_alert_has_half_a_minute(self) -> None:
         async def go() -> None:

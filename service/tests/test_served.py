@@ -22,8 +22,9 @@ from leasekeepd_lib.events import LineForm, Log
 from leasekeepd_lib.known_ends import KnownEnds
 from leasekeepd_lib.lookups import Lookups
 from leasekeepd_lib.notify import Notifier
-from leasekeepd_lib.service import Service, Surroundings
+from leasekeepd_lib.service import Service
 from leasekeepd_lib.source import Source
+from leasekeepd_lib.surroundings import Surroundings
 
 from .model.asked import AskedLauncher
 from .model.vault import Vault
@@ -284,7 +285,7 @@ class Served(unittest.TestCase):
             inventory = read_inventory(text.encode(), SERVED).inventory
             assert inventory is not None
             self.assertEqual({entry.name: entry.need for entry in inventory.entries}, {"app": ALWAYS, "web": 1_641_600, "db": 0})
-            room.service.reload()
+            await room.service.reload()
             await room.after(1)
             self.assertEqual(room.handed(), {"app": (ALWAYS, "hvs.one"), "web": (1_641_600, "s.web"), "db": (0, "db/creds/1")})
         self.play(scene)

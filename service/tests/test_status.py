@@ -46,6 +46,9 @@ leasekeepd_beginnings_total 3
 # HELP leasekeepd_log_dropped_lines_total Log lines that nobody took.
 # TYPE leasekeepd_log_dropped_lines_total counter
 leasekeepd_log_dropped_lines_total 17
+# HELP leasekeepd_alerts_dropped_total Warnings and alerts that no program was run with.
+# TYPE leasekeepd_alerts_dropped_total counter
+leasekeepd_alerts_dropped_total 4
 # HELP leasekeepd_state 1 for the state that the entry is in, 0 for the others.
 # TYPE leasekeepd_state gauge
 leasekeepd_state{entry="web",state="gone"} 0
@@ -90,12 +93,12 @@ leasekeepd_renewals_total{entry="db",result="lost"} 2
 
 class Texts(unittest.TestCase):
     def test_the_value_of_each_metric(self) -> None:
-        figures = Figures(1000.9, 3, 1060, 30, -40.2, 17, FileReading(False, 990.5, 900.5))
+        figures = Figures(1000.9, 3, 1060, 30, -40.2, 17, 4, FileReading(False, 990.5, 900.5))
         text = metrics_text(figures, [
             EntryStatus("web", State.KEPT, 1089.9, 2000, 2050, 1990, 980.7, 5, 6, 7, ""),
             EntryStatus("db", State.GONE, None, 2100, 2100, 0, None, 0, 1, 2, "gone")])
         self.assertEqual(text, EXPECTED)
-        nothing = metrics_text(Figures(1.0, 0, None, 1, 0.0, 0, FileReading()), [])
+        nothing = metrics_text(Figures(1.0, 0, None, 1, 0.0, 0, 0, FileReading()), [])
         self.assertNotIn("leasekeepd_next_wake_timestamp_seconds ", nothing.replace("# TYPE leasekeepd_next_wake_"
                          "timestamp_seconds gauge", "").replace("# HELP leasekeepd_next_wake_timestamp_seconds", ""))
         self.assertIn("leasekeepd_config_last_reload_successful 0\n", nothing)
@@ -212,11 +215,11 @@ class Readings(InRoom):
             self.assertEqual(told(), ("1", str(BEGAN), str(BEGAN)))
             await room.world.until(BEGAN + 100)
             room.file.write_text("x")
-            service.reload()
+            await service.reload()
             self.assertEqual(told(), ("0", str(BEGAN + 100), str(BEGAN)))
             await room.world.until(BEGAN + 200)
             room.write(INVENTORY)
-            service.reload()
+            await service.reload()
             self.assertEqual(told(), ("1", str(BEGAN + 200), str(BEGAN + 200)))
             room.file.unlink()
             self.assertEqual(self.value(room.service().metrics(), "config_last_reload_successful"), "0")

@@ -132,14 +132,14 @@ class Changes(InStage):
         self.assertEqual(stage.watch.starts, 1)
 
     def test_changes_are_handed_in_behind_an_answer_and_before_the_next_clock(self) -> None:
-        script: Script = [[(clock(1_000_000), ["look web", "entry web 1060", "clock"]), ("need web 1300", ["planned", "clock"]),
-                           ("need web 1400", ["planned", "clock"]), (clock(1_000_000), ["wait 9000000"])]]
+        script: Script = [[(clock(1_000_000), ["look web", "entry web 1060", "clock"]), ("begin", ["clock"]),
+                           ("need web 1300", ["planned", "clock"]), (clock(1_000_000), ["wait 9000000"])]]
 
         async def scene(stage: WatchStage) -> None:
             def hear(line: WatchLine) -> None:
                 if line.said is Said.LOOK:
+                    stage.watch.begin()
                     stage.watch.need(needed(1300), "web", 1300)
-                    stage.watch.need(needed(1400), "web", 1400)
             stage.watch._heard = hear
             await stage.serve(1001)
         self.assertEqual(self.play(scene, script).handed_in(), [line for line, _ in script[0]])
@@ -182,7 +182,7 @@ class Changes(InStage):
 
 class Endings(InStage):
     def test_silence(self) -> None:
-        """It ends twice the time-out and 15 seconds behind the last line, and another goes on with the known ends."""
+        """It ends so long after the last line, and another goes on with the known ends."""
         answers: tuple[list[Any], ...] = ([], ["end web 1060000 yes"])
         for silent in (None, "hang"):
             for said in answers:
@@ -233,7 +233,8 @@ class Endings(InStage):
         self.assertEqual((stage.handed_in(), stage.launched), ([line for line, _ in script[0]], [1000.0]))
 
     def test_ends_and_lines_that_are_none(self) -> None:
-        """The first takes over at once, those that follow it quickly by pauses; a good stretch forgets them."""
+        """The first takes over at once, those that follow it quickly by pauses; a good stretch forgets them. (With that margin, a
+        sixteenth of what is left is half a minute.)"""
         endings: tuple[tuple[list[Any], str], ...] = (
             ([6], "leasekeep watch ended"), (["hello"], "a line that is none of its own"),
             (["fault clock-back"], "none of its own"), (["end db 5 yes"], "an entry that it was not given"))
@@ -245,7 +246,7 @@ class Endings(InStage):
                 script: Script = [[(clock(1000 * begin), ending)] for begin in begins[:8]]
                 script += [[(clock(1_091_000), ["wait 1181000"]), (clock(1_181_000), ending)],
                            [(clock(1_181_000), ["wait 9000000"])]]
-                stage = self.played(1182, script)
+                stage = self.played(1182, script, inventory=replace(ONE, margin=240))
                 self.assertEqual([int(moment) for moment in stage.launched], begins)
                 self.assertEqual(stage.output.getvalue().count(why), 9)
                 told = stage.output.getvalue().count("warning: watch ended with 6 leasekeep: memory")
@@ -308,16 +309,21 @@ class Known(InStage):
             def replace(self, path: Path, data: bytes, mode: int = 0o600, synced: bool = True) -> None:
                 self.writes += 1
                 super().replace(path, data, mode, synced)
+
+        def write(ends: KnownEnds) -> None:
+            text = ends.fresh()
+            if text is not None:
+                ends.write(text)
         storage = Counting()
         ends = KnownEnds(self.folder / "ends", storage, "boot-1")
         for end, renewable, writes in ((5, True, 1), (5, True, 1), (6, True, 2), (6, False, 3), (6, False, 3)):
             ends.keep(WEB, end, renewable)
-            ends.write()
+            write(ends)
             self.assertEqual(storage.writes, writes)
         for end, writes in ((7, 4), (8, 5), (8, 5)):
             ends.keep(WEB, end, True)
             ends.keep(DB, 9, True)  # (That this one is as it was hides nothing that is new.)
-            ends.write()
+            write(ends)
             self.assertEqual(storage.writes, writes)
 
     def test_where_they_cannot_be_written_it_goes_on(self) -> None:

@@ -8,6 +8,7 @@ import contextlib
 import io
 import math
 import os
+import signal
 import tempfile
 import unittest
 from dataclasses import replace
@@ -47,7 +48,9 @@ class StageChild:
     def __init__(self, process: ChildProcess, loop: SimLoop, sockets: Sockets) -> None:
         self._process, self._loop, self._sockets = process, loop, sockets
         self._stat = os.open(f"/proc/{process.pid}/stat", os.O_RDONLY)
-        self._is_ending = False
+        self._is_ending = self._is_hung = False
+        self.thinks = 0.0
+        """Seconds that it takes to take a need in."""
         self.events: list[str] = []
         self.printed: list[str] = []
         loop.workers.add(self)
@@ -71,10 +74,12 @@ class StageChild:
 
     async def write_line(self, line: str) -> None:
         self.events.append(line)
+        if line.startswith("need "):
+            await asyncio.sleep(self.thinks)
         await self._process.write_line(line)
 
     async def end(self) -> ChildExit:
-        if self._sockets.is_open:  # It hears only behind its slice that its input has ended.
+        if self._sockets.is_open or self._is_hung:  # (It hears only after its slice that its input has ended.)
             await asyncio.sleep(END_SECONDS)
             self.kill()
         self._is_ending = True
@@ -87,6 +92,11 @@ class StageChild:
     def kill(self) -> None:
         """Ends it as a crash would."""
         self._process.kill()
+
+    def hang(self) -> None:
+        """Stops it: it answers nothing more."""
+        self._is_hung = True
+        os.kill(self._process.pid, signal.SIGSTOP)
 
 
 class _Talk:
@@ -178,6 +188,7 @@ class StageLauncher:
         self.children: list[StageChild] = []
         self.inventories: list[Inventory] = []
         self.is_missing = self.ends_at_once = False
+        self.thinks = 0.0
 
     def set_width(self, width: int | None) -> None:
         """How many requests go out at once, of the processes from now on."""
@@ -197,6 +208,7 @@ class StageLauncher:
         process = await self._command.launch(inventory)
         assert isinstance(process, ChildProcess)
         child = StageChild(process, loop, sockets)
+        child.thinks = self.thinks
         self.children.append(child)
         if self.ends_at_once:
             child.kill()
@@ -210,7 +222,7 @@ class StageLauncher:
 class Stage:
     """Everything of one scenario."""
 
-    def __init__(self, inventory: Inventory, nap: float = math.inf, **world: float) -> None:
+    def __init__(self, inventory: Inventory, nap: float = math.inf, storage: Storage | None = None, **world: float) -> None:
         if PROGRAM is None:
             raise unittest.SkipTest("no built leasekeep that has the command `watch`")
         self.nap = nap  # (as long as may be: naps take real time)
@@ -221,6 +233,7 @@ class Stage:
         self.output = io.StringIO()
         self.inventory = inventory
         self.standings = Standings(self.world)
+        self._storage = storage or Storage()
         self.beginnings = 0
         self.believed_too_long: list[str] = []
         self._task: asyncio.Task[None] | None = None
@@ -229,7 +242,7 @@ class Stage:
     def _new(self) -> None:
         """A service that knows what stands on the disk."""
         self._log = Log(LineForm(self.world), self.output)
-        self._ends = KnownEnds(Path(self.folder.name) / "ends", Storage(), "boot")
+        self._ends = KnownEnds(Path(self.folder.name) / "ends", self._storage, "boot")
         self._ends.load()
         self.watch = Watch(self.launcher, self.world, self._ends, self._log, self._hear, self.nap)
         self.standings = Standings(self.world)
@@ -257,7 +270,7 @@ class Stage:
 
     async def stop(self) -> None:
         """Ends the service at once, as a kill would: what stands on no disk is gone."""
-        setattr(self._ends, "write", lambda: None)
+        setattr(self._ends, "fresh", lambda: None)
         if self._task is not None:
             self._task.cancel()
             await asyncio.gather(self._task, return_exceptions=True)
@@ -271,6 +284,9 @@ class Stage:
 
     def entries(self) -> list[EntryStatus]:
         return self.standings.entries(self.inventory)
+
+    def hang_child(self) -> None:
+        self.launcher.children[-1].hang()
 
     def kill_child(self) -> None:
         self.launcher.children[-1].kill()

@@ -24,8 +24,8 @@ PROGRAM = str(Path(__file__).resolve().parents[1] / "scripted_watch")
 WEB = Entry("web", Kind.TOKEN, None, 900, 1060, increment=60, max_ttl=9000, need=1200, credential="s.web")
 DB = Entry("db", Kind.LEASE, "web", 900, 1060, increment=60, max_ttl=9000, need=1200, credential="db/1")
 ONE, TWO = Inventory((WEB,), 20), Inventory((WEB, DB), 20)
-SILENCE = 2 * 5 + 15
-"""Seconds: twice the time-out, and fifteen."""
+SILENCE = 2 * 5 + 3
+"""Seconds that a process may say nothing, with a margin of 20: half of that is less."""
 
 Script = list[list[tuple[str, list[Any]]]]
 

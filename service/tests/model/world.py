@@ -5,8 +5,10 @@ from __future__ import annotations
 import asyncio
 import selectors
 import time
+from concurrent.futures import Executor
 from dataclasses import dataclass, field
-from typing import Any, Coroutine, Protocol, TypeVar
+from functools import partial
+from typing import Any, Callable, Coroutine, Protocol, TypeVar
 
 Result = TypeVar("Result")
 
@@ -54,11 +56,39 @@ class SimLoop(asyncio.SelectorEventLoop):
         selector.loop = self
         self.simulated = 0.0
         self.workers: set[Worker] = set()
+        self._aside: float | None = None
         self._idle: list[asyncio.Future[None]] = []
         super().__init__(selector)
 
     def time(self) -> float:
         return self.simulated
+
+    def run_in_executor(self, executor: Executor | None, work: Callable[..., Any], *words: Any) -> Any:
+        """Does at once what a thread is asked to do; it is done as much later as the work says that it takes."""
+        done, before = self.create_future(), self._aside
+        self._aside = 0.0
+        try:
+            end: Callable[[], None] = partial(_settle, done, done.set_result, work(*words))
+        except BaseException as error:
+            end = partial(_settle, done, done.set_exception, error)
+        finally:
+            seconds, self._aside = self._aside, before
+        if seconds:
+            self.call_later(seconds, end)
+        else:
+            end()
+        return done
+
+    def at_work(self) -> float:
+        """The time of the work at hand: that of the loop, and what the work has taken so far."""
+        return self.simulated + (self._aside or 0.0)
+
+    def take(self, seconds: float) -> None:
+        """Says that the work at hand takes so long. Where nobody does it aside, the loop itself stands still for that time."""
+        if self._aside is None:
+            self.simulated += seconds
+        else:
+            self._aside += seconds
 
     async def idle(self) -> None:
         """Returns where nothing is left to be done at this moment, by the loop or by a worker."""
@@ -72,6 +102,11 @@ class SimLoop(asyncio.SelectorEventLoop):
             if not future.done():
                 future.set_result(None)
         return bool(idle)
+
+
+def _settle(done: asyncio.Future[Any], settle: Callable[[Any], None], found: Any) -> None:
+    if not done.done():
+        settle(found)
 
 
 def simulate(work: Coroutine[Any, Any, Result]) -> Result:
