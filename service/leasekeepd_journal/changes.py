@@ -8,8 +8,9 @@ import re
 import zlib
 from dataclasses import dataclass
 from enum import Enum
+from functools import cached_property, lru_cache
 
-from leasekeep_inventory.inventory import ALWAYS, Entry, Inventory, entry_text
+from leasekeep_inventory.inventory import ALWAYS, MAX_ENTRIES, Entry, Inventory, entry_text
 from leasekeep_inventory.inventory_file import read_tables
 from leasekeep_inventory.rfc3339 import LAST, read_rfc3339
 from leasekeep_inventory.values import CREDENTIAL, NAME
@@ -51,6 +52,11 @@ class Change:
     def __repr__(self) -> str:
         return f"Change({self.what.value} {self.name})"
 
+    @cached_property
+    def entry(self) -> Entry:
+        """The entry that its table holds; ChangeFault where it holds none. (It is read once.)"""
+        return only_entry(self.table)
+
     def line(self) -> bytes:
         """The record as a line of the journal, with a sum over it: a byte that has changed shows."""
         record: dict[str, object] = {"what": self.what.value, "name": self.name, "was": self.was}
@@ -83,7 +89,7 @@ class Change:
                 return False
             case What.REPLACE if not CREDENTIAL.fullmatch(self.credential):
                 return False
-            case What.ADD if only_entry(self.table).name != self.name:
+            case What.ADD if self.entry.name != self.name:
                 return False
         return NAME.fullmatch(self.name) is not None
 
@@ -116,6 +122,7 @@ def said_by(inventory: Inventory, what: What, name: str) -> str:
     return fingerprint(entry_text(entry, is_served=entry.credential_file is not None).encode())  # (Not of what a file holds.)
 
 
+@lru_cache(2 * MAX_ENTRIES)
 def only_entry(table: str) -> Entry:
     """The one entry that a text of TOML holds; ChangeFault with its faults where it holds another number."""
     reading, entries = read_tables(table.encode())

@@ -2,12 +2,10 @@
 
 from __future__ import annotations
 
-import tomllib
-from functools import lru_cache
-
-from leasekeep_inventory.inventory import MAX_DEPTH, MAX_ENTRIES
+from leasekeep_inventory.inventory import MAX_DEPTH
 
 from .changes import ABSENT, Change, What, fingerprint
+from .credentials import Credentials
 
 
 def compacted(changes: list[Change]) -> list[Change]:
@@ -34,8 +32,7 @@ class _Compaction:
         self._under: dict[str, list[int]] = {}  # Adds below a name.
         self._dropped: dict[str, int] = {}  # The last drop of the name that stays, whatever the file said.
         self._marks: dict[int, tuple[str, ...]] = {}  # Fingerprints of credentials.
-        self._had: dict[str, dict[int, str]] = {}  # By such a fingerprint: the names that had it, by places.
-        self._taken: dict[str, int] = {}  # When another name was last given a credential that this one had.
+        self._credentials = Credentials()
         self._rounds: list[int] = []  # Of drops that stay: the last one of each round.
         drops = {(change.name, change.was) for change in changes if change.what is What.DROP}
         self._most_rounds = min(MAX_DEPTH, len(drops))
@@ -44,9 +41,9 @@ class _Compaction:
         key = change.name, change.was
         match change.what:
             case What.ADD:
-                self._parents[place], credential = _above_and_credential(change.table)
+                self._parents[place] = change.entry.parent or ""
                 self._under.setdefault(self._parents[place], []).append(place)
-                self._bring(place, change, credential)
+                self._bring(place, change, change.entry.secret)
             case What.REPLACE:
                 self._bring(place, change, change.credential)
             case What.DROP:
@@ -60,16 +57,16 @@ class _Compaction:
     def _bring(self, place: int, change: Change, credential: str) -> None:
         """Where a credential is replaced, the words of the file are the fingerprint of the one before."""
         fresh = fingerprint(credential.encode())
-        self._taken.update((name, place) for name in self._had.get(fresh, {}).values() if name != change.name)
+        self._credentials.give(place, change.name, fresh)
         self._marks[place] = (fresh, change.was) if change.what is What.REPLACE else (fresh,)
         for mark in self._marks[place]:
-            self._had.setdefault(mark, {})[place] = change.name
+            self._credentials.have(place, change.name, mark)
 
     def _make_void(self, places: list[int]) -> None:
         self.void.update(places)
         for place in places:
             for mark in self._marks.pop(place, ()):
-                self._had[mark].pop(place, None)
+                self._credentials.forget(self._changes[place].name, mark)
 
     def _give_again(self, place: int, change: Change) -> None:
         """A credential that another name takes meanwhile is free only by the one that came before."""
@@ -78,8 +75,8 @@ class _Compaction:
         if before is None:
             return
         if change.what is What.REPLACE:
-            others = set(self._had[self._marks[place][0]].values()) - {change.name}
-            if others or self._taken.get(change.name, -1) > before:
+            is_anothers = self._credentials.is_anothers(change.name, self._marks[place][0])
+            if is_anothers or self._credentials.taken(change.name) > before:
                 return
         self._make_void([before])
 
@@ -105,7 +102,7 @@ class _Compaction:
         under = self._under.get(name, [])
         while under and under[-1] in self.void:
             under.pop()
-        last = max([self._taken.get(name, -1), *under[-1:], *(self._dropped.get(self._parents[at], -1) for at in adds)])
+        last = max([self._credentials.taken(name), *under[-1:], *(self._dropped.get(self._parents[at], -1) for at in adds)])
         return last > adds[0]
 
     def _rounds_since(self, kept: int) -> int | None:
@@ -114,11 +111,3 @@ class _Compaction:
         through and the one that is kept did not."""
         rounds = next((number for number, last in enumerate(self._rounds) if last > kept), None)
         return None if rounds is None or rounds + 1 >= self._most_rounds else rounds + 1
-
-
-@lru_cache(2 * MAX_ENTRIES)
-def _above_and_credential(table: str) -> tuple[str, str]:
-    """The name over the entry of a table, empty where there is none, and its credential."""
-    ((kind, (entry,)),) = tomllib.loads(table).items()
-    above, credential = ("parent", "secret") if kind == "token" else ("token", "lease_id")
-    return entry.get(above, ""), entry.get(credential, entry["name"])

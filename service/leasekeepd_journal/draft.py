@@ -3,11 +3,15 @@
 from __future__ import annotations
 
 from dataclasses import replace
+from itertools import islice
 
 from leasekeep_inventory.inventory import MAX_ENTRIES, Entry, Inventory, Kind, entry_text, inventory_text
 from leasekeep_inventory.inventory_file import LIMIT, judge
 
-from .changes import Change, ChangeFault, What, only_entry, said_by
+from .changes import Change, ChangeFault, What, said_by
+
+NAMED = 10
+"""So many names stand in one fault, at most."""
 
 
 class Draft:
@@ -43,7 +47,8 @@ class Draft:
         elif change.what is What.REPLACE:
             self._exchange(entry, replace(entry, credential=change.credential))
         elif under := self._under.get(change.name):
-            raise ChangeFault(f"{change.name} has entries under it: drop {', '.join(under)} first")
+            names, more = list(islice(under, NAMED)), len(under) - NAMED
+            raise ChangeFault(f"{change.name} has entries under it: drop {', '.join(names)}{f' and {more} more' if more > 0 else ''} first")
         else:
             self._take(entry)
 
@@ -55,7 +60,7 @@ class Draft:
         return entry.need == change.until if change.what is What.NEED else entry.secret == change.credential
 
     def _added(self, change: Change) -> Entry:
-        entry = only_entry(change.table)
+        entry = change.entry
         if entry.name in self._entries:
             raise ChangeFault(f"an entry is named {entry.name} already")
         if entry.credential is None and entry.credential_file is None and not self._names_are_secrets:

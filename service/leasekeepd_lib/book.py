@@ -17,6 +17,10 @@ from .source import Loaded, Source, SourceFault
 from .status import FileReading
 
 
+NOTES_MOST = 100
+"""So many changes that do not hold are named, at most: a journal may be of another file altogether."""
+
+
 class Book:
     """The file that is served, with its good copy, and the changes since. `reading` tells how the file was last read."""
 
@@ -85,8 +89,10 @@ class Book:
         except OSError as error:
             log.alert("journal", "cannot be used:", error.strerror)
         inventory, notes = replay(self._file.inventory, journal.changes, self._source.names_are_secrets)
-        for note in notes:
+        for note in notes[:NOTES_MOST]:
             log.note(note)
+        if len(notes) > NOTES_MOST:
+            log.note("journal", len(notes) - NOTES_MOST, "more changes do not hold")
         return inventory
 
     def described(self, change: Change) -> Change:

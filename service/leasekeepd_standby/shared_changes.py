@@ -133,7 +133,7 @@ def _shared(change: Change | None) -> Change | None:
     """The change, where it is one that a leader may have written; None for one that holds a credential."""
     if change is None or change.what in (What.REPLACE, What.SETTLING):
         return None
-    return None if change.what is What.ADD and only_entry(change.table).credential is not None else change
+    return None if change.what is What.ADD and change.entry.credential is not None else change
 
 
 def _mark(entry: Entry) -> str:

@@ -6,12 +6,11 @@ import random
 import time
 import unittest
 from dataclasses import replace
-from functools import lru_cache
 from unittest import mock
 
 from leasekeep_inventory.inventory import Entry, Inventory, Kind, inventory_text
 from leasekeep_inventory.inventory_file import LIMIT, read_inventory
-from leasekeepd_journal.changes import Change, ChangeFault, What, only_entry, said_by
+from leasekeepd_journal.changes import Change, ChangeFault, What, said_by
 from leasekeepd_journal.compaction import compacted
 from leasekeepd_journal.draft import Draft, changed, replay
 from leasekeepd_journal.journal import Journal
@@ -194,14 +193,13 @@ class Large(InRoom):
     def test_a_compaction_changes_no_meaning(self) -> None:
         """Of random changes, as a service takes them or any at all, whatever the file says when they are replayed."""
         compactions = 0
-        with mock.patch("leasekeepd_journal.draft.only_entry", lru_cache(only_entry)):
-            for seed in range(2000):
-                files, changes = random_changes(random.Random(seed), is_live=seed % 2 == 0)
-                fewer = compacted(changes)
-                compactions += len(fewer) < len(changes)
-                for file in files:
-                    if not has_a_credential_that_replace_brought(file, changes):
-                        self.assertEqual(replay(file, fewer, False)[0], replay(file, changes, False)[0], f"seed {seed}")
+        for seed in range(2000):
+            files, changes = random_changes(random.Random(seed), is_live=seed % 2 == 0)
+            fewer = compacted(changes)
+            compactions += len(fewer) < len(changes)
+            for file in files:
+                if not has_a_credential_that_replace_brought(file, changes):
+                    self.assertEqual(replay(file, fewer, False)[0], replay(file, changes, False)[0], f"seed {seed}")
         self.assertGreater(compactions, 1500)
 
     def test_what_is_dropped_and_added_again_and_again(self) -> None:

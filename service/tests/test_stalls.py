@@ -27,16 +27,14 @@ LATE = 0.1
 
 class Kept(Scenario):
     def test_twelve_entries_while_the_disk_stalls(self) -> None:
-        """The margin is 20: all of them come to their time and to their end within the stall."""
+        """The margin is 20: it begins before they are renewed, and ends after what they are granted then."""
         storage = StallingStorage()
 
         async def scene(stage: Stage) -> None:
-            await stage.until(100)
-            stage.need("e0", 1_000_000 + 2 * HOUR)
-            await stage.until(130)
+            await stage.until(79)
             storage.stall(STALL)
             await stage.finish(HOUR)
-        self.play(fleet(12, 80, 20, lambda place: 145 + place), scene, storage=storage)
+        self.play(fleet(12, 50, 20, 100), scene, storage=storage)
         self.assertGreater(storage.stalls, 0)
         self.assert_kept()
 
@@ -44,16 +42,16 @@ class Kept(Scenario):
         storage = StallingStorage()
 
         async def scene(stage: Stage) -> None:
-            await stage.until(130)
+            await stage.until(79)
             storage.stall(STALL)
-            await stage.until(200)
+            await stage.until(145)
             told = [stage._ends._ends[entry.name][0] for entry in stage.inventory.entries]
             again = KnownEnds(Path(stage.folder.name) / "ends", storage, "boot")
             again.load()
             self.assertEqual([end for end, _ in again._ends.values()], told)
             self.assertEqual(stage.lines("could not be kept"), [])
             await stage.finish(300)
-        self.play(fleet(12, 80, 20, lambda place: 145 + place), scene, storage=storage)
+        self.play(fleet(12, 50, 20, 100), scene, storage=storage)
 
 
 class Served(InRoom):

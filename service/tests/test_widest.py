@@ -12,7 +12,7 @@ from unittest import mock
 
 from leasekeep_inventory.inventory import ALWAYS, Entry, Inventory, Kind, inventory_text
 from leasekeepd_lib.status import status_lines
-from leasekeepd_lib.widest import as_it_stands, widest_margin, widest_served
+from leasekeepd_lib.widest import WidestServed, as_it_stands, widest_margin, widest_served
 from trial.programs import find_program
 
 from .test_changes import WHO, InRoom, Room
@@ -114,14 +114,15 @@ class Shown(InRoom):
             async def widest(inventory: Inventory, now: int) -> int | None:
                 asked.append((inventory, now))
                 return 45
-            service._around.widest = widest
+            service._widest = WidestServed(widest, room.world)
             lines = await service.command(["status"], WHO)
             self.assertEqual(lines[0], "next-wake - beginnings 0 margin 30 widest 45")
             self.assertEqual(asked, [(as_it_stands(service.inventory, {}, NOW), NOW)])
             service.standings.offset = 100.0
+            await room.world.until(NOW + 61)
             await service.command(["status"], WHO)
-            self.assertEqual(asked[1][1], NOW + 100)
-            service._around.widest = None
+            self.assertEqual(asked[1][1], NOW + 161)
+            service._widest = None
             self.assertTrue((await service.command(["status"], WHO))[0].endswith(" margin 30 widest -"))
         self.in_room(work)
 
