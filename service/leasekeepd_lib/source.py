@@ -27,15 +27,16 @@ class Loaded:
     inventory: Inventory
 
 
-@dataclass(frozen=True)
+@dataclass
 class Source:
-    """Where the inventory stands, and what is asked of it."""
+    """Where the inventory stands, and what is asked of it. `last` is the good file that was read last."""
 
     path: Path
     copy: Path
     timeout: int
     names_are_secrets: bool
     storage: Storage
+    last: Loaded | None = None
 
     def read(self) -> tuple[bytes, int]:
         """The file's bytes, as far as one may have, and its mode; OSError where it cannot be read. A pipe is none: one that nobody
@@ -60,7 +61,8 @@ class Source:
         faults = reading.faults + refusals(reading, self.timeout, self.names_are_secrets, mode)
         if faults or reading.inventory is None:
             raise SourceFault("\n".join(finding.text(str(self.path)) for finding in faults))
-        return Loaded(data, reading.inventory)
+        self.last = Loaded(data, reading.inventory)
+        return self.last
 
     def keep_copy(self, loaded: Loaded) -> None:
         """Keeps the good file's bytes in the state folder."""
@@ -68,7 +70,9 @@ class Source:
             self.storage.replace(self.copy, loaded.data)
 
     def load_copy(self) -> Loaded | None:
-        """The last good file; None where there is none."""
+        """The last good file: of this process, else of the one that kept it; None where there is none."""
+        if self.last is not None:
+            return self.last
         try:
             data = self.storage.read(self.copy)
         except OSError:

@@ -137,7 +137,7 @@ class Etcd:
                 talk.request("POST", f"/v3/{call}", json.dumps(request), fields)
                 reply = talk.getresponse()
                 data = reply.read(MOST)
-        except (OSError, http.client.HTTPException, ValueError) as error:
+        except (OSError, http.client.HTTPException, ValueError, RuntimeError) as error:  # (The last: no thread can be started.)
             raise EtcdFault(f"etcd does not answer ({getattr(error, 'strerror', None) or type(error).__name__})") from None
         finally:
             talk.close()

@@ -6,6 +6,7 @@ import asyncio
 from functools import partial
 from typing import Any, Awaitable, Callable, Protocol
 
+from leasekeepd_lib.aside import aside
 from leasekeepd_lib.clock import Clock
 
 from .etcd_client import Condition, EtcdFault, Kept
@@ -26,12 +27,30 @@ def lease_for(margin: int) -> int:
 
 
 Aside = Callable[[Callable[[], Any]], Awaitable[Any]]
-"""Does what waits for the network, while others go on."""
+"""Does what waits for the network, while others go on; OSError also where nobody can be found to do it."""
+
+NAME_MOST = 200
+UNNAMED = "one whose name cannot be shown"
 
 
-async def aside(work: Callable[[], Any]) -> Any:
-    """Does it in a thread."""
-    return await asyncio.to_thread(work)
+def shown_name(name: bytes) -> str:
+    """The name of a leader as etcd keeps it, for the log and the service manager. It is anybody's text: where it is more than a
+    printable word, it stands nowhere."""
+    try:
+        text = name.decode("utf-8")
+    except UnicodeDecodeError:
+        return UNNAMED
+    return text if is_name(text) else UNNAMED
+
+
+def is_name(text: str) -> bool:
+    """Whether the text is a name that may be shown: one printable word."""
+    return 0 < len(text) <= NAME_MOST and text.isprintable() and " " not in text
+
+
+def as_name(text: str) -> str:
+    """The text as such a name: with a sign for whatever may stand in none."""
+    return "".join(letter if is_name(letter) else "_" for letter in text)[-NAME_MOST:] or "_"
 
 
 class Store(Protocol):
@@ -49,7 +68,7 @@ class Leadership:
     `is_answered` tells whether etcd answered the last time."""
 
     def __init__(self, store: Store, prefix: str, name: str, clock: Clock, aside: Aside = aside) -> None:
-        self._store, self._name, self._clock, self._aside = store, name, clock, aside
+        self._store, self._name, self._clock, self._aside = store, as_name(name), clock, aside
         self._key = f"{prefix}/leader"
         self._lease = self._made = self._old = 0
         self._until = 0.0
@@ -69,7 +88,7 @@ class Leadership:
             is_leader = await self._aside(partial(self._take, seconds))
             self.is_answered = True
             return bool(is_leader)
-        except EtcdFault:
+        except (EtcdFault, OSError):
             self.is_answered = False
             return False
 
@@ -87,7 +106,7 @@ class Leadership:
                 return True
             self._store.revoke(lease)
             kept = self._store.get(self._key)
-        self.leader = "" if kept is None else kept.value.decode("utf-8", "replace")
+        self.leader = "" if kept is None else shown_name(kept.value)
         return False
 
     def _take_again(self) -> bool:
@@ -100,8 +119,9 @@ class Leadership:
         return seconds != 0
 
     async def keep(self) -> str:
-        """Keeps the place; why it has it no more, in words."""
-        why = "its lease has ended"
+        """Keeps the place; why it has it no more, in words. `is_answered` then tells whether etcd itself said so: one that was
+        stopped past its lease's end knows nothing of the others."""
+        why, has_etcd_ended_it = "its lease has ended", False
         while self.holds():
             sent, pause = self._clock.elapsed(), AGAIN
             try:
@@ -109,12 +129,13 @@ class Leadership:
                     seconds = await self._aside(partial(self._store.keep, self._lease))
                 self.is_answered, why = True, "its lease has ended"
                 if seconds == 0:
-                    self._lease = 0
+                    self._lease, has_etcd_ended_it = 0, True
                     break
                 self._until, pause = sent + seconds, seconds / PARTS
-            except (EtcdFault, TimeoutError) as fault:
-                self.is_answered, why = False, str(fault) or "etcd does not answer"
+            except (EtcdFault, OSError) as fault:
+                self.is_answered, why = False, getattr(fault, "strerror", None) or str(fault) or "etcd does not answer"
             await asyncio.sleep(min(pause, self._left()))
+        self.is_answered = has_etcd_ended_it
         self._old, self._lease, self.leader = self._lease, 0, ""
         return why
 
@@ -129,5 +150,5 @@ class Leadership:
             try:
                 async with asyncio.timeout(RESIGN_SECONDS):
                     await self._aside(partial(self._store.revoke, lease))
-            except (EtcdFault, TimeoutError):
+            except (EtcdFault, OSError):
                 pass

@@ -14,18 +14,25 @@ from leasekeepd_lib.events import Log
 from leasekeepd_lib.known_ends import boot_id
 from leasekeepd_lib.lookups import Lookups
 from leasekeepd_lib.notify import Notifier
+from leasekeepd_lib.reports import MetricsFile
 from leasekeepd_lib.service import Service
-from leasekeepd_lib.spread import own_name
+from leasekeepd_lib.spread import own_name, part_of
 from leasekeepd_lib.surroundings import Surroundings
 from leasekeepd_lib.watch_process import WatchLauncher
 
 from .etcd_client import Etcd
 from .leadership import Leadership
+from .led import Led, LedLauncher
+from .remembered import Remembered
 from .shared_changes import SharedEnds
-from .standby import Led, LedLauncher, Standby
+from .sharing import Sharing
+from .standby import Standby
 
 ETCD_SECONDS = 2.0
-"""The longest that etcd may take for a connect or a read: a change waits for that, and the watch with it."""
+"""The longest that etcd may take for a connect or a read: a change waits for that, and nothing else does."""
+
+PARTS = 1000
+"""Of so many parts an agent has its own, by its name."""
 
 
 class _LedNotifier(Notifier):
@@ -52,16 +59,19 @@ def standing_by(arguments: argparse.Namespace, around: Surroundings, clock: Cloc
     def ends(told: bytes) -> SharedEnds:
         return SharedEnds(arguments.state / "ends", around.storage, boot_id(os.environ), clock, told)
 
+    metrics = None if around.metrics is None else MetricsFile(around.storage, around.metrics, log)
+
     def report() -> None:
-        if around.metrics is not None:
-            text = f"leasekeepd_metrics_written_timestamp_seconds {clock.wall():.3f}\n"
-            try:
-                around.storage.replace(around.metrics, text.encode(), mode=0o644, synced=False)
-            except OSError:
-                pass
+        if metrics is not None:
+            metrics.give(f"leasekeepd_metrics_written_timestamp_seconds {clock.wall():.3f}\n")
     _tell_of_old_changes(arguments.state / "journal", around, log)
-    leadership = Leadership(etcd, prefix, arguments.name or own_name(arguments.state), clock)
-    return Standby(around.source, etcd, prefix, leadership, ends, make, around.notifier, report, clock, log, around.alerts)
+    name = arguments.name or own_name(arguments.state)
+    leadership = Leadership(etcd, prefix, name, clock)
+    remembered = Remembered(arguments.state / "changes", around.storage, log)
+    remembered.load()
+    sharing = Sharing(etcd, prefix, leadership, remembered, clock, log)
+    return Standby(around.source, leadership, sharing, ends, make, around.notifier, report, clock, log, around.alerts,
+                   part_of(name, PARTS) / (PARTS + 1))
 
 
 def _tell_of_old_changes(journal: Path, around: Surroundings, log: Log) -> None:

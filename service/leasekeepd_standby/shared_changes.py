@@ -6,6 +6,7 @@ import errno
 import hashlib
 import re
 from pathlib import Path
+from threading import Lock
 
 from leasekeep_inventory.inventory import Entry, Inventory
 from leasekeepd_journal.changes import Change, ChangeFault, What, only_entry
@@ -35,20 +36,29 @@ def refuse(words: list[str]) -> None:
         raise ChangeFault("with --standby the changes are in etcd: write them into the file of each machine by hand")
 
 
+def refuse_alone(words: list[str]) -> None:
+    """ChangeFault for a change: nobody could tell it to whoever follows."""
+    if words[0] in ("need", "add", "drop"):
+        raise ChangeFault("etcd does not answer: no change can be kept")
+
+
 class SharedJournal(Journal):
     """The journal as one key of etcd, which only the leader writes, on the condition that it still leads. `kept` is what was
     there when it began to."""
 
     def __init__(self, store: Store, key: str, leadership: Leadership, kept: Kept | None) -> None:
         super().__init__(Path(key), Storage())
-        self._store, self._key, self._leadership = store, key, leadership
-        self._data = b"" if kept is None else kept.value
-        self._revision: int | None = 0 if kept is None else kept.modified
+        self._store, self._key, self._leadership, self.kept = store, key, leadership, kept
+        self.revision: int | None = 0 if kept is None else kept.modified
+        """At which the key was last read or written here; None where that is not known."""
+        self.was_lost = False
+        """Whether the key was found to be gone, or older than that, when it was to be written."""
         self._lost: list[bytes] = []
+        self._turn = Lock()  # (Each write is of all that is known: two at once would forget one.)
 
     def load(self, file: bytes) -> int:
         """Takes the changes that were kept; how many records cannot be read. They stay in etcd."""
-        lines = self._data.splitlines(keepends=True)
+        lines = [] if self.kept is None else self.kept.value.splitlines(keepends=True)
         found = [(line, _shared(Change.read(line))) for line in lines]
         self._lost = [line for line, change in found if change is None]
         self.changes = [change for _, change in found if change is not None]
@@ -64,23 +74,34 @@ class SharedJournal(Journal):
 
     def add(self, change: Change) -> None:
         """Writes the change into etcd; OSError where that fails, or where another leads now."""
-        changes = [*self.changes, change]
-        if len(changes) > COMPACT_AT:
-            changes = compacted(changes)
+        with self._turn:
+            changes = [*self.changes, change]
+            self._write(compacted(changes) if len(changes) > COMPACT_AT else changes)
+
+    def restore(self) -> None:
+        """Writes all that is known into etcd again; OSError where that fails, or where another leads now."""
+        with self._turn:
+            self._write(self.changes)
+
+    def _write(self, changes: list[Change]) -> None:
         data = b"".join([*self._lost, *(one.line() for one in changes)])
         if len(data) > MOST:
             raise OSError(errno.EFBIG, "there are too many changes: write them into the file of each machine")
+        known, self.revision = self.revision, None
         try:
-            if self._revision is None:  # (The last write may have come to be or not: it was not acknowledged.)
+            written = None if known is None else self._put(data, known)
+            if written is None:  # (The last write may have come to be or not, and the key may be lost. Only who leads writes it.)
                 kept = self._store.get(self._key)
-                self._revision = 0 if kept is None else kept.modified
-            known, self._revision = self._revision, None
-            written = self._store.put(self._key, data, [self._leadership.condition(), Condition(self._key, "MOD", known)])
+                self.was_lost |= bool(known) and (kept is None or kept.modified < (known or 0))
+                written = self._put(data, 0 if kept is None else kept.modified)
         except EtcdFault as fault:
             raise OSError(errno.EIO, str(fault)) from None
         if written is None:
             raise OSError(errno.EAGAIN, "another leads now")
-        self._revision, self.changes = written, changes
+        self.revision, self.changes, self.kept = written, changes, Kept(data, written, written)
+
+    def _put(self, data: bytes, known: int) -> int | None:
+        return self._store.put(self._key, data, [self._leadership.condition(), Condition(self._key, "MOD", known)])
 
     def settle(self, target: Path, file: bytes, mode: int) -> None:
         raise OSError(errno.EPERM, "with --standby the changes are in etcd")

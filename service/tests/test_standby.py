@@ -25,9 +25,12 @@ from leasekeepd_lib.notify import Notifier
 from leasekeepd_lib.source import Source, SourceFault
 from leasekeepd_standby.etcd_client import Kept
 from leasekeepd_standby.leadership import Leadership
+from leasekeepd_standby.led import Led, LedLauncher
+from leasekeepd_standby.remembered import Remembered
 from leasekeepd_standby.serving import _LedNotifier
 from leasekeepd_standby.shared_changes import SharedEnds, SharedJournal, refuse
-from leasekeepd_standby.standby import Led, LedLauncher, Standby
+from leasekeepd_standby.sharing import Sharing
+from leasekeepd_standby.standby import Standby
 
 from .model.etcd import Client, ModelEtcd
 from .model.world import simulate
@@ -308,7 +311,7 @@ class StubService:
 class Machine:
     """One leasekeepd of several."""
 
-    def __init__(self, name: str, etcd: ModelEtcd, clock: LoopClock, folder: Path) -> None:
+    def __init__(self, name: str, etcd: ModelEtcd, clock: LoopClock, folder: Path, part: float = 0.0) -> None:
         self.clock, self.client, self.output = clock, Client(etcd), io.StringIO()
         self.served = list[tuple[float, float, bool]]()
         self.made = list[Led]()
@@ -316,11 +319,14 @@ class Machine:
         file = folder / "inventory.toml"
         file.touch(0o600)
         file.write_text(inventory_text(TWO))
-        place = Leadership(self.client, "fleet", name, clock, at_once)
+        place, log = Leadership(self.client, "fleet", name, clock), Log(LineForm(clock), self.output)
+        self.remembered = Remembered(folder / f"changes-{name}", Storage(), log)
+        self.remembered.load()
+        self.sharing = Sharing(self.client, "fleet", place, self.remembered, clock, log)
         self.standby = Standby(
-            Source(file, folder / "copy", 5, False, Storage()), self.client, "fleet", place,
+            Source(file, folder / f"copy-{name}", 5, False, Storage()), place, self.sharing,
             lambda told: SharedEnds(folder / f"ends-{name}", Storage(), name, clock, told), self.make, Notifier({}),
-            lambda: None, clock, Log(LineForm(clock), self.output), None, at_once)
+            lambda: None, clock, log, None, part)
 
     def make(self, led: Led) -> StubService:
         self.made.append(led)
@@ -355,30 +361,15 @@ class Fleet(InFolder):
             await asyncio.gather(*self.tasks, return_exceptions=True)
         simulate(go())
 
-    def test_one_whose_lease_etcd_ended_does_not_go_on_alone(self) -> None:
-        """Though etcd is silent from then on: another may have taken over."""
+    def test_one_whose_lease_etcd_ended_goes_alone_no_earlier_than_others(self) -> None:
+        """Where etcd is silent from then on: another may have taken over."""
         def ended(_lease: int) -> int:
             self.etcd.is_down = True
             return 0
         self.play(200, (30, lambda: setattr(self.a.client, "keep", ended)))
         self.assertIn("warning: lead no more: its lease has ended", self.a.said())
-        self.assertEqual({is_alone for machine in (self.a, self.b) for *_, is_alone in machine.served}, {False})
-
-    def test_ends_that_could_not_be_shared_are_shared_later(self) -> None:
-        async def go() -> None:
-            standby = self.a.standby
-            self.assertTrue(standby._leadership._take(15))
-            ends = standby._ends(b"")
-            ends.keep(WEB, 5_000_000, True)
-            setattr(standby, "_service", mock.Mock(inventory=TWO))
-            self.etcd.is_down = True
-            pushing = asyncio.create_task(standby._push(ends))
-            await asyncio.sleep(7)
-            self.etcd.is_down = False
-            await asyncio.sleep(5)
-            pushing.cancel()
-        simulate(go())
-        self.assertIn("fleet/ends", self.etcd.keys)
+        (led,), alone = [one for one in self.a.served if not one[2]], [one for one in self.a.served if one[2]]
+        self.assertTrue(30 <= alone[0][0] - led[1] <= 31.5, (led, alone))
 
     def test_one_serves_and_the_other_waits(self) -> None:
         self.play(100)
@@ -408,7 +399,7 @@ class Fleet(InFolder):
         def down(is_down: bool) -> Callable[[], None]:
             return lambda: setattr(self.etcd, "is_down", is_down)
         self.play(1000, (100, down(True)), (700, down(False)))
-        self.assertTrue(self.b.served == [] or self.b.served[0][0] >= 700)
+        self.assertTrue(all(is_alone for began, _, is_alone in self.b.served if began < 700))
         led, alone = [one for one in self.a.served if not one[2]], [one for one in self.a.served if one[2]]
         self.assertTrue(109.9 <= led[0][1] <= 113.1, led)
         self.assertTrue(15 <= alone[0][0] - led[0][1] <= 16.1, alone)  # Another would lead by now.
@@ -418,12 +409,6 @@ class Fleet(InFolder):
         self.assertTrue(700 <= alone[-1][1] <= 701.1)
         self.assertEqual(sum(line.startswith("alert: lead alone: ") for line in self.a.said()), 1)
         self.assertTrue(self.a.serves() or self.b.serves() or self.a.served[-1][1] == 1000.0 or self.b.served[-1][1] == 1000.0)
-
-    def test_one_that_never_led_does_nothing_without_etcd(self) -> None:
-        self.etcd.is_down = True
-        self.play(300)
-        self.assertEqual((self.a.served, self.b.served), ([], []))
-        self.assertEqual(self.a.said(), ["standby etcd does not answer"])
 
     def test_changes_and_ends_are_known_to_who_follows(self) -> None:
         async def change() -> None:
@@ -473,7 +458,7 @@ class Fleet(InFolder):
         (self.folder / "inventory.toml").write_text("=")
         with self.assertRaises(SourceFault):
             self.a.standby.load()
-        (self.folder / "copy").write_text(inventory_text(TWO))
+        (self.folder / "copy-a").write_text(inventory_text(TWO))
         self.a.standby.load()
 
 

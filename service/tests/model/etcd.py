@@ -2,10 +2,13 @@
 
 from __future__ import annotations
 
+import asyncio
 from dataclasses import dataclass, field
 from typing import Any, Callable
 
 from leasekeepd_standby.etcd_client import Condition, EtcdFault, Kept
+
+from .world import SimLoop
 
 
 @dataclass
@@ -32,13 +35,20 @@ class ModelEtcd:
 
 @dataclass
 class Client:
-    """One client: `is_cut` keeps it from etcd, `loses_replies` lets its requests through and no reply back."""
+    """One client: `is_cut` keeps it from etcd, `loses_replies` lets its requests through and no reply back, and `waits` is how
+    long it takes to find no name resolved."""
 
     etcd: ModelEtcd
     is_cut: bool = False
     loses_replies: bool = False
+    waits: float = 0.0
 
     def _reach(self) -> None:
+        if self.waits:
+            loop = asyncio.get_running_loop()
+            assert isinstance(loop, SimLoop)
+            loop.take(self.waits)
+            raise EtcdFault("etcd does not answer (Temporary failure in name resolution)")
         if self.is_cut or self.etcd.is_down:
             raise EtcdFault("etcd does not answer (Connection refused)")
         self.etcd.sweep()

@@ -79,6 +79,7 @@ class StageChild:
         await self._process.write_line(line)
 
     async def end(self) -> ChildExit:
+        await self._loop.idle()  # (What it has sent is there then.)
         if self._sockets.is_open or self._is_hung:  # (It hears only after its slice that its input has ended.)
             await asyncio.sleep(END_SECONDS)
             self.kill()
