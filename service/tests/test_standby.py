@@ -339,7 +339,7 @@ class Machine:
         return self.standby._service is not None
 
 
-class Fleet(InFolder):
+class InFleet(InFolder):
     def setUp(self) -> None:
         super().setUp()
         self.clock = LoopClock()
@@ -361,6 +361,8 @@ class Fleet(InFolder):
             await asyncio.gather(*self.tasks, return_exceptions=True)
         simulate(go())
 
+
+class Fleet(InFleet):
     def test_one_whose_lease_etcd_ended_goes_alone_no_earlier_than_others(self) -> None:
         """Where etcd is silent from then on: another may have taken over."""
         def ended(_lease: int) -> int:

@@ -6,7 +6,9 @@ from __future__ import annotations
 import asyncio
 import io
 import threading
+import time
 import unittest
+from typing import Any
 from unittest import mock
 
 from leasekeep_inventory.inventory import inventory_text
@@ -23,7 +25,7 @@ from leasekeepd_standby.sharing import Sharing
 from .model.etcd import Client, ModelEtcd
 from .model.world import simulate
 from .test_leadership import LoopClock
-from .test_standby import TWO, WEB, Fleet, InFolder
+from .test_standby import TWO, WEB, InFleet, InFolder
 
 FORGED = b"x\nWATCHDOG=1\nSTATUS=all is well"
 
@@ -52,7 +54,7 @@ class Names(unittest.TestCase):
         self.assertEqual(etcd.keys["fleet/leader"][0].value, b"a_b_c")
 
 
-class Forged(Fleet):
+class Forged(InFleet):
     def test_a_forged_name_forges_no_line(self) -> None:
         """Of the log, of the status, of what the service manager is told."""
         self.etcd.keys["fleet/leader"] = Kept(FORGED, 1, 1), 0
@@ -69,7 +71,7 @@ class Forged(Fleet):
         self.assertEqual(set(sent), {"READY=1", "WATCHDOG=1", f"STATUS=standing by: {UNNAMED} leads", "STOPPING=1"})
 
 
-class Lost(Fleet):
+class Lost(InFleet):
     """`PREFIX/changes` is gone, or is as it once was."""
 
     def lose(self) -> None:
@@ -196,6 +198,12 @@ class Pushes(InFolder):
         self.assertTrue(place._take(15))
         journal = SharedJournal(client, "fleet/changes", place, None)
         journal.load(b"")
+        put = client.put
+
+        def slow(*words: Any) -> int | None:
+            time.sleep(0.01)
+            return put(*words)
+        setattr(client, "put", slow)
         works = [threading.Thread(target=journal.add, args=(need(1300 + number),)) for number in range(8)]
         works += [threading.Thread(target=journal.restore) for _ in range(8)]
         for work in works:
@@ -223,7 +231,7 @@ class Threads(unittest.TestCase):
         asyncio.run(go())
 
 
-class Silent(Fleet):
+class Silent(InFleet):
     def test_a_question_that_takes_long_keeps_nobody_from_going_alone(self) -> None:
         """While a name is looked for, the time of silence runs on."""
         def mute() -> None:
