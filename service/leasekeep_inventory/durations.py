@@ -97,7 +97,7 @@ def _need() -> Form:
     def mend(value: Any) -> str:
         if isinstance(value, str) and _is_like_always(value):
             return f'did you mean "{_ALWAYS_WORD}"?'
-        if isinstance(value, str) and meant_duration(value) is not None:
+        if isinstance(value, str) and meant_duration(value.strip().removeprefix("+")) is not None:
             return f'a need is a moment: write a date or "{_ALWAYS_WORD}" (`leasekeepd need NAME +6h` counts from now)'
         return strict.mend(value)
     return Form(f'{strict.expected}, or "{_ALWAYS_WORD}"', read, mend)

@@ -76,7 +76,7 @@ def _doubt_margin(reading: Reading, doubts: _Doubts, timeout: int, now: float) -
     if not reading.has_margin:
         doubts.doubt("", "margin", f"is not written: leasekeepd takes {SERVED.absent_margin} s, and leasekeep {STRICT.absent_margin} s",
                      "write one, so that both plan for the same")
-    if room.most < margin:
+    if room.most < margin and (room.step is None or margin < room.step):  # (Else it is a fault.)
         doubts.doubt("", "margin", f"is over three quarters of the shortest step ({room.step} s of {room.whose})",
                      f"{room.most} s is used for it instead: {room.for_timeout(timeout, margin)}")
     fullest = _fullest_round(reading.sound, now)
@@ -106,6 +106,9 @@ def _doubt_entry(inventory: Inventory, entry: Entry, doubts: _Doubts, now: float
         if seconds > _LONG_STEP and seconds % 1000 == 0:
             doubts.doubt(name, key, f"is {seconds} s, over {seconds // 86400} days",
                          "are these milliseconds? durations are whole seconds")
+    if entry.increment and not entry.period and entry.max_ttl and entry.increment > entry.max_ttl:
+        doubts.doubt(name, "increment", f"is {_long(entry.increment)}, longer than its maximum TTL of {_long(entry.max_ttl)}",
+                     "no renewal grants more than that: ask for less, or correct max_ttl")
     if entry.increment and entry.period and entry.increment != entry.period:
         doubts.doubt(name, "increment", "has no effect next to a period", "remove one of the two")
 
@@ -136,7 +139,13 @@ def _doubt_need(inventory: Inventory, entry: Entry, doubts: _Doubts, now: float)
     if entry.need <= now or entry.need == ALWAYS:
         return
     for over in inventory.over(entry.name):
-        if over.lacks_terms:
+        if over.lacks_terms:  # (It was issued by now.)
+            latest = inventory.ceiling(over, int(now), over.period, over.explicit_max_ttl) if over.max_ttl or over.explicit_max_ttl else None
+            if latest is not None and latest < entry.need:
+                whose = "its" if over is entry else f"{shown(over.name)}'s"
+                doubts.doubt(entry.name, "need", f"is {_long(entry.need - latest)} or more past {whose} maximum TTL",
+                             "no renewal leads there: lower it, or issue the secret afresh before then")
+                return
             continue
         ceiling = inventory.ceiling(over, over.issued, over.period, over.explicit_max_ttl)
         whose = "its" if over is entry else f"{shown(over.name)}'s"

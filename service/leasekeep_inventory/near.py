@@ -14,7 +14,8 @@ _LONGEST = 40
 _FILES = ("secret_file", "lease_id_file")
 _MEANT = {
     "token": "parent", "parent": "token", "secret": "lease_id", "lease_id": "secret", "id": "secret", "ttl": "increment",
-    "creation_time": "issued", "issue_time": "issued", "expire_time": "end", "lease_duration": "increment",
+    "creation_time": "issued", "issue_time": "issued", "expire_time": "end", "lease_duration": "increment", "until": "need",
+    "needed_until": "need", "keep_until": "need", "valid_until": "end",
     "secret_file": "lease_id_file", "lease_id_file": "secret_file",
 }
 """Names of Vault's, and of the other kind's keys."""

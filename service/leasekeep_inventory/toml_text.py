@@ -18,6 +18,8 @@ _HARMLESS = re.compile(r"[^A-Za-z0-9]*|.|\\.|\\x..|token|lease|margin|system_max
 _LONG_KEY = re.compile(r"""(?<![\w.-])(?:(?:[\w-]++|"[^"\n]*+"|'[^'\n]*+')[ \t]*+\.[ \t]*+){200}""", re.ASCII)
 """A key of so many parts that the parser takes minutes over a whole file of them. (No secret has so many dots.)"""
 
+_CURLY = re.compile("[\u2018\u2019\u201c\u201d\u201e\u00ab\u00bb]")
+
 _NO_TOML = "the file is not a TOML document"
 
 
@@ -105,6 +107,8 @@ def _mend(said: str, text: str, line: int) -> str:
     if said.startswith("Cannot declare") and (head := _HEAD.match(written)) and head[2] in ("token", "lease"):
         return f"write [[{head[2]}]], with two brackets, over each {head[2]}"
     value = written.partition("=")[2].strip()
+    if _CURLY.search(written):
+        return 'a text stands between straight quotes ("): these are curly, as some programs write them'
     if re.match(r"\d{4}-\d\d", value):
         return "put the date in quotes"
     if said.startswith("Invalid value") and re.match(r"[A-Za-z/]", value):

@@ -65,25 +65,23 @@ def _program() -> str:
     return str(beside) if os.access(beside, os.X_OK) and beside.is_file() else "leasekeep"
 
 
+def _number(word: str, least: int, most: int, what: str) -> int:
+    """The whole number that the word writes, between these two."""
+    if not (word.isascii() and word.isdigit() and len(word) < 10 and least <= int(word) <= most):
+        raise argparse.ArgumentTypeError(f"that is no number of {what} from {least} to {most}, such as {max(least, 5)}: {word}")
+    return int(word)
+
+
 def _timeout(word: str) -> int:
-    seconds = int(word)
-    if not 1 <= seconds <= 60:
-        raise ValueError
-    return seconds
+    return _number(word, 1, 60, "seconds")
 
 
 def _width(word: str) -> int:
-    requests = int(word)
-    if not 1 <= requests <= 32:
-        raise ValueError
-    return requests
+    return _number(word, 1, 32, "requests")
 
 
 def _spread(word: str) -> int:
-    seconds = int(word)
-    if not 0 <= seconds <= MARGIN_MAX:
-        raise ValueError
-    return seconds
+    return _number(word, 0, MARGIN_MAX, "seconds")
 
 
 def _standby(word: str) -> EtcdAddress:
@@ -108,8 +106,8 @@ def _group(word: str) -> int:
 
 
 def _address(word: str) -> Address:
-    if "/" not in word and not 1 <= int(word) <= 65535:
-        raise ValueError
+    if "/" not in word and not (word.isascii() and word.isdigit() and len(word) < 6 and 1 <= int(word) <= 65535):
+        raise argparse.ArgumentTypeError(f"that is neither a port from 1 to 65535 nor a path with a / in it: {word}")
     return Address(word)
 
 
@@ -126,7 +124,7 @@ def _parser() -> argparse.ArgumentParser:
     _add_serve(commands, runtime)
     need = commands.add_parser("need", parents=[runtime], help="change until when an entry is needed")
     need.add_argument("name", metavar="NAME")
-    need.add_argument("when", metavar="WHEN", help="a moment in seconds since 1970, a date, or a time from now such as +6h")
+    need.add_argument("when", metavar="WHEN", help="a moment in seconds since 1970, a date, a time from now such as +6h, or always")
     replaced = commands.add_parser(
         "replace", parents=[runtime], help="give an entry a new secret or lease id, read from standard input")
     replaced.add_argument("name", metavar="NAME")

@@ -7,7 +7,8 @@ from functools import partial
 from typing import Any, Callable, Coroutine
 
 from leasekeep_inventory.durations import until_text
-from leasekeep_inventory.inventory import ALWAYS, Inventory
+from leasekeep_inventory.inventory import ALWAYS, Inventory, Kind
+from leasekeep_inventory.rfc3339 import date_text
 from leasekeep_inventory.secret_files import SecretFiles, ready
 from leasekeep_inventory.values import CREDENTIAL
 from leasekeepd_journal.changes import Change, ChangeFault, What, only_entry, read_when
@@ -192,9 +193,13 @@ class Service:
             case ["replace", name, credential]:
                 return await self._replace(name, credential, who)
             case ["add", table]:
-                return await self._change(Change(What.ADD, only_entry(table).name, table=table), who)
+                name = only_entry(table).name
+                await self._change(Change(What.ADD, name, table=table), who)
+                return [f"{name} is kept from now on: it {self._needed(name)}"]
             case ["drop", name]:
-                return await self._change(Change(What.DROP, name), who)
+                end = next((one.end for one in self._entries() if one.name == name), None)
+                await self._change(Change(What.DROP, name), who)
+                return [f"{name} is kept no more{'' if end is None else f', and ends at {date_text(end)}'}"]
             case ["settle"]:
                 return await self._settle(who)
         raise ChangeFault("the commands are: need NAME WHEN, replace NAME, add, drop NAME, status, health, settle")
@@ -220,12 +225,17 @@ class Service:
             # (A secret's file may have changed meanwhile.)
             return inventory if self.inventory is before else self.book.changed(self.inventory, change)
 
-    async def _change(self, change: Change, who: str) -> list[str]:
+    async def _change(self, change: Change, who: str) -> None:
         """Writes a change, and makes it within five seconds."""
         inventory = await self._written(change)
         self._log.info(change.what.value, change.name, "by", who)
         self._take_soon(inventory)
-        return []
+
+    def _needed(self, name: str) -> str:
+        """Until when the entry is needed, in words."""
+        entry = self.inventory.find(name)
+        need = 0 if entry is None else entry.need
+        return "has no need" if not need else "is needed always" if need == ALWAYS else f"is needed until {until_text(need)}"
 
     def _take_file(self, inventory: Inventory, name: str) -> None:
         self._log.info("replace", name, "by its file")
@@ -264,7 +274,9 @@ class Service:
         if looked.refused:
             raise ChangeFault(f"{looked.refused}: {name} keeps the old one")
         await self._change(change, who)
-        return [f"it could not be looked up ({looked.missing}), and is taken"] if looked.missing else []
+        if looked.missing:
+            return [f"it could not be looked up ({looked.missing}), and is taken"]
+        return [f"{name} has a new {'secret' if entry.kind is Kind.TOKEN else 'lease id'}"]
 
     async def _settle(self, who: str) -> list[str]:
         log = HeldLog()

@@ -8,6 +8,7 @@ from leasekeep_inventory.inventory import Entry, Inventory
 
 from .clock import PARTED, Clock
 from .events import Level
+from .patience import own_margin
 from .status import EntryStatus, State
 from .watch_lines import Said, WatchLine
 
@@ -27,6 +28,8 @@ class _Standing:
     end: float | None = None
     never_ends: bool = False
     short: int | None = None
+    warned: int | None = None
+    """The moment that the last warning of `short` named."""
     trouble: str = ""
     last_success: float | None = None
     granted: int = 0
@@ -46,11 +49,13 @@ class Standings:
         self.beginnings = 0
         self.begun: float | None = None
         """When everything was last looked up, by the elapsed clock."""
-        self.next_wake: int | None = None
         self.offset = 0.0
+        self._inventory = Inventory()
+        self._next: tuple[int, str] | None = None
 
     def take(self, inventory: Inventory) -> None:
         """Listens for these entries. What was told of another credential is forgotten."""
+        self._inventory = inventory
         self._by_name = {entry.name: self._kept(entry) for entry in inventory.entries}
 
     def _kept(self, entry: Entry) -> _Standing:
@@ -59,11 +64,16 @@ class Standings:
 
     def level_of(self, line: WatchLine) -> Level | None:
         """How grave a line is in the log, before it is heard; None: it is for the shell alone. What is wrong with an entry
-        is told once: that it goes on is a note."""
+        is told once: that it goes on is a note. A moment that has moved by less than the margin is no news either."""
         trouble = _TROUBLES.get(line.said)
         if trouble is not None and (standing := self._by_name.get(line.words[0])) and standing.trouble in (trouble, "gone"):
             return Level.NOTE
+        if line.said is Said.SHORT and (standing := self._by_name.get(line.words[0])) and self._is_known(standing, int(line.words[1])):
+            return Level.NOTE
         return _LEVELS.get(line.said, Level.INFO)
+
+    def _is_known(self, standing: _Standing, moment: int) -> bool:
+        return standing.warned is not None and abs(moment - standing.warned) < self._inventory.margin
 
     def hear(self, line: WatchLine) -> None:
         """Takes one line in."""
@@ -74,7 +84,7 @@ class Standings:
             case (Said.LOOK | Said.RENEW) as said, _:
                 self._is_renewal = said is Said.RENEW
             case Said.NEXT, (moment, *names):
-                self.next_wake = int(moment) if names else None
+                self._next = (int(moment), names[0]) if names else None
             case said, (name, *rest) if name in self._by_name:
                 self._hear_of(self._by_name[name], said, rest)
 
@@ -97,6 +107,8 @@ class Standings:
                 standing.never_ends = True
             case Said.SHORT:
                 standing.short = int(rest[0])
+                if not self._is_known(standing, standing.short):
+                    standing.warned = standing.short
 
     def _take_offset(self, end: float) -> None:
         """A lookup's end is told by the broker's clock, and then by the elapsed one."""
@@ -108,6 +120,30 @@ class Standings:
     def moment(self) -> float:
         """The present moment by the broker's clock."""
         return self._clock.wall() + self.offset
+
+    @property
+    def next_wake(self) -> int | None:
+        """The next wake-up, None where nothing is left to do. Where its entry is gone or has ended, and so is only tried again, it is
+        the first time of another that is needed."""
+        if self._next is None:
+            return None
+        moment, name = self._next
+        standing = self._by_name.get(name)
+        if standing is None or not self._is_over(standing):
+            return moment
+        times = [time for entry in self._inventory.entries if (time := self._time(entry)) is not None]
+        return min(times, default=moment)
+
+    def _is_over(self, standing: _Standing) -> bool:
+        return standing.trouble == "gone" or (standing.end is not None and standing.end <= self._clock.elapsed())
+
+    def _time(self, entry: Entry) -> int | None:
+        """When the entry comes to its time; None where it is not needed, has ended, or nobody has told its end."""
+        standing = self._kept(entry)
+        if standing.end is None or standing.never_ends or self._is_over(standing) or self._inventory.carried[entry.name] <= self.moment():
+            return None
+        own = own_margin(entry.step, self._inventory.margin) if entry.step else self._inventory.margin
+        return int(self.moment() + standing.end - own - self._clock.elapsed())
 
     def entries(self, inventory: Inventory) -> list[EntryStatus]:
         """How each entry stands."""

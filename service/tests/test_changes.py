@@ -411,7 +411,7 @@ class Refused(InRoom):
                              ["it could not be looked up (the broker gave no answer to its lookup), and is taken"])
             self.assertEqual(room.state()["web"][1], "s.later")
             room.vault.faults.clear()
-            self.assertEqual(await service.command(["replace", "web", "s.web"], WHO), [])
+            self.assertEqual(await service.command(["replace", "web", "s.web"], WHO), ["web has a new secret"])
         self.in_room(work)
 
     def test_a_file_that_is_read_anew_while_a_secret_is_looked_up(self) -> None:

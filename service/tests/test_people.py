@@ -37,6 +37,8 @@ max_ttl = "1d"
 need = "2026-12-01T00:00:00Z"
 lease_id = "db/creds/1"
 """
+WELL = SHORT.replace('"2026-12-01T00:00:00Z"', '"always"')
+"""(A lease of a day is not kept for years.)"""
 PLAIN = """system_max = 2764800
 margin = 60
 
@@ -148,13 +150,13 @@ class Read(unittest.TestCase):
 
 class Lint(unittest.TestCase):
     def test_a_good_one(self) -> None:
-        self.assertEqual(linted(SHORT.replace('"30d"\n', '"30d"\nincrement = "1h"\n')), [])
+        self.assertEqual(linted(WELL.replace('"30d"\n', '"30d"\nincrement = "1h"\n')), [])
 
     def test_what_is_asked_for_where_nothing_is_written(self) -> None:
-        self.assertEqual(linted(SHORT), [
+        self.assertEqual(linted(WELL), [
             "f:2: doubt: app increment: is not written: 3600 s are asked for; write what a renewal is to ask for, or the period of a"
             " periodic token"])
-        self.assertEqual(linted(SHORT.replace('"30d"\n', '"30d"\nperiod = "1h"\n')), [])
+        self.assertEqual(linted(WELL.replace('"30d"\n', '"30d"\nperiod = "1h"\n')), [])
 
     def test_slips(self) -> None:
         for written, slip, expected in (

@@ -57,7 +57,7 @@ class Lines(unittest.TestCase):
         self.looked_up()
         self.assertEqual(self.of("web"), EntryStatus("web", State.KEPT, 1060.0, 1200, 1500, 1200, None, 0, 0, 0, ""))
         self.clock.now = 109.0
-        self.hear("wake 1059 web", "renew web", "told web 60", "end web 169000 yes", "clock", "next 1118 db", "wait 110000")
+        self.hear("wake 1059 web", "renew web", "told web 60", "end web 169000 yes", "clock", "next 1118 web", "wait 110000")
         self.assertEqual(self.of("web"), EntryStatus("web", State.KEPT, 1119.0, 1200, 1500, 1200, 1059.0, 1, 0, 0, ""))
         self.assertEqual((self.standings.next_wake, self.standings.beginnings), (1118, 1))
         self.hear("next none", "begin jump")
