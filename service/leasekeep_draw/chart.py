@@ -2,6 +2,7 @@
 
 from __future__ import annotations
 
+from collections import Counter
 from dataclasses import dataclass, replace
 
 from leasekeep_draw.entries import Entry, Inventory
@@ -9,7 +10,9 @@ from leasekeep_draw.history import History, Mark, Sign
 
 
 MANY = 500
-"""From so many entries on those that are not kept are listed first."""
+"""From so many entries on, only those that need a look are drawn, unless all are asked for."""
+LOOKS = 40
+"""So many of these."""
 
 
 @dataclass(frozen=True)
@@ -42,7 +45,8 @@ class Chart:
     """The lanes from top to bottom, the wake-ups, and the moments from which and to which the picture goes.
 
     `entries`, `short`: how many entries there are, and how many of them are not kept, whichever lanes are shown. `first`: so
-    many lanes at the top are entries that are not kept, out of their place in the tree.
+    many lanes at the top are entries that are not kept, out of their place in the tree. `summary`: what is said of all entries
+    where only some are shown; else empty.
     """
 
     lanes: tuple[Lane, ...]
@@ -55,6 +59,7 @@ class Chart:
     entries: int
     short: int
     first: int = 0
+    summary: str = ""
 
     @property
     def title(self) -> str:
@@ -67,21 +72,40 @@ class Chart:
 
     def heading(self, row: int) -> str | None:
         """What stands above the lane of that row, where a group of lanes begins with it."""
+        if self.summary:
+            return self.summary if row == 0 else None
         if self.first and row == 0:
             return f"not kept: {self.first:,}"
         if self.first and row == self.first:
             return f"the others: {len(self.lanes) - self.first:,}"
         return None
 
-    def arranged(self, only_unkept: bool) -> Chart:
-        """With the entries that are not kept first, where there are MANY; or with these alone."""
+    def arranged(self, only_unkept: bool, has_all: bool = False) -> Chart:
+        """With those that need a look alone, where there are MANY, or with all of them, those that are not kept first; or with these
+        alone."""
         unkept = tuple(replace(lane, depth=0) for lane in self.lanes if lane.falls_short)
         if only_unkept:
             return replace(self, lanes=unkept, first=len(unkept))
+        if len(self.lanes) >= MANY and not has_all:
+            return self._summed_up()
         if len(self.lanes) < MANY or not unkept:
             return self
         others = tuple(lane for lane in self.lanes if not lane.falls_short)
         return replace(self, lanes=unkept + others, first=len(unkept))
+
+    def _summed_up(self) -> Chart:
+        """The lanes that need a look: those that are not kept, the longest without life first; those of which most went wrong; and
+        those that end first."""
+        def rank(lane: Lane) -> tuple[int, int, int]:
+            wrong = sum(lane.count(sign) for sign in (Sign.REFUSED, Sign.LOST, Sign.SHORT))
+            return min(lane.end - lane.needed, 0), -wrong, lane.end
+        lanes = tuple(replace(lane, depth=0) for lane in sorted(self.lanes, key=rank)[:LOOKS])
+        fates = Counter(self.fate(lane) for lane in self.lanes)
+        counts = [f"{fates[fate]:,} {words}" for fate, words in (("no", "not kept"), ("so far", "kept so far"), ("yes", "kept")) if fates[fate]]
+        for sign, words in ((Sign.REFUSED, "refused"), (Sign.LOST, "without an answer"), (Sign.SHORT, "shortened")):
+            count = sum(1 for lane in self.lanes if lane.count(sign))
+            counts += [f"{count:,} {words}"] if count else []
+        return replace(self, lanes=lanes, summary=f"{', '.join(counts)}; the {len(lanes)} that need a look (--all: every entry)")
 
     def fate(self, lane: Lane) -> str:
         """Whether the lane's need is kept, in a word or two."""

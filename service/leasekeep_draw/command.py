@@ -9,7 +9,7 @@ from collections.abc import Iterator
 from pathlib import Path
 
 from leasekeep_draw import entries, history, picture, table, terminal
-from leasekeep_draw.chart import MANY, Chart, chart_of, start_of
+from leasekeep_draw.chart import LOOKS, MANY, Chart, chart_of, start_of
 from leasekeep_inventory.rfc3339 import LAST
 from leasekeepd_lib.version import version
 
@@ -56,8 +56,10 @@ def _parser() -> argparse.ArgumentParser:
     shape = parser.add_mutually_exclusive_group()
     shape.add_argument("--svg", action="store_true", help="an SVG picture")
     shape.add_argument("--table", action="store_true", help="a table, for readers who cannot see a picture")
-    parser.add_argument("--only-unkept", action="store_true", help=f"only the entries that are not kept (from {MANY} entries on they"
-                        " are listed first)")
+    which = parser.add_mutually_exclusive_group()
+    which.add_argument("--only-unkept", action="store_true", help="only the entries that are not kept")
+    which.add_argument("--all", action="store_true", help=f"every entry, those that are not kept first (from {MANY} entries on, only their"
+                       f" numbers and the {LOOKS} that need a look are shown otherwise)")
     parser.add_argument("--width", type=int, help="columns of the terminal (default: as many as it has, or 80)")
     parser.add_argument("--ascii", action="store_true", help="ASCII characters only")
     return parser
@@ -75,7 +77,7 @@ def _chart(asked: argparse.Namespace) -> Chart:
     near = start_of(inventory) if asked.start is None else asked.start
     told = history.read(_lines(asked.lines), {entry.name: index for index, entry in enumerate(inventory.entries)}, near)
     start = near if asked.start is not None or told.begun is None else told.begun
-    return chart_of(inventory, told, start).arranged(asked.only_unkept)
+    return chart_of(inventory, told, start).arranged(asked.only_unkept, asked.all)
 
 
 def _lines(name: str) -> Iterator[str]:

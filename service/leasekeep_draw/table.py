@@ -35,4 +35,4 @@ def text(chart: Chart) -> str:
     lines = [HEADS, *rows(chart)]
     widths = [max(len(line[column]) for line in lines) for column in range(len(HEADS))]
     written = ("  ".join(cell.ljust(width) for cell, width in zip(line, widths)).rstrip() for line in lines)
-    return "\n".join([chart.title, "", *written]) + "\n"
+    return "\n".join([chart.title, *([chart.summary] if chart.summary else []), "", *written]) + "\n"

@@ -63,7 +63,7 @@ def text(chart: Chart, width: int, signs: Signs) -> str:
     lines = [*textwrap.wrap(chart.title, width), sheet.heads()]
     for row, lane in enumerate(chart.lanes):
         heading = chart.heading(row)
-        lines += [heading, sheet.row(lane)] if heading else [sheet.row(lane)]
+        lines += [*textwrap.wrap(heading, width), sheet.row(lane)] if heading else [sheet.row(lane)]
     return "\n".join([*lines, *_wrapped(signs.legend(), width)]) + "\n"
 
 

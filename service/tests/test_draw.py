@@ -216,13 +216,13 @@ def many(count: int, short: int = 3) -> Chart:
 class ManyEntries(unittest.TestCase):
     def test_from_500_on_those_that_are_not_kept_come_first(self) -> None:
         self.assertEqual(many(249).arranged(False).lanes, many(249).lanes)
-        chart = many(250).arranged(False)
+        chart = many(250).arranged(False, has_all=True)
         self.assertEqual([lane.entry.name for lane in chart.lanes[:5]], ["l247", "l248", "l249", "t0", "l0"])
         self.assertEqual((len(chart.lanes), chart.first), (500, 3))
         self.assertEqual(chart.title, "500 entries, 0 wake-ups, 0 requests: 3 needs not kept")
 
     def test_where_all_are_kept_they_stay_as_they_are(self) -> None:
-        self.assertEqual(many(250, 0).arranged(False).lanes, many(250, 0).lanes)
+        self.assertEqual(many(250, 0).arranged(False, has_all=True).lanes, many(250, 0).lanes)
 
     def test_only_those_that_are_not_kept(self) -> None:
         chart = many(4).arranged(True)
@@ -231,7 +231,7 @@ class ManyEntries(unittest.TestCase):
         self.assertEqual(many(4, 0).arranged(True).lanes, ())
 
     def test_each_shape_says_where_they_end(self) -> None:
-        chart = many(250).arranged(False)
+        chart = many(250).arranged(False, has_all=True)
         words = [text.text for text in tree.fromstring(picture.svg(chart)).iter(f"{SPACED}text") if text.get("class") == "heading"]
         self.assertEqual(words, ["not kept: 3", "the others: 497"])
         lines = terminal.text(chart, 60, terminal.ASCII).splitlines()
