@@ -128,6 +128,8 @@ class Rules(unittest.TestCase):
               for offset, fires in ((2, 0), (3, 1), (-3, 1), (0, 0))),
             case({**up, "leasekeepd_log_dropped_lines_total": "5x10 7x100"}, ("LeasekeepdLogDropped", "135", 0),
                  ("LeasekeepdLogDropped", "180", 1), ("LeasekeepdLogDropped", "1200", 0)),
+            case({**up, "leasekeepd_alerts_dropped_total": "5x10 7x100"}, ("LeasekeepdAlertsDropped", "135", 0),
+                 ("LeasekeepdAlertsDropped", "180", 1), ("LeasekeepdAlertsDropped", "1200", 0)),
         ]
         with tempfile.TemporaryDirectory() as folder:
             file = Path(folder) / "tests.yml"
