@@ -1,2 +1,3 @@
 pub mod Moments
 mod Runs
+pub mod Torn

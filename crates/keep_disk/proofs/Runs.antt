@@ -1,15 +1,15 @@
 -- What the calls of a disk in memory make of it, one by one.
 use Rattle.std.proofs.Common.{◌≡◌, ℕ, List, [], ◌∷◌, ◌++◌, length, Bool, true, false, if◌then◌else◌, Option, Some, None, Result, Ok, Err, OnOk, refl, sym, ◌∙◌, ap, subst, inl, inr, ◌⊎◌, ⊎_elim, arith, take, Vec}
 use Rattle.std.proofs.lemmas.Bool.{true≢false}
-use Rattle.std.proofs.lemmas.List.{take_all}
 use Rattle.std.proofs.lemmas.Slice.Eq.{bytes_eq-Decides}
 use Rattle.std.specs.declared.alloc.Global.{Global}
 use Rattle.std.specs.Str.{bytes_eq}
 use Rattle.keep_disk.specs.Image.{File, Image, changed, placed, with_bytes, overwritten}
-use Rattle.keep_disk.specs.Torn.{Torn, Cut, Tears, Moves, IsTornFile}
+use Rattle.keep_disk.specs.Torn.{Torn, Cut, Tears, Moves}
 use Rattle.keep_disk.specs.State.{State, Beside, Touches, Elapses, Follows}
 use Rattle.keep_disk.specs.History.{after, after_all, file_after, left_by, file_after_all}
 use Rattle.keep_disk.specs.Memory.{state_of, memory_state, at_first, image_of, beside_of, IsSame, HasEntered, Enters}
+use Rattle.keep_disk.proofs.Torn.{torn_not, cut_not, tears_not}
 use Rattle.keep_disk.specs.declared.call.Call.{Call}
 use Rattle.keep_disk.specs.declared.call.What.{What}
 use Rattle.keep_disk.specs.declared.call.What.TheVariants as what
@@ -107,20 +107,6 @@ module _ (m n : MemoryDisk) (same : IsSame m n) where
 abbrev pub file_of : Option Beside → File → File
 file_of None file = file
 file_of (Some beside) file = beside.file
-
--- a tear may leave the file whole
-pub torn_not : (at n : ℕ) (xs : List ℕ) → Torn at n xs xs
-torn_not at n xs = record { before = refl; after = refl; no_shorter = omega arith; no_longer = omega arith }
-
-pub cut_not : (n : ℕ) (xs : List ℕ) → Cut n xs xs
-cut_not n xs = record { no_shorter = omega arith; front = take_all (length xs) xs (omega arith) }
-
-pub tears_not : (path : List ℕ) (step : List ℕ → List ℕ → Type 0) → ((xs : List ℕ) → step xs xs) → (c : Image) → Tears path step c c
-tears_not path step whole c = record { elsewhere = λ other apart. refl; there = there (c path) }
-  where
-    there : (file : Option File) → IsTornFile step file file
-    there None = tt
-    there (Some file) = (refl, whole file.bytes)
 
 module _ (m n : MemoryDisk) (same : IsSame m n) (path : List ℕ) where
   abbrev old : State

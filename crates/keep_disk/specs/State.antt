@@ -4,7 +4,6 @@ use Rattle.std.specs.Prelude.{◌≡◌, ◌⊎◌, ℕ, ◌≤◌, List, Bool, 
 use Rattle.std.specs.Str.{bytes_eq}
 use Rattle.keep_device.specs.Failures.{one_more}
 use Rattle.keep_disk.specs.Image.{Image, File, SameElsewhere}
-use Rattle.keep_disk.specs.Torn.{Moves}
 use Rattle.keep_disk.specs.declared.fault.Why.{Why}
 use Rattle.keep_disk.specs.declared.fault.DiskFault.{DiskFault}
 use Rattle.keep_disk.specs.declared.fault.DiskFault.TheVariants as faults
@@ -36,9 +35,13 @@ pub record IsKept (path : List ℕ) (s : State) : Type 0 where
   pub sound : s.is_sound path ≡ true
   pub durable : (c : Image) → s.may_leave c → c path ≡ s.seen path
 
+-- what a crash might have left before, after a step
+abbrev pub IsAfter : (Image → Image → Type 0) → State → Image → Type 0
+IsAfter step old c = (d : Image) × old.may_leave d × step d c
+
 -- each new outcome of a crash is an old one after a step
 abbrev pub Follows : (Image → Image → Type 0) → State → State → Type 0
-Follows step old new = (c : Image) → new.may_leave c → (d : Image) × old.may_leave d × step d c
+Follows step old new = (c : Image) → new.may_leave c → IsAfter step old c
 
 -- a call changes this path at most
 pub record Touches (path : List ℕ) (old new : State) : Type 0 where
@@ -75,7 +78,3 @@ Tells old new (Err faults.OutOfMemory) = new.faults ≡ old.faults
 -- this file stands beside its place, and is on the disk
 abbrev pub IsReady : List ℕ → File → State → Type 0
 IsReady path file s = s.beside ≡ Some (record { path = path; file = file; is_synced = true })
-
--- a file is on the disk as it was before, or with this one moved to its path
-abbrev pub IsBeforeOrMoved : List ℕ → File → State → Image → Type 0
-IsBeforeOrMoved path file old c = (d : Image) × old.may_leave d × Moves path file d c

@@ -1,6 +1,7 @@
 //! A disk: files at paths that are read, written, cut, synced and replaced, and what a crash at any moment may leave of them.
 //!
-//! The contract for the layers above is the trait [`Disk`] over one record, `specs/State.antt`; [`replace`] makes a file anew.
+//! The contract for the layers above is the trait [`Disk`] over one record, `specs/State.antt`; [`write_synced`] and
+//! [`cut_synced`] change a file, and [`replace`] makes one anew.
 //! Begin with `specs/Image.antt` and `specs/Torn.antt`, what a crash makes of a call that was under way.
 #![tactic(auto)]
 
@@ -12,6 +13,7 @@ mod fault;
 mod memory;
 mod places;
 mod replacing;
+mod synced;
 mod system;
 
 pub use call::{Call, Draft, Held, Stored, What};
@@ -20,4 +22,5 @@ pub use failing::Failing;
 pub use fault::{DiskFault, Why};
 pub use memory::MemoryDisk;
 pub use replacing::replace;
+pub use synced::{cut_synced, write_synced};
 pub use system::{FILE_MODE, FOLDER_MODE, SystemDisk};

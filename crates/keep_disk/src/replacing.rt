@@ -2,7 +2,7 @@ ghost use Rattle.std.specs.Prelude.{◌≡◌, OnOk, IsTrue, true, false, List, 
 ghost use Rattle.std.specs.Str.{bytes_eq};
 ghost use Rattle.keep_disk.specs.Image.{placed};
 ghost use Rattle.keep_disk.specs.Torn.{Moves};
-ghost use Rattle.keep_disk.specs.State.{IsKept, LeavesOnly, IsBeforeOrMoved, Tells};
+ghost use Rattle.keep_disk.specs.State.{IsKept, LeavesOnly, IsAfter, Follows, Tells};
 
 use crate::{Disk, DiskFault};
 
@@ -15,7 +15,9 @@ pub fn replace<D: Disk>(disk: &mut D, path: &str, mode: u32, bytes: &[u8]) -> Re
 
     // A crash at any moment of the call leaves the file that was there, or the new one whole; and so does a fault.
     ensures any_moment { IsTrue D.is_known → LeavesOnly (D.state disk.old) (D.state disk.new)
-        (IsBeforeOrMoved path.now (record { mode = mode; bytes = bytes.now }) (D.state disk.old)) }
+        (IsAfter (Moves path.now (record { mode = mode; bytes = bytes.now })) (D.state disk.old)) }
+    ensures crash { IsTrue D.is_known
+        → Follows (Moves path.now (record { mode = mode; bytes = bytes.now })) (D.state disk.old) (D.state disk.new) }
     ensures seen { IsTrue D.is_known
         → Moves path.now (record { mode = mode; bytes = bytes.now }) (D.state disk.old).seen (D.state disk.new).seen }
     ensures sound { IsTrue D.is_known → (other : List ℕ) → bytes_eq path.now other ≡ false

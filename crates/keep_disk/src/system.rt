@@ -59,17 +59,7 @@ impl<'a, R: Files<File = File> + AllocGlobal> SystemDisk<'a, R> {
     fn fail(&mut self, error: &io::Error) -> DiskFault
         ensures { Tells (system_state self.old.faults self.old.fault) (system_state self.new.faults self.new.fault) (refused result) }
     {
-        let why = match error.kind() {
-            ErrorKind::OutOfMemory => return DiskFault::OutOfMemory,
-            ErrorKind::StorageFull | ErrorKind::QuotaExceeded => Why::Full,
-            ErrorKind::ReadOnlyFilesystem => Why::ReadOnly,
-            ErrorKind::PermissionDenied => Why::Denied,
-            ErrorKind::NotFound => Why::Missing,
-            _ => Why::Other,
-        };
-        self.faults = self.faults.saturating_add(1);
-        self.fault = why;
-        DiskFault::Failed(why)
+        count(&mut self.faults, &mut self.fault, error)
     }
 
     /// What the system answered.
@@ -153,6 +143,23 @@ impl<'a, R: Files<File = File> + AllocGlobal> SystemDisk<'a, R> {
         self.locks.push(file)?;
         Ok(true)
     }
+}
+
+/// Counts a call that failed, but for want of memory.
+fn count(faults: &mut u64, fault: &mut Why, error: &io::Error) -> DiskFault
+    ensures { Tells (system_state faults.old fault.old) (system_state faults.new fault.new) (refused result) }
+{
+    let why = match error.kind() {
+        ErrorKind::OutOfMemory => return DiskFault::OutOfMemory,
+        ErrorKind::StorageFull | ErrorKind::QuotaExceeded => Why::Full,
+        ErrorKind::ReadOnlyFilesystem => Why::ReadOnly,
+        ErrorKind::PermissionDenied => Why::Denied,
+        ErrorKind::NotFound => Why::Missing,
+        _ => Why::Other,
+    };
+    *faults = faults.saturating_add(1);
+    *fault = why;
+    DiskFault::Failed(why)
 }
 
 /// The stamp of the file at a path, `None` where there is none.

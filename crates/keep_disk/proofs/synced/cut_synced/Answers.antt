@@ -1,0 +1,20 @@
+use Rattle.keep_disk.specs.Torn.{Cut, Tears}
+use Rattle.keep_disk.specs.State.{IsAfter}
+use Rattle.keep_disk.proofs.Moments.{started, goes_on}
+use Rattle.keep_disk.proofs.Torn.{cut_not, tears_not}
+use Rattle.keep_disk.proofs.synced.cut_synced.Goals as goal
+
+pub returns-in_err-cut-clause-any_moment : goal.returns-in_err-cut-clause-any_moment
+returns-in_err-cut-clause-any_moment g c known =
+    let s = g.D.Disk.state in
+    let P = IsAfter (Tears c.args.path.now (Cut c.args.len)) (s c.args.disk.now) in
+    let at_start = started (s c.args.disk.now) P (g.met.D.Disk.only_now c.args.disk.now) (λ d now. (d, now, tears_not c.args.path.now (Cut c.args.len) (cut_not c.args.len) d)) in
+    goes_on (s c.args.disk.now) (s c.args.disk.now) (s c.cut.new.self) P at_start (c.cut.ensures.time known) (c.cut.ensures.crash known)
+
+pub returns-clause-any_moment : goal.returns-clause-any_moment
+returns-clause-any_moment g c known =
+    let s = g.D.Disk.state in
+    let P = IsAfter (Tears c.args.path.now (Cut c.args.len)) (s c.args.disk.now) in
+    let at_start = started (s c.args.disk.now) P (g.met.D.Disk.only_now c.args.disk.now) (λ d now. (d, now, tears_not c.args.path.now (Cut c.args.len) (cut_not c.args.len) d)) in
+    let written = goes_on (s c.args.disk.now) (s c.args.disk.now) (s c.cut.new.self) P at_start (c.cut.ensures.time known) (c.cut.ensures.crash known) in
+    goes_on (s c.args.disk.now) (s c.cut.new.self) (s c.sync.new.self) P written (c.sync.ensures.time known) (λ d now. c.cut.ensures.crash known d (c.sync.ensures.crash known d now))
