@@ -51,7 +51,7 @@ class Book:
         try:
             self._read(log)
         except SourceFault:
-            log.alert("file", "is faulty: it is not taken, the old one is kept to")
+            log.alert("file", "is faulty: ignored; the previous inventory stays in force")
             return None
         log.info("file", "was read anew")
         return self._with_journal(log)

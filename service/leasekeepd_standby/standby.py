@@ -217,7 +217,7 @@ class Standby:
                 await aside(partial(self._read, log))
                 log.info("file", "was read anew")
             except SourceFault:
-                log.alert("file", "is faulty: it is not taken, the old one is kept to")
+                log.alert("file", "is faulty: ignored; the previous inventory stays in force")
             log.pass_on(self._log)
             await asyncio.sleep(TOGETHER)
 

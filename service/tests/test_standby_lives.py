@@ -120,7 +120,7 @@ class Lives(unittest.TestCase):
             self.assertEqual(second.standby._service.inventory.margin, 61)
         second = self.play(scene, "a", "b").agents[1]
         self.assertEqual(second.said("file was read anew"), ["file was read anew"])
-        self.assertEqual(second.said("is faulty"), ["alert: file is faulty: it is not taken, the old one is kept to",
+        self.assertEqual(second.said("is faulty"), ["alert: file is faulty: ignored; the previous inventory stays in force",
                                                     "alert: file is faulty: the last good copy is served"])
 
     def test_a_bad_push_and_a_start(self) -> None:

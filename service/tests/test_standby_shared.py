@@ -253,7 +253,7 @@ class Silent(InFleet):
         self.assertEqual((self.folder / "copy-b").read_text(), good)
         self.assertEqual(self.b.standby._margin, 100)
         said = [line for line in self.b.said() if line.startswith(("file", "alert: file is"))]
-        self.assertEqual(said, ["file was read anew", *["alert: file is faulty: it is not taken, the old one is kept to"] * 2])
+        self.assertEqual(said, ["file was read anew", *["alert: file is faulty: ignored; the previous inventory stays in force"] * 2])
 
     def test_a_copy_that_cannot_be_kept(self) -> None:
         (self.folder / "copy-b").mkdir()
