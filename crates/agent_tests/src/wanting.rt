@@ -1,5 +1,6 @@
 //! A sink that wants memory.
-ghost use Rattle.std.specs.Prelude.{true};
+ghost use Rattle.std.specs.Prelude.{None, true};
+ghost use Rattle.keep_device.specs.Seen.{no_input};
 
 use keep_device::{Device, MemorySink, Sink, SinkFault};
 use std::alloc::Global;
@@ -27,9 +28,7 @@ impl Wanting {
 }
 
 impl Device for Wanting {
-    ghost failed_calls = { λ s. s.sink.calls.failures };
-
-    ghost is_flushed = { λ s. s.sink.flushed };
+    ghost seen = { λ s. record { input = no_input; output = record { written = None; is_flushed = s.sink.flushed }; failed_calls = s.sink.calls.failures } };
 
     ghost is_in_memory = { true };
 

@@ -3,22 +3,23 @@
 use Rattle.std.specs.Prelude.{◌≡◌, ◌⊎◌, ℕ, List, Result, Ok, Err, codes}
 use Rattle.clap.specs.declared.error.kind.ErrorKind.{ErrorKind}
 use Rattle.clap.specs.declared.error.kind.ErrorKind.TheVariants as kinds
+use Rattle.keep_device.specs.Seen.{Change}
 use Rattle.keep_report.specs.declared.exit.Exit.{Exit}
 use Rattle.keep_report.specs.declared.exit.Exit.TheVariants as exits
 use Rattle.keep_report.specs.declared.stop.Stop.TheVariants as stops
 use Rattle.keep_report.specs.FaultLine.{fault_line}
-use Rattle.keep_report.specs.Sent.{IsAll, IsUntouched, Sends, Sent}
+use Rattle.keep_report.specs.Sent.{IsAll, IsUntouched, Sends}
 use Rattle.keep_report.specs.Told.{Reports}
 
 -- the words are there, and nothing is told; or one is not UTF-8, or memory was refused, and the line of that is told
-abbrev pub GivesWords : {X : Type 0} → List ℕ → Result X Exit → Sent → Type 0
+abbrev pub GivesWords : {X : Type 0} → List ℕ → Result X Exit → Change → Type 0
 GivesWords program (Ok words) errors = IsUntouched errors
 GivesWords program (Err exits.CommandLine) errors = Reports (codes "error: a word of the command line is not UTF-8\n") errors
 GivesWords program (Err exits.Memory) errors = Reports (fault_line program stops.Memory) errors
 GivesWords program (Err exit) errors = ⊥
 
 -- a text that was asked for is written and flushed, and nothing is told; or it was not, and why is told
-abbrev pub SaysAsked : List ℕ → List ℕ → Exit → Sent → Sent → Type 0
+abbrev pub SaysAsked : List ℕ → List ℕ → Exit → Change → Change → Type 0
 SaysAsked program text exits.Done out errors = IsAll text out × IsUntouched errors
 SaysAsked program text exits.Device out errors = Sends (Err stops.Write) text out × Reports (fault_line program stops.Write) errors
 SaysAsked program text exits.Memory out errors = Sends (Err stops.Memory) text out × Reports (fault_line program stops.Memory) errors
@@ -26,13 +27,13 @@ SaysAsked program text exit out errors = ⊥
 
 -- by what the parser found: the text of help and of the version was asked for, memory was refused, and the text of every other
 -- kind tells a mistake
-abbrev pub Says : List ℕ → ErrorKind → List ℕ → Exit → Sent → Sent → Type 0
+abbrev pub Says : List ℕ → ErrorKind → List ℕ → Exit → Change → Change → Type 0
 Says program kinds.DisplayHelp text exit out errors = SaysAsked program text exit out errors
 Says program kinds.DisplayVersion text exit out errors = SaysAsked program text exit out errors
 Says program kinds.OutOfMemory text exit out errors = (exit ≡ exits.Memory) × IsUntouched out × Reports (fault_line program stops.Memory) errors
 Says program kind text exit out errors = (exit ≡ exits.CommandLine) × IsUntouched out × Reports text errors
 
 -- some text is said; or memory for it was refused, and that is told
-abbrev pub Shows : List ℕ → ErrorKind → Exit → Sent → Sent → Type 0
+abbrev pub Shows : List ℕ → ErrorKind → Exit → Change → Change → Type 0
 Shows program kind exit out errors =
     ((text : List ℕ) × Says program kind text exit out errors) ⊎ ((exit ≡ exits.Memory) × IsUntouched out × Reports (fault_line program stops.Memory) errors)

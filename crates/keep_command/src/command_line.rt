@@ -6,8 +6,8 @@ ghost use Rattle.keep_command.specs.Refusals.{GivesWords, Says, Shows};
 
 use clap::Error;
 use clap::error::ErrorKind;
-use keep_device::Sink;
-use keep_report::{Exit, Stop, Watched, send, tell};
+use keep_device::{Sink, Watched};
+use keep_report::{Exit, Stop, send, tell};
 use std::alloc::{AllocError, Global};
 use std::env::Args;
 use std::rt::Env;
@@ -21,7 +21,7 @@ pub fn words<R: Env + AllocGlobal, E: Sink>(
     program: &str,
     errors: &mut E,
 ) -> Result<Vec<String>, Exit>
-    ensures { GivesWords program.now result (⟦<E as Watched>⟧.sent errors.old errors.new) }
+    ensures { GivesWords program.now result (⟦<E as Watched>⟧.change errors.old errors.new) }
 {
     match collect(rt) {
         Ok(words) => Ok(words),
@@ -54,7 +54,7 @@ pub fn show<W: Sink, E: Sink>(
     out: &mut W,
     errors: &mut E,
 ) -> Exit
-    ensures { Shows program.now (kind_of error.now) result (⟦<W as Watched>⟧.sent out.old out.new) (⟦<E as Watched>⟧.sent errors.old errors.new) }
+    ensures { Shows program.now (kind_of error.now) result (⟦<W as Watched>⟧.change out.old out.new) (⟦<E as Watched>⟧.change errors.old errors.new) }
 {
     match format!(in alloc; "{error}") {
         Ok(text) => say(program, error.kind(), text.as_str(), out, errors),
@@ -72,7 +72,7 @@ pub fn say<W: Sink, E: Sink>(
     out: &mut W,
     errors: &mut E,
 ) -> Exit
-    ensures { Says program.now kind text.now result (⟦<W as Watched>⟧.sent out.old out.new) (⟦<E as Watched>⟧.sent errors.old errors.new) }
+    ensures { Says program.now kind text.now result (⟦<W as Watched>⟧.change out.old out.new) (⟦<E as Watched>⟧.change errors.old errors.new) }
 {
     match kind {
         ErrorKind::OutOfMemory => Stop::Memory.report(program, errors),

@@ -4,6 +4,7 @@ use Rattle.keep_device.specs.declared.fault.Failed.{Failed}
 use Rattle.keep_device.specs.declared.fault.SinkFault.{SinkFault}
 use Rattle.keep_device.specs.declared.fault.SinkFault.TheVariants as faults
 use Rattle.keep_device.specs.Failures.{one_more}
+use Rattle.keep_device.specs.Seen.{Input, Output}
 use Rattle.keep_device.specs.declared.limits.TheConstants.{MOST_ROOM}
 
 -- the calls that go well before the one that fails (none: no call fails), and the calls that failed so far
@@ -54,6 +55,10 @@ reads_of (piece ∷ pieces) (suc n) = reads_of pieces (suc n - min (max piece 1)
 abbrev pub reads_needed : Supply → ℕ
 reads_needed s = reads_of s.pieces (length s.bytes) + 1
 
+-- the input of a device that hands these out
+abbrev pub input_of : Supply → Input
+input_of s = record { remaining = Some s.bytes; reads_left = reads_needed s; reads_made = s.reads }
+
 -- one read with so much room: the next bytes are handed out, or the call's turn to fail has come and no byte is lost
 abbrev pub IsRead : Result ℕ Failed → Supply → Supply → ℕ → Type 0
 IsRead (Ok n) old new room = (n ≡ handed old room) × (new.bytes ≡ drop n old.bytes) × (new.pieces ≡ drop 1 old.pieces)
@@ -64,6 +69,10 @@ pub record Collected : Type 0 where
   pub bytes : List ℕ
   pub calls : Calls
   pub flushed : Bool
+
+-- the output of a device that collected these
+abbrev pub output_of : Collected → Output
+output_of s = record { written = Some s.bytes; is_flushed = s.flushed }
 
 -- a source and a sink in memory, side by side
 pub record Pair : Type 0 where

@@ -1,7 +1,8 @@
-ghost use Rattle.std.specs.Prelude.{◌≡◌, ◌<◌, ◌≤◌, length, false, IsTrue, IfOk, OnOk, IsOkUnless};
+ghost use Rattle.std.specs.Prelude.{◌≡◌, ◌<◌, ◌≤◌, length, None, false, IsTrue, IfOk, OnOk, IsOkUnless};
 ghost use Rattle.std.specs.Io.KnownBytes.{Keeps, ReadConsumes, WriteAppends};
 ghost use Rattle.keep_device.specs.declared.fault.SinkFault.TheVariants as faults;
 ghost use Rattle.keep_device.specs.Failures.{one_more, Counts, CountsRead};
+ghost use Rattle.keep_device.specs.Seen.{no_input};
 
 use crate::{Device, Failed, Sink, SinkFault, Source};
 use std::io::{Read, Write};
@@ -69,9 +70,7 @@ impl<S> Counted<S> {
 }
 
 impl<S> Device for Counted<S> {
-    ghost failed_calls = { λ c. c.failures };
-
-    ghost is_flushed = { λ c. c.flushed };
+    ghost seen = { λ c. record { input = no_input; output = record { written = None; is_flushed = c.flushed }; failed_calls = c.failures } };
 
     fn failures(&self) -> u64 {
         self.failures

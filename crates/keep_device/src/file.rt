@@ -1,8 +1,9 @@
 ghost use Rattle.std.specs.IoError.{error_kind};
-ghost use Rattle.std.specs.Prelude.{◌≡◌, ◌≤◌, Err, IfErr, IfOk, length};
-ghost use Rattle.keep_device.specs.Whole.{open_fault};
+ghost use Rattle.std.specs.Prelude.{◌≡◌, ◌≤◌, Err, IfErr, IfOk, IfSome, length};
+ghost use Rattle.keep_device.specs.Seen.{no_output};
+ghost use Rattle.keep_device.specs.Whole.{IsFile, file_input, open_fault};
 
-use crate::{Counted, InputFault, read_all};
+use crate::{Device, Failed, InputFault, Source, read_all};
 use keep_moment::Text;
 use std::alloc::Global;
 use std::io::Read;
@@ -27,10 +28,57 @@ pub fn read_opened<F: Read + Drop>(
 ) -> Result<Text, InputFault>
     ensures unopened { IfErr opened (λ error. result ≡ Err (open_fault (error_kind error))) }
     ensures short { IfOk result (λ text. length text ≤ max) }
+
+    // The file's own bytes, where they are known.
+    ensures read { IfOk opened (λ file. IfSome (F.remaining file) (λ bytes. IsFile max bytes result)) }
 {
     match opened {
-        Ok(file) => read_all(alloc, &mut Counted::new(file), max),
+        Ok(file) => read_all(alloc, &mut OpenFile::new(file), max),
         Err(error) if error.kind() == io::ErrorKind::OutOfMemory => Err(InputFault::OutOfMemory),
         Err(_) => Err(InputFault::ReadFailed),
+    }
+}
+
+/// A file that is read, with the count of its reads and of those that failed.
+#[derive(Drop)]
+struct OpenFile<F> {
+    file: F,
+    reads: u64,
+    failures: u64,
+}
+
+impl<F> OpenFile<F> {
+    /// No read was made yet.
+    fn new(file: F) -> OpenFile<F>
+        ensures file { result.file ≡ file }
+        ensures reads { result.reads ≡ 0 }
+        ensures failures { result.failures ≡ 0 }
+    {
+        OpenFile {
+            file,
+            reads: 0,
+            failures: 0,
+        }
+    }
+}
+
+impl<F: Read> Device for OpenFile<F> {
+    ghost seen = { λ f. record { input = file_input (F.remaining f.file) f.reads; output = no_output; failed_calls = f.failures } };
+
+    fn failures(&self) -> u64 {
+        self.failures
+    }
+}
+
+impl<F: Read> Source for OpenFile<F> {
+    fn read_some(&mut self, buf: &mut [u8]) -> Result<usize, Failed> {
+        self.reads = self.reads.saturating_add(1);
+        match self.file.read(buf) {
+            Ok(n) => Ok(n),
+            Err(_) => {
+                self.failures = self.failures.saturating_add(1);
+                Err(Failed)
+            }
+        }
     }
 }

@@ -21,7 +21,7 @@ mod streams;
 mod write_whole;
 
 pub use counted::Counted;
-pub use device::{Device, Sink, Source};
+pub use device::{Device, Sink, Source, Watched};
 pub use fault::{Failed, InputFault, SinkFault};
 pub use file::{read_file, read_opened};
 pub use limits::{MOST_READS, MOST_ROOM, limits_law};

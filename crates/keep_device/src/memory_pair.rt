@@ -2,7 +2,7 @@ ghost use Rattle.std.specs.Prelude.{◌≡◌, ◌<◌, ◌≤◌, ◌⊎◌, []
 ghost use Rattle.std.specs.Io.KnownBytes.{ReadConsumes};
 ghost use Rattle.keep_device.specs.declared.fault.SinkFault.TheVariants as faults;
 ghost use Rattle.keep_device.specs.Failures.{one_more, Counts, CountsRead};
-ghost use Rattle.keep_device.specs.Memory.{IsCall, IsRead, is_failed, reads_needed, failures_of};
+ghost use Rattle.keep_device.specs.Memory.{IsCall, IsRead, failures_of, input_of, is_failed, output_of, reads_needed};
 ghost use Rattle.keep_device.specs.declared.limits.TheConstants.{MOST_ROOM};
 
 use crate::{Device, Failed, MemorySink, MemorySource, Sink, SinkFault, Source};
@@ -40,17 +40,7 @@ impl MemoryPair {
 }
 
 impl Device for MemoryPair {
-    ghost failed_calls = { failures_of };
-
-    ghost remaining = { λ p. Some p.source.bytes };
-
-    ghost reads_left = { λ p. reads_needed p.source };
-
-    ghost reads_made = { λ p. p.source.reads };
-
-    ghost written = { λ p. Some p.sink.bytes };
-
-    ghost is_flushed = { λ p. p.sink.flushed };
+    ghost seen = { λ p. record { input = input_of p.source; output = output_of p.sink; failed_calls = failures_of p } };
 
     ghost is_in_memory = { true };
 

@@ -1,7 +1,8 @@
 ghost use Rattle.std.specs.Prelude.{◌≡◌, ◌+◌, ◌-◌, ◌<◌, ◌≤◌, [], ◌++◌, length, true, false, IsTrue, Some, IfOk, OnOk, IsOkUnless, MatchResult};
 ghost use Rattle.keep_device.specs.declared.fault.SinkFault.TheVariants.{Failed};
 ghost use Rattle.keep_device.specs.Failures.{Counts};
-ghost use Rattle.keep_device.specs.Memory.{IsCall, is_failed};
+ghost use Rattle.keep_device.specs.Memory.{IsCall, is_failed, output_of};
+ghost use Rattle.keep_device.specs.Seen.{no_input};
 
 use crate::calls::CallCount;
 use crate::{Device, Sink, SinkFault};
@@ -56,11 +57,7 @@ impl MemorySink {
 }
 
 impl Device for MemorySink {
-    ghost failed_calls = { λ s. s.calls.failures };
-
-    ghost written = { λ s. Some s.bytes };
-
-    ghost is_flushed = { λ s. s.flushed };
+    ghost seen = { λ s. record { input = no_input; output = output_of s; failed_calls = s.calls.failures } };
 
     ghost is_in_memory = { true };
 

@@ -1,7 +1,8 @@
 ghost use Rattle.std.specs.Prelude.{◌≡◌, ◌+◌, ◌-◌, ◌<◌, ◌≤◌, ◌⊎◌, [], length, take, drop, Some, is_err, IfOk, MatchResult};
 ghost use Rattle.std.specs.Io.KnownBytes.{Keeps, Consumes, IsAtEnd};
 ghost use Rattle.keep_device.specs.Failures.{one_more, CountsRead};
-ghost use Rattle.keep_device.specs.Memory.{IsCall, IsRead, handed, reads_needed};
+ghost use Rattle.keep_device.specs.Memory.{IsCall, IsRead, handed, input_of, reads_needed};
+ghost use Rattle.keep_device.specs.Seen.{no_output};
 ghost use Rattle.keep_device.specs.declared.limits.TheConstants.{MOST_ROOM};
 
 use crate::calls::CallCount;
@@ -72,13 +73,7 @@ impl MemorySource {
 }
 
 impl Device for MemorySource {
-    ghost failed_calls = { λ s. s.calls.failures };
-
-    ghost remaining = { λ s. Some s.bytes };
-
-    ghost reads_left = { reads_needed };
-
-    ghost reads_made = { λ s. s.reads };
+    ghost seen = { λ s. record { input = input_of s; output = no_output; failed_calls = s.calls.failures } };
 
     fn failures(&self) -> u64 {
         self.calls.failures()

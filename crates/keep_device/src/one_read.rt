@@ -53,19 +53,19 @@ pub fn read_more<R: Source>(
     requires room { length room.old ≡ MOST_ROOM }
 
     // What came before `bytes` and what is left still make up the whole input.
-    ensures given { (whole : Option (List ℕ)) → Consumes whole (R.remaining source.old) bytes.old.items
-        → IfOk result (λ _. Consumes whole (R.remaining source.new) bytes.new.items) }
+    ensures given { (whole : Option (List ℕ)) → Consumes whole (R.seen source.old).input.remaining bytes.old.items
+        → IfOk result (λ _. Consumes whole (R.seen source.new).input.remaining bytes.new.items) }
     ensures few { IfOk result (λ _. vec_len bytes.new ≤ max + 1) }
     ensures grown { IfOk result (λ _. (piece : List ℕ) × (bytes.new.items ≡ bytes.old.items ++ piece)) }
-    ensures kept { IsErrOf result more.ReadFailed → Keeps (R.remaining source.old) (R.remaining source.new) }
+    ensures kept { IsErrOf result more.ReadFailed → Keeps (R.seen source.old).input.remaining (R.seen source.new).input.remaining }
     ensures end { IfOk result (λ some. some ≡ false
-        → IsAtEnd (R.remaining source.new) × (bytes.new.items ≡ bytes.old.items) × (vec_len bytes.new ≡ vec_len bytes.old)) }
-    ensures pace { IfSome (R.remaining source.old) (λ _. IfOk result (λ some. IsTrue some → vec_len bytes.new ≤ max
-        → (R.reads_left source.new < R.reads_left source.old) × (0 < R.reads_left source.new))) }
-    ensures last { R.reads_left source.new ≤ 1 → IsAtEnd (R.remaining source.new) }
-    ensures made { MakesAtMost 1 (R.remaining source.old) (R.reads_made source.old) (R.reads_made source.new) }
-    ensures written { Keeps (R.written source.old) (R.written source.new) }
-    ensures count { CountsMore result (R.failed_calls source.old) (R.failed_calls source.new) }
+        → IsAtEnd (R.seen source.new).input.remaining × (bytes.new.items ≡ bytes.old.items) × (vec_len bytes.new ≡ vec_len bytes.old)) }
+    ensures pace { IfSome (R.seen source.old).input.remaining (λ _. IfOk result (λ some. IsTrue some → vec_len bytes.new ≤ max
+        → ((R.seen source.new).input.reads_left < (R.seen source.old).input.reads_left) × (0 < (R.seen source.new).input.reads_left))) }
+    ensures last { (R.seen source.new).input.reads_left ≤ 1 → IsAtEnd (R.seen source.new).input.remaining }
+    ensures made { MakesAtMost 1 (R.seen source.old).input (R.seen source.new).input }
+    ensures output { (R.seen source.new).output ≡ (R.seen source.old).output }
+    ensures count { CountsMore result (R.seen source.old).failed_calls (R.seen source.new).failed_calls }
 {
     let most = (max - bytes.len()).saturating_add(1).min(room.len());
     let n = source.read_some(&mut room[..most])?;

@@ -17,13 +17,13 @@ use std::alloc::Global;
 /// `ReadFailed`: a read failed. `TooLong`: the input has more than `max` bytes, or 4,096 reads did not come to its end.
 /// After a fault the source is where it stopped.
 pub fn read_all<R: Source>(alloc: Global, source: &mut R, max: usize) -> Result<Text, InputFault>
-    ensures read { IfSome (R.remaining source.old) (λ bytes.
-        IsWhole max bytes (R.reads_left source.old) (R.reads_left source.new) result) }
+    ensures read { IfSome (R.seen source.old).input.remaining (λ bytes.
+        IsWhole max bytes (R.seen source.old).input.reads_left (R.seen source.new).input.reads_left result) }
     ensures short { IfOk result (λ text. length text ≤ max) }
-    ensures end { OnOk result (IsAtEnd (R.remaining source.new)) }
-    ensures reads { MakesAtMost MOST_READS (R.remaining source.old) (R.reads_made source.old) (R.reads_made source.new) }
-    ensures written { Keeps (R.written source.old) (R.written source.new) }
-    ensures count { CountsInput result (R.failed_calls source.old) (R.failed_calls source.new) }
+    ensures end { OnOk result (IsAtEnd (R.seen source.new).input.remaining) }
+    ensures reads { MakesAtMost MOST_READS (R.seen source.old).input (R.seen source.new).input }
+    ensures output { (R.seen source.new).output ≡ (R.seen source.old).output }
+    ensures count { CountsInput result (R.seen source.old).failed_calls (R.seen source.new).failed_calls }
 {
     let mut room = zeros(alloc, MOST_ROOM)?;
     let mut bytes = Vec::new(alloc);
@@ -40,13 +40,13 @@ fn read_to_end<R: Source>(
 ) -> Result<(), InputFault>
     requires room { length room.old ≡ MOST_ROOM }
     requires none { bytes.old.items ≡ [] }
-    ensures read { IfSome (R.remaining source.old) (λ whole.
-        IsWhole max whole (R.reads_left source.old) (R.reads_left source.new) (result_map_both (λ _. bytes.new.items) (λ fault. fault) result)) }
+    ensures read { IfSome (R.seen source.old).input.remaining (λ whole.
+        IsWhole max whole (R.seen source.old).input.reads_left (R.seen source.new).input.reads_left (result_map_both (λ _. bytes.new.items) (λ fault. fault) result)) }
     ensures short { OnOk result (vec_len bytes.new ≤ max) }
-    ensures end { OnOk result (IsAtEnd (R.remaining source.new)) }
-    ensures reads { MakesAtMost MOST_READS (R.remaining source.old) (R.reads_made source.old) (R.reads_made source.new) }
-    ensures written { Keeps (R.written source.old) (R.written source.new) }
-    ensures count { CountsInput result (R.failed_calls source.old) (R.failed_calls source.new) }
+    ensures end { OnOk result (IsAtEnd (R.seen source.new).input.remaining) }
+    ensures reads { MakesAtMost MOST_READS (R.seen source.old).input (R.seen source.new).input }
+    ensures output { (R.seen source.new).output ≡ (R.seen source.old).output }
+    ensures count { CountsInput result (R.seen source.old).failed_calls (R.seen source.new).failed_calls }
 {
     for _ in 0..MOST_READS {
         if !read_more(source, room, bytes, max)? {

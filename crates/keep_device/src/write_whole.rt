@@ -9,12 +9,11 @@ use crate::{Sink, SinkFault};
 /// Writes all of `bytes`, in as many writes as the sink takes. It stops at the first write that fails, when
 /// a front of them has gone out. Only a sink in memory answers `OutOfMemory`.
 pub fn write_all<W: Sink>(sink: &mut W, bytes: &[u8]) -> Result<(), SinkFault>
-    ensures written { OnOk result (Appends (W.written sink.old) (W.written sink.new) bytes.now) }
-    ensures front { OnErr result (AppendsFront (W.written sink.old) (W.written sink.new) bytes.now) }
-    ensures remaining { Keeps (W.remaining sink.old) (W.remaining sink.new) }
-    ensures made { W.reads_made sink.new ≡ W.reads_made sink.old }
+    ensures written { OnOk result (Appends (W.seen sink.old).output.written (W.seen sink.new).output.written bytes.now) }
+    ensures front { OnErr result (AppendsFront (W.seen sink.old).output.written (W.seen sink.new).output.written bytes.now) }
+    ensures input { (W.seen sink.new).input ≡ (W.seen sink.old).input }
     ensures memory { IsErrOf result OutOfMemory → IsTrue W.is_in_memory }
-    ensures count { Counts result (W.failed_calls sink.old) (W.failed_calls sink.new) }
+    ensures count { Counts result (W.seen sink.old).failed_calls (W.seen sink.new).failed_calls }
 {
     let mut at = 0;
     while at < bytes.len() {

@@ -1,5 +1,6 @@
 -- Delivered: from what is made before the first write to the run, for every command.
 use Rattle.std.proofs.Common.{ℕ, List, Result, Ok, Err, inl, inr, refl, subst, sym}
+use Rattle.keep_device.specs.Seen.{Change}
 use Rattle.keep_tree.specs.Forest.{Forest}
 use Rattle.keep_plan.specs.declared.decision.Decision.{Decision}
 use Rattle.keep_plan.specs.declared.decision.Decision.TheVariants as decision
@@ -9,7 +10,6 @@ use Rattle.keep_cert.specs.Printing.{Prints, claim}
 use Rattle.keep_report.specs.declared.exit.Exit.{Exit}
 use Rattle.keep_report.specs.declared.stop.Stop.{Stop}
 use Rattle.keep_report.specs.declared.stop.Stop.TheVariants as stops
-use Rattle.keep_report.specs.Sent.{Sent}
 use Rattle.keep_engine.specs.declared.outcome.Outcome.{Outcome}
 use Rattle.keep_engine.specs.code.Making.{Delivers, Makes, decided_exit}
 use Rattle.keep_engine.specs.PlanRun.{IsCertified, PlanHalts}
@@ -28,7 +28,7 @@ halted Text Halt bytes (stops.Broker name) makes = makes
 halted Text Halt bytes (stops.Line number) makes = makes
 halted Text Halt bytes stops.Memory makes = makes
 
-pub run_delivered : (Text : Texts) (Halt : Halts) (bytes : List ℕ) (made : Result Outcome Stop) (exit : Exit) (out errors : Sent) →
+pub run_delivered : (Text : Texts) (Halt : Halts) (bytes : List ℕ) (made : Result Outcome Stop) (exit : Exit) (out errors : Change) →
     Makes Text Halt bytes made → Delivers made exit out errors → RunOf Text Halt bytes exit out errors
 run_delivered Text Halt bytes (Ok outcome) exit out errors makes (inl sent) =
     inl (makes.0, makes.1, outcome.text, subst (λ e. Text makes.0.forest e outcome.text) (sym sent.0) makes.2, sent.1, sent.2)

@@ -3,6 +3,7 @@
 use Rattle.std.proofs.Common.{◌≡◌, ◌∙◌, ℕ, List, [], Ok, Err, refl, sym, ap, subst, inl, inr, ◌⊎◌}
 use Rattle.std.specs.Io.KnownBytes.{Appends, Keeps}
 use Rattle.std.proofs.KnownBytes.{Keeps-refl}
+use Rattle.keep_device.specs.Seen.{Change}
 use Rattle.keep_device.specs.Front.{AppendsFront}
 use Rattle.keep_tree.specs.Forest.{Forest}
 use Rattle.keep_core.specs.Replan.{ReplanTooLong}
@@ -18,7 +19,7 @@ use Rattle.keep_exchange.specs.Exchanges.{Behind}
 use Rattle.keep_report.specs.declared.exit.Exit.{Exit}
 use Rattle.keep_report.specs.declared.exit.Exit.TheVariants as exits
 use Rattle.keep_report.specs.declared.stop.Stop.TheVariants as stops
-use Rattle.keep_report.specs.Sent.{IsUntouched, Sent}
+use Rattle.keep_report.specs.Sent.{IsUntouched}
 use Rattle.keep_report.specs.Told.{Reports}
 use Rattle.keep_report.proofs.Fronts.{whole_front}
 use Rattle.keep_report.proofs.Pieces.{front_cut}
@@ -31,46 +32,46 @@ use Rattle.keep_run.proofs.AlikeCourses.{courses_both, not_stopped, stops_both}
 use Rattle.keep_run.proofs.AlikeFronts.{fronts_both, run_of_course, run_of_stopped}
 use Rattle.keep_engine.specs.Running.{line_of}
 use Rattle.keep_engine.specs.Secrecy.{IsWhole, RehearseSecrecy, TellSame, WriteFronts, WriteSame}
-use Rattle.keep_run.proofs.Written.{keeps_appends}
+use Rattle.keep_run.proofs.Written.{untouched_appends}
 
 -- ---- how a rehearsal of an inventory comes to its end
 
-abbrev IsDone : Inventory → ℕ → List (List ℕ) → Exit → Sent → Sent → Type 0
+abbrev IsDone : Inventory → ℕ → List (List ℕ) → Exit → Change → Change → Type 0
 IsDone v start words exit out errors =
     (exit ≡ exits.Done) × ((faults : List NumberedFault) × ((faults_of words ≡ Ok faults) × ((course : Course) × ((final : World) × (IsClosedRun v faults start course final
-    × (Appends out.old out.new (course_text v course) × IsUntouched errors))))))
+    × (Appends out.old.output.written out.new.output.written (course_text v course) × IsUntouched errors))))))
 
-abbrev IsMisspelt : List (List ℕ) → Exit → Sent → Sent → Type 0
+abbrev IsMisspelt : List (List ℕ) → Exit → Change → Change → Type 0
 IsMisspelt words exit out errors =
-    (exit ≡ exits.CommandLine) × ((position : ℕ) × ((faults_of words ≡ Err position) × (Keeps out.old out.new × Reports (line_of (stops.FaultWord position)) errors)))
+    (exit ≡ exits.CommandLine) × ((position : ℕ) × ((faults_of words ≡ Err position) × (IsUntouched out × Reports (line_of (stops.FaultWord position)) errors)))
 
-abbrev IsUnplanned : Inventory → ℕ → List (List ℕ) → Exit → Sent → Sent → Type 0
+abbrev IsUnplanned : Inventory → ℕ → List (List ℕ) → Exit → Change → Change → Type 0
 IsUnplanned v start words exit out errors =
-    (exit ≡ exits.TooLong) × ((faults : List NumberedFault) × ((faults_of words ≡ Ok faults) × (ReplanTooLong v.forest start × (Keeps out.old out.new × Reports (line_of stops.TooLong) errors))))
+    (exit ≡ exits.TooLong) × ((faults : List NumberedFault) × ((faults_of words ≡ Ok faults) × (ReplanTooLong v.forest start × (IsUntouched out × Reports (line_of stops.TooLong) errors))))
 
-abbrev IsHalted : Inventory → ℕ → List (List ℕ) → Exit → Sent → Sent → Type 0
+abbrev IsHalted : Inventory → ℕ → List (List ℕ) → Exit → Change → Change → Type 0
 IsHalted v start words exit out errors =
     (exit ≡ exits.TooLong) × ((faults : List NumberedFault) × ((faults_of words ≡ Ok faults) × ((final : World) × ((text : List ℕ) × (IsStopped v faults start final text
-    × (Appends out.old out.new text × Reports (line_of stops.TooLong) errors))))))
+    × (Appends out.old.output.written out.new.output.written text × Reports (line_of stops.TooLong) errors))))))
 
-abbrev EndsIn : Inventory → ℕ → List (List ℕ) → Exit → Sent → Sent → Type 0
+abbrev EndsIn : Inventory → ℕ → List (List ℕ) → Exit → Change → Change → Type 0
 EndsIn v start words exit out errors = (IsDone v start words exit out errors ⊎ IsMisspelt words exit out errors) ⊎ (IsUnplanned v start words exit out errors ⊎ IsHalted v start words exit out errors)
 
 one_inventory : (bytes : List ℕ) (v x : Inventory) → read_inventory bytes ≡ Ok v → read_inventory bytes ≡ Ok x → x ≡ v
 one_inventory bytes v x a b = let same : x ≡ v = cc in same
 
-ends_in : (bytes : List ℕ) (v : Inventory) (start : ℕ) (words : List (List ℕ)) (exit : Exit) (out errors : Sent) (old new : Behind) → read_inventory bytes ≡ Ok v → IsWhole exit → RehearseRun bytes start words exit out old new →
+ends_in : (bytes : List ℕ) (v : Inventory) (start : ℕ) (words : List (List ℕ)) (exit : Exit) (out errors : Change) (old new : Behind) → read_inventory bytes ≡ Ok v → IsWhole exit → RehearseRun bytes start words exit out old new →
     RehearseTold bytes words exit errors → EndsIn v start words exit out errors
 ends_in bytes v start words exits.Done out errors old new reads end run told =
     let same = one_inventory bytes v run.0 reads run.2.read in
-    inl (inl (refl, (run.1, (run.2.faults_are, (run.3, (run.4, (subst (λ x. IsClosedRun x run.1 start run.3 run.4) same run.5, (subst (λ x. Appends out.old out.new (course_text x run.3)) same run.6.0, told))))))))
+    inl (inl (refl, (run.1, (run.2.faults_are, (run.3, (run.4, (subst (λ x. IsClosedRun x run.1 start run.3 run.4) same run.5, (subst (λ x. Appends out.old.output.written out.new.output.written (course_text x run.3)) same run.6.0, told))))))))
 ends_in bytes v start words exits.CommandLine out errors old new reads end run told =
     let position : told.0 ≡ run.2 = (let e = sym told.1 ∙ run.3 in cc) in
-    inl (inr (refl, (run.2, (run.3, (run.4.0, subst (λ n. Reports (line_of (stops.FaultWord n)) errors) position told.2)))))
+    inl (inr (refl, (run.2, (run.3, (run.4, subst (λ n. Reports (line_of (stops.FaultWord n)) errors) position told.2)))))
 ends_in bytes v start words exits.TooLong out errors old new reads end run told =
     let same = one_inventory bytes v run.0 reads run.2.read in
     elim run.3 [
-      | inl long ↦ inr (inl (refl, (run.1, (run.2.faults_are, (subst (λ (x : Inventory). ReplanTooLong x.forest start) same long.0, (long.1.0, told))))))
+      | inl long ↦ inr (inl (refl, (run.1, (run.2.faults_are, (subst (λ (x : Inventory). ReplanTooLong x.forest start) same long.0, (long.1, told))))))
       | inr long ↦ inr (inr (refl, (run.1, (run.2.faults_are, (long.0, (long.1, (subst (λ x. IsStopped x run.1 start long.0 long.1) same long.2, (long.3.0, told))))))))
     ]
 ends_in bytes v start words exits.Inventory out errors old new reads end run told = absurd (let fault = run.1 in cc)
@@ -81,36 +82,36 @@ ends_in bytes v start words exits.Memory out errors old new reads end run told =
 
 -- ---- what it has written, if it was cut short
 
-abbrev Fronts : Inventory → ℕ → List (List ℕ) → Sent → Type 0
+abbrev Fronts : Inventory → ℕ → List (List ℕ) → Change → Type 0
 Fronts v start words out =
-    ((faults : List NumberedFault) × ((faults_of words ≡ Ok faults) × ((text : List ℕ) × (IsRunText v faults start text × AppendsFront out.old out.new text)))) ⊎ Keeps out.old out.new
+    ((faults : List NumberedFault) × ((faults_of words ≡ Ok faults) × ((text : List ℕ) × (IsRunText v faults start text × AppendsFront out.old.output.written out.new.output.written text)))) ⊎ IsUntouched out
 
-abbrev IsWritten : List ℕ → ℕ → List (List ℕ) → Sent → Type 0
+abbrev IsWritten : List ℕ → ℕ → List (List ℕ) → Change → Type 0
 IsWritten bytes start words out =
-    (inventory : Inventory) × (faults : List NumberedFault) × (read_inventory bytes ≡ Ok inventory) × (faults_of words ≡ Ok faults) × (text : List ℕ) × IsRunText inventory faults start text × AppendsFront out.old out.new text
+    (inventory : Inventory) × (faults : List NumberedFault) × (read_inventory bytes ≡ Ok inventory) × (faults_of words ≡ Ok faults) × (text : List ℕ) × IsRunText inventory faults start text × AppendsFront out.old.output.written out.new.output.written text
 
-written_front : (bytes : List ℕ) (v : Inventory) (start : ℕ) (words : List (List ℕ)) (out : Sent) → read_inventory bytes ≡ Ok v → IsWritten bytes start words out → Fronts v start words out
+written_front : (bytes : List ℕ) (v : Inventory) (start : ℕ) (words : List (List ℕ)) (out : Change) → read_inventory bytes ≡ Ok v → IsWritten bytes start words out → Fronts v start words out
 written_front bytes v start words out reads w = inl (w.1, (w.3, (w.4, (subst (λ x. IsRunText x w.1 start w.4) (one_inventory bytes v w.0 reads w.2) w.5, w.6))))
 
-fronts_in : (bytes : List ℕ) (v : Inventory) (start : ℕ) (words : List (List ℕ)) (exit : Exit) (out : Sent) (old new : Behind) → read_inventory bytes ≡ Ok v → RehearseRun bytes start words exit out old new → Fronts v start words out
+fronts_in : (bytes : List ℕ) (v : Inventory) (start : ℕ) (words : List (List ℕ)) (exit : Exit) (out : Change) (old new : Behind) → read_inventory bytes ≡ Ok v → RehearseRun bytes start words exit out old new → Fronts v start words out
 fronts_in bytes v start words exits.Done out old new reads run =
     written_front bytes v start words out reads
-    (run.0, run.1, run.2.read, run.2.faults_are, course_text run.0 run.3, run_of_course run.0 run.1 start run.3 run.4 run.5, whole_front out.old out.new out.new (course_text run.0 run.3) run.6.0 (Keeps-refl out.new))
-fronts_in bytes v start words exits.CommandLine out old new reads run = inr run.4.0
+    (run.0, run.1, run.2.read, run.2.faults_are, course_text run.0 run.3, run_of_course run.0 run.1 start run.3 run.4 run.5, whole_front out.old.output.written out.new.output.written out.new.output.written (course_text run.0 run.3) run.6.0 (Keeps-refl out.new.output.written))
+fronts_in bytes v start words exits.CommandLine out old new reads run = inr run.4
 fronts_in bytes v start words exits.TooLong out old new reads run = elim run.3 [
-  | inl long ↦ inr long.1.0
+  | inl long ↦ inr long.1
   | inr long ↦
       written_front bytes v start words out reads
-      (run.0, run.1, run.2.read, run.2.faults_are, long.1, run_of_stopped run.0 run.1 start long.0 long.1 long.2, whole_front out.old out.new out.new long.1 long.3.0 (Keeps-refl out.new))
+      (run.0, run.1, run.2.read, run.2.faults_are, long.1, run_of_stopped run.0 run.1 start long.0 long.1 long.2, whole_front out.old.output.written out.new.output.written out.new.output.written long.1 long.3.0 (Keeps-refl out.new.output.written))
 ]
-fronts_in bytes v start words exits.Inventory out old new reads run = inr run.2.0
+fronts_in bytes v start words exits.Inventory out old new reads run = inr run.2
 fronts_in bytes v start words exits.Unkeepable out old new reads run = absurd run
 fronts_in bytes v start words exits.No out old new reads run = absurd run
 fronts_in bytes v start words exits.Device out old new reads run =
     let w = run.1 in
     written_front bytes v start words out reads (w.0, w.1, w.2.read, w.2.faults_are, w.3, w.4, w.5)
 fronts_in bytes v start words exits.Memory out old new reads run = elim run [
-  | inl none ↦ inr none.0
+  | inl none ↦ inr none
   | inr w ↦ written_front bytes v start words out reads (w.0, w.1, w.2.read, w.2.faults_are, w.3, w.4, w.5)
 ]
 
@@ -122,10 +123,10 @@ one_list words x y a b = let same : y ≡ x = cc in same
 not_misspelt : {X : Type 0} (words : List (List ℕ)) (x : List NumberedFault) (n : ℕ) → faults_of words ≡ Ok x → faults_of words ≡ Err n → X
 not_misspelt words x n a b = absurd cc
 
-both_same : (exit exit' : Exit) (out out' errors errors' : Sent) (e : Exit) (text other line : List ℕ) → exit ≡ e → exit' ≡ e → other ≡ text → Appends out.old out.new text → Appends out'.old out'.new other →
+both_same : (exit exit' : Exit) (out out' errors errors' : Change) (e : Exit) (text other line : List ℕ) → exit ≡ e → exit' ≡ e → other ≡ text → Appends out.old.output.written out.new.output.written text → Appends out'.old.output.written out'.new.output.written other →
     Reports line errors → Reports line errors' → (exit ≡ exit') × WriteSame out out' × TellSame errors errors'
 both_same exit exit' out out' errors errors' e text other line is is' same wrote wrote' told told' =
-    (is ∙ sym is', (text, wrote, subst (Appends out'.old out'.new) same wrote'), inr (line, told, told'))
+    (is ∙ sym is', (text, wrote, subst (Appends out'.old.output.written out'.new.output.written) same wrote'), inr (line, told, told'))
 
 module _ (g : Forest) (cs ds : List (List ℕ)) (ts : List Terms) (one : IsInventory (record { forest = g; credentials = cs; terms = ts })) (two : IsInventory (record { forest = g; credentials = ds; terms = ts })) where
   abbrev s : Inventory
@@ -134,12 +135,12 @@ module _ (g : Forest) (cs ds : List (List ℕ)) (ts : List Terms) (one : IsInven
   abbrev u : Inventory
   u = record { forest = g; credentials = ds; terms = ts }
 
-  both_end : (start : ℕ) (words : List (List ℕ)) (exit exit' : Exit) (out out' errors errors' : Sent) → EndsIn s start words exit out errors → EndsIn u start words exit' out' errors' → (exit ≡ exit') × WriteSame out out' × TellSame errors errors'
+  both_end : (start : ℕ) (words : List (List ℕ)) (exit exit' : Exit) (out out' errors errors' : Change) → EndsIn s start words exit out errors → EndsIn u start words exit' out' errors' → (exit ≡ exit') × WriteSame out out' × TellSame errors errors'
   both_end start words exit exit' out out' errors errors' (inl (inl a)) (inl (inl b)) =
       let faults = one_list words a.1.0 b.1.0 a.1.1.0 b.1.1.0 in
       let run = subst (λ fs. IsClosedRun u fs start b.1.1.1.0 b.1.1.1.1.0) faults b.1.1.1.1.1.0 in
       let same = courses_both g cs ds ts one two a.1.0 start a.1.1.1.0 b.1.1.1.0 a.1.1.1.1.0 b.1.1.1.1.0 a.1.1.1.1.1.0 run in
-      (a.0 ∙ sym b.0, (course_text s a.1.1.1.0, a.1.1.1.1.1.1.0, subst (Appends out'.old out'.new) same b.1.1.1.1.1.1.0), inl (a.1.1.1.1.1.1.1, b.1.1.1.1.1.1.1))
+      (a.0 ∙ sym b.0, (course_text s a.1.1.1.0, a.1.1.1.1.1.1.0, subst (Appends out'.old.output.written out'.new.output.written) same b.1.1.1.1.1.1.0), inl (a.1.1.1.1.1.1.1, b.1.1.1.1.1.1.1))
   both_end start words exit exit' out out' errors errors' (inl (inl a)) (inl (inr b)) = not_misspelt words a.1.0 b.1.0 a.1.1.0 b.1.1.0
   both_end start words exit exit' out out' errors errors' (inl (inl a)) (inr (inl b)) =
       let opened = a.1.1.1.1.1.0.opened in
@@ -151,7 +152,7 @@ module _ (g : Forest) (cs ds : List (List ℕ)) (ts : List Terms) (one : IsInven
   both_end start words exit exit' out out' errors errors' (inl (inr a)) (inl (inl b)) = not_misspelt words b.1.0 a.1.0 b.1.1.0 a.1.1.0
   both_end start words exit exit' out out' errors errors' (inl (inr a)) (inl (inr b)) =
       let position : b.1.0 ≡ a.1.0 = (let e = sym b.1.1.0 ∙ a.1.1.0 in cc) in
-      both_same exit exit' out out' errors errors' exits.CommandLine [] [] (line_of (stops.FaultWord a.1.0)) a.0 b.0 refl (keeps_appends _ _ a.1.1.1.0) (keeps_appends _ _ b.1.1.1.0) a.1.1.1.1
+      both_same exit exit' out out' errors errors' exits.CommandLine [] [] (line_of (stops.FaultWord a.1.0)) a.0 b.0 refl (untouched_appends out a.1.1.1.0) (untouched_appends out' b.1.1.1.0) a.1.1.1.1
       (subst (λ n. Reports (line_of (stops.FaultWord n)) errors') position b.1.1.1.1)
   both_end start words exit exit' out out' errors errors' (inl (inr a)) (inr (inl b)) = not_misspelt words b.1.0 a.1.0 b.1.1.0 a.1.1.0
   both_end start words exit exit' out out' errors errors' (inl (inr a)) (inr (inr b)) = not_misspelt words b.1.0 a.1.0 b.1.1.0 a.1.1.0
@@ -160,7 +161,7 @@ module _ (g : Forest) (cs ds : List (List ℕ)) (ts : List Terms) (one : IsInven
       absurd (not_both (unplanned g) start opened.keeper opened.planned a.1.1.1.0)
   both_end start words exit exit' out out' errors errors' (inr (inl a)) (inl (inr b)) = not_misspelt words a.1.0 b.1.0 a.1.1.0 b.1.1.0
   both_end start words exit exit' out out' errors errors' (inr (inl a)) (inr (inl b)) =
-      both_same exit exit' out out' errors errors' exits.TooLong [] [] (line_of stops.TooLong) a.0 b.0 refl (keeps_appends _ _ a.1.1.1.1.0) (keeps_appends _ _ b.1.1.1.1.0) a.1.1.1.1.1 b.1.1.1.1.1
+      both_same exit exit' out out' errors errors' exits.TooLong [] [] (line_of stops.TooLong) a.0 b.0 refl (untouched_appends out a.1.1.1.1.0) (untouched_appends out' b.1.1.1.1.0) a.1.1.1.1.1 b.1.1.1.1.1
   both_end start words exit exit' out out' errors errors' (inr (inl a)) (inr (inr b)) =
       let opened = b.1.1.1.1.1.0.so_far.opened in
       absurd (not_both (unplanned g) start opened.keeper opened.planned a.1.1.1.0)
@@ -178,18 +179,18 @@ module _ (g : Forest) (cs ds : List (List ℕ)) (ts : List Terms) (one : IsInven
       let same = stops_both g cs ds ts one two a.1.0 start a.1.1.1.0 b.1.1.1.0 a.1.1.1.1.0 b.1.1.1.1.0 a.1.1.1.1.1.0 stopped in
       both_same exit exit' out out' errors errors' exits.TooLong a.1.1.1.1.0 b.1.1.1.1.0 (line_of stops.TooLong) a.0 b.0 same a.1.1.1.1.1.1.0 b.1.1.1.1.1.1.0 a.1.1.1.1.1.1.1 b.1.1.1.1.1.1.1
 
-  two_fronts : (start : ℕ) (words : List (List ℕ)) (out out' : Sent) → Fronts s start words out → Fronts u start words out' → WriteFronts out out'
+  two_fronts : (start : ℕ) (words : List (List ℕ)) (out out' : Change) → Fronts s start words out → Fronts u start words out' → WriteFronts out out'
   two_fronts start words out out' (inl a) (inl b) =
       let faults = one_list words a.0 b.0 a.1.0 b.1.0 in
       let x = a.1.1.0 in
       let y = b.1.1.0 in
       elim (fronts_both g cs ds ts one two a.0 start x y a.1.1.1.0 (subst (λ fs. IsRunText u fs start y) faults b.1.1.1.0)) [
-        | inl less ↦ (y, subst (AppendsFront out.old out.new) (sym less.1) (front_cut out.old out.new x less.0 a.1.1.1.1), b.1.1.1.1)
-        | inr more ↦ (x, a.1.1.1.1, subst (AppendsFront out'.old out'.new) (sym more.1) (front_cut out'.old out'.new y more.0 b.1.1.1.1))
+        | inl less ↦ (y, subst (AppendsFront out.old.output.written out.new.output.written) (sym less.1) (front_cut out.old.output.written out.new.output.written x less.0 a.1.1.1.1), b.1.1.1.1)
+        | inr more ↦ (x, a.1.1.1.1, subst (AppendsFront out'.old.output.written out'.new.output.written) (sym more.1) (front_cut out'.old.output.written out'.new.output.written y more.0 b.1.1.1.1))
       ]
-  two_fronts start words out out' (inl a) (inr kept) = (a.1.1.0, a.1.1.1.1, (0, keeps_appends _ _ kept))
-  two_fronts start words out out' (inr kept) (inl b) = (b.1.1.0, (0, keeps_appends _ _ kept), b.1.1.1.1)
-  two_fronts start words out out' (inr kept) (inr same) = ([], (0, keeps_appends _ _ kept), (0, keeps_appends _ _ same))
+  two_fronts start words out out' (inl a) (inr kept) = (a.1.1.0, a.1.1.1.1, (0, untouched_appends out' kept))
+  two_fronts start words out out' (inr kept) (inl b) = (b.1.1.0, (0, untouched_appends out kept), b.1.1.1.1)
+  two_fronts start words out out' (inr kept) (inr same) = ([], (0, untouched_appends out kept), (0, untouched_appends out' same))
 
 pub rehearse_secrecy : RehearseSecrecy
 rehearse_secrecy bytes other start words exit exit' out out' errors errors' d a b =

@@ -4,6 +4,7 @@ use Rattle.std.proofs.Common.{◌≡◌, ◌∙◌, ℕ, Bool, List, [], Option,
 use Rattle.std.specs.Io.KnownBytes.{Appends, Keeps}
 use Rattle.std.proofs.lemmas.List.{length-map}
 use Rattle.std.proofs.KnownBytes.{Keeps-refl}
+use Rattle.keep_device.specs.Seen.{Change}
 use Rattle.keep_device.specs.Front.{AppendsFront}
 use Rattle.keep_tree.specs.Forest.{Forest}
 use Rattle.keep_tree.specs.Push.{IsForest}
@@ -20,7 +21,7 @@ use Rattle.keep_report.specs.declared.exit.Exit.TheVariants as exits
 use Rattle.keep_report.specs.declared.stop.Stop.{Stop}
 use Rattle.keep_report.specs.declared.stop.Stop.TheVariants as stops
 use Rattle.keep_report.specs.Exits.{exit_of}
-use Rattle.keep_report.specs.Sent.{IsUntouched, Sends, Sent}
+use Rattle.keep_report.specs.Sent.{IsUntouched, Sends}
 use Rattle.keep_report.specs.Told.{Reports}
 use Rattle.keep_report.proofs.Fronts.{whole_front}
 use Rattle.keep_engine.specs.CheckRun.{CheckTexts}
@@ -36,7 +37,7 @@ use Rattle.keep_engine.specs.ReachRun.{ReachTexts}
 use Rattle.keep_engine.proofs.Margins.{one_margin_text, one_reason, text_or_reason}
 use Rattle.keep_engine.proofs.OneText.{one_check_text, one_ends_text, one_plan_text}
 use Rattle.keep_plan.proofs.Deciding.{length_moments}
-use Rattle.keep_run.proofs.Written.{keeps_appends}
+use Rattle.keep_run.proofs.Written.{untouched_appends}
 
 -- ---- the forest is one
 
@@ -48,7 +49,7 @@ one_inventory bytes x y a b = let same : x ≡ y = cc in ap (λ (s : Inventory).
 
 -- ---- sendings that were cut short
 
-cut_front : (stop : Stop) (text : List ℕ) (out : Sent) → Sends (Err stop) text out → AppendsFront out.old out.new text
+cut_front : (stop : Stop) (text : List ℕ) (out : Change) → Sends (Err stop) text out → AppendsFront out.old.output.written out.new.output.written text
 cut_front stops.Write text out sends = sends.1
 cut_front stops.Memory text out sends = sends.1
 cut_front (stops.Inventory fault) text out sends = absurd sends
@@ -59,7 +60,7 @@ cut_front stops.Read text out sends = absurd sends
 cut_front (stops.Broker name) text out sends = absurd sends
 cut_front (stops.Line number) text out sends = absurd sends
 
-not_cut : {X : Type 0} (stop : Stop) (text : List ℕ) (out : Sent) → Sends (Err stop) text out → IsWhole (exit_of stop) → X
+not_cut : {X : Type 0} (stop : Stop) (text : List ℕ) (out : Change) → Sends (Err stop) text out → IsWhole (exit_of stop) → X
 not_cut stops.Write text out sends whole = absurd whole
 not_cut stops.Memory text out sends whole = absurd whole
 not_cut (stops.Inventory fault) text out sends whole = absurd sends
@@ -80,10 +81,10 @@ pub record IsOne (Text : Texts) (Halt : Halts) : Type 0 where
 
 module _ (Text : Texts) (Halt : Halts) where
   -- how a run over a forest comes to its end
-  abbrev EndsIn : Forest → Exit → Sent → Sent → Type 0
+  abbrev EndsIn : Forest → Exit → Change → Change → Type 0
   EndsIn g exit out errors =
-      ((text : List ℕ) × Text g exit text × Appends out.old out.new text × IsUntouched errors)
-      ⊎ ((stop : Stop) × Halt g stop × (exit ≡ exit_of stop) × Keeps out.old out.new × Reports (line_of stop) errors)
+      ((text : List ℕ) × Text g exit text × Appends out.old.output.written out.new.output.written text × IsUntouched errors)
+      ⊎ ((stop : Stop) × Halt g stop × (exit ≡ exit_of stop) × IsUntouched out × Reports (line_of stop) errors)
 
   halted_in : (bytes : List ℕ) (inventory : Inventory) (stop : Stop) → read_inventory bytes ≡ Ok inventory → IsWhole (exit_of stop) → Halted Halt bytes stop → Halt inventory.forest stop
   halted_in bytes inventory stops.Memory reads whole halted = absurd whole
@@ -96,43 +97,43 @@ module _ (Text : Texts) (Halt : Halts) where
   halted_in bytes inventory (stops.Broker name) reads whole halted = absurd whole
   halted_in bytes inventory (stops.Line number) reads whole halted = absurd whole
 
-  ends_in : (bytes : List ℕ) (inventory : Inventory) (exit : Exit) (out errors : Sent) → read_inventory bytes ≡ Ok inventory → IsWhole exit → RunOf Text Halt bytes exit out errors → EndsIn inventory.forest exit out errors
+  ends_in : (bytes : List ℕ) (inventory : Inventory) (exit : Exit) (out errors : Change) → read_inventory bytes ≡ Ok inventory → IsWhole exit → RunOf Text Halt bytes exit out errors → EndsIn inventory.forest exit out errors
   ends_in bytes inventory exit out errors reads whole (inl run) =
       inl (run.2, subst (λ g. Text g exit run.2) (one_inventory bytes run.0 inventory run.1 reads) run.3, run.4.0, run.5)
   ends_in bytes inventory exit out errors reads whole (inr (inl run)) =
-      inr (run.0, halted_in bytes inventory run.0 reads (subst IsWhole run.2 whole) run.1, run.2, run.3.0, run.4)
+      inr (run.0, halted_in bytes inventory run.0 reads (subst IsWhole run.2 whole) run.1, run.2, run.3, run.4)
   ends_in bytes inventory exit out errors reads whole (inr (inr run)) = not_cut run.5 run.3 out run.6 (subst IsWhole run.7 whole)
 
-  both_end : (g : Forest) (exit exit' : Exit) (out out' errors errors' : Sent) → IsOne Text Halt → IsForest g → EndsIn g exit out errors → EndsIn g exit' out' errors' →
+  both_end : (g : Forest) (exit exit' : Exit) (out out' errors errors' : Change) → IsOne Text Halt → IsForest g → EndsIn g exit out errors → EndsIn g exit' out' errors' →
       (exit ≡ exit') × WriteSame out out' × TellSame errors errors'
   both_end g exit exit' out out' errors errors' one forest (inl a) (inl b) =
       let same = one.text g exit exit' a.0 b.0 forest a.1 b.1 in
-      (same.0, (a.0, a.2, subst (Appends out'.old out'.new) (sym same.1) b.2), inl (a.3, b.3))
+      (same.0, (a.0, a.2, subst (Appends out'.old.output.written out'.new.output.written) (sym same.1) b.2), inl (a.3, b.3))
   both_end g exit exit' out out' errors errors' one forest (inr a) (inr b) =
       let same = one.reason g a.0 b.0 a.1 b.1 in
-      (a.2 ∙ ap exit_of same ∙ sym b.2, ([], keeps_appends _ _ a.3, keeps_appends _ _ b.3), inr (line_of a.0, a.4, subst (λ (x : Stop). Reports (line_of x) errors') (sym same) b.4))
+      (a.2 ∙ ap exit_of same ∙ sym b.2, ([], untouched_appends out a.3, untouched_appends out' b.3), inr (line_of a.0, a.4, subst (λ (x : Stop). Reports (line_of x) errors') (sym same) b.4))
   both_end g exit exit' out out' errors errors' one forest (inl a) (inr b) = absurd (one.apart g exit a.0 b.0 a.1 b.1)
   both_end g exit exit' out out' errors errors' one forest (inr a) (inl b) = absurd (one.apart g exit' b.0 a.0 b.1 a.1)
 
   -- a front of a text was written, or nothing
-  abbrev Fronts : Forest → Sent → Type 0
-  Fronts g out = ((text : List ℕ) × ((exit : Exit) × Text g exit text) × AppendsFront out.old out.new text) ⊎ Keeps out.old out.new
+  abbrev Fronts : Forest → Change → Type 0
+  Fronts g out = ((text : List ℕ) × ((exit : Exit) × Text g exit text) × AppendsFront out.old.output.written out.new.output.written text) ⊎ IsUntouched out
 
-  fronts_in : (bytes : List ℕ) (inventory : Inventory) (exit : Exit) (out errors : Sent) → read_inventory bytes ≡ Ok inventory → RunOf Text Halt bytes exit out errors → Fronts inventory.forest out
+  fronts_in : (bytes : List ℕ) (inventory : Inventory) (exit : Exit) (out errors : Change) → read_inventory bytes ≡ Ok inventory → RunOf Text Halt bytes exit out errors → Fronts inventory.forest out
   fronts_in bytes inventory exit out errors reads (inl run) =
-      subst (λ g. Fronts g out) (one_inventory bytes run.0 inventory run.1 reads) (inl (run.2, (exit, run.3), whole_front out.old out.new out.new run.2 run.4.0 (Keeps-refl out.new)))
-  fronts_in bytes inventory exit out errors reads (inr (inl run)) = inr run.3.0
+      subst (λ g. Fronts g out) (one_inventory bytes run.0 inventory run.1 reads) (inl (run.2, (exit, run.3), whole_front out.old.output.written out.new.output.written out.new.output.written run.2 run.4.0 (Keeps-refl out.new.output.written)))
+  fronts_in bytes inventory exit out errors reads (inr (inl run)) = inr run.3
   fronts_in bytes inventory exit out errors reads (inr (inr run)) =
       subst (λ g. Fronts g out) (one_inventory bytes run.0 inventory run.1 reads) (inl (run.3, (run.2, run.4), cut_front run.5 run.3 out run.6))
 
-  two_fronts : (g : Forest) (out out' : Sent) → IsOne Text Halt → IsForest g → Fronts g out → Fronts g out' → WriteFronts out out'
+  two_fronts : (g : Forest) (out out' : Change) → IsOne Text Halt → IsForest g → Fronts g out → Fronts g out' → WriteFronts out out'
   two_fronts g out out' one forest (inl a) (inl b) =
-      (a.0, a.2, subst (AppendsFront out'.old out'.new) (sym (one.text g a.1.0 b.1.0 a.0 b.0 forest a.1.1 b.1.1).1) b.2)
-  two_fronts g out out' one forest (inl a) (inr kept) = (a.0, a.2, (0, keeps_appends _ _ kept))
-  two_fronts g out out' one forest (inr kept) (inl b) = (b.0, (0, keeps_appends _ _ kept), b.2)
-  two_fronts g out out' one forest (inr kept) (inr same) = ([], (0, keeps_appends _ _ kept), (0, keeps_appends _ _ same))
+      (a.0, a.2, subst (AppendsFront out'.old.output.written out'.new.output.written) (sym (one.text g a.1.0 b.1.0 a.0 b.0 forest a.1.1 b.1.1).1) b.2)
+  two_fronts g out out' one forest (inl a) (inr kept) = (a.0, a.2, (0, untouched_appends out' kept))
+  two_fronts g out out' one forest (inr kept) (inl b) = (b.0, (0, untouched_appends out kept), b.2)
+  two_fronts g out out' one forest (inr kept) (inr same) = ([], (0, untouched_appends out kept), (0, untouched_appends out' same))
 
-  pub runs_alike : (bytes other : List ℕ) (exit exit' : Exit) (out out' errors errors' : Sent) → IsOne Text Halt → DifferInSecrets bytes other →
+  pub runs_alike : (bytes other : List ℕ) (exit exit' : Exit) (out out' errors errors' : Change) → IsOne Text Halt → DifferInSecrets bytes other →
       RunOf Text Halt bytes exit out errors → RunOf Text Halt other exit' out' errors' → RunAlike exit exit' out out' errors errors'
   runs_alike bytes other exit exit' out out' errors errors' one d a b =
       let same = sym (one_forest bytes other d) in

@@ -1,6 +1,7 @@
 -- The run `check`: which line goes with which exit.
 -- Source: this project's own.
 use Rattle.std.specs.Prelude.{◌≡◌, ℕ, ◌⊎◌, List, Option, Some, IfSome, Err, codes}
+use Rattle.keep_device.specs.Seen.{Change}
 use Rattle.keep_tree.specs.Forest.{Forest}
 use Rattle.keep_cert.specs.declared.cert.Cert.{Cert}
 use Rattle.keep_cert.specs.declared.fault.CertFault.{CertFault}
@@ -13,7 +14,6 @@ use Rattle.keep_check.specs.Laws.{Holds}
 use Rattle.keep_report.specs.declared.exit.Exit.{Exit}
 use Rattle.keep_report.specs.declared.exit.Exit.TheVariants as exits
 use Rattle.keep_engine.specs.CheckText.{no_line, unreadable_line}
-use Rattle.keep_report.specs.Sent.{Sent}
 use Rattle.keep_engine.specs.Running.{NoHalts, RunOf, Texts}
 
 -- the certificate's start is the one that is asked for, if one is
@@ -62,5 +62,5 @@ abbrev pub CheckTexts : Option ℕ → List ℕ → Texts
 CheckTexts asked text g exit line = IsJudged asked g text exit line
 
 -- `check` over the bytes of an inventory and of a certificate, with the start that is asked for, if one is
-abbrev pub CheckRun : List ℕ → List ℕ → Option ℕ → Exit → Sent → Sent → Type 0
+abbrev pub CheckRun : List ℕ → List ℕ → Option ℕ → Exit → Change → Change → Type 0
 CheckRun bytes text asked exit out errors = RunOf (CheckTexts asked text) NoHalts bytes exit out errors

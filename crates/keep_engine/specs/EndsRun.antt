@@ -1,11 +1,11 @@
 -- The run `ends`: which text goes with which exit, and when there is none.
 use Rattle.std.specs.Prelude.{◌≡◌, ℕ, List, Some, length}
+use Rattle.keep_device.specs.Seen.{Change}
 use Rattle.keep_rule.specs.declared.wake.WakeFault.{WakeFault}
 use Rattle.keep_rule.specs.Plans.{wake_fault}
 use Rattle.keep_report.specs.declared.exit.Exit.{Exit}
 use Rattle.keep_report.specs.declared.exit.Exit.TheVariants as exits
 use Rattle.keep_report.specs.declared.stop.Stop.TheVariants as stops
-use Rattle.keep_report.specs.Sent.{Sent}
 use Rattle.keep_engine.specs.EndsText.{IsEndsText, all_asked}
 use Rattle.keep_engine.specs.Running.{Halts, RunOf, Texts}
 
@@ -17,5 +17,5 @@ abbrev pub EndsHalts : ℕ → List ℕ → Halts
 EndsHalts s moments g stop = (fault : WakeFault) × (stop ≡ stops.Moments fault) × (wake_fault g.entries s (all_asked (length g.entries) moments) ≡ Some fault)
 
 -- `ends` over the bytes of an inventory
-abbrev pub EndsRun : List ℕ → ℕ → List ℕ → Exit → Sent → Sent → Type 0
+abbrev pub EndsRun : List ℕ → ℕ → List ℕ → Exit → Change → Change → Type 0
 EndsRun bytes s moments exit out errors = RunOf (EndsTexts s moments) (EndsHalts s moments) bytes exit out errors

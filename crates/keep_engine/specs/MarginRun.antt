@@ -1,12 +1,12 @@
 -- The run `margin`: which text goes with which exit, and when there is none.
 -- Source: this project's own.
 use Rattle.std.specs.Prelude.{◌≡◌, ℕ, List, Option, Some, None}
+use Rattle.keep_device.specs.Seen.{Change}
 use Rattle.keep_tree.specs.Forest.{Forest}
 use Rattle.keep_plan.specs.Decides.{IsTooLong}
 use Rattle.keep_report.specs.declared.exit.Exit.{Exit}
 use Rattle.keep_report.specs.declared.stop.Stop.{Stop}
 use Rattle.keep_report.specs.declared.stop.Stop.TheVariants as stops
-use Rattle.keep_report.specs.Sent.{Sent}
 use Rattle.keep_engine.specs.declared.margin.MarginQuery.{MarginQuery}
 use Rattle.keep_engine.specs.MarginText.{IsMarginText, asked_about}
 use Rattle.keep_engine.specs.Running.{Halts, RunOf, Texts}
@@ -23,5 +23,5 @@ abbrev pub MarginHalts : MarginQuery → Halts
 MarginHalts q g stop = HasNoCount (asked_about q g) q.start q.most_wakes stop
 
 -- `margin` over the bytes of an inventory
-abbrev pub MarginRun : List ℕ → MarginQuery → Exit → Sent → Sent → Type 0
+abbrev pub MarginRun : List ℕ → MarginQuery → Exit → Change → Change → Type 0
 MarginRun bytes q exit out errors = RunOf (MarginTexts q) (MarginHalts q) bytes exit out errors

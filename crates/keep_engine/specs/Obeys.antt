@@ -1,8 +1,8 @@
 -- Obeys: what each command of the program does with its files.
 -- Source: this project's own.
 use Rattle.std.specs.Prelude.{ℕ, List, string_bytes}
+use Rattle.keep_device.specs.Seen.{Change}
 use Rattle.keep_report.specs.declared.exit.Exit.{Exit}
-use Rattle.keep_report.specs.Sent.{Sent}
 use Rattle.keep_engine.specs.declared.command.Command.{Command}
 use Rattle.keep_engine.specs.declared.command.Command.TheVariants as commands
 use Rattle.keep_inventory.specs.declared.limits.TheConstants.{MOST_INVENTORY}
@@ -26,7 +26,7 @@ path_of (commands.Rehearse file start words) = string_bytes file
 path_of (commands.Check file certificate start) = string_bytes file
 
 -- what it does over the bytes of that; `check` reads its certificate
-abbrev pub ObeysOver : Command → Files → List ℕ → Exit → Sent → Sent → Type 0
+abbrev pub ObeysOver : Command → Files → List ℕ → Exit → Change → Change → Type 0
 ObeysOver (commands.Ends file start moments) files bytes exit out errors = EndsRun bytes start moments.items exit out errors
 ObeysOver (commands.Plan file start) files bytes exit out errors = PlanRun bytes start exit out errors
 ObeysOver (commands.Margin file query) files bytes exit out errors = MarginRun bytes query exit out errors
@@ -35,5 +35,5 @@ ObeysOver (commands.Rehearse file start words) files bytes exit out errors = Reh
 ObeysOver (commands.Check file certificate start) files bytes exit out errors = RunFrom (files (string_bytes certificate)) MOST_CERTIFICATE (λ text. CheckRun bytes text start) exit out errors
 
 -- each reads its inventory first
-abbrev pub Obeys : Command → Files → Exit → Sent → Sent → Type 0
+abbrev pub Obeys : Command → Files → Exit → Change → Change → Type 0
 Obeys command files exit out errors = RunFrom (files (path_of command)) MOST_INVENTORY (λ bytes. ObeysOver command files bytes) exit out errors

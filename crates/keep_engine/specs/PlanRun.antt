@@ -1,6 +1,7 @@
 -- The run `plan`: which text goes with which exit, and when there is none.
 -- Source: this project's own, over Vault, "Lease, renew, and revoke", and Vault, "Tokens".
 use Rattle.std.specs.Prelude.{◌≡◌, ℕ, List}
+use Rattle.keep_device.specs.Seen.{Change}
 use Rattle.keep_tree.specs.Forest.{Forest}
 use Rattle.keep_rule.specs.declared.run.Run.{Run}
 use Rattle.keep_plan.specs.Decides.{AreBest, IsTooLong, NoneKeeps}
@@ -11,7 +12,6 @@ use Rattle.keep_cert.specs.Printing.{certified}
 use Rattle.keep_report.specs.declared.exit.Exit.{Exit}
 use Rattle.keep_report.specs.declared.exit.Exit.TheVariants as exits
 use Rattle.keep_report.specs.declared.stop.Stop.TheVariants as stops
-use Rattle.keep_report.specs.Sent.{Sent}
 use Rattle.keep_engine.specs.Running.{Halts, RunOf, Texts}
 
 -- the certificate of runs whose wake-ups are the forces from s on: their moments are least and latest, and with their Asks
@@ -43,5 +43,5 @@ abbrev pub PlanTexts : ℕ → Texts
 PlanTexts s g exit text = IsCertified g s exit text
 
 -- `plan` over the bytes of an inventory
-abbrev pub PlanRun : List ℕ → ℕ → Exit → Sent → Sent → Type 0
+abbrev pub PlanRun : List ℕ → ℕ → Exit → Change → Change → Type 0
 PlanRun bytes s exit out errors = RunOf (PlanTexts s) (PlanHalts s) bytes exit out errors

@@ -1,8 +1,8 @@
 -- The run `reach`: which text goes with which exit.
 use Rattle.std.specs.Prelude.{◌≡◌, ℕ, Bool, List}
+use Rattle.keep_device.specs.Seen.{Change}
 use Rattle.keep_report.specs.declared.exit.Exit.{Exit}
 use Rattle.keep_report.specs.declared.exit.Exit.TheVariants as exits
-use Rattle.keep_report.specs.Sent.{Sent}
 use Rattle.keep_engine.specs.ReachText.{IsReachText}
 use Rattle.keep_engine.specs.Running.{NoHalts, RunOf, Texts}
 
@@ -10,5 +10,5 @@ abbrev pub ReachTexts : ℕ → Bool → Texts
 ReachTexts s dates g exit text = (exit ≡ exits.Done) × IsReachText g s dates text
 
 -- `reach` over the bytes of an inventory
-abbrev pub ReachRun : List ℕ → ℕ → Bool → Exit → Sent → Sent → Type 0
+abbrev pub ReachRun : List ℕ → ℕ → Bool → Exit → Change → Change → Type 0
 ReachRun bytes s dates exit out errors = RunOf (ReachTexts s dates) NoHalts bytes exit out errors

@@ -1,10 +1,10 @@
 -- The command `rehearse`: a rehearsal over some exchange in memory.
 -- Source: this project's own.
 use Rattle.std.specs.Prelude.{ℕ, List}
+use Rattle.keep_device.specs.Seen.{Change}
 use Rattle.keep_exchange.specs.Exchanges.{Behind}
 use Rattle.keep_report.specs.declared.exit.Exit.{Exit}
-use Rattle.keep_report.specs.Sent.{Sent}
 use Rattle.keep_run.specs.Rehearse.{RehearseRun, RehearseTold}
 
-abbrev pub Rehearses : List ℕ → ℕ → List (List ℕ) → Exit → Sent → Sent → Type 0
+abbrev pub Rehearses : List ℕ → ℕ → List (List ℕ) → Exit → Change → Change → Type 0
 Rehearses bytes start words exit out errors = (old : Behind) × (new : Behind) × RehearseRun bytes start words exit out old new × RehearseTold bytes words exit errors

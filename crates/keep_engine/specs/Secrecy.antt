@@ -1,7 +1,6 @@
 -- Secrecy: of two inventories that differ in their credentials alone a run writes the same.
 use Rattle.std.specs.Prelude.{◌≡◌, ◌⊎◌, ℕ, Bool, List, Option, Ok}
-use Rattle.std.specs.Io.KnownBytes.{Appends}
-use Rattle.keep_device.specs.Front.{AppendsFront}
+use Rattle.keep_device.specs.Seen.{Change, Receives, ReceivesFront}
 use Rattle.keep_inventory.specs.Bare.{AreAlike}
 use Rattle.keep_inventory.specs.Inventories.{Inventory}
 use Rattle.keep_inventory.specs.Inventory.{read_inventory}
@@ -12,7 +11,7 @@ use Rattle.keep_engine.specs.EndsRun.{EndsRun}
 use Rattle.keep_engine.specs.declared.margin.MarginQuery.{MarginQuery}
 use Rattle.keep_engine.specs.MarginRun.{MarginRun}
 use Rattle.keep_report.specs.Told.{Reports}
-use Rattle.keep_report.specs.Sent.{IsUntouched, Sent}
+use Rattle.keep_report.specs.Sent.{IsUntouched}
 use Rattle.keep_engine.specs.PlanRun.{PlanRun}
 use Rattle.keep_engine.specs.ReachRun.{ReachRun}
 use Rattle.keep_engine.specs.RehearseFrom.{Rehearses}
@@ -32,49 +31,49 @@ IsWhole exits.Memory = ⊥
 IsWhole exit = Unit {0}
 
 -- two runs wrote the same
-abbrev pub WriteSame : Sent → Sent → Type 0
-WriteSame out other = (text : List ℕ) × Appends out.old out.new text × Appends other.old other.new text
+abbrev pub WriteSame : Change → Change → Type 0
+WriteSame out other = (text : List ℕ) × Receives text out × Receives text other
 
 -- of one text each of two runs wrote a front, and nothing else
-abbrev pub WriteFronts : Sent → Sent → Type 0
-WriteFronts out other = (text : List ℕ) × AppendsFront out.old out.new text × AppendsFront other.old other.new text
+abbrev pub WriteFronts : Change → Change → Type 0
+WriteFronts out other = (text : List ℕ) × ReceivesFront text out × ReceivesFront text other
 
 -- two runs reported by one fault line, or both by none
-abbrev pub TellSame : Sent → Sent → Type 0
+abbrev pub TellSame : Change → Change → Type 0
 TellSame errors other = (IsUntouched errors × IsUntouched other) ⊎ ((line : List ℕ) × Reports line errors × Reports line other)
 
 -- two runs: on `out` they write fronts of one text; and where both come to their end they have one exit, write one text,
 -- and report by one line
-abbrev pub RunAlike : Exit → Exit → Sent → Sent → Sent → Sent → Type 0
+abbrev pub RunAlike : Exit → Exit → Change → Change → Change → Change → Type 0
 RunAlike exit exit' out out' errors errors' =
     WriteFronts out out' × (IsWhole exit → IsWhole exit' → (exit ≡ exit') × WriteSame out out' × TellSame errors errors')
 
 abbrev pub EndsSecrecy : Type 0
 EndsSecrecy =
-    (bytes other : List ℕ) (s : ℕ) (moments : List ℕ) (exit exit' : Exit) (out out' errors errors' : Sent) → DifferInSecrets bytes other →
+    (bytes other : List ℕ) (s : ℕ) (moments : List ℕ) (exit exit' : Exit) (out out' errors errors' : Change) → DifferInSecrets bytes other →
     EndsRun bytes s moments exit out errors → EndsRun other s moments exit' out' errors' → RunAlike exit exit' out out' errors errors'
 
 abbrev pub PlanSecrecy : Type 0
 PlanSecrecy =
-    (bytes other : List ℕ) (s : ℕ) (exit exit' : Exit) (out out' errors errors' : Sent) → DifferInSecrets bytes other →
+    (bytes other : List ℕ) (s : ℕ) (exit exit' : Exit) (out out' errors errors' : Change) → DifferInSecrets bytes other →
     PlanRun bytes s exit out errors → PlanRun other s exit' out' errors' → RunAlike exit exit' out out' errors errors'
 
 abbrev pub MarginSecrecy : Type 0
 MarginSecrecy =
-    (bytes other : List ℕ) (q : MarginQuery) (exit exit' : Exit) (out out' errors errors' : Sent) → DifferInSecrets bytes other →
+    (bytes other : List ℕ) (q : MarginQuery) (exit exit' : Exit) (out out' errors errors' : Change) → DifferInSecrets bytes other →
     MarginRun bytes q exit out errors → MarginRun other q exit' out' errors' → RunAlike exit exit' out out' errors errors'
 
 abbrev pub ReachSecrecy : Type 0
 ReachSecrecy =
-    (bytes other : List ℕ) (s : ℕ) (dates : Bool) (exit exit' : Exit) (out out' errors errors' : Sent) → DifferInSecrets bytes other →
+    (bytes other : List ℕ) (s : ℕ) (dates : Bool) (exit exit' : Exit) (out out' errors errors' : Change) → DifferInSecrets bytes other →
     ReachRun bytes s dates exit out errors → ReachRun other s dates exit' out' errors' → RunAlike exit exit' out out' errors errors'
 
 abbrev pub CheckSecrecy : Type 0
 CheckSecrecy =
-    (bytes other text : List ℕ) (asked : Option ℕ) (exit exit' : Exit) (out out' errors errors' : Sent) → DifferInSecrets bytes other →
+    (bytes other text : List ℕ) (asked : Option ℕ) (exit exit' : Exit) (out out' errors errors' : Change) → DifferInSecrets bytes other →
     CheckRun bytes text asked exit out errors → CheckRun other text asked exit' out' errors' → RunAlike exit exit' out out' errors errors'
 
 abbrev pub RehearseSecrecy : Type 0
 RehearseSecrecy =
-    (bytes other : List ℕ) (start : ℕ) (words : List (List ℕ)) (exit exit' : Exit) (out out' errors errors' : Sent) → DifferInSecrets bytes other →
+    (bytes other : List ℕ) (start : ℕ) (words : List (List ℕ)) (exit exit' : Exit) (out out' errors errors' : Change) → DifferInSecrets bytes other →
     Rehearses bytes start words exit out errors → Rehearses other start words exit' out' errors' → RunAlike exit exit' out out' errors errors'

@@ -2,9 +2,9 @@ ghost use Rattle.keep_engine.specs.CheckRun.{CheckRun};
 
 use crate::check_text::check_text;
 use crate::deliver::deliver;
-use keep_device::Sink;
+use keep_device::{Sink, Watched};
 use keep_moment::Moment;
-use keep_report::{Exit, Watched};
+use keep_report::Exit;
 use std::alloc::Global;
 
 /// The command `check`: judges a certificate, whoever wrote it, by the inventory's forest, from the certificate's own start.
@@ -24,7 +24,7 @@ pub fn run_check<W: Sink, E: Sink>(
     out: &mut W,
     errors: &mut E,
 ) -> Exit
-    ensures { CheckRun inventory.now certificate.now asked result (⟦<W as Watched>⟧.sent out.old out.new) (⟦<E as Watched>⟧.sent errors.old errors.new) }
+    ensures { CheckRun inventory.now certificate.now asked result (⟦<W as Watched>⟧.change out.old out.new) (⟦<E as Watched>⟧.change errors.old errors.new) }
 {
     deliver(
         check_text(alloc, inventory, certificate, asked),

@@ -12,11 +12,11 @@ use crate::plan::run_plan;
 use crate::reach::run_reach;
 use crate::rehearse::rehearse;
 use keep_cert::MOST_CERTIFICATE;
-use keep_device::{InputFault, Sink};
+use keep_device::{InputFault, Sink, Watched};
 use keep_files::Inputs;
 use keep_inventory::MOST_INVENTORY;
 use keep_moment::{Moment, Text};
-use keep_report::{Exit, Stop, Watched};
+use keep_report::{Exit, Stop};
 use std::alloc::Global;
 
 /// What the command line asks, with the paths of the files that it names.
@@ -86,7 +86,7 @@ pub fn obey<I: Inputs, W: Sink, E: Sink>(
     out: &mut W,
     errors: &mut E,
 ) -> Exit
-    ensures { Obeys command.now (I.bytes_at inputs.old) result (⟦<W as Watched>⟧.sent out.old out.new) (⟦<E as Watched>⟧.sent errors.old errors.new) }
+    ensures { Obeys command.now (I.bytes_at inputs.old) result (⟦<W as Watched>⟧.change out.old out.new) (⟦<E as Watched>⟧.change errors.old errors.new) }
 {
     match inputs.read(alloc, command.inventory(), MOST_INVENTORY) {
         Ok(inventory) => obey_over(alloc, command, inventory.list(), inputs, out, errors),
@@ -103,7 +103,7 @@ fn obey_over<I: Inputs, W: Sink, E: Sink>(
     out: &mut W,
     errors: &mut E,
 ) -> Exit
-    ensures { ObeysOver command.now (I.bytes_at inputs.old) inventory.now result (⟦<W as Watched>⟧.sent out.old out.new) (⟦<E as Watched>⟧.sent errors.old errors.new) }
+    ensures { ObeysOver command.now (I.bytes_at inputs.old) inventory.now result (⟦<W as Watched>⟧.change out.old out.new) (⟦<E as Watched>⟧.change errors.old errors.new) }
 {
     match command {
         Command::Ends { start, moments, .. } => {
@@ -131,7 +131,7 @@ fn obey_over<I: Inputs, W: Sink, E: Sink>(
 /// Writes the line of a file that was not read, and gives the exit.
 pub(crate) fn tell_unread<E: Sink>(fault: InputFault, errors: &mut E) -> Exit
     ensures exit { result ≡ exit_of (stop_of_input fault) }
-    ensures told { Reports (line_of (stop_of_input fault)) (⟦<E as Watched>⟧.sent errors.old errors.new) }
+    ensures told { Reports (line_of (stop_of_input fault)) (⟦<E as Watched>⟧.change errors.old errors.new) }
 {
     let stop = Stop::from(fault);
     stop.report(PROGRAM, errors)

@@ -1,8 +1,8 @@
 ghost use Rattle.keep_engine.specs.code.Making.{Delivers};
 
 use crate::outcome::Outcome;
-use keep_device::Sink;
-use keep_report::{Exit, Stop, Watched, send};
+use keep_device::{Sink, Watched};
+use keep_report::{Exit, Stop, send};
 
 /// The program's name in front of its fault lines.
 pub const PROGRAM: &str = "leasekeep";
@@ -13,7 +13,7 @@ pub(crate) fn deliver<W: Sink, E: Sink>(
     out: &mut W,
     errors: &mut E,
 ) -> Exit
-    ensures { Delivers made result (⟦<W as Watched>⟧.sent out.old out.new) (⟦<E as Watched>⟧.sent errors.old errors.new) }
+    ensures { Delivers made result (⟦<W as Watched>⟧.change out.old out.new) (⟦<E as Watched>⟧.change errors.old errors.new) }
 {
     match made {
         Err(stop) => stop.report(PROGRAM, errors),

@@ -2,9 +2,9 @@ ghost use Rattle.keep_engine.specs.EndsRun.{EndsRun};
 
 use crate::deliver::deliver;
 use crate::ends_text::ends_text;
-use keep_device::Sink;
+use keep_device::{Sink, Watched};
 use keep_moment::Moment;
-use keep_report::{Exit, Watched};
+use keep_report::Exit;
 use std::alloc::Global;
 
 /// The command `ends`: asks every entry of the inventory at each of the moments, and writes the line `NAME END` for each
@@ -22,7 +22,7 @@ pub fn run_ends<W: Sink, E: Sink>(
     out: &mut W,
     errors: &mut E,
 ) -> Exit
-    ensures { EndsRun inventory.now start moments.now result (⟦<W as Watched>⟧.sent out.old out.new) (⟦<E as Watched>⟧.sent errors.old errors.new) }
+    ensures { EndsRun inventory.now start moments.now result (⟦<W as Watched>⟧.change out.old out.new) (⟦<E as Watched>⟧.change errors.old errors.new) }
 {
     deliver(ends_text(alloc, inventory, start, moments), out, errors)
 }

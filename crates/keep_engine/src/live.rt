@@ -1,13 +1,13 @@
 ghost use Rattle.keep_engine.specs.LiveFrom.{LiveFrom};
 
 use crate::command::tell_unread;
-use keep_device::{Sink, Source, Streams};
+use keep_device::{Sink, Source, Streams, Watched};
 use keep_exchange::Exchange;
 use keep_files::Inputs;
 use keep_inventory::MOST_INVENTORY;
 use keep_moment::Moment;
-use keep_report::{Exit, Watched};
-use keep_run::{Feeding, run_live};
+use keep_report::Exit;
+use keep_run::run_live;
 use std::alloc::Global;
 
 /// The command `run`: [`run_live`](keep_run::run_live) over the bytes of an inventory's file, from `start` on, with event lines
@@ -23,7 +23,7 @@ pub fn keep_alive<I: Inputs, R: Source, X: Exchange, W: Sink, E: Sink>(
     exchange: &mut X,
     streams: &mut Streams<R, W, E>,
 ) -> Exit
-    ensures { LiveFrom (I.bytes_at inputs.old file.now) (X.host_port exchange.old) start (X.behind exchange.old) result (⟦<R as Feeding>⟧.fed streams.old.lines streams.new.lines) (⟦<W as Watched>⟧.sent streams.old.out streams.new.out) (⟦<E as Watched>⟧.sent streams.old.errors streams.new.errors) (X.behind exchange.new) }
+    ensures { LiveFrom (I.bytes_at inputs.old file.now) (X.host_port exchange.old) start (X.behind exchange.old) result (⟦<R as Watched>⟧.change streams.old.lines streams.new.lines) (⟦<W as Watched>⟧.change streams.old.out streams.new.out) (⟦<E as Watched>⟧.change streams.old.errors streams.new.errors) (X.behind exchange.new) }
 {
     match inputs.read(alloc, file, MOST_INVENTORY) {
         Ok(inventory) => run_live(alloc, inventory.list(), start, exchange, streams),

@@ -2,9 +2,9 @@ ghost use Rattle.keep_engine.specs.MarginRun.{MarginRun};
 
 use crate::deliver::deliver;
 use crate::margin_text::margin_text;
-use keep_device::Sink;
+use keep_device::{Sink, Watched};
 use keep_moment::Moment;
-use keep_report::{Exit, Watched};
+use keep_report::Exit;
 use std::alloc::Global;
 
 /// What `margin` is asked.
@@ -44,7 +44,7 @@ pub fn run_margin<W: Sink, E: Sink>(
     out: &mut W,
     errors: &mut E,
 ) -> Exit
-    ensures { MarginRun inventory.now query.now result (⟦<W as Watched>⟧.sent out.old out.new) (⟦<E as Watched>⟧.sent errors.old errors.new) }
+    ensures { MarginRun inventory.now query.now result (⟦<W as Watched>⟧.change out.old out.new) (⟦<E as Watched>⟧.change errors.old errors.new) }
 {
     deliver(margin_text(alloc, inventory, query), out, errors)
 }

@@ -2,9 +2,9 @@ ghost use Rattle.keep_engine.specs.PlanRun.{PlanRun};
 
 use crate::deliver::deliver;
 use crate::plan_text::plan_text;
-use keep_device::Sink;
+use keep_device::{Sink, Watched};
 use keep_moment::Moment;
-use keep_report::{Exit, Watched};
+use keep_report::Exit;
 use std::alloc::Global;
 
 /// The command `plan`: writes the certificate of the inventory's decision from `start` on. Exit 0: the wake-ups are least
@@ -24,7 +24,7 @@ pub fn run_plan<W: Sink, E: Sink>(
     out: &mut W,
     errors: &mut E,
 ) -> Exit
-    ensures { PlanRun inventory.now start result (⟦<W as Watched>⟧.sent out.old out.new) (⟦<E as Watched>⟧.sent errors.old errors.new) }
+    ensures { PlanRun inventory.now start result (⟦<W as Watched>⟧.change out.old out.new) (⟦<E as Watched>⟧.change errors.old errors.new) }
 {
     deliver(plan_text(alloc, inventory, start), out, errors)
 }

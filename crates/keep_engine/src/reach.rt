@@ -2,9 +2,9 @@ ghost use Rattle.keep_engine.specs.ReachRun.{ReachRun};
 
 use crate::deliver::deliver;
 use crate::reach_text::reach_text;
-use keep_device::Sink;
+use keep_device::{Sink, Watched};
 use keep_moment::Moment;
-use keep_report::{Exit, Watched};
+use keep_report::Exit;
 use std::alloc::Global;
 
 /// The command `reach`: until when each entry can live. It writes for each entry, by index, the line `NAME UNTIL BY NEED`:
@@ -25,7 +25,7 @@ pub fn run_reach<W: Sink, E: Sink>(
     out: &mut W,
     errors: &mut E,
 ) -> Exit
-    ensures { ReachRun inventory.now start dates result (⟦<W as Watched>⟧.sent out.old out.new) (⟦<E as Watched>⟧.sent errors.old errors.new) }
+    ensures { ReachRun inventory.now start dates result (⟦<W as Watched>⟧.change out.old out.new) (⟦<E as Watched>⟧.change errors.old errors.new) }
 {
     deliver(reach_text(alloc, inventory, start, dates), out, errors)
 }

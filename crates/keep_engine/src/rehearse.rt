@@ -4,11 +4,11 @@ ghost use Rattle.keep_report.specs.declared.stop.Stop.TheVariants as stops;
 ghost use Rattle.keep_engine.specs.RehearseFrom.{Rehearses};
 
 use crate::deliver::PROGRAM;
-use keep_device::Sink;
+use keep_device::{Sink, Watched};
 use keep_exchange::MemoryExchange;
 use keep_inventory::read;
 use keep_moment::{Moment, Text};
-use keep_report::{Exit, Stop, Watched};
+use keep_report::{Exit, Stop};
 use keep_run::{Script, run_rehearse};
 use mini_broker::Table;
 use std::alloc::Global;
@@ -23,7 +23,7 @@ pub(crate) fn rehearse<W: Sink, E: Sink>(
     out: &mut W,
     errors: &mut E,
 ) -> Exit
-    ensures { Rehearses inventory.now start words.now result (⟦<W as Watched>⟧.sent out.old out.new) (⟦<E as Watched>⟧.sent errors.old errors.new) }
+    ensures { Rehearses inventory.now start words.now result (⟦<W as Watched>⟧.change out.old out.new) (⟦<E as Watched>⟧.change errors.old errors.new) }
 {
     let script = Script {
         start,

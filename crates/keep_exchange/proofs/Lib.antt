@@ -6,4 +6,3 @@ pub mod Sendable
 pub mod Looked
 pub mod Slices
 pub mod Counted
-pub mod ReadBehind

@@ -5,7 +5,7 @@ use Rattle.keep_exchange.specs.declared.fault.ExchangeFault.TheVariants.{OutOfMe
 use Rattle.keep_exchange.specs.Exchanges.{exchange_fault}
 use Rattle.vault_http.specs.declared.http_fault.HttpFault.{HttpFault}
 use Rattle.vault_http.specs.declared.http_fault.HttpFault.TheVariants as https
-use Rattle.keep_device.specs.Memory.{Supply, reads_needed, reads_of}
+use Rattle.keep_device.specs.Memory.{Supply, input_of, reads_needed, reads_of}
 use Rattle.vault_http.specs.Reading.{CountsMessage, Settles, SettlesReply, SettlesRequest}
 use Rattle.keep_device.specs.declared.limits.TheConstants.{MOST_READS}
 use Rattle.vault_http.specs.declared.reply.Reply.{Reply}
@@ -66,7 +66,7 @@ body_in_reply r = behind (length r.body) _ r.body (le_refl (length r.body))
 
 pub request_read :
     (source now : Supply) (r : Request) → ReadsBackRequest r → IsWritable r → r.port < 2 ^ 16 → length (request_text r) ≤ 1048576 → source.bytes ≡ request_text r → source.pieces ≡ [] →
-    (result : Result Request HttpFault) → CountsMessage result 0 0 → SettlesRequest 1048576 source.bytes (Some now.bytes) (reads_needed source) (reads_needed now) result →
+    (result : Result Request HttpFault) → CountsMessage result 0 0 → SettlesRequest 1048576 (input_of source) (input_of now) result →
     Reads (without_port r) result
 request_read source now r law writable port short is none result count said =
     let within = body_in_request r in
@@ -78,7 +78,7 @@ request_read source now r law writable port short is none result count said =
 
 pub reply_read :
     (source now : Supply) (r : Reply) → ReadsBackReply r → IsTrue (is_sent r.status) → length (reply_text r) ≤ 1048576 → source.bytes ≡ reply_text r → source.pieces ≡ [] →
-    (result : Result Reply HttpFault) → CountsMessage result 0 0 → SettlesReply 1048576 source.bytes (Some now.bytes) (reads_needed source) (reads_needed now) result →
+    (result : Result Reply HttpFault) → CountsMessage result 0 0 → SettlesReply 1048576 (input_of source) (input_of now) result →
     Reads r result
 reply_read source now r law sent short is none result count said =
     let within = body_in_reply r in

@@ -6,7 +6,8 @@ use Rattle.std.specs.Net.Socket.{socket_ip, socket_port}
 use Rattle.std.specs.declared.net.socket_addr.SocketAddr.{SocketAddr}
 use Rattle.keep_exchange.specs.declared.fault.ExchangeFault.{ExchangeFault}
 use Rattle.keep_device.specs.declared.place.Place.{Place}
-use Rattle.mini_broker.specs.Stream.{Ends, IsStreamed}
+use Rattle.keep_device.specs.Seen.{Change}
+use Rattle.mini_broker.specs.Stream.{IsStreamed}
 use Rattle.mini_broker.specs.Table.{Table}
 use Rattle.vault_http.specs.declared.reply.Reply.{Reply}
 
@@ -69,4 +70,4 @@ IsHere port address = (socket_port address ≡ port) × MatchIp (socket_ip addre
 
 -- one message that some client has sent was handled at t
 abbrev pub IsServedOnce : Table → ℕ → Table → Type 0
-IsServedOnce old t new = (ends : Ends) × IsStreamed ends old t new
+IsServedOnce old t new = (stream : Change) × IsStreamed stream old t new

@@ -59,8 +59,8 @@ pub trait Abreast: Device {
             (λ answers. IsSliceServed old t requests.now answers.items (Self.table self.new))
             (λ _. IsCutShort old t requests.now (Self.table self.new))) }
         ensures count { MatchResult result
-            (λ answers. Self.failed_calls self.new ≡ after_answers answers.items (Self.failed_calls self.old))
-            (λ _. Self.failed_calls self.new ≡ Self.failed_calls self.old) }
+            (λ answers. (Self.seen self.new).failed_calls ≡ after_answers answers.items (Self.seen self.old).failed_calls)
+            (λ _. (Self.seen self.new).failed_calls ≡ (Self.seen self.old).failed_calls) }
         ensures port { Self.host_port self.new ≡ Self.host_port self.old };
 }
 

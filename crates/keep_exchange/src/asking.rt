@@ -28,7 +28,7 @@ pub fn ask<E: Exchange>(
     requires within { i < length forest.now.entries }
     requires credentials { length credentials.now ≡ length forest.now.entries }
     ensures asked { IfSome (E.behind exchange.old) (λ old. Asks old t (request_of (E.host_port exchange.old) credentials.now forest.now i) result (E.behind exchange.new)) }
-    ensures unanswered { result ≢ Ok None → E.failed_calls exchange.new ≡ E.failed_calls exchange.old }
+    ensures unanswered { result ≢ Ok None → (E.seen exchange.new).failed_calls ≡ (E.seen exchange.old).failed_calls }
     ensures longest { E.longest exchange.new ≡ E.longest exchange.old }
     ensures limit { PacesAsked result (E.longest exchange.old) (E.limit exchange.old) (E.limit exchange.new) }
     ensures port { E.host_port exchange.new ≡ E.host_port exchange.old }

@@ -35,7 +35,7 @@ pub trait Exchange: Device {
     /// A new event line begins: each connect, read and write may take as long as at first again.
     fn begin_line(&mut self)
         ensures behind { Self.behind self.new ≡ Self.behind self.old }
-        ensures count { Self.failed_calls self.new ≡ Self.failed_calls self.old }
+        ensures count { (Self.seen self.new).failed_calls ≡ (Self.seen self.old).failed_calls }
         ensures longest { Self.longest self.new ≡ Self.longest self.old }
         ensures limit { Self.limit self.new ≡ Self.longest self.old }
         ensures port { Self.host_port self.new ≡ Self.host_port self.old };
@@ -58,7 +58,7 @@ pub trait Exchange: Device {
         requires writable { IsWritable request.now }
         requires short { length (request_text request.now) ≤ MOST_MESSAGE }
         ensures exchanged { IfSome (Self.behind self.old) (λ old. Exchanges old.table t request.now result (Self.behind self.new)) }
-        ensures count { CountsExchange result (Self.failed_calls self.old) (Self.failed_calls self.new) }
+        ensures count { CountsExchange result (Self.seen self.old).failed_calls (Self.seen self.new).failed_calls }
         ensures longest { Self.longest self.new ≡ Self.longest self.old }
         ensures limit { Paces result (Self.longest self.old) (Self.limit self.old) (Self.limit self.new) }
         ensures port { Self.host_port self.new ≡ Self.host_port self.old };

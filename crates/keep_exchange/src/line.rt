@@ -1,7 +1,7 @@
 //! One request and its reply over one line, whatever the line is.
-ghost use Rattle.std.specs.Prelude.{◌≡◌, IfOk, IfSome, IsTrue, OnErr, OnOk};
+ghost use Rattle.std.specs.Prelude.{◌≡◌, IfOk, IsTrue, OnErr, OnOk};
 ghost use Rattle.std.specs.Result.{IfErr};
-ghost use Rattle.std.specs.Io.KnownBytes.{Appends, Keeps};
+ghost use Rattle.std.specs.Io.KnownBytes.{Appends};
 ghost use Rattle.keep_device.specs.Front.{AppendsFront};
 ghost use Rattle.keep_exchange.specs.declared.fault.ExchangeFault.TheVariants.{WriteFailed};
 ghost use Rattle.keep_exchange.specs.Exchanges.{CountsExchange};
@@ -12,7 +12,7 @@ ghost use Rattle.vault_http.specs.Written.{request_text};
 use crate::fault::ExchangeFault;
 use std::alloc::{AllocError, Global};
 use vault_http::{
-    DatedReply, HttpFault, MOST_MESSAGE, Reply, Request, Room, SendFault, Sink, Source,
+    DatedReply, HttpFault, MOST_MESSAGE, Reply, Request, Room, SendFault, Sink, Source, Watched,
     write_request,
 };
 
@@ -24,8 +24,8 @@ pub(crate) fn carry<S: Source + Sink>(
     request: &Request,
 ) -> Result<Reply, ExchangeFault>
     requires { IsWritable request.now }
-    ensures carried { Carries request.now (record { remaining = S.remaining line.old; rest = S.remaining line.new; reads_left = S.reads_left line.old; old = S.written line.old; new = S.written line.new; flushed = S.is_flushed line.new }) result }
-    ensures count { CountsExchange result (S.failed_calls line.old) (S.failed_calls line.new) }
+    ensures carried { Carries request.now (⟦<S as Watched>⟧.change line.old line.new) result }
+    ensures count { CountsExchange result (S.seen line.old).failed_calls (S.seen line.new).failed_calls }
 {
     write_request(alloc, line, request)?;
     match room.read_reply(alloc, line, MOST_MESSAGE) {
@@ -43,12 +43,12 @@ pub(crate) fn send<S: Sink>(
     request: &Request,
 ) -> Result<Result<(), ExchangeFault>, AllocError>
     requires { IsWritable request.now }
-    ensures written { IfOk result (λ sent. OnOk sent (Appends (S.written line.old) (S.written line.new) (request_text request.now))) }
-    ensures front { IfOk result (λ sent. OnErr sent (AppendsFront (S.written line.old) (S.written line.new) (request_text request.now))) }
-    ensures flushed { IfOk result (λ sent. OnOk sent (IsTrue (S.is_flushed line.new))) }
+    ensures written { IfOk result (λ sent. OnOk sent (Appends (S.seen line.old).output.written (S.seen line.new).output.written (request_text request.now))) }
+    ensures front { IfOk result (λ sent. OnErr sent (AppendsFront (S.seen line.old).output.written (S.seen line.new).output.written (request_text request.now))) }
+    ensures flushed { IfOk result (λ sent. OnOk sent (IsTrue (S.seen line.new).output.is_flushed)) }
     ensures fault { IfOk result (λ sent. IfErr sent (λ fault. fault ≡ WriteFailed)) }
-    ensures count { IfOk result (λ sent. CountsExchange sent (S.failed_calls line.old) (S.failed_calls line.new)) }
-    ensures remaining { Keeps (S.remaining line.old) (S.remaining line.new) }
+    ensures count { IfOk result (λ sent. CountsExchange sent (S.seen line.old).failed_calls (S.seen line.new).failed_calls) }
+    ensures input { (S.seen line.new).input ≡ (S.seen line.old).input }
 {
     match write_request(alloc, line, request) {
         Ok(()) => Ok(Ok(())),
@@ -63,9 +63,9 @@ pub(crate) fn hear<S: Source>(
     line: &mut S,
     room: &mut Room,
 ) -> Result<Result<DatedReply, ExchangeFault>, AllocError>
-    ensures heard { IfOk result (λ answer. IfSome (S.remaining line.old) (λ bytes. Hears bytes (S.remaining line.new) (S.reads_left line.old) (S.reads_left line.new) answer)) }
-    ensures written { Keeps (S.written line.old) (S.written line.new) }
-    ensures count { IfOk result (λ answer. CountsExchange answer (S.failed_calls line.old) (S.failed_calls line.new)) }
+    ensures heard { IfOk result (λ answer. Hears (S.seen line.old).input (S.seen line.new).input answer) }
+    ensures output { (S.seen line.new).output ≡ (S.seen line.old).output }
+    ensures count { IfOk result (λ answer. CountsExchange answer (S.seen line.old).failed_calls (S.seen line.new).failed_calls) }
 {
     match room.read_dated_reply(alloc, line, MOST_MESSAGE) {
         Ok(dated) => Ok(Ok(dated)),

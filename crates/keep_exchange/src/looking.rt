@@ -37,11 +37,11 @@ pub fn look_up<E: Exchange>(
     requires { i < length inventory.old.forest.entries }
     ensures looked { LooksUp (E.host_port exchange.old) (E.behind exchange.old) t inventory.old i result inventory.new (E.behind exchange.new) }
     ensures unapplied { result ≢ Ok true → inventory.new ≡ inventory.old }
-    ensures unanswered { result ≢ Ok false → E.failed_calls exchange.new ≡ E.failed_calls exchange.old }
+    ensures unanswered { result ≢ Ok false → (E.seen exchange.new).failed_calls ≡ (E.seen exchange.old).failed_calls }
     ensures count { length inventory.new.forest.entries ≡ length inventory.old.forest.entries }
     ensures longest { E.longest exchange.new ≡ E.longest exchange.old }
     ensures limit { PacesLooked result (E.longest exchange.old) (E.limit exchange.old) (E.limit exchange.new) }
-    ensures failed { E.failed_calls exchange.new ≢ E.failed_calls exchange.old → Slows (E.longest exchange.old) (E.limit exchange.old) (E.limit exchange.new) }
+    ensures failed { (E.seen exchange.new).failed_calls ≢ (E.seen exchange.old).failed_calls → Slows (E.longest exchange.old) (E.limit exchange.old) (E.limit exchange.new) }
     ensures port { E.host_port exchange.new ≡ E.host_port exchange.old }
 {
     let port = exchange.port();

@@ -1,4 +1,5 @@
 ghost use Rattle.std.specs.Prelude.{◌≡◌, [], Some};
+ghost use Rattle.keep_device.specs.Seen.{outside};
 
 use crate::exchange::Exchange;
 use crate::fault::ExchangeFault;
@@ -76,7 +77,7 @@ impl MemoryExchange {
 }
 
 impl Device for MemoryExchange {
-    ghost failed_calls = { λ _. 0 };
+    ghost seen = { λ _. outside 0 };
 
     fn failures(&self) -> u64 {
         0

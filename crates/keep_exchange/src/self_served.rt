@@ -1,5 +1,6 @@
 ghost use Rattle.std.specs.Prelude.{◌≡◌, ◌⊎◌, None, IfOk, OnOk};
 ghost use Rattle.std.specs.Result.{IfErr};
+ghost use Rattle.keep_device.specs.Seen.{outside};
 ghost use Rattle.keep_exchange.specs.Sockets.{IsServedOnce};
 ghost use Rattle.keep_exchange.specs.declared.fault.ExchangeFault.TheVariants as faults;
 ghost use Rattle.vault_http.specs.RoundTripRequest.{IsWritable};
@@ -99,7 +100,7 @@ impl<'a, R: Net> SelfServed<'a, R> {
 }
 
 impl<'a, R: Net> Device for SelfServed<'a, R> {
-    ghost failed_calls = { λ e. e.failures };
+    ghost seen = { λ e. outside e.failures };
 
     fn failures(&self) -> u64 {
         self.failures

@@ -1,5 +1,6 @@
 //! Exchanges abreast over sockets: all lines are opened, all requests written, all replies read in turn.
 ghost use Rattle.std.specs.Prelude.{◌≡◌, ◌+◌, ◌-◌, ◌*◌, All, IfOk, None, length, vec_len};
+ghost use Rattle.keep_device.specs.Seen.{outside};
 ghost use Rattle.keep_exchange.specs.Abreast.{after_answers, port_of};
 ghost use Rattle.keep_exchange.specs.Waits.{longest_first};
 ghost use Rattle.vault_http.specs.RoundTripRequest.{IsWritable};
@@ -140,7 +141,7 @@ fn hear_over(
 }
 
 impl<'a, R: Net> Device for SocketSlices<'a, R> {
-    ghost failed_calls = { λ e. e.failures };
+    ghost seen = { λ e. outside e.failures };
 
     fn failures(&self) -> u64 {
         self.failures

@@ -1,6 +1,7 @@
 //! Devices in memory no call of which fails.
-ghost use Rattle.std.specs.Prelude.{◌≡◌, [], None, Some, true, IfOk};
-ghost use Rattle.keep_device.specs.Memory.{reads_needed};
+ghost use Rattle.std.specs.Prelude.{◌≡◌, [], None, true, IfOk};
+ghost use Rattle.keep_device.specs.Memory.{input_of, output_of};
+ghost use Rattle.keep_device.specs.Seen.{no_input, no_output};
 
 use std::alloc::{AllocError, Global};
 use std::marker::Model;
@@ -42,11 +43,7 @@ impl SureSink {
 }
 
 impl Device for SureSink {
-    ghost failed_calls = { λ _. 0 };
-
-    ghost written = { λ s. Some s.bytes };
-
-    ghost is_flushed = { λ s. s.flushed };
+    ghost seen = { λ s. record { input = no_input; output = output_of s; failed_calls = 0 } };
 
     ghost is_in_memory = { true };
 
@@ -95,13 +92,7 @@ impl SureSource {
 }
 
 impl Device for SureSource {
-    ghost failed_calls = { λ _. 0 };
-
-    ghost remaining = { λ s. Some s.bytes };
-
-    ghost reads_left = { reads_needed };
-
-    ghost reads_made = { λ s. s.reads };
+    ghost seen = { λ s. record { input = input_of s; output = no_output; failed_calls = 0 } };
 
     fn failures(&self) -> u64 {
         0

@@ -1,6 +1,7 @@
 ghost use Rattle.std.specs.Prelude.{◌≡◌, ◌*◌, ◌⊎◌, None, OnOk, false, true};
 ghost use Rattle.std.specs.Result.{IfErr};
 ghost use Rattle.std.specs.Duration.{as_nanos};
+ghost use Rattle.keep_device.specs.Seen.{outside};
 ghost use Rattle.keep_exchange.specs.Abreast.{port_of};
 ghost use Rattle.keep_exchange.specs.Sockets.{limit_of};
 ghost use Rattle.keep_exchange.specs.declared.fault.ExchangeFault.TheVariants as faults;
@@ -79,7 +80,7 @@ impl<'a, R: Net> TcpExchange<'a, R> {
 }
 
 impl<'a, R: Net> Device for TcpExchange<'a, R> {
-    ghost failed_calls = { λ e. e.failures };
+    ghost seen = { λ e. outside e.failures };
 
     fn failures(&self) -> u64 {
         self.failures

@@ -8,6 +8,7 @@ use Rattle.std.specs.Io.KnownBytes.{Appends}
 use Rattle.std.specs.Result.{IsErr, IsErrAnd}
 use Rattle.keep_device.specs.Failures.{one_more}
 use Rattle.keep_device.specs.Front.{AppendsFront}
+use Rattle.keep_device.specs.Seen.{Change, Seen, change}
 use Rattle.keep_device.specs.declared.fault.SinkFault.{SinkFault}
 use Rattle.keep_device.specs.declared.fault.SinkFault.TheVariants as sink
 use Rattle.keep_report.specs.Sent.{Puts}
@@ -31,24 +32,17 @@ handed_on (Ok u) fault is = absurd is.1
 handed_on (Err e) fault is = ap Err is.1
 
 -- what went wrong in the first of two pieces is what went wrong in both
-pub piece_cut : (r : Result (Unit {0}) SinkFault) (fault : SinkFault) (a b : List ℕ) (old new : Option (List ℕ)) (before after : ℕ) (in_memory : Bool) →
-    r ≡ Err fault → Puts (Err fault) a old new before after in_memory → Puts r (a ++ b) old new before after in_memory
-piece_cut r sink.Failed a b old new before after in_memory is (front, count) =
-    subst (λ q. Puts q (a ++ b) old new before after in_memory) (sym is) (front_cut old new a b front, count)
-piece_cut r sink.OutOfMemory a b old new before after in_memory is (front, count, memory) =
-    subst (λ q. Puts q (a ++ b) old new before after in_memory) (sym is) (front_cut old new a b front, count, memory)
+pub piece_cut : (r : Result (Unit {0}) SinkFault) (fault : SinkFault) (a b : List ℕ) (out : Change) → r ≡ Err fault → Puts (Err fault) a out → Puts r (a ++ b) out
+piece_cut r sink.Failed a b out is (front, count) = subst (λ q. Puts q (a ++ b) out) (sym is) (front_cut _ _ a b front, count)
+piece_cut r sink.OutOfMemory a b out is (front, count, memory) = subst (λ q. Puts q (a ++ b) out) (sym is) (front_cut _ _ a b front, count, memory)
 
 -- the first piece went out, and then the second, or a front of it
-pub piece_more : (r : Result (Unit {0}) SinkFault) (u : Unit {0}) (a b : List ℕ) (old mid new : Option (List ℕ)) (before between after : ℕ) (in_memory : Bool) →
-    Puts (Ok u) a old mid before between in_memory → Puts r b mid new between after in_memory → Puts r (a ++ b) old new before after in_memory
-piece_more (Ok v) u a b old mid new before between after in_memory (first, still) (second, count) =
-    (Appends-trans old mid new a b first second, count ∙ still)
-piece_more (Err sink.Failed) u a b old mid new before between after in_memory (first, still) (second, count) =
-    (front_more old mid new a b first second, count ∙ ap one_more still)
-piece_more (Err sink.OutOfMemory) u a b old mid new before between after in_memory (first, still) (second, count, memory) =
-    (front_more old mid new a b first second, count ∙ still, memory)
+pub piece_more : (r : Result (Unit {0}) SinkFault) (u : Unit {0}) (a b : List ℕ) (old mid new : Seen) (in_memory : Bool) →
+    Puts (Ok u) a (change in_memory old mid) → Puts r b (change in_memory mid new) → Puts r (a ++ b) (change in_memory old new)
+piece_more (Ok v) u a b old mid new in_memory (first, still) (second, count) = (Appends-trans _ _ _ a b first second, count ∙ still)
+piece_more (Err sink.Failed) u a b old mid new in_memory (first, still) (second, count) = (front_more _ _ _ a b first second, count ∙ ap one_more still)
+piece_more (Err sink.OutOfMemory) u a b old mid new in_memory (first, still) (second, count, memory) = (front_more _ _ _ a b first second, count ∙ still, memory)
 
 -- a piece under another name
-pub piece_named : (r : Result (Unit {0}) SinkFault) (a b : List ℕ) (old new : Option (List ℕ)) (before after : ℕ) (in_memory : Bool) →
-    Puts r a old new before after in_memory → b ≡ a → Puts r b old new before after in_memory
-piece_named r a b old new before after in_memory h is = subst (λ c. Puts r c old new before after in_memory) (sym is) h
+pub piece_named : (r : Result (Unit {0}) SinkFault) (a b : List ℕ) (out : Change) → Puts r a out → b ≡ a → Puts r b out
+piece_named r a b out h is = subst (λ c. Puts r c out) (sym is) h

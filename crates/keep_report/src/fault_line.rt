@@ -5,7 +5,7 @@ ghost use Rattle.keep_report.specs.Sent.{Puts};
 use crate::putting::put;
 use crate::stop::Stop;
 use itoa::Buffer;
-use keep_device::{Sink, SinkFault};
+use keep_device::{Sink, SinkFault, Watched};
 use keep_inventory::InvFault;
 use keep_rule::WakeFault;
 use keep_tree::TreeFault;
@@ -13,7 +13,7 @@ use keep_tree::TreeFault;
 /// Writes the fault line of a program that stopped, with its line feed, piece by piece, so that it wants no memory.
 #[tactic(auto, using(crate::proofs::Pieces::piece_cut, crate::proofs::Pieces::piece_more), unfolding(crate::specs::FaultLine::fault_line))]
 pub(crate) fn put_line<E: Sink>(errors: &mut E, program: &str, stop: &Stop) -> Result<(), SinkFault>
-    ensures { Puts result (fault_line program.now stop.now) (E.written errors.old) (E.written errors.new) (E.failed_calls errors.old) (E.failed_calls errors.new) E.is_in_memory }
+    ensures { Puts result (fault_line program.now stop.now) (⟦<E as Watched>⟧.change errors.old errors.new) }
 {
     put(errors, program.as_bytes())?;
     put(errors, b": ")?;
@@ -24,7 +24,7 @@ pub(crate) fn put_line<E: Sink>(errors: &mut E, program: &str, stop: &Stop) -> R
 /// Writes what is said of a stop.
 #[tactic(auto, using(crate::proofs::Pieces::piece_named), unfolding(crate::specs::FaultLine::stop_words))]
 fn put_stop<E: Sink>(errors: &mut E, stop: &Stop) -> Result<(), SinkFault>
-    ensures { Puts result (stop_words stop.now) (E.written errors.old) (E.written errors.new) (E.failed_calls errors.old) (E.failed_calls errors.new) E.is_in_memory }
+    ensures { Puts result (stop_words stop.now) (⟦<E as Watched>⟧.change errors.old errors.new) }
 {
     match stop {
         Stop::Inventory(fault) => put_inventory(errors, *fault),
@@ -42,7 +42,7 @@ fn put_stop<E: Sink>(errors: &mut E, stop: &Stop) -> Result<(), SinkFault>
 /// Writes the fault of a text that is no inventory: the entry by its index, `-` for the top level.
 #[tactic(auto, using(crate::proofs::Pieces::piece_named), unfolding(crate::specs::FaultLine::inventory_words))]
 fn put_inventory<E: Sink>(errors: &mut E, fault: InvFault) -> Result<(), SinkFault>
-    ensures { Puts result (inventory_words fault) (E.written errors.old) (E.written errors.new) (E.failed_calls errors.old) (E.failed_calls errors.new) E.is_in_memory }
+    ensures { Puts result (inventory_words fault) (⟦<E as Watched>⟧.change errors.old errors.new) }
 {
     match fault {
         InvFault::NotToml => put(errors, b"inventory: not-toml"),
@@ -64,7 +64,7 @@ fn put_inventory<E: Sink>(errors: &mut E, fault: InvFault) -> Result<(), SinkFau
 /// Writes the first of the moments at fault, counted from 1.
 #[tactic(auto, using(crate::proofs::Pieces::piece_named), unfolding(crate::specs::FaultLine::moments_words))]
 fn put_moments<E: Sink>(errors: &mut E, fault: WakeFault) -> Result<(), SinkFault>
-    ensures { Puts result (moments_words fault) (E.written errors.old) (E.written errors.new) (E.failed_calls errors.old) (E.failed_calls errors.new) E.is_in_memory }
+    ensures { Puts result (moments_words fault) (⟦<E as Watched>⟧.change errors.old errors.new) }
 {
     match fault {
         WakeFault::BeforeStart(n) => put_number(errors, b"moments: before-start ", n),
@@ -94,7 +94,7 @@ fn tree_word(fault: TreeFault) -> &'static str
 
 /// Writes words and a number.
 fn put_number<E: Sink>(errors: &mut E, words: &[u8], number: u64) -> Result<(), SinkFault>
-    ensures { Puts result (words.now ++ decimal number) (E.written errors.old) (E.written errors.new) (E.failed_calls errors.old) (E.failed_calls errors.new) E.is_in_memory }
+    ensures { Puts result (words.now ++ decimal number) (⟦<E as Watched>⟧.change errors.old errors.new) }
 {
     let mut digits = Buffer::new();
     put_both(errors, words, digits.format(number).as_bytes())
@@ -108,7 +108,7 @@ fn put_word<E: Sink>(
     place: Option<u32>,
     word: &str,
 ) -> Result<(), SinkFault>
-    ensures { Puts result (words.now ++ (place_word place ++ (32 ∷ word.now))) (E.written errors.old) (E.written errors.new) (E.failed_calls errors.old) (E.failed_calls errors.new) E.is_in_memory }
+    ensures { Puts result (words.now ++ (place_word place ++ (32 ∷ word.now))) (⟦<E as Watched>⟧.change errors.old errors.new) }
 {
     put(errors, words)?;
     put_place(errors, place)?;
@@ -118,7 +118,7 @@ fn put_word<E: Sink>(
 /// Writes words and an entry's index.
 #[tactic(auto, using(crate::proofs::Pieces::piece_cut, crate::proofs::Pieces::piece_more))]
 fn put_where<E: Sink>(errors: &mut E, words: &[u8], place: Option<u32>) -> Result<(), SinkFault>
-    ensures { Puts result (words.now ++ place_word place) (E.written errors.old) (E.written errors.new) (E.failed_calls errors.old) (E.failed_calls errors.new) E.is_in_memory }
+    ensures { Puts result (words.now ++ place_word place) (⟦<E as Watched>⟧.change errors.old errors.new) }
 {
     put(errors, words)?;
     put_place(errors, place)
@@ -127,7 +127,7 @@ fn put_where<E: Sink>(errors: &mut E, words: &[u8], place: Option<u32>) -> Resul
 /// Writes an entry's index, `-` for the top level.
 #[tactic(auto, unfolding(crate::specs::FaultLine::place_word))]
 fn put_place<E: Sink>(errors: &mut E, place: Option<u32>) -> Result<(), SinkFault>
-    ensures { Puts result (place_word place) (E.written errors.old) (E.written errors.new) (E.failed_calls errors.old) (E.failed_calls errors.new) E.is_in_memory }
+    ensures { Puts result (place_word place) (⟦<E as Watched>⟧.change errors.old errors.new) }
 {
     match place {
         None => put(errors, b"-"),
@@ -141,7 +141,7 @@ fn put_place<E: Sink>(errors: &mut E, place: Option<u32>) -> Result<(), SinkFaul
 /// Writes two pieces, one after the other.
 #[tactic(auto, using(crate::proofs::Pieces::piece_cut, crate::proofs::Pieces::piece_more))]
 fn put_both<E: Sink>(errors: &mut E, first: &[u8], second: &[u8]) -> Result<(), SinkFault>
-    ensures { Puts result (first.now ++ second.now) (E.written errors.old) (E.written errors.new) (E.failed_calls errors.old) (E.failed_calls errors.new) E.is_in_memory }
+    ensures { Puts result (first.now ++ second.now) (⟦<E as Watched>⟧.change errors.old errors.new) }
 {
     put(errors, first)?;
     put(errors, second)

@@ -10,12 +10,10 @@ mod exit;
 mod fault_line;
 mod putting;
 mod sending;
-mod sent;
 mod stop;
 mod telling;
 
 pub use exit::Exit;
 pub use sending::send;
-pub use sent::Watched;
 pub use stop::Stop;
 pub use telling::tell;

@@ -6,8 +6,7 @@ ghost use Rattle.keep_report.specs.declared.stop.Stop.TheVariants.{Memory};
 
 use crate::exit::Exit;
 use crate::fault_line::put_line;
-use crate::sent::Watched;
-use keep_device::{InputFault, Sink, SinkFault};
+use keep_device::{InputFault, Sink, SinkFault, Watched};
 use keep_inventory::InvFault;
 use keep_moment::Name;
 use keep_rule::WakeFault;
@@ -114,7 +113,7 @@ impl Stop {
     /// as it is. It takes no memory: a run that was refused some tells of it all the same.
     pub fn report<F: Sink>(&self, program: &str, errors: &mut F) -> Exit
         ensures exit { result ≡ exit_of self.now }
-        ensures told { Reports (fault_line program.now self.now) (⟦<F as Watched>⟧.sent errors.old errors.new) }
+        ensures told { Reports (fault_line program.now self.now) (⟦<F as Watched>⟧.change errors.old errors.new) }
     {
         let _ = put_line(errors, program, self);
         let _ = errors.flush();

@@ -1,12 +1,11 @@
 ghost use Rattle.keep_report.specs.Told.{Reports};
 
 use crate::putting::put;
-use crate::sent::Watched;
-use keep_device::Sink;
+use keep_device::{Sink, Watched};
 
 /// Writes a line for faults and flushes. A write that fails is passed over: there is nowhere left to tell of it.
 pub fn tell<E: Sink>(errors: &mut E, line: &[u8])
-    ensures { Reports line.now (⟦<E as Watched>⟧.sent errors.old errors.new) }
+    ensures { Reports line.now (⟦<E as Watched>⟧.change errors.old errors.new) }
 {
     let _ = put(errors, line);
     let _ = errors.flush();

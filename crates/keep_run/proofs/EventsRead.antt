@@ -7,16 +7,16 @@ use Rattle.std.proofs.Math.Seq.{take-append-add}
 use Rattle.std.proofs.lemmas.Bool.Decides.{nat_tests}
 use Rattle.std.specs.Result.{IfErr}
 use Rattle.std.specs.Io.KnownBytes.{Appends, Consumes, IsAtEnd, Keeps}
+use Rattle.keep_device.specs.Seen.{Change, Input, Seen, change}
 use Rattle.keep_words.specs.Pieces.{pieces}
 use Rattle.keep_device.specs.Failures.{one_more}
 use Rattle.keep_device.specs.Whole.{MakesAtMost}
 use Rattle.keep_report.specs.declared.stop.Stop.{Stop}
 use Rattle.keep_report.specs.declared.stop.Stop.TheVariants as stops
-use Rattle.keep_report.specs.Sent.{Sent}
 use Rattle.keep_run.specs.declared.live.event_line.TheConstants.{MOST_LINE}
 use Rattle.keep_run.specs.declared.live.listening.TheConstants.{EVENT_ROOM, MOST_EVENTS, MOST_EVENT_READS}
 use Rattle.keep_run.specs.code.LineByLine.{HaltsWithin, HearsUpTo, IsListening, IsSent}
-use Rattle.keep_run.specs.Listening.{Fed, Halts, HaveEnded, IsHeardFirst, IsPrompt, Listens, ListensTo, MakesAtLeast}
+use Rattle.keep_run.specs.Listening.{Halts, HaveEnded, IsHeardFirst, IsPrompt, Listens, ListensTo, MakesAtLeast}
 use Rattle.keep_run.specs.Closed.{World}
 use Rattle.keep_run.proofs.Cut.{pieces_more}
 use Rattle.keep_run.proofs.LineByLine.{halts_behind, halts_where, joined, up_to_first, up_to_then}
@@ -32,43 +32,53 @@ at_most_one : (b : Bool) (n before k : ℕ) → n ≤ before + k → cond b (n +
 at_most_one true n before k h = omega (arith, h)
 at_most_one false n before k h = omega (arith, h)
 
-more_most :
-    (old now : Option (List ℕ)) (read : List ℕ) (k before r after : ℕ) → Consumes old now read → MakesAtMost k old before r → IfSome now (λ _. after ≡ one_more r) → MakesAtMost (k + 1) old before after
-more_most None now read k before r after c h e = tt
-more_most (Some xs) None read k before r after c h e = absurd c
-more_most (Some xs) (Some ys) read k before r after c h e = subst (λ n. n ≤ before + (k + 1)) (sym e) (at_most_one (nat_lt r (2 ^ 64 - 1)) r before k h)
+more_most : (old mid new : Input) (read : List ℕ) (k : ℕ) → Consumes old.remaining mid.remaining read → MakesAtMost k old mid → IfSome mid.remaining (λ _. new.reads_made ≡ one_more mid.reads_made) → MakesAtMost (k + 1) old new
+more_most old mid new read k = by_known old.remaining mid.remaining where
+  by_known : (o m : Option (List ℕ)) → Consumes o m read → IfSome o (λ _. mid.reads_made ≤ old.reads_made + k) → IfSome m (λ _. new.reads_made ≡ one_more mid.reads_made) → IfSome o (λ _. new.reads_made ≤ old.reads_made + (k + 1))
+  by_known None m c h e = tt
+  by_known (Some xs) None c h e = absurd c
+  by_known (Some xs) (Some ys) c h e = subst (λ n. n ≤ old.reads_made + (k + 1)) (sym e) (at_most_one (nat_lt mid.reads_made (2 ^ 64 - 1)) mid.reads_made old.reads_made k h)
 
-more_least :
-    (old now : Option (List ℕ)) (read : List ℕ) (k before r after : ℕ) → Consumes old now read → MakesAtLeast k old before r → IfSome now (λ _. after ≡ one_more r) → MakesAtLeast (k + 1) old before after
-more_least None now read k before r after c h e = tt
-more_least (Some xs) None read k before r after c h e = absurd c
-more_least (Some xs) (Some ys) read k before r after c h e = subst (λ n. (before + (k + 1) ≤ n) ⊎ (2 ^ 64 - 1 ≤ n)) (sym e) (one_read (nat_lt r (2 ^ 64 - 1)) r before k refl h)
+more_least : (old mid new : Input) (read : List ℕ) (k : ℕ) → Consumes old.remaining mid.remaining read → MakesAtLeast k old mid → IfSome mid.remaining (λ _. new.reads_made ≡ one_more mid.reads_made) → MakesAtLeast (k + 1) old new
+more_least old mid new read k = by_known old.remaining mid.remaining where
+  by_known : (o m : Option (List ℕ)) → Consumes o m read → IfSome o (λ _. (old.reads_made + k ≤ mid.reads_made) ⊎ (2 ^ 64 - 1 ≤ mid.reads_made)) → IfSome m (λ _. new.reads_made ≡ one_more mid.reads_made) →
+      IfSome o (λ _. (old.reads_made + (k + 1) ≤ new.reads_made) ⊎ (2 ^ 64 - 1 ≤ new.reads_made))
+  by_known None m c h e = tt
+  by_known (Some xs) None c h e = absurd c
+  by_known (Some xs) (Some ys) c h e =
+      subst (λ n. (old.reads_made + (k + 1) ≤ n) ⊎ (2 ^ 64 - 1 ≤ n)) (sym e) (one_read (nat_lt mid.reads_made (2 ^ 64 - 1)) mid.reads_made old.reads_made k refl h)
 
-most_within : (known : Option (List ℕ)) (k m before now : ℕ) → k ≤ m → MakesAtMost k known before now → MakesAtMost m known before now
-most_within None k m before now l h = tt
-most_within (Some xs) k m before now l h = omega (arith, l, h)
+most_within : (old new : Input) (k m : ℕ) → k ≤ m → MakesAtMost k old new → MakesAtMost m old new
+most_within old new k m l = by_known old.remaining where
+  by_known : (o : Option (List ℕ)) → IfSome o (λ _. new.reads_made ≤ old.reads_made + k) → IfSome o (λ _. new.reads_made ≤ old.reads_made + m)
+  by_known None h = tt
+  by_known (Some xs) h = omega (arith, l, h)
 
 -- ---- under way
 
-none_most : (known : Option (List ℕ)) (before now : ℕ) → now ≡ before → MakesAtMost 0 known before now
-none_most None before now e = tt
-none_most (Some xs) before now e = omega (arith, e)
+none_most : (old : Input) → MakesAtMost 0 old old
+none_most old = by_known old.remaining where
+  by_known : (o : Option (List ℕ)) → IfSome o (λ _. old.reads_made ≤ old.reads_made + 0)
+  by_known None = tt
+  by_known (Some xs) = omega arith
 
-none_least : (known : Option (List ℕ)) (before now : ℕ) → now ≡ before → MakesAtLeast 0 known before now
-none_least None before now e = tt
-none_least (Some xs) before now e = inl (omega (arith, e))
+none_least : (old : Input) → MakesAtLeast 0 old old
+none_least old = by_known old.remaining where
+  by_known : (o : Option (List ℕ)) → IfSome o (λ _. (old.reads_made + 0 ≤ old.reads_made) ⊎ (2 ^ 64 - 1 ≤ old.reads_made))
+  by_known None = tt
+  by_known (Some xs) = inl (omega arith)
 
 nothing_cut : pieces 10 [] ≡ [] ∷ []
 unfolding pieces
 nothing_cut = refl
 
-pub listening_first : (port : ℕ) (cs : List (List ℕ)) (old : World) (fed : Fed) (a : Sent) → fed.new ≡ fed.old → fed.reads_after ≡ fed.reads_before → fed.failed_after ≡ fed.failed_before → IsSent [] a → IsListening port cs old 0 [] MOST_EVENTS old 0 fed a
-listening_first port cs old fed a same reads failed sent = record {
+pub listening_first : (port : ℕ) (cs : List (List ℕ)) (old : World) (source : Seen) (in_memory : Bool) (a : Change) → IsSent [] a → IsListening port cs old 0 [] MOST_EVENTS old 0 (change in_memory source source) a
+listening_first port cs old source in_memory a sent = record {
   read = [];
-  consumed = subst (λ o. Consumes fed.old o []) (sym same) (Consumes-nil fed.old);
-  most = none_most fed.old fed.reads_before fed.reads_after reads;
-  least = none_least fed.old fed.reads_before fed.reads_after reads;
-  failed = failed;
+  consumed = Consumes-nil source.input.remaining;
+  most = none_most source.input;
+  least = none_least source.input;
+  failed = refl;
   up_to = subst (λ ps. HearsUpTo port cs 0 old [] ps old 0 a) nothing_cut (up_to_first port cs 0 old [] a sent);
   short = omega arith;
   within = omega arith;
@@ -76,7 +86,7 @@ listening_first port cs old fed a same reads failed sent = record {
 }
 
 ends_at :
-    (port : ℕ) (cs : List (List ℕ)) (read : List ℕ) (number : ℕ) (old : World) (behind : List (List ℕ)) (text : List ℕ) (stop : Stop) (new : World) (fed : Fed) (out : Sent) → fed.failed_after ≡ fed.failed_before →
+    (port : ℕ) (cs : List (List ℕ)) (read : List ℕ) (number : ℕ) (old : World) (behind : List (List ℕ)) (text : List ℕ) (stop : Stop) (new : World) (fed : Change) (out : Change) → fed.new.failed_calls ≡ fed.old.failed_calls →
     Halts port cs number old behind text stop new ⊥ out → ListensTo port cs read number old behind text (Err stop) new fed out
 ends_at port cs read number old behind text (stops.Inventory fault) new fed out failed h = absurd h
 ends_at port cs read number old behind text (stops.Moments fault) new fed out failed h = absurd h
@@ -89,18 +99,18 @@ ends_at port cs read number old behind text (stops.Line n) new fed out failed h 
 ends_at port cs read number old behind text stops.Memory new fed out failed h = (failed, h)
 
 -- nothing is read, since memory was wanting
-pub not_begun : (port : ℕ) (cs : List (List ℕ)) (old : World) (fed : Fed) (out : Sent) → fed.new ≡ fed.old → fed.reads_after ≡ fed.reads_before → fed.failed_after ≡ fed.failed_before → out.new ≡ out.old → Listens port cs old (Err stops.Memory) old fed out
-not_begun port cs old fed out same reads failed none = record {
+pub not_begun : (port : ℕ) (cs : List (List ℕ)) (old : World) (source sink : Seen) (p q : Bool) → Listens port cs old (Err stops.Memory) old (change p source source) (change q sink sink)
+not_begun port cs old source sink p q = record {
   read = [];
-  consumed = subst (λ o. Consumes fed.old o []) (sym same) (Consumes-nil fed.old);
-  reads = most_within fed.old 0 MOST_EVENT_READS fed.reads_before fed.reads_after (omega arith) (none_most fed.old fed.reads_before fed.reads_after reads);
+  consumed = Consumes-nil source.input.remaining;
+  reads = most_within source.input source.input 0 MOST_EVENT_READS (omega arith) (none_most source.input);
   lines = [];
   behind = [] ∷ [];
   mid = old;
   text = [];
   heard = subst (λ bs. IsHeardFirst port cs old bs [] ([] ∷ []) old []) (sym (take_all MOST_EVENTS [] (omega arith))) (record { cut = nothing_cut; heard = (refl, refl) });
   prompt = record { before = []; last = []; parts = refl; room = omega arith; few = omega arith; first = []; later = []; heard = refl; rest = []; cut = nothing_cut; short = omega arith };
-  ends = (failed, inl (refl, subst (λ o. Appends out.old o []) (sym none) (Appends-nil out.old)));
+  ends = (refl, inl (refl, Appends-nil sink.output.written));
 }
 
 -- a front of a piece that was read, as far as more may be read
@@ -118,7 +128,7 @@ front_of room n left within =
           take_all left (take n room) (omega (arith, long, more)) ∙ ap (λ m. take m room) (sym least)
     ]
 
-module _ (port : ℕ) (cs : List (List ℕ)) (old : World) (k : ℕ) (pending : List ℕ) (left : ℕ) (now : World) (last : ℕ) (fed : Fed) (a : Sent) (h : IsListening port cs old k pending left now last fed a) where
+module _ (port : ℕ) (cs : List (List ℕ)) (old : World) (k : ℕ) (pending : List ℕ) (left : ℕ) (now : World) (last : ℕ) (fed : Change) (a : Change) (h : IsListening port cs old k pending left now last fed a) where
   few_read : length h.read ≤ MOST_EVENTS
   few_read = let w = h.within in omega (arith, w)
 
@@ -145,12 +155,12 @@ module _ (port : ℕ) (cs : List (List ℕ)) (old : World) (k : ℕ) (pending : 
 
   -- a read failed
   pub read_failed :
-      (rest : Option (List ℕ)) (reads failures : ℕ) → Keeps fed.new rest → IfSome fed.new (λ _. reads ≡ one_more fed.reads_after) → failures ≡ one_more fed.failed_after → k < MOST_EVENT_READS →
-      Listens port cs old (Err stops.Read) now (record fed { new = rest; reads_after = reads; failed_after = failures }) a
-  read_failed rest reads failures kept counted failed few = record {
+      (next : Seen) → Keeps fed.new.input.remaining next.input.remaining → IfSome fed.new.input.remaining (λ _. next.input.reads_made ≡ one_more fed.new.input.reads_made) → next.failed_calls ≡ one_more fed.new.failed_calls → k < MOST_EVENT_READS →
+      Listens port cs old (Err stops.Read) now (record fed { new = next }) a
+  read_failed next kept counted failed few = record {
     read = h.read;
-    consumed = Consumes-kept fed.old fed.new rest h.read h.consumed kept;
-    reads = most_within fed.old (k + 1) MOST_EVENT_READS fed.reads_before reads (omega (arith, few)) (more_most fed.old fed.new h.read k fed.reads_before fed.reads_after reads h.consumed h.most counted);
+    consumed = Consumes-kept fed.old.input.remaining fed.new.input.remaining next.input.remaining h.read h.consumed kept;
+    reads = most_within fed.old.input next.input (k + 1) MOST_EVENT_READS (omega (arith, few)) (more_most fed.old.input fed.new.input next.input h.read k h.consumed h.most counted);
     lines = h.up_to.lines;
     behind = pending ∷ [];
     mid = now;
@@ -165,28 +175,28 @@ module _ (port : ℕ) (cs : List (List ℕ)) (old : World) (k : ℕ) (pending : 
   no_more all = record {
     read = h.read;
     consumed = h.consumed;
-    reads = subst (λ m. MakesAtMost m fed.old fed.reads_before fed.reads_after) all h.most;
+    reads = subst (λ m. MakesAtMost m fed.old.input fed.new.input) all h.most;
     lines = h.up_to.lines;
     behind = pending ∷ [];
     mid = now;
     text = h.up_to.text;
     heard = heard_so_far;
     prompt = prompt_so_far;
-    ends = (pending, (refl, (h.short, (inr (h.failed, inr (subst (λ m. MakesAtLeast m fed.old fed.reads_before fed.reads_after) all h.least)), (refl, h.up_to.sent.0)))));
+    ends = (pending, (refl, (h.short, (inr (h.failed, inr (subst (λ m. MakesAtLeast m fed.old.input fed.new.input) all h.least)), (refl, h.up_to.sent.0)))));
   }
 
   -- the events have ended
-  module _ (rest : Option (List ℕ)) (reads failures : ℕ) (piece : List ℕ) (taken : Consumes fed.new rest piece) (none : piece ≡ []) (end : IsAtEnd rest) (counted : IfSome fed.new (λ _. reads ≡ one_more fed.reads_after))
-      (failed : failures ≡ fed.failed_after) (few : k < MOST_EVENT_READS) where
-    consumed_all : Consumes fed.old rest h.read
-    consumed_all = subst (Consumes fed.old rest) (ap (λ p. h.read ++ p) none ∙ append-nil h.read) (Consumes-trans fed.old fed.new rest h.read piece h.consumed taken)
+  module _ (next : Seen) (piece : List ℕ) (taken : Consumes fed.new.input.remaining next.input.remaining piece) (none : piece ≡ []) (end : IsAtEnd next.input.remaining) (counted : IfSome fed.new.input.remaining (λ _. next.input.reads_made ≡ one_more fed.new.input.reads_made))
+      (failed : next.failed_calls ≡ fed.new.failed_calls) (few : k < MOST_EVENT_READS) where
+    consumed_all : Consumes fed.old.input.remaining next.input.remaining h.read
+    consumed_all = subst (Consumes fed.old.input.remaining next.input.remaining) (ap (λ p. h.read ++ p) none ∙ append-nil h.read) (Consumes-trans fed.old.input.remaining fed.new.input.remaining next.input.remaining h.read piece h.consumed taken)
 
-    ends_so : (result : Result (Unit {0}) Stop) → ListensTo port cs h.read (length h.up_to.lines + 1) now (pending ∷ []) h.up_to.text result now (record fed { new = rest; reads_after = reads; failed_after = failures }) a
-        → Listens port cs old result now (record fed { new = rest; reads_after = reads; failed_after = failures }) a
+    ends_so : (result : Result (Unit {0}) Stop) → ListensTo port cs h.read (length h.up_to.lines + 1) now (pending ∷ []) h.up_to.text result now (record fed { new = next }) a
+        → Listens port cs old result now (record fed { new = next }) a
     ends_so result ends = record {
       read = h.read;
       consumed = consumed_all;
-      reads = most_within fed.old (k + 1) MOST_EVENT_READS fed.reads_before reads (omega (arith, few)) (more_most fed.old fed.new h.read k fed.reads_before fed.reads_after reads h.consumed h.most counted);
+      reads = most_within fed.old.input next.input (k + 1) MOST_EVENT_READS (omega (arith, few)) (more_most fed.old.input fed.new.input next.input h.read k h.consumed h.most counted);
       lines = h.up_to.lines;
       behind = pending ∷ [];
       mid = now;
@@ -196,23 +206,23 @@ module _ (port : ℕ) (cs : List (List ℕ)) (old : World) (k : ℕ) (pending : 
       ends = ends;
     }
 
-    pub ended : pending ≡ [] → Listens port cs old (Ok tt) now (record fed { new = rest; reads_after = reads; failed_after = failures }) a
+    pub ended : pending ≡ [] → Listens port cs old (Ok tt) now (record fed { new = next }) a
     ended empty = ends_so (Ok tt) (ap (λ p. p ∷ []) empty, ((end, few_read), (failed ∙ h.failed, (refl, h.up_to.sent.0))))
 
-    pub ended_within : 0 < length pending → Listens port cs old (Err (stops.Line (last + 1))) now (record fed { new = rest; reads_after = reads; failed_after = failures }) a
+    pub ended_within : 0 < length pending → Listens port cs old (Err (stops.Line (last + 1))) now (record fed { new = next }) a
     ended_within some = ends_so (Err (stops.Line (last + 1))) (failed ∙ h.failed, (number, (inr ((end, few_read), some), (refl, h.up_to.sent.0))))
 
     pub ended_as :
         (result : Result (Unit {0}) Stop) → OnOk result (pending ≡ []) → IfErr result (λ (stop : Stop). (stop ≡ stops.Line (last + 1)) × (0 < length pending)) →
-        Listens port cs old result now (record fed { new = rest; reads_after = reads; failed_after = failures }) a
+        Listens port cs old result now (record fed { new = next }) a
     ended_as (Ok u) none' some' = ended none'
-    ended_as (Err stop) none' some' = subst (λ (r : Stop). Listens port cs old (Err r) now (record fed { new = rest; reads_after = reads; failed_after = failures }) a) (sym some'.0) (ended_within some'.1)
+    ended_as (Err stop) none' some' = subst (λ (r : Stop). Listens port cs old (Err r) now (record fed { new = next }) a) (sym some'.0) (ended_within some'.1)
 
   -- bytes were read, of which so many are heard
-  module _ (rest : Option (List ℕ)) (reads failures : ℕ) (room : List ℕ) (n : ℕ) (taken : Consumes fed.new rest (take n room)) (counted : IfSome fed.new (λ _. reads ≡ one_more fed.reads_after))
-      (failed : failures ≡ fed.failed_after) (within : n ≤ length room) (fits : length room ≡ EVENT_ROOM) (few : k < MOST_EVENT_READS) where
-    abbrev pub after : Fed
-    after = record fed { new = rest; reads_after = reads; failed_after = failures }
+  module _ (next : Seen) (room : List ℕ) (n : ℕ) (taken : Consumes fed.new.input.remaining next.input.remaining (take n room)) (counted : IfSome fed.new.input.remaining (λ _. next.input.reads_made ≡ one_more fed.new.input.reads_made))
+      (failed : next.failed_calls ≡ fed.new.failed_calls) (within : n ≤ length room) (fits : length room ≡ EVENT_ROOM) (few : k < MOST_EVENT_READS) where
+    abbrev pub after : Change
+    after = record fed { new = next }
 
     abbrev pub took : List ℕ
     took = take (min n left) room
@@ -241,11 +251,11 @@ module _ (port : ℕ) (cs : List (List ℕ)) (old : World) (k : ℕ) (pending : 
       sent = h.up_to.sent;
     }
 
-    consumed_more : Consumes fed.old rest now_read
-    consumed_more = Consumes-trans fed.old fed.new rest h.read (take n room) h.consumed taken
+    consumed_more : Consumes fed.old.input.remaining next.input.remaining now_read
+    consumed_more = Consumes-trans fed.old.input.remaining fed.new.input.remaining next.input.remaining h.read (take n room) h.consumed taken
 
-    most_more : MakesAtMost (k + 1) fed.old fed.reads_before reads
-    most_more = more_most fed.old fed.new h.read k fed.reads_before fed.reads_after reads h.consumed h.most counted
+    most_more : MakesAtMost (k + 1) fed.old.input next.input
+    most_more = more_most fed.old.input fed.new.input next.input h.read k h.consumed h.most counted
 
     prompt_more : (later : List (List ℕ)) → IsPrompt now_read (h.up_to.lines ++ later)
     prompt_more later = record {
@@ -263,12 +273,12 @@ module _ (port : ℕ) (cs : List (List ℕ)) (old : World) (k : ℕ) (pending : 
     }
 
     listens_more :
-        (result : Result (Unit {0}) Stop) (later : List (List ℕ)) (behind : List (List ℕ)) (mid : World) (text : List ℕ) (new : World) (out : Sent) → IsHeardFirst port cs old (h.read ++ took) (h.up_to.lines ++ later) behind mid text →
+        (result : Result (Unit {0}) Stop) (later : List (List ℕ)) (behind : List (List ℕ)) (mid : World) (text : List ℕ) (new : World) (out : Change) → IsHeardFirst port cs old (h.read ++ took) (h.up_to.lines ++ later) behind mid text →
         ListensTo port cs now_read (length (h.up_to.lines ++ later) + 1) mid behind text result new after out → Listens port cs old result new after out
     listens_more result later behind mid text new out heard ends = record {
       read = now_read;
       consumed = consumed_more;
-      reads = most_within fed.old (k + 1) MOST_EVENT_READS fed.reads_before reads (omega (arith, few)) most_more;
+      reads = most_within fed.old.input next.input (k + 1) MOST_EVENT_READS (omega (arith, few)) most_more;
       lines = h.up_to.lines ++ later;
       behind = behind;
       mid = mid;
@@ -285,11 +295,11 @@ module _ (port : ℕ) (cs : List (List ℕ)) (old : World) (k : ℕ) (pending : 
         (subst (λ ls. IsHeardFirst port cs old (h.read ++ took) ls (pieces 10 (pending ++ took)) now h.up_to.text) (sym (append-nil h.up_to.lines)) behind_read.heard)
         (failed ∙ h.failed, inl (as_it_was, h.up_to.sent.0.0))
 
-    module _ (b : Sent) (same : a.new ≡ b.old) (failures' : a.failed_after ≡ b.failed_before) where
+    module _ (b : Change) (same : a.new ≡ b.old) where
       -- a line stops the run
       pub halted : (stop : Stop) (new : World) → HaltsWithin port cs last now (pending ++ took) stop new b → Listens port cs old (Err stop) new after (joined a b)
       halted stop new w =
-          let all = halts_behind port cs 0 old (h.read ++ took) (pending ++ took) now last a b stop new same failures' behind_read w in
+          let all = halts_behind port cs 0 old (h.read ++ took) (pending ++ took) now last a b stop new same behind_read w in
           let none_before : 0 + length (h.up_to.lines ++ w.lines) + 1 ≡ length (h.up_to.lines ++ w.lines) + 1 = omega arith in
           listens_more (Err stop) w.lines w.behind w.mid all.text new (joined a b) all.heard
           (ends_at port cs now_read (length (h.up_to.lines ++ w.lines) + 1) w.mid w.behind all.text stop new after (joined a b) (failed ∙ h.failed)
@@ -299,7 +309,7 @@ module _ (port : ℕ) (cs : List (List ℕ)) (old : World) (k : ℕ) (pending : 
       pub too_many :
           (behind : List ℕ) (new : World) (count : ℕ) → left < n → length behind < MOST_LINE → HearsUpTo port cs last now (pending ++ took) (behind ∷ []) new count b → Listens port cs old (Err stops.Read) new after (joined a b)
       too_many behind new count over short u =
-          let all = up_to_then port cs 0 old (h.read ++ took) (pending ++ took) (behind ∷ []) now last a b new count same failures' behind_read u in
+          let all = up_to_then port cs 0 old (h.read ++ took) (pending ++ took) (behind ∷ []) now last a b new count same behind_read u in
           let w = h.within in
           let p = length_piece in
           let l : length now_read ≡ length h.read + length (take n room) = length-append h.read (take n room) in
@@ -311,7 +321,7 @@ module _ (port : ℕ) (cs : List (List ℕ)) (old : World) (k : ℕ) (pending : 
           (behind : List ℕ) (new : World) (count : ℕ) → n ≤ left → length behind < MOST_LINE → count + length behind ≤ last + length (pending ++ took) → HearsUpTo port cs last now (pending ++ took) (behind ∷ []) new count b →
           IsListening port cs old (k + 1) behind (left - min n left) new count after (joined a b)
       listening_more behind new count within' short fewer u =
-          let all = up_to_then port cs 0 old (h.read ++ took) (pending ++ took) (behind ∷ []) now last a b new count same failures' behind_read u in
+          let all = up_to_then port cs 0 old (h.read ++ took) (pending ++ took) (behind ∷ []) now last a b new count same behind_read u in
           let w = h.within in
           let p = length_piece in
           let t = length_took in
@@ -324,7 +334,7 @@ module _ (port : ℕ) (cs : List (List ℕ)) (old : World) (k : ℕ) (pending : 
             read = now_read;
             consumed = consumed_more;
             most = most_more;
-            least = more_least fed.old fed.new h.read k fed.reads_before fed.reads_after reads h.consumed h.least counted;
+            least = more_least fed.old.input fed.new.input next.input h.read k h.consumed h.least counted;
             failed = failed ∙ h.failed;
             up_to = subst (λ bs. HearsUpTo port cs 0 old bs (behind ∷ []) new count (joined a b)) same' all;
             short = short;

@@ -5,12 +5,13 @@ use Rattle.std.specs.Result.{IsErr, IsErrAnd}
 use Rattle.std.proofs.Math.Seq.{drop-append_seam}
 use Rattle.std.proofs.lemmas.List.{append-nil, append_assoc, drop-drop}
 use Rattle.std.specs.Io.KnownBytes.{Appends}
+use Rattle.keep_device.specs.Seen.{Change, Seen}
 use Rattle.keep_words.specs.Pieces.{pieces}
 use Rattle.keep_device.specs.Failures.{HasFailed}
 use Rattle.keep_tree.specs.Forest.{Forest}
 use Rattle.keep_report.specs.declared.stop.Stop.{Stop}
 use Rattle.keep_report.specs.declared.stop.Stop.TheVariants as stops
-use Rattle.keep_report.specs.Sent.{IsAll, Sent}
+use Rattle.keep_report.specs.Sent.{IsAll}
 use Rattle.keep_run.specs.code.LineByLine.{HaltsWithin, HearsLine, HearsUpTo, IsSent}
 use Rattle.keep_run.specs.Listening.{AreHeard, Halts, IsCutShort, IsLineHeard, IsNoEvent}
 use Rattle.keep_run.specs.Hearing.{HearsTo, IsBrokenOff, IsCutOff}
@@ -19,27 +20,19 @@ use Rattle.keep_run.specs.declared.live.event_line.Heard.{Heard}
 use Rattle.keep_run.specs.declared.live.event_line.TheConstants.{MOST_LINE}
 use Rattle.keep_run.specs.Closed.{World}
 use Rattle.keep_run.proofs.Cut.{cut_back, first_piece}
-use Rattle.keep_run.proofs.Written.{keeps_appends}
+use Rattle.keep_run.proofs.Written.{untouched_appends}
 
 -- ---- what was sent, and then more
 
-abbrev pub joined : Sent → Sent → Sent
-joined a b = record {
-  old = a.old;
-  new = b.new;
-  failed_before = a.failed_before;
-  failed_after = b.failed_after;
-  flushed_before = a.flushed_before;
-  flushed = b.flushed;
-  is_in_memory = b.is_in_memory;
-}
+abbrev pub joined : Change → Change → Change
+joined a b = record { old = a.old; new = b.new; is_in_memory = b.is_in_memory }
 
-module _ (a b : Sent) (same : a.new ≡ b.old) (failures : a.failed_after ≡ b.failed_before) where
-  pub appends : (t u : List ℕ) → Appends a.old a.new t → Appends b.old b.new u → Appends a.old b.new (t ++ u)
-  appends t u first second = Appends-trans a.old a.new b.new t u first (subst (λ o. Appends o b.new u) (sym same) second)
+module _ (a b : Change) (same : a.new ≡ b.old) where
+  pub appends : (t u : List ℕ) → Appends a.old.output.written a.new.output.written t → Appends b.old.output.written b.new.output.written u → Appends a.old.output.written b.new.output.written (t ++ u)
+  appends t u first second = Appends-trans a.old.output.written a.new.output.written b.new.output.written t u first (subst (λ (o : Seen). Appends o.output.written b.new.output.written u) (sym same) second)
 
   pub sent_then : (t u : List ℕ) → IsSent t a → IsSent u b → IsSent (t ++ u) (joined a b)
-  sent_then t u first second = ((appends t u first.0.0 second.0.0, second.0.1), second.1 ∙ sym failures ∙ first.1)
+  sent_then t u first second = ((appends t u first.0.0 second.0.0, second.0.1), second.1 ∙ sym (ap (λ (s : Seen). s.failed_calls) same) ∙ first.1)
 
   pub all_then : (t u : List ℕ) → IsSent t a → IsAll u b → IsAll (t ++ u) (joined a b)
   all_then t u first second = (appends t u first.0.0 second.0, second.1)
@@ -53,7 +46,7 @@ module _ (a b : Sent) (same : a.new ≡ b.old) (failures : a.failed_after ≡ b.
         own = second.own;
         up_to = second.up_to;
         n = second.n;
-        front = subst (Appends a.old b.new) (sym (append_assoc t u rest)) (appends t (u ++ rest) first.0.0 second.front);
+        front = subst (Appends a.old.output.written b.new.output.written) (sym (append_assoc t u rest)) (appends t (u ++ rest) first.0.0 second.front);
       }
 
   broken_then :
@@ -65,7 +58,7 @@ module _ (a b : Sent) (same : a.new ≡ b.old) (failures : a.failed_after ≡ b.
     mid = second.mid;
     others = second.others;
     so_far = second.so_far;
-    written = subst (Appends a.old b.new) (sym (append_assoc t u second.told)) (appends t (u ++ second.told) first.0.0 second.written);
+    written = subst (Appends a.old.output.written b.new.output.written) (sym (append_assoc t u second.told)) (appends t (u ++ second.told) first.0.0 second.written);
     left = second.left;
   }
 
@@ -83,7 +76,7 @@ module _ (a b : Sent) (same : a.new ≡ b.old) (failures : a.failed_after ≡ b.
   halts_then port cs number old behind t u stops.TooLong new P first h = (h.0, (h.1.0, (h.1.1.0, all_then t u first h.1.1.1)))
   halts_then port cs number old behind t u stops.Read new P first h = absurd h
   halts_then port cs number old behind t u stops.Write new P first h = (
-    subst (λ n. HasFailed n b.failed_after) (sym failures ∙ first.1) h.0,
+    subst (λ n. HasFailed n b.new.failed_calls) (sym (ap (λ (s : Seen). s.failed_calls) same) ∙ first.1) h.0,
     (h.1.0, (h.1.1.0, short_then port cs old new h.1.0 t u first h.1.1.1)),
   )
   halts_then port cs number old behind t u (stops.Broker name) new P first h = absurd h
@@ -118,7 +111,7 @@ no_event_where g (rest ∷ []) P Q f h = elim h [ inl long ↦ inl long | inr cu
 no_event_where g (line ∷ next ∷ more) P Q f h = h
 
 pub halts_where :
-    (port : ℕ) (cs : List (List ℕ)) (number : ℕ) (old : World) (behind : List (List ℕ)) (text : List ℕ) (stop : Stop) (new : World) (P Q : Type 0) (out : Sent) → (P → Q) →
+    (port : ℕ) (cs : List (List ℕ)) (number : ℕ) (old : World) (behind : List (List ℕ)) (text : List ℕ) (stop : Stop) (new : World) (P Q : Type 0) (out : Change) → (P → Q) →
     Halts port cs number old behind text stop new P out → Halts port cs number old behind text stop new Q out
 halts_where port cs number old behind text (stops.Inventory fault) new P Q out f h = h
 halts_where port cs number old behind text (stops.Moments fault) new P Q out f h = h
@@ -134,11 +127,11 @@ halts_where port cs number old behind text stops.Memory new P Q out f h = h
 
 -- its event is heard, or stops short
 pub line_hears :
-    (port : ℕ) (cs : List (List ℕ)) (number : ℕ) (old : World) (line : List ℕ) (says : Heard) (new : World) (result : Result (Unit {0}) Stop) (out : Sent) → heard_in old.keeper.forest line ≡ Some says → IsTrue out.flushed_before →
-    HearsTo port cs old says result new out → OnOk result (out.failed_after ≡ out.failed_before) → HearsLine port cs number old line result new out
+    (port : ℕ) (cs : List (List ℕ)) (number : ℕ) (old : World) (line : List ℕ) (says : Heard) (new : World) (result : Result (Unit {0}) Stop) (out : Change) → heard_in old.keeper.forest line ≡ Some says → IsTrue out.old.output.is_flushed →
+    HearsTo port cs old says result new out → OnOk result (out.new.failed_calls ≡ out.old.failed_calls) → HearsLine port cs number old line result new out
 line_hears port cs number old line says new (Ok u) out is flushed h count = (h.0, (record { says = says; is = is; heard = h.1.0 }, (h.1.1, count)))
 line_hears port cs number old line says new (Err stops.TooLong) out is flushed h count = λ next more.
-    (line, (refl, ((says, (is, h.0)), (keeps_appends out.old out.new h.1.0, subst IsTrue (sym h.1.2) flushed))))
+    (line, (refl, ((says, (is, h.0)), (untouched_appends out h.1, subst (λ (s : Seen). IsTrue s.output.is_flushed) (sym h.1) flushed))))
 line_hears port cs number old line says new (Err stops.Write) out is flushed h count = λ next more. (h.0, (line, (refl, (says, (is, h.1)))))
 line_hears port cs number old line says new (Err stops.Memory) out is flushed h count = λ next more.
     elim h [
@@ -189,14 +182,14 @@ behind_line bytes rest line behind e before within =
 module _ (port : ℕ) (cs : List (List ℕ)) where
   -- none
   pub up_to_first :
-      (first : ℕ) (old : World) (bytes : List ℕ) (out : Sent) → IsSent [] out → HearsUpTo port cs first old bytes (pieces 10 bytes) old first out
+      (first : ℕ) (old : World) (bytes : List ℕ) (out : Change) → IsSent [] out → HearsUpTo port cs first old bytes (pieces 10 bytes) old first out
   up_to_first first old bytes out sent = record { lines = []; text = []; heard = record { cut = refl; heard = (refl, refl) }; count = omega arith; sent = sent }
 
   -- one more
   pub up_to_line :
-      (first : ℕ) (old : World) (bytes line : List ℕ) (behind : List (List ℕ)) (mid : World) (last : ℕ) (a b : Sent) (new : World) (text : List ℕ) → a.new ≡ b.old → a.failed_after ≡ b.failed_before →
+      (first : ℕ) (old : World) (bytes line : List ℕ) (behind : List (List ℕ)) (mid : World) (last : ℕ) (a b : Change) (new : World) (text : List ℕ) → a.new ≡ b.old →
       HearsUpTo port cs first old bytes (line ∷ behind) mid last a → IsLineHeard port cs mid line new text → IsSent text b → HearsUpTo port cs first old bytes behind new (last + 1) (joined a b)
-  up_to_line first old bytes line behind mid last a b new text same failures h one sent =
+  up_to_line first old bytes line behind mid last a b new text same h one sent =
       let count = h.count in
       let longer : length (h.lines ++ (line ∷ [])) ≡ length h.lines + 1 = length-append h.lines (line ∷ []) in
       record {
@@ -207,14 +200,14 @@ module _ (port : ℕ) (cs : List (List ℕ)) where
           heard = heard_then port cs old mid new h.lines (line ∷ []) h.text text h.heard.heard (heard_one port cs mid new line text one);
         };
         count = omega (arith, count, longer);
-        sent = sent_then a b same failures h.text text h.sent sent;
+        sent = sent_then a b same h.text text h.sent sent;
       }
 
   -- those of what stands behind
   abbrev pub up_to_then :
-      (first : ℕ) (old : World) (bytes rest : List ℕ) (behind : List (List ℕ)) (mid : World) (middle : ℕ) (a b : Sent) (new : World) (last : ℕ) → a.new ≡ b.old → a.failed_after ≡ b.failed_before →
+      (first : ℕ) (old : World) (bytes rest : List ℕ) (behind : List (List ℕ)) (mid : World) (middle : ℕ) (a b : Change) (new : World) (last : ℕ) → a.new ≡ b.old →
       HearsUpTo port cs first old bytes (pieces 10 rest) mid middle a → HearsUpTo port cs middle mid rest behind new last b → HearsUpTo port cs first old bytes behind new last (joined a b)
-  up_to_then first old bytes rest behind mid middle a b new last same failures h k =
+  up_to_then first old bytes rest behind mid middle a b new last same h k =
       let before = h.count in
       let then' = k.count in
       let longer : length (h.lines ++ k.lines) ≡ length h.lines + length k.lines = length-append h.lines k.lines in
@@ -226,14 +219,14 @@ module _ (port : ℕ) (cs : List (List ℕ)) where
           heard = heard_then port cs old mid new h.lines k.lines h.text k.text h.heard.heard k.heard.heard;
         };
         count = omega (arith, before, then', longer);
-        sent = sent_then a b same failures h.text k.text h.sent k.sent;
+        sent = sent_then a b same h.text k.text h.sent k.sent;
       }
 
   -- a stop at the next line
   pub halts_at :
-      (first : ℕ) (old : World) (bytes : List ℕ) (behind : List (List ℕ)) (mid : World) (last : ℕ) (a b : Sent) (stop : Stop) (new : World) → a.new ≡ b.old → a.failed_after ≡ b.failed_before →
+      (first : ℕ) (old : World) (bytes : List ℕ) (behind : List (List ℕ)) (mid : World) (last : ℕ) (a b : Change) (stop : Stop) (new : World) → a.new ≡ b.old →
       HearsUpTo port cs first old bytes behind mid last a → Halts port cs (last + 1) mid behind [] stop new ⊥ b → HaltsWithin port cs first old bytes stop new (joined a b)
-  halts_at first old bytes behind mid last a b stop new same failures h halts = record {
+  halts_at first old bytes behind mid last a b stop new same h halts = record {
     lines = h.lines;
     behind = behind;
     mid = mid;
@@ -242,14 +235,14 @@ module _ (port : ℕ) (cs : List (List ℕ)) where
     halts =
         subst (λ n. Halts port cs (n + 1) mid behind h.text stop new ⊥ (joined a b)) h.count
         (subst (λ t. Halts port cs (last + 1) mid behind t stop new ⊥ (joined a b)) (append-nil h.text)
-        (halts_then a b same failures port cs (last + 1) mid behind h.text [] stop new ⊥ h.sent halts));
+        (halts_then a b same port cs (last + 1) mid behind h.text [] stop new ⊥ h.sent halts));
   }
 
   -- a stop within what stands behind
   abbrev pub halts_behind :
-      (first : ℕ) (old : World) (bytes rest : List ℕ) (mid : World) (middle : ℕ) (a b : Sent) (stop : Stop) (new : World) → a.new ≡ b.old → a.failed_after ≡ b.failed_before →
+      (first : ℕ) (old : World) (bytes rest : List ℕ) (mid : World) (middle : ℕ) (a b : Change) (stop : Stop) (new : World) → a.new ≡ b.old →
       HearsUpTo port cs first old bytes (pieces 10 rest) mid middle a → HaltsWithin port cs middle mid rest stop new b → HaltsWithin port cs first old bytes stop new (joined a b)
-  halts_behind first old bytes rest mid middle a b stop new same failures h k =
+  halts_behind first old bytes rest mid middle a b stop new same h k =
       let count = h.count in
       let longer : length (h.lines ++ k.lines) ≡ length h.lines + length k.lines = length-append h.lines k.lines in
       let number : middle + length k.lines + 1 ≡ first + length (h.lines ++ k.lines) + 1 = omega (arith, count, longer) in
@@ -264,29 +257,29 @@ module _ (port : ℕ) (cs : List (List ℕ)) where
         };
         halts =
             subst (λ n. Halts port cs n k.mid k.behind (h.text ++ k.text) stop new ⊥ (joined a b)) number
-            (halts_then a b same failures port cs (middle + length k.lines + 1) k.mid k.behind h.text k.text stop new ⊥ h.sent k.halts);
+            (halts_then a b same port cs (middle + length k.lines + 1) k.mid k.behind h.text k.text stop new ⊥ h.sent k.halts);
       }
 
   -- by the names that the loop over lines has
   pub heard_on :
-      (first : ℕ) (old : World) (bytes rest line behind : List ℕ) (mid : World) (last : ℕ) (a b : Sent) (new : World) → a.new ≡ b.old → a.failed_after ≡ b.failed_before →
+      (first : ℕ) (old : World) (bytes rest line behind : List ℕ) (mid : World) (last : ℕ) (a b : Change) (new : World) → a.new ≡ b.old →
       HearsUpTo port cs first old bytes (pieces 10 rest) mid last a → pieces 10 rest ≡ line ∷ pieces 10 behind → HearsLine port cs (last + 1) mid line (Ok tt) new b →
       HearsUpTo port cs first old bytes (pieces 10 behind) new (last + 1) (joined a b)
-  heard_on first old bytes rest line behind mid last a b new same failures h e one =
-      up_to_line first old bytes line (pieces 10 behind) mid last a b new one.0 same failures (subst (λ ps. HearsUpTo port cs first old bytes ps mid last a) e h) one.1.0 one.1.1
+  heard_on first old bytes rest line behind mid last a b new same h e one =
+      up_to_line first old bytes line (pieces 10 behind) mid last a b new one.0 same (subst (λ ps. HearsUpTo port cs first old bytes ps mid last a) e h) one.1.0 one.1.1
 
   pub stopped_on :
-      (first : ℕ) (old : World) (bytes rest line behind : List ℕ) (mid : World) (last : ℕ) (a b : Sent) (stop : Stop) (new : World) → a.new ≡ b.old → a.failed_after ≡ b.failed_before →
+      (first : ℕ) (old : World) (bytes rest line behind : List ℕ) (mid : World) (last : ℕ) (a b : Change) (stop : Stop) (new : World) → a.new ≡ b.old →
       HearsUpTo port cs first old bytes (pieces 10 rest) mid last a → pieces 10 rest ≡ line ∷ pieces 10 behind → HearsLine port cs (last + 1) mid line (Err stop) new b →
       HaltsWithin port cs first old bytes stop new (joined a b)
-  stopped_on first old bytes rest line behind mid last a b stop new same failures h e one =
+  stopped_on first old bytes rest line behind mid last a b stop new same h e one =
       let f = first_piece 10 behind in
       let all : pieces 10 rest ≡ line ∷ f.0 ∷ f.1.0 = e ∙ ap (λ ps. line ∷ ps) f.1.1 in
-      halts_at first old bytes (line ∷ f.0 ∷ f.1.0) mid last a b stop new same failures (subst (λ ps. HearsUpTo port cs first old bytes ps mid last a) all h) (one f.0 f.1.0)
+      halts_at first old bytes (line ∷ f.0 ∷ f.1.0) mid last a b stop new same (subst (λ ps. HearsUpTo port cs first old bytes ps mid last a) all h) (one f.0 f.1.0)
 
   -- what stands behind the last line is as long as an event line may be
   pub long_rest :
-      (first : ℕ) (old : World) (bytes rest : List ℕ) (mid : World) (last : ℕ) (a : Sent) → HearsUpTo port cs first old bytes (rest ∷ []) mid last a → MOST_LINE ≤ length rest →
+      (first : ℕ) (old : World) (bytes rest : List ℕ) (mid : World) (last : ℕ) (a : Change) → HearsUpTo port cs first old bytes (rest ∷ []) mid last a → MOST_LINE ≤ length rest →
       HaltsWithin port cs first old bytes (stops.Line (last + 1)) mid a
   long_rest first old bytes rest mid last a h long =
       let count = h.count in

@@ -2,8 +2,8 @@
 use Rattle.std.proofs.Common.{◌≡◌, ℕ, inl, inr, Bool, List, ◌++◌, Option, Result, Ok, Err, ◌+◌, codes, length, refl, sym, subst, take}
 use Rattle.std.specs.Io.KnownBytes.{Appends}
 use Rattle.std.specs.Result.{IsErr, IsErrAnd}
-use Rattle.std.proofs.KnownBytes.{Keeps-refl}
 use Rattle.std.proofs.lemmas.List.{append_assoc}
+use Rattle.keep_device.specs.Seen.{Change, Seen, change}
 use Rattle.keep_core.specs.State.{State}
 use Rattle.keep_device.specs.Failures.{HasFailed}
 use Rattle.keep_exchange.specs.Exchanges.{Behind}
@@ -18,21 +18,20 @@ use Rattle.keep_report.specs.declared.stop.Stop.{Stop}
 use Rattle.keep_report.specs.declared.stop.Stop.TheVariants as stops
 use Rattle.keep_report.specs.Exits.{exit_of, stop_of_inventory}
 use Rattle.keep_report.specs.FaultLine.{fault_line}
-use Rattle.keep_report.specs.Sent.{IsAll, Sent}
+use Rattle.keep_report.specs.Sent.{IsAll}
 use Rattle.keep_report.specs.Told.{Reports}
-use Rattle.keep_run.specs.Listening.{Fed, Halts, HaveEnded, IsBrokenShort, IsCutShort, Listens, ListensTo}
-use Rattle.keep_run.specs.LiveRun.{EndsEarly, HasListened, IsOpened, IsUnread, LiveRun, LivesTo}
+use Rattle.keep_run.specs.Listening.{Halts, HaveEnded, IsBrokenShort, IsCutShort, Listens, ListensTo}
+use Rattle.keep_run.specs.LiveRun.{EndsEarly, HasListened, IsOpened, LiveRun, LivesTo}
 use Rattle.keep_run.specs.Stops.{both}
 use Rattle.keep_run.specs.Closed.{World}
 use Rattle.keep_run.proofs.Agents.{as_begun}
-use Rattle.keep_run.proofs.LookedUp.{sent_by, untouched}
 use Rattle.keep_run.proofs.Written.{appends_then}
 
 -- ---- what listening comes to, behind the lines of the opening
 
-module _ (port : ℕ) (cs : List (List ℕ)) (read : List ℕ) (number : ℕ) (mid : World) (behind : List (List ℕ)) (before text : List ℕ) (new : World) (fed : Fed) (a b c : Option (List ℕ)) (n m l : ℕ) (p q r k : Bool)
-    (first : Appends a b before) (kept : m ≡ n) where
-  cut_short : (line : List ℕ) (old : World) → IsCutShort port cs old line new text (sent_by b c m l q r k) → IsCutShort port cs old line new (before ++ text) (sent_by a c n l p r k)
+module _ (port : ℕ) (cs : List (List ℕ)) (read : List ℕ) (number : ℕ) (mid : World) (behind : List (List ℕ)) (before text : List ℕ) (new : World) (fed : Change) (a b c : Seen) (k : Bool)
+    (first : Appends a.output.written b.output.written before) (kept : b.failed_calls ≡ a.failed_calls) where
+  cut_short : (line : List ℕ) (old : World) → IsCutShort port cs old line new text (change k b c) → IsCutShort port cs old line new (before ++ text) (change k a c)
   cut_short line old h =
       let cut = h.1.1 in
       let rest = cut.told ++ take cut.n cut.own in (
@@ -44,12 +43,12 @@ module _ (port : ℕ) (cs : List (List ℕ)) (read : List ℕ) (number : ℕ) (m
             own = cut.own;
             up_to = cut.up_to;
             n = cut.n;
-            front = subst (Appends a c) (sym (append_assoc before text rest)) (appends_then a b c before (text ++ rest) first cut.front);
+            front = subst (Appends a.output.written c.output.written) (sym (append_assoc before text rest)) (appends_then _ _ _ before (text ++ rest) first cut.front);
           },
         ),
       )
 
-  broken_short : (line : List ℕ) (old : World) → IsBrokenShort port cs old line new text (sent_by b c m l q r k) → IsBrokenShort port cs old line new (before ++ text) (sent_by a c n l p r k)
+  broken_short : (line : List ℕ) (old : World) → IsBrokenShort port cs old line new text (change k b c) → IsBrokenShort port cs old line new (before ++ text) (change k a c)
   broken_short line old h =
       let broken = h.1.1 in (
         h.0,
@@ -62,22 +61,22 @@ module _ (port : ℕ) (cs : List (List ℕ)) (read : List ℕ) (number : ℕ) (m
             mid = broken.mid;
             others = broken.others;
             so_far = broken.so_far;
-            written = subst (Appends a c) (sym (append_assoc before text broken.told)) (appends_then a b c before (text ++ broken.told) first broken.written);
+            written = subst (Appends a.output.written c.output.written) (sym (append_assoc before text broken.told)) (appends_then _ _ _ before (text ++ broken.told) first broken.written);
             left = broken.left;
           },
         ),
       )
 
-  whole : IsAll text (sent_by b c m l q r k) → IsAll (before ++ text) (sent_by a c n l p r k)
-  whole all = (appends_then a b c before text first all.0, all.1)
+  whole : IsAll text (change k b c) → IsAll (before ++ text) (change k a c)
+  whole all = (appends_then _ _ _ before text first all.0, all.1)
 
   halts :
-      (old : World) (stop : Stop) (HasEnded : Type 0) → Halts port cs number old behind text stop new HasEnded (sent_by b c m l q r k) →
-      Halts port cs number old behind (before ++ text) stop new HasEnded (sent_by a c n l p r k)
+      (old : World) (stop : Stop) (HasEnded : Type 0) → Halts port cs number old behind text stop new HasEnded (change k b c) →
+      Halts port cs number old behind (before ++ text) stop new HasEnded (change k a c)
   halts old (stops.Line x) HasEnded h = (h.0, (h.1.0, (h.1.1.0, whole h.1.1.1)))
   halts old stops.TooLong HasEnded h = (h.0, (h.1.0, (h.1.1.0, whole h.1.1.1)))
-  halts old stops.Write HasEnded h = (subst (λ x. HasFailed x l) kept h.0, (h.1.0, (h.1.1.0, cut_short h.1.0 old h.1.1.1)))
-  halts old stops.Memory HasEnded (inl h) = inl (h.0, appends_then a b c before text first h.1)
+  halts old stops.Write HasEnded h = (subst (λ x. HasFailed x c.failed_calls) kept h.0, (h.1.0, (h.1.1.0, cut_short h.1.0 old h.1.1.1)))
+  halts old stops.Memory HasEnded (inl h) = inl (h.0, appends_then _ _ _ before text first h.1)
   halts old stops.Memory HasEnded (inr h) =
       inr (h.0, (h.1.0, elim h.1.1 [ inl broken ↦ inl (broken_short h.0 old broken) | inr cut ↦ inr (cut.0, cut_short h.0 old cut.1) ]))
   halts old stops.Read HasEnded h = absurd h
@@ -87,7 +86,7 @@ module _ (port : ℕ) (cs : List (List ℕ)) (read : List ℕ) (number : ℕ) (m
   halts old (stops.Broker name) HasEnded h = absurd h
 
   pub listens_to :
-      (result : Result (Unit {0}) Stop) → ListensTo port cs read number mid behind text result new fed (sent_by b c m l q r k) → ListensTo port cs read number mid behind (before ++ text) result new fed (sent_by a c n l p r k)
+      (result : Result (Unit {0}) Stop) → ListensTo port cs read number mid behind text result new fed (change k b c) → ListensTo port cs read number mid behind (before ++ text) result new fed (change k a c)
   listens_to (Ok u) h = (h.0, (h.1.0, (h.1.1.0, (h.1.1.1.0, whole h.1.1.1.1))))
   listens_to (Err stops.Read) h = (h.0, (h.1.0, (h.1.1.0, (h.1.1.1.0, (h.1.1.1.1.0, whole h.1.1.1.1.1)))))
   listens_to (Err stops.Memory) h = (h.0, halts mid stops.Memory (HaveEnded read fed) h.1)
@@ -101,38 +100,32 @@ module _ (port : ℕ) (cs : List (List ℕ)) (read : List ℕ) (number : ℕ) (m
 
 -- ---- nothing was read
 
-abbrev pub fed_by : Option (List ℕ) → Option (List ℕ) → ℕ → ℕ → ℕ → ℕ → Fed
-fed_by x y r s f g = record { old = x; new = y; reads_before = r; reads_after = s; failed_before = f; failed_after = g }
-
-unread : (x : Option (List ℕ)) (r f : ℕ) → IsUnread (fed_by x x r r f f)
-unread x r f = (Keeps-refl x, refl, refl)
-
 module _ (port : ℕ) (bytes : List ℕ) (start : ℕ) (before : Option Behind) where
   -- the bytes are no inventory, or memory was wanting
   pub read_lives :
-      (result : Result (Unit {0}) Stop) (fault : InvFault) (x : Option (List ℕ)) (r f : ℕ) (a : Option (List ℕ)) (n : ℕ) (p k : Bool) → IsErr result × IsErrAnd result (λ (q : Stop). q ≡ stop_of_inventory fault) → Fails fault (read_inventory bytes) →
-      LivesTo port bytes start before result (fed_by x x r r f f) (sent_by a a n n p p k) before
-  read_lives (Ok u) fault x r f a n p k is fails = absurd (let no = is.0 in cc)
-  read_lives (Err stop) fault x r f a n p k is fails = subst (λ (q : Stop). LivesTo port bytes start before (Err q) (fed_by x x r r f f) (sent_by a a n n p p k) before) (sym is.1) (by_fault fault fails) where
-    by_fault : (e : InvFault) → Fails e (read_inventory bytes) → LivesTo port bytes start before (Err (stop_of_inventory e)) (fed_by x x r r f f) (sent_by a a n n p p k) before
-    by_fault faults.OutOfMemory h = inl (unread x r f, untouched a n p k, refl)
-    by_fault faults.NotToml h = (h, unread x r f, untouched a n p k, refl)
-    by_fault (faults.MissingKey i key) h = (h, unread x r f, untouched a n p k, refl)
-    by_fault (faults.UnknownKey i) h = (h, unread x r f, untouched a n p k, refl)
-    by_fault (faults.BadValue i key) h = (h, unread x r f, untouched a n p k, refl)
-    by_fault (faults.Tree i t) h = (h, unread x r f, untouched a n p k, refl)
+      (result : Result (Unit {0}) Stop) (fault : InvFault) (j : Bool) (x : Seen) (k : Bool) (a : Seen) → IsErr result × IsErrAnd result (λ (q : Stop). q ≡ stop_of_inventory fault) → Fails fault (read_inventory bytes) →
+      LivesTo port bytes start before result (change j x x) (change k a a) before
+  read_lives (Ok u) fault j x k a is fails = absurd (let no = is.0 in cc)
+  read_lives (Err stop) fault j x k a is fails = subst (λ (q : Stop). LivesTo port bytes start before (Err q) (change j x x) (change k a a) before) (sym is.1) (by_fault fault fails) where
+    by_fault : (e : InvFault) → Fails e (read_inventory bytes) → LivesTo port bytes start before (Err (stop_of_inventory e)) (change j x x) (change k a a) before
+    by_fault faults.OutOfMemory h = inl (refl, refl, refl)
+    by_fault faults.NotToml h = (h, refl, refl, refl)
+    by_fault (faults.MissingKey i key) h = (h, refl, refl, refl)
+    by_fault (faults.UnknownKey i) h = (h, refl, refl, refl)
+    by_fault (faults.BadValue i key) h = (h, refl, refl, refl)
+    by_fault (faults.Tree i t) h = (h, refl, refl, refl)
 
   -- it ended before it listened
   pub early_lives :
-      (result : Result (Unit {0}) Stop) (stop : Stop) (inventory : Inventory) (x : Option (List ℕ)) (r f : ℕ) (out : Sent) (new : Option Behind) → read_inventory bytes ≡ Ok inventory → IsErr result × IsErrAnd result (λ (q : Stop). q ≡ stop) →
-      EndsEarly port start (record { inventory = inventory; behind = before }) stop out new → LivesTo port bytes start before result (fed_by x x r r f f) out new
-  early_lives (Ok u) stop inventory x r f out new read is early = absurd (let no = is.0 in cc)
-  early_lives (Err q) stop inventory x r f out new read is early = subst (λ (u : Stop). LivesTo port bytes start before (Err u) (fed_by x x r r f f) out new) (sym is.1) (by_stop stop early) where
-    by_stop : (u : Stop) → EndsEarly port start (record { inventory = inventory; behind = before }) u out new → LivesTo port bytes start before (Err u) (fed_by x x r r f f) out new
-    by_stop stops.Memory h = inr (inventory, read, inl (h, unread x r f))
-    by_stop stops.Write h = (inventory, read, inl (h, unread x r f))
-    by_stop stops.TooLong h = (inventory, read, inl (h, unread x r f))
-    by_stop (stops.Broker name) h = (inventory, read, inl (h, unread x r f))
+      (result : Result (Unit {0}) Stop) (stop : Stop) (inventory : Inventory) (j : Bool) (x : Seen) (out : Change) (new : Option Behind) → read_inventory bytes ≡ Ok inventory → IsErr result × IsErrAnd result (λ (q : Stop). q ≡ stop) →
+      EndsEarly port start (record { inventory = inventory; behind = before }) stop out new → LivesTo port bytes start before result (change j x x) out new
+  early_lives (Ok u) stop inventory j x out new read is early = absurd (let no = is.0 in cc)
+  early_lives (Err q) stop inventory j x out new read is early = subst (λ (u : Stop). LivesTo port bytes start before (Err u) (change j x x) out new) (sym is.1) (by_stop stop early) where
+    by_stop : (u : Stop) → EndsEarly port start (record { inventory = inventory; behind = before }) u out new → LivesTo port bytes start before (Err u) (change j x x) out new
+    by_stop stops.Memory h = inr (inventory, read, inl (h, refl))
+    by_stop stops.Write h = (inventory, read, inl (h, refl))
+    by_stop stops.TooLong h = (inventory, read, inl (h, refl))
+    by_stop (stops.Broker name) h = (inventory, read, inl (h, refl))
     by_stop stops.Read h = absurd h
     by_stop (stops.Inventory fault) h = absurd h
     by_stop (stops.Moments fault) h = absurd h
@@ -141,13 +134,13 @@ module _ (port : ℕ) (bytes : List ℕ) (start : ℕ) (before : Option Behind) 
 
   -- it listened
   pub listened_lives :
-      (now : ℕ) (inventory : Inventory) (cs : List (List ℕ)) (keeper : State) (middle : Option Behind) (a b c : Option (List ℕ)) (n m l : ℕ) (p q r k : Bool) (result : Result (Unit {0}) Stop) (final : World) (fed : Fed) → read_inventory bytes ≡ Ok inventory → now ≡ port →
-      IsOpened port start (record { inventory = inventory; behind = before }) cs keeper middle (sent_by a b n m p q k) → Listens now cs (both keeper middle) result final fed (sent_by b c m l q r k) →
-      LivesTo port bytes start before result fed (sent_by a c n l p r k) final.behind
-  listened_lives now inventory cs keeper middle a b c n m l p q r k result final fed read same o listens = by_result result has where
-    has : HasListened port start (record { inventory = inventory; behind = before }) result final fed (sent_by a c n l p r k)
+      (now : ℕ) (inventory : Inventory) (cs : List (List ℕ)) (keeper : State) (middle : Option Behind) (a b c : Seen) (k : Bool) (result : Result (Unit {0}) Stop) (final : World) (fed : Change) → read_inventory bytes ≡ Ok inventory → now ≡ port →
+      IsOpened port start (record { inventory = inventory; behind = before }) cs keeper middle (change k a b) → Listens now cs (both keeper middle) result final fed (change k b c) →
+      LivesTo port bytes start before result fed (change k a c) final.behind
+  listened_lives now inventory cs keeper middle a b c k result final fed read same o listens = by_result result has where
+    has : HasListened port start (record { inventory = inventory; behind = before }) result final fed (change k a c)
     has =
-        let h : Listens port inventory.credentials (both keeper middle) result final fed (sent_by b c m l q r k) = as_begun same o.same (λ x ds. Listens x ds (both keeper middle) result final fed (sent_by b c m l q r k)) listens in
+        let h : Listens port inventory.credentials (both keeper middle) result final fed (change k b c) = as_begun same o.same (λ x ds. Listens x ds (both keeper middle) result final fed (change k b c)) listens in
         record {
           read = h.read;
           consumed = h.consumed;
@@ -159,10 +152,10 @@ module _ (port : ℕ) (bytes : List ℕ) (start : ℕ) (before : Option Behind) 
           mid = h.mid;
           text = o.text ++ h.text;
           run = record { opening = both keeper middle; before = o.text; opened = o.opened; spoken = h.text; heard = h.heard.heard; text_is = refl };
-          ends = listens_to port inventory.credentials h.read (length h.lines + 1) h.mid h.behind o.text h.text final fed a b c n m l p q r k o.sent.0 o.kept result h.ends;
+          ends = listens_to port inventory.credentials h.read (length h.lines + 1) h.mid h.behind o.text h.text final fed a b c k o.sent.0 o.kept result h.ends;
         }
 
-    by_result : (u : Result (Unit {0}) Stop) → HasListened port start (record { inventory = inventory; behind = before }) u final fed (sent_by a c n l p r k) → LivesTo port bytes start before u fed (sent_by a c n l p r k) final.behind
+    by_result : (u : Result (Unit {0}) Stop) → HasListened port start (record { inventory = inventory; behind = before }) u final fed (change k a c) → LivesTo port bytes start before u fed (change k a c) final.behind
     by_result (Ok u) h = (inventory, read, (final, h, refl))
     by_result (Err stops.Memory) h = inr (inventory, read, inr (final, h, refl))
     by_result (Err stops.Write) h = (inventory, read, inr (final, h, refl))
@@ -176,11 +169,11 @@ module _ (port : ℕ) (bytes : List ℕ) (start : ℕ) (before : Option Behind) 
 
   -- ---- by exit
 
-  pub done_runs : (fed : Fed) (out : Sent) (new : Option Behind) (e : Option (List ℕ)) (n : ℕ) (p k : Bool) → LivesTo port bytes start before (Ok tt) fed out new → LiveRun port bytes start before exits.Done fed out (sent_by e e n n p p k) new
-  done_runs fed out new e n p k lives = (lives, untouched e n p k)
+  pub done_runs : (fed : Change) (out : Change) (new : Option Behind) (e : Seen) (k : Bool) → LivesTo port bytes start before (Ok tt) fed out new → LiveRun port bytes start before exits.Done fed out (change k e e) new
+  done_runs fed out new e k lives = (lives, refl)
 
   pub stopped_runs :
-      (stop : Stop) (exit : Exit) (fed : Fed) (out errors : Sent) (new : Option Behind) → exit ≡ exit_of stop → LivesTo port bytes start before (Err stop) fed out new → Reports (fault_line (codes "leasekeep") stop) errors →
+      (stop : Stop) (exit : Exit) (fed : Change) (out errors : Change) (new : Option Behind) → exit ≡ exit_of stop → LivesTo port bytes start before (Err stop) fed out new → Reports (fault_line (codes "leasekeep") stop) errors →
       LiveRun port bytes start before exit fed out errors new
   stopped_runs stop exit fed out errors new is lives told = subst (λ (e : Exit). LiveRun port bytes start before e fed out errors new) (sym is) (by_stop stop lives told) where
     by_stop : (u : Stop) → LivesTo port bytes start before (Err u) fed out new → Reports (fault_line (codes "leasekeep") u) errors → LiveRun port bytes start before (exit_of u) fed out errors new

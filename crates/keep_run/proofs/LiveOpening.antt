@@ -3,6 +3,7 @@ use Rattle.std.proofs.Common.{◌≡◌, ℕ, ◌⊎◌, inl, inr, Bool, List, [
 use Rattle.std.specs.Io.KnownBytes.{Appends}
 use Rattle.std.specs.Result.{IfErr, IsErr, IsErrAnd}
 use Rattle.std.proofs.lemmas.List.{append-nil}
+use Rattle.keep_device.specs.Seen.{Change, Seen, change}
 use Rattle.keep_core.proofs.Shaped.{replanned, same}
 use Rattle.keep_core.specs.Replan.{Replan, ReplanTooLong}
 use Rattle.keep_core.specs.State.{State, unplanned}
@@ -12,20 +13,20 @@ use Rattle.keep_exchange.specs.Exchanges.{Behind}
 use Rattle.keep_inventory.specs.Inventories.{Inventory}
 use Rattle.keep_report.specs.declared.stop.Stop.{Stop}
 use Rattle.keep_report.specs.declared.stop.Stop.TheVariants as stops
-use Rattle.keep_report.specs.Sent.{IsAll, Sends, Sent}
+use Rattle.keep_report.specs.Sent.{IsAll, Sends}
 use Rattle.keep_run.specs.Closed.{taken}
 use Rattle.keep_run.specs.LiveRun.{EndsEarly, IsLiveOpening, IsOpened}
 use Rattle.keep_run.specs.Looking.{Looked, LooksAll, LooksAllUp, first, looked_text}
 use Rattle.keep_run.specs.Stops.{both}
 use Rattle.keep_run.specs.Text.{short_lines}
-use Rattle.keep_run.proofs.LookedUp.{left_alone, said_appends, same_credentials, sent_by}
+use Rattle.keep_run.proofs.LookedUp.{left_alone, said_appends, same_credentials}
 use Rattle.keep_run.proofs.Texts.{same_shorts}
 use Rattle.keep_run.proofs.Written.{appends_then, front_then, whole_front}
 use Rattle.keep_tree.specs.Forest.{Forest}
 
 -- ---- a lookup that stops it
 
-pub looking_early : (port t : ℕ) (old : Looked) (stop : Stop) (out : Sent) (inventory : Inventory) (new : Option Behind) → LooksAllUp port t old (Err stop) out inventory new → EndsEarly port t old stop out new
+pub looking_early : (port t : ℕ) (old : Looked) (stop : Stop) (out : Change) (inventory : Inventory) (new : Option Behind) → LooksAllUp port t old (Err stop) out inventory new → EndsEarly port t old stop out new
 looking_early port t old (stops.Broker name) out inventory new h = h
 looking_early port t old stops.Write out inventory new h = (h.4, inl (h.0, h.1, h.2, h.3))
 looking_early port t old stops.Memory out inventory new h = inl h
@@ -38,23 +39,23 @@ looking_early port t old (stops.Line n) out inventory new h = absurd h
 
 -- ---- behind all lookups
 
-module _ (port t : ℕ) (old : Looked) (inventory : Inventory) (middle : Option Behind) (a b c : Option (List ℕ)) (n m l : ℕ) (p q r k : Bool) (all : LooksAll port t old (sent_by a b n m p q k) inventory middle) where
+module _ (port t : ℕ) (old : Looked) (inventory : Inventory) (middle : Option Behind) (a b c : Seen) (k : Bool) (all : LooksAll port t old (change k a b) inventory middle) where
   abbrev lines : List ℕ
   lines = looked_text inventory (first (length old.inventory.forest.entries))
 
-  written : Appends a b lines
-  written = said_appends (looked_text inventory (first (length old.inventory.forest.entries))) (sent_by a b n m p q k) all.said
+  written : Appends a.output.written b.output.written lines
+  written = said_appends (looked_text inventory (first (length old.inventory.forest.entries))) (change k a b) all.said
 
   -- memory was wanting before the lines of the opening were sent
-  pub memory_early : EndsEarly port t old stops.Memory (sent_by a b n m p q k) middle
+  pub memory_early : EndsEarly port t old stops.Memory (change k a b) middle
   memory_early = inl (
     length old.inventory.forest.entries,
     record { inventory = inventory; behind = middle },
-    record { within = omega arith; looked = all.looked; front = subst (AppendsFront a b) (append-nil lines) (whole_front a b lines [] written) },
+    record { within = omega arith; looked = all.looked; front = subst (AppendsFront a.output.written b.output.written) (append-nil lines) (whole_front a.output.written b.output.written lines [] written) },
     left_alone port middle t inventory (length old.inventory.forest.entries) middle refl,
   )
 
-  pub long_early : ReplanTooLong inventory.forest t → EndsEarly port t old stops.TooLong (sent_by a b n m p q k) middle
+  pub long_early : ReplanTooLong inventory.forest t → EndsEarly port t old stops.TooLong (change k a b) middle
   long_early long = record { looked = record { inventory = inventory; behind = middle }; all = all.looked; long = long; said = all.said; left = refl }
 
   opening : (keeper : State) (shorts : List ℕ) → Replan (unplanned inventory.forest) t keeper → shorts ≡ short_lines keeper.forest keeper.shortened → IsLiveOpening port t old (both (taken keeper) middle) (lines ++ shorts)
@@ -68,12 +69,12 @@ module _ (port t : ℕ) (old : Looked) (inventory : Inventory) (middle : Option 
   }
 
   pub unsent_early :
-      (keeper : State) (shorts : List ℕ) (stop : Stop) → Replan (unplanned inventory.forest) t keeper → shorts ≡ short_lines keeper.forest keeper.shortened → Sends (Err stop) shorts (sent_by b c m l q r k) →
-      EndsEarly port t old stop (sent_by a c n l p r k) middle
+      (keeper : State) (shorts : List ℕ) (stop : Stop) → Replan (unplanned inventory.forest) t keeper → shorts ≡ short_lines keeper.forest keeper.shortened → Sends (Err stop) shorts (change k b c) →
+      EndsEarly port t old stop (change k a c) middle
   unsent_early keeper shorts stops.Write planned is sends =
-      (subst (λ x. HasFailed x l) all.kept sends.0, inr (both (taken keeper) middle, lines ++ shorts, opening keeper shorts planned is, front_then a b c lines shorts written sends.1, refl))
+      (subst (λ x. HasFailed x c.failed_calls) all.kept sends.0, inr (both (taken keeper) middle, lines ++ shorts, opening keeper shorts planned is, front_then _ _ _ lines shorts written sends.1, refl))
   unsent_early keeper shorts stops.Memory planned is sends =
-      inr (both (taken keeper) middle, lines ++ shorts, opening keeper shorts planned is, front_then a b c lines shorts written sends.1, refl)
+      inr (both (taken keeper) middle, lines ++ shorts, opening keeper shorts planned is, front_then _ _ _ lines shorts written sends.1, refl)
   unsent_early keeper shorts stops.TooLong planned is sends = absurd sends
   unsent_early keeper shorts stops.Read planned is sends = absurd sends
   unsent_early keeper shorts (stops.Inventory fault) planned is sends = absurd sends
@@ -83,39 +84,39 @@ module _ (port t : ℕ) (old : Looked) (inventory : Inventory) (middle : Option 
   unsent_early keeper shorts (stops.Line x) planned is sends = absurd sends
 
   pub opened :
-      (keeper : State) (shorts : List ℕ) → Replan (unplanned inventory.forest) t keeper → shorts ≡ short_lines keeper.forest keeper.shortened → IsAll shorts (sent_by b c m l q r k) → l ≡ m →
-      IsOpened port t old inventory.credentials (taken keeper) middle (sent_by a c n l p r k)
+      (keeper : State) (shorts : List ℕ) → Replan (unplanned inventory.forest) t keeper → shorts ≡ short_lines keeper.forest keeper.shortened → IsAll shorts (change k b c) → c.failed_calls ≡ b.failed_calls →
+      IsOpened port t old inventory.credentials (taken keeper) middle (change k a c)
   opened keeper shorts planned is sends more = record {
     same = same_credentials port t old (first (length old.inventory.forest.entries)) (record { inventory = inventory; behind = middle }) all.looked;
     text = lines ++ shorts;
     opened = opening keeper shorts planned is;
-    sent = (appends_then a b c lines shorts written sends.0, sends.1);
+    sent = (appends_then _ _ _ lines shorts written sends.0, sends.1);
     kept = more ∙ all.kept;
   }
 
 -- ---- by the names that the code has
 
-module _ (port t : ℕ) (old : Looked) (inventory : Inventory) (middle : Option Behind) (a b c : Option (List ℕ)) (n m l : ℕ) (p q r k : Bool) (all : LooksAll port t old (sent_by a b n m p q k) inventory middle) where
-  pub memory_ends : (stop : Stop) → stop ≡ stops.Memory → EndsEarly port t old stop (sent_by a b n m p q k) middle
-  memory_ends stop is = subst (λ (u : Stop). EndsEarly port t old u (sent_by a b n m p q k) middle) (sym is) (memory_early port t old inventory middle a b b n m m p q q k all)
+module _ (port t : ℕ) (old : Looked) (inventory : Inventory) (middle : Option Behind) (a b c : Seen) (k : Bool) (all : LooksAll port t old (change k a b) inventory middle) where
+  pub memory_ends : (stop : Stop) → stop ≡ stops.Memory → EndsEarly port t old stop (change k a b) middle
+  memory_ends stop is = subst (λ (u : Stop). EndsEarly port t old u (change k a b) middle) (sym is) (memory_early port t old inventory middle a b b k all)
 
-  pub planning_ends : (g : Forest) (stop : Stop) → g ≡ inventory.forest → (stop ≡ stops.Memory) ⊎ ((stop ≡ stops.TooLong) × ReplanTooLong g t) → EndsEarly port t old stop (sent_by a b n m p q k) middle
+  pub planning_ends : (g : Forest) (stop : Stop) → g ≡ inventory.forest → (stop ≡ stops.Memory) ⊎ ((stop ≡ stops.TooLong) × ReplanTooLong g t) → EndsEarly port t old stop (change k a b) middle
   planning_ends g stop is (inl memory) = memory_ends stop memory
   planning_ends g stop is (inr long) =
-      subst (λ (u : Stop). EndsEarly port t old u (sent_by a b n m p q k) middle) (sym long.0) (long_early port t old inventory middle a b b n m m p q q k all (subst (λ h. ReplanTooLong h t) is long.1))
+      subst (λ (u : Stop). EndsEarly port t old u (change k a b) middle) (sym long.0) (long_early port t old inventory middle a b b k all (subst (λ h. ReplanTooLong h t) is long.1))
 
   pub sending_ends :
-      (g : Forest) (keeper : State) (shorts : List ℕ) (stop : Stop) → g ≡ inventory.forest → Replan (unplanned g) t keeper → shorts ≡ short_lines keeper.forest keeper.shortened → Sends (Err stop) shorts (sent_by b c m l q r k) →
-      EndsEarly port t old stop (sent_by a c n l p r k) middle
-  sending_ends g keeper shorts stop is planned are sends = unsent_early port t old inventory middle a b c n m l p q r k all keeper shorts stop (subst (λ h. Replan (unplanned h) t keeper) is planned) are sends
+      (g : Forest) (keeper : State) (shorts : List ℕ) (stop : Stop) → g ≡ inventory.forest → Replan (unplanned g) t keeper → shorts ≡ short_lines keeper.forest keeper.shortened → Sends (Err stop) shorts (change k b c) →
+      EndsEarly port t old stop (change k a c) middle
+  sending_ends g keeper shorts stop is planned are sends = unsent_early port t old inventory middle a b c k all keeper shorts stop (subst (λ h. Replan (unplanned h) t keeper) is planned) are sends
 
   pub opens :
       (g : Forest) (cs : List (List ℕ)) (keeper now : State) (shorts : List ℕ) → g ≡ inventory.forest → cs ≡ inventory.credentials → Replan (unplanned g) t keeper → now ≡ taken keeper → shorts ≡ short_lines keeper.forest keeper.shortened →
-      IsAll shorts (sent_by b c m l q r k) → l ≡ m → IsOpened port t old cs now middle (sent_by a c n l p r k)
+      IsAll shorts (change k b c) → c.failed_calls ≡ b.failed_calls → IsOpened port t old cs now middle (change k a c)
   opens g cs keeper now shorts is_g is_cs planned is_now are sends more =
-      subst (λ u. IsOpened port t old u now middle (sent_by a c n l p r k)) (sym is_cs)
-      (subst (λ (v : State). IsOpened port t old inventory.credentials v middle (sent_by a c n l p r k)) (sym is_now)
-      (opened port t old inventory middle a b c n m l p q r k all keeper shorts (subst (λ h. Replan (unplanned h) t keeper) is_g planned) are sends more))
+      subst (λ u. IsOpened port t old u now middle (change k a c)) (sym is_cs)
+      (subst (λ (v : State). IsOpened port t old inventory.credentials v middle (change k a c)) (sym is_now)
+      (opened port t old inventory middle a b c k all keeper shorts (subst (λ h. Replan (unplanned h) t keeper) is_g planned) are sends more))
 
 -- ---- what a call gives that stops it
 

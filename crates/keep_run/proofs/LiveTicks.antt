@@ -1,6 +1,7 @@
 -- LiveTicks: what an event line comes to over an exchange, from what the calls of its code say.
 use Rattle.std.proofs.Common.{◌≡◌, ℕ, inl, inr, false, cond, List, [], ◌∷◌, ◌++◌, Option, None, OnOk, Result, Ok, Err, refl, sym, ap, ◌∙◌, subst, flat_map, map}
 use Rattle.std.proofs.lemmas.List.{append-nil, append_assoc}
+use Rattle.keep_device.specs.Seen.{Change}
 use Rattle.keep_core.specs.declared.event.Event.TheVariants as events
 use Rattle.keep_core.specs.declared.event.Event.TheVariants.{Tick}
 use Rattle.keep_core.specs.declared.event.Output.{Output}
@@ -13,7 +14,6 @@ use Rattle.keep_core.specs.State.{State}
 use Rattle.keep_exchange.specs.Exchanges.{Behind}
 use Rattle.keep_inventory.specs.Inventories.{Inventory}
 use Rattle.keep_report.specs.declared.stop.Stop.{Stop}
-use Rattle.keep_report.specs.Sent.{Sent}
 use Rattle.keep_run.specs.Closed.{AreAnswered, Beat, Exchanged, IsBeat, World, asked_in, asks_some, closing, taken}
 use Rattle.keep_run.specs.Hearing.{IsReady, IsUnderWay, TicksLive, TicksSoFar, TicksUpTo, last_line, next_line, tick_text}
 use Rattle.keep_run.specs.declared.live.event_line.Heard.TheVariants.{Need}
@@ -172,7 +172,7 @@ on_ok (Ok x) p = p
 on_ok (Err e) p = tt
 
 pub round_as :
-    (port : ℕ) (cs : List (List ℕ)) (t : ℕ) (old new : World) (lent asked : List ℕ) (result : Result (Option ℕ) Stop) (out : Sent) → lent ≡ asked → TellsRound port cs t old lent result new out → TellsRound port cs t old asked result new out
+    (port : ℕ) (cs : List (List ℕ)) (t : ℕ) (old new : World) (lent asked : List ℕ) (result : Result (Option ℕ) Stop) (out : Change) → lent ≡ asked → TellsRound port cs t old lent result new out → TellsRound port cs t old asked result new out
 round_as port cs t old new lent asked result out same h = subst (λ (is : List ℕ). TellsRound port cs t old is result new out) same h
 
 -- why the keeper refuses a need, as the stop of a run

@@ -7,6 +7,7 @@ use Rattle.std.specs.Io.KnownBytes.{Appends}
 use Rattle.std.proofs.KnownBytes.{Appends-kept, Keeps-refl, Keeps-trans}
 use Rattle.std.proofs.lemmas.List.{append-nil, length-set}
 use Rattle.std.proofs.lemmas.Grind.{flat_map-append}
+use Rattle.keep_device.specs.Seen.{Change, Seen, change}
 use Rattle.keep_device.specs.Failures.{HasFailed}
 use Rattle.keep_device.specs.Front.{AppendsFront}
 use Rattle.keep_exchange.specs.Exchanges.{Behind}
@@ -15,10 +16,10 @@ use Rattle.keep_inventory.specs.Lookup.{lookup_fault, told}
 use Rattle.keep_inventory.specs.Inventories.{Inventory}
 use Rattle.keep_report.specs.declared.stop.Stop.{Stop}
 use Rattle.keep_report.specs.declared.stop.Stop.TheVariants as stops
-use Rattle.keep_report.specs.Sent.{IsUntouched, Sent}
+use Rattle.keep_report.specs.Sent.{IsUntouched}
 use Rattle.keep_run.specs.Hearing.{entry_line}
 use Rattle.keep_run.specs.Looking.{Applies, AreLookedUp, IsCut, IsSaid, Looked, LooksAllUp, LooksOneUp, first, looked_line, looked_text}
-use Rattle.keep_run.proofs.Written.{appends_then, front_then, keeps_appends, whole_front}
+use Rattle.keep_run.proofs.Written.{appends_then, front_then, untouched_appends, whole_front}
 use Rattle.keep_tree.specs.declared.entry.Entry.{Entry}
 use Rattle.keep_tree.specs.Forest.{entry_at}
 use Rattle.keep_tree.proofs.Entries.{entry_at_set_other}
@@ -100,20 +101,12 @@ no_text s = refl
 
 -- ---- what a device was sent
 
--- between two of its states, by what is known of each
-abbrev pub sent_by : Option (List ℕ) → Option (List ℕ) → ℕ → ℕ → Bool → Bool → Bool → Sent
-sent_by a b n m p q k = record { old = a; new = b; failed_before = n; failed_after = m; flushed_before = p; flushed = q; is_in_memory = k }
-
-pub untouched : (a : Option (List ℕ)) (n : ℕ) (p k : Bool) → IsUntouched (sent_by a a n n p p k)
-untouched a n p k = (Keeps-refl a, refl, refl)
-
-pub said_appends : (x : List ℕ) (out : Sent) → IsSaid x out → Appends out.old out.new x
+pub said_appends : (x : List ℕ) (out : Change) → IsSaid x out → Appends out.old.output.written out.new.output.written x
 said_appends x out (inl all) = all.0
-said_appends x out (inr none) = subst (Appends out.old out.new) (sym none.0) (keeps_appends out.old out.new none.1.0)
+said_appends x out (inr none) = subst (Appends out.old.output.written out.new.output.written) (sym none.0) (untouched_appends out none.1)
 
-said_still : (a b c : Option (List ℕ)) (n m l : ℕ) (p q r k : Bool) (x : List ℕ) → IsSaid x (sent_by a b n m p q k) → IsUntouched (sent_by b c m l q r k) → IsSaid x (sent_by a c n l p r k)
-said_still a b c n m l p q r k x (inl all) none = inl (Appends-kept a b c x all.0 none.0, subst IsTrue (sym none.2) all.1)
-said_still a b c n m l p q r k x (inr first) none = inr (first.0, (Keeps-trans a b c first.1.0 none.0, none.1 ∙ first.1.1, none.2 ∙ first.1.2))
+said_still : (a b c : Seen) (k : Bool) (x : List ℕ) → IsSaid x (change k a b) → IsUntouched (change k b c) → IsSaid x (change k a c)
+said_still a b c k x said none = subst (λ (s : Seen). IsSaid x (change k a s)) (sym none) said
 
 -- ---- one entry
 
@@ -124,17 +117,17 @@ left_alone port (Some b) t s i new same = inl same
 -- ---- the loop
 
 -- the first n entries were looked up, and their lines written and flushed
-pub record Looking (port t : ℕ) (old : Looked) (n : ℕ) (now : Inventory) (behind : Option Behind) (out : Sent) : Type 0 where
+pub record Looking (port t : ℕ) (old : Looked) (n : ℕ) (now : Inventory) (behind : Option Behind) (out : Change) : Type 0 where
   pub within : n ≤ length old.inventory.forest.entries
   pub count : length now.forest.entries ≡ length old.inventory.forest.entries
   pub looked : AreLookedUp port t old (first n) (record { inventory = now; behind = behind })
   pub said : IsSaid (looked_text now (first n)) out
-  pub kept : out.failed_after ≡ out.failed_before
+  pub kept : out.new.failed_calls ≡ out.old.failed_calls
 
-pub looking_first : (port t : ℕ) (old : Looked) (a : Option (List ℕ)) (n : ℕ) (p k : Bool) → Looking port t old 0 old.inventory old.behind (sent_by a a n n p p k)
-looking_first port t old a n p k = record { within = omega arith; count = refl; looked = refl; said = inr (no_text old.inventory, untouched a n p k); kept = refl }
+pub looking_first : (port t : ℕ) (old : Looked) (a : Seen) (k : Bool) → Looking port t old 0 old.inventory old.behind (change k a a)
+looking_first port t old a k = record { within = omega arith; count = refl; looked = refl; said = inr (no_text old.inventory, refl); kept = refl }
 
-module _ (port t : ℕ) (old : Looked) (i : ℕ) (mid : Inventory) (middle : Option Behind) (a b c : Option (List ℕ)) (n m l : ℕ) (p q r k : Bool) (g : Looking port t old i mid middle (sent_by a b n m p q k))
+module _ (port t : ℕ) (old : Looked) (i : ℕ) (mid : Inventory) (middle : Option Behind) (a b c : Seen) (k : Bool) (g : Looking port t old i mid middle (change k a b))
     (below : i < length mid.forest.entries) where
   abbrev now : Looked
   now = record { inventory = mid; behind = middle }
@@ -148,48 +141,48 @@ module _ (port t : ℕ) (old : Looked) (i : ℕ) (mid : Inventory) (middle : Opt
   text_on new after one = text_more new i ∙ ap (λ x. x ++ looked_line new i) (stays_text mid i new (told_by port t now i new after one))
 
   pub more :
-      (new : Inventory) (after : Option Behind) → LooksOneUp port t now i (Ok tt) (sent_by b c m l q r k) new after → Looking port t old (i + 1) new after (sent_by a c n l p r k)
+      (new : Inventory) (after : Option Behind) → LooksOneUp port t now i (Ok tt) (change k b c) new after → Looking port t old (i + 1) new after (change k a c)
   more new after one = record {
     within = (let e = g.count in omega arith);
     count = (told_by port t now i new after one.0).count ∙ g.count;
     looked = looked_on new after one.0;
     said = inl (
-      subst (Appends a c) (sym (text_on new after one.0)) (appends_then a b c (looked_text mid (first i)) (looked_line new i) (said_appends (looked_text mid (first i)) (sent_by a b n m p q k) g.said) one.1.0),
+      subst (Appends a.output.written c.output.written) (sym (text_on new after one.0)) (appends_then _ _ _ (looked_text mid (first i)) (looked_line new i) (said_appends (looked_text mid (first i)) (change k a b) g.said) one.1.0),
       one.1.1,
     );
     kept = one.2 ∙ g.kept;
   }
 
-  all_said : Appends a b (looked_text mid (first i))
-  all_said = said_appends (looked_text mid (first i)) (sent_by a b n m p q k) g.said
+  all_said : Appends a.output.written b.output.written (looked_text mid (first i))
+  all_said = said_appends (looked_text mid (first i)) (change k a b) g.said
 
-  cut_here : Appends b c [] → IsCut port t old now i (sent_by a c n l p r k)
+  cut_here : Appends b.output.written c.output.written [] → IsCut port t old now i (change k a c)
   cut_here none = record {
     within = g.within;
     looked = g.looked;
-    front = subst (AppendsFront a c) (append-nil (looked_text mid (first i))) (whole_front a c (looked_text mid (first i)) [] (subst (Appends a c) (append-nil (looked_text mid (first i))) (appends_then a b c (looked_text mid (first i)) [] all_said none)));
+    front = subst (AppendsFront a.output.written c.output.written) (append-nil (looked_text mid (first i))) (whole_front a.output.written c.output.written (looked_text mid (first i)) [] (subst (Appends a.output.written c.output.written) (append-nil (looked_text mid (first i))) (appends_then _ _ _ (looked_text mid (first i)) [] all_said none)));
   }
 
-  cut_next : (new : Inventory) (after : Option Behind) → Applies port t now i new after → AppendsFront b c (looked_line new i) → IsCut port t old (record { inventory = new; behind = after }) (i + 1) (sent_by a c n l p r k)
+  cut_next : (new : Inventory) (after : Option Behind) → Applies port t now i new after → AppendsFront b.output.written c.output.written (looked_line new i) → IsCut port t old (record { inventory = new; behind = after }) (i + 1) (change k a c)
   cut_next new after one front = record {
     within = (let e = g.count in omega arith);
     looked = looked_on new after one;
-    front = subst (AppendsFront a c) (sym (text_on new after one)) (front_then a b c (looked_text mid (first i)) (looked_line new i) all_said front);
+    front = subst (AppendsFront a.output.written c.output.written) (sym (text_on new after one)) (front_then _ _ _ (looked_text mid (first i)) (looked_line new i) all_said front);
   }
 
   pub ends :
-      (stop : Stop) (new : Inventory) (after : Option Behind) → LooksOneUp port t now i (Err stop) (sent_by b c m l q r k) new after → LooksAllUp port t old (Err stop) (sent_by a c n l p r k) new after
+      (stop : Stop) (new : Inventory) (after : Option Behind) → LooksOneUp port t now i (Err stop) (change k b c) new after → LooksAllUp port t old (Err stop) (change k a c) new after
   ends (stops.Broker name) new after one = record {
     n = i;
     within = (let e = g.count in omega arith);
     now = now;
     looked = g.looked;
-    said = said_still a b c n m l p q r k (looked_text mid (first i)) g.said one.2;
+    said = said_still a b c k (looked_text mid (first i)) g.said one.2;
     name_is = one.0;
     unapplied = one.1;
   }
-  ends stops.Write new after one = (i + 1, record { inventory = new; behind = after }, cut_next new after one.0 one.2, refl, subst (λ x. HasFailed x l) g.kept one.1)
-  ends stops.Memory new after (inl one) = (i, now, cut_here (keeps_appends b c one.0.0), one.1)
+  ends stops.Write new after one = (i + 1, record { inventory = new; behind = after }, cut_next new after one.0 one.2, refl, subst (λ x. HasFailed x c.failed_calls) g.kept one.1)
+  ends stops.Memory new after (inl one) = (i, now, cut_here (untouched_appends (change k b c) one.0), one.1)
   ends stops.Memory new after (inr one) = (i + 1, record { inventory = new; behind = after }, cut_next new after one.0 one.1, left_alone port after t new (i + 1) after refl)
   ends stops.TooLong new after one = absurd one
   ends stops.Read new after one = absurd one
@@ -199,9 +192,9 @@ module _ (port t : ℕ) (old : Looked) (i : ℕ) (mid : Inventory) (middle : Opt
   ends (stops.Line x) new after one = absurd one
 
 pub looking_stops :
-    (port t : ℕ) (old : Looked) (i : ℕ) (mid : Inventory) (middle : Option Behind) (a b c : Option (List ℕ)) (n m l : ℕ) (p q r k : Bool) (new : Inventory) (after : Option Behind) (result : Result (Unit {0}) Stop) (stop : Stop) →
-    IsErr result × IsErrAnd result (λ (u : Stop). u ≡ stop) → Looking port t old i mid middle (sent_by a b n m p q k) → i < length mid.forest.entries →
-    LooksOneUp port t (record { inventory = mid; behind = middle }) i (Err stop) (sent_by b c m l q r k) new after → LooksAllUp port t old result (sent_by a c n l p r k) new after
-looking_stops port t old i mid middle a b c n m l p q r k new after (Ok u) stop is g below one = absurd (let no = is.0 in cc)
-looking_stops port t old i mid middle a b c n m l p q r k new after (Err u) stop is g below one =
-    subst (λ (v : Stop). LooksAllUp port t old (Err v) (sent_by a c n l p r k) new after) (sym is.1) (ends port t old i mid middle a b c n m l p q r k g below stop new after one)
+    (port t : ℕ) (old : Looked) (i : ℕ) (mid : Inventory) (middle : Option Behind) (a b c : Seen) (k : Bool) (new : Inventory) (after : Option Behind) (result : Result (Unit {0}) Stop) (stop : Stop) →
+    IsErr result × IsErrAnd result (λ (u : Stop). u ≡ stop) → Looking port t old i mid middle (change k a b) → i < length mid.forest.entries →
+    LooksOneUp port t (record { inventory = mid; behind = middle }) i (Err stop) (change k b c) new after → LooksAllUp port t old result (change k a c) new after
+looking_stops port t old i mid middle a b c k new after (Ok u) stop is g below one = absurd (let no = is.0 in cc)
+looking_stops port t old i mid middle a b c k new after (Err u) stop is g below one =
+    subst (λ (v : Stop). LooksAllUp port t old (Err v) (change k a c) new after) (sym is.1) (ends port t old i mid middle a b c k g below stop new after one)

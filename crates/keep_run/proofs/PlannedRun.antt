@@ -2,6 +2,7 @@
 use Rattle.std.proofs.Common.{◌≡◌, ◌∙◌, ℕ, ◌+◌, ◌<◌, ◌≤◌, List, [], ◌++◌, Some, Result, Ok, Err, ap, arith, inl, inr, length, subst, sym}
 use Rattle.std.proofs.lemmas.List.{length-map}
 use Rattle.std.specs.Io.KnownBytes.{Appends}
+use Rattle.keep_device.specs.Seen.{Change}
 use Rattle.keep_moment.specs.declared.moment.TheConstants.{LAST}
 use Rattle.keep_rule.specs.declared.force.Force.{Force}
 use Rattle.keep_rule.specs.Runs.{moments_of}
@@ -15,7 +16,7 @@ use Rattle.keep_inventory.proofs.Inventoried.{inventory_law}
 use Rattle.mini_broker.specs.declared.fault.NumberedFault.{NumberedFault}
 use Rattle.keep_exchange.specs.Exchanges.{Behind}
 use Rattle.keep_report.specs.declared.exit.Exit.TheVariants as exits
-use Rattle.keep_report.specs.Sent.{IsAll, Sent}
+use Rattle.keep_report.specs.Sent.{IsAll}
 use Rattle.keep_run.specs.Closed.{Course, IsClosedRun, World, rounds}
 use Rattle.keep_run.specs.FaultWords.{faults_from, faults_of}
 use Rattle.keep_run.specs.PlannedRehearsal.{IsPlannedRun, PlannedRehearsalLaw}
@@ -40,7 +41,7 @@ no_round n m less most is = omega (arith, less, most, is)
 
 -- the run as it is done
 done_as_planned :
-    (bytes : List ℕ) (inventory : Inventory) (start : ℕ) (p : Planned) (course : Course) (final : World) (out : Sent) (new : Behind) → read_inventory bytes ≡ Ok inventory → start ≤ LAST → Decides inventory.forest start (Keep p) → length (to_come p) ≤ 100000 →
+    (bytes : List ℕ) (inventory : Inventory) (start : ℕ) (p : Planned) (course : Course) (final : World) (out : Change) (new : Behind) → read_inventory bytes ≡ Ok inventory → start ≤ LAST → Decides inventory.forest start (Keep p) → length (to_come p) ≤ 100000 →
     IsClosedRun inventory [] start course final → IsAll (course_text inventory course) out → final.behind ≡ Some new → IsPlannedRun inventory start p out new
 done_as_planned bytes inventory start p course final out new read late decides few run sent left =
     let ts = moments_of (to_come p) in
@@ -54,13 +55,13 @@ done_as_planned bytes inventory start p course final out new read late decides f
       run = run;
       moments = is.0;
       quiet = is.1.1.1;
-      sent = (subst (Appends out.old out.new) text.1 sent.0, sent.1);
+      sent = (subst (Appends out.old.output.written out.new.output.written) text.1 sent.0, sent.1);
       left = left;
     }
 
 -- it does not stop
 not_long :
-    (bytes : List ℕ) (inventory : Inventory) (start : ℕ) (p : Planned) (out : Sent) (behind : Behind) → read_inventory bytes ≡ Ok inventory → start ≤ LAST → Decides inventory.forest start (Keep p) → length (to_come p) ≤ 100000 → RunsLong inventory [] start out behind → ⊥
+    (bytes : List ℕ) (inventory : Inventory) (start : ℕ) (p : Planned) (out : Change) (behind : Behind) → read_inventory bytes ≡ Ok inventory → start ≤ LAST → Decides inventory.forest start (Keep p) → length (to_come p) ≤ 100000 → RunsLong inventory [] start out behind → ⊥
 not_long bytes inventory start p out behind read late decides few (inl long) =
     let ts = moments_of (to_come p) in
     let plan : IsPlanOf inventory.forest start ts = decides.best.least in

@@ -4,6 +4,7 @@ use Rattle.std.proofs.lemmas.List.{append_assoc}
 use Rattle.std.proofs.KnownBytes.{Keeps-refl}
 use Rattle.std.specs.Result.{IsErr, IsErrAnd}
 use Rattle.std.specs.Io.KnownBytes.{Appends}
+use Rattle.keep_device.specs.Seen.{Change, Seen, change}
 use Rattle.keep_device.specs.Front.{AppendsFront}
 use Rattle.keep_inventory.specs.Inventory.{read_inventory}
 use Rattle.keep_inventory.specs.Inventories.{IsInventory, Inventory}
@@ -20,7 +21,7 @@ use Rattle.keep_report.specs.declared.stop.Stop.{Stop}
 use Rattle.keep_report.specs.declared.stop.Stop.TheVariants as stops
 use Rattle.keep_report.specs.Exits.{exit_of}
 use Rattle.keep_report.specs.FaultLine.{fault_line}
-use Rattle.keep_report.specs.Sent.{IsUntouched, Sent}
+use Rattle.keep_report.specs.Sent.{IsUntouched}
 use Rattle.keep_report.specs.Told.{Reports}
 use Rattle.keep_run.specs.Closed.{IsOpening, World, taken}
 use Rattle.keep_run.specs.FaultWords.{SetsFaults, faults_of}
@@ -84,7 +85,7 @@ module _ (inventory : Inventory) (faults : List NumberedFault) (start : ℕ) (k 
 -- ---- the rehearsal
 
 front_written :
-    (bytes : List ℕ) (words : List (List ℕ)) (inventory : Inventory) (faults : List NumberedFault) (start : ℕ) (k : State) (lines : List ℕ) (out : Sent) → IsCalled bytes words inventory faults → (r : Replan (unplanned inventory.forest) start k) →
+    (bytes : List ℕ) (words : List (List ℕ)) (inventory : Inventory) (faults : List NumberedFault) (start : ℕ) (k : State) (lines : List ℕ) (out : Change) → IsCalled bytes words inventory faults → (r : Replan (unplanned inventory.forest) start k) →
     lines ≡ short_lines k.forest k.shortened → PlaysFront (inventory_with inventory.credentials k.forest) (both (taken k) (Some (fresh inventory faults))) start lines out → WritesFront bytes start words out
 front_written bytes words inventory faults start k lines out called r lines_are front = (
   inventory,
@@ -92,11 +93,11 @@ front_written bytes words inventory faults start k lines out called r lines_are 
   called,
   short_lines inventory.forest k.shortened ++ front.0,
   is_run_text inventory faults start k r front.0 front.1,
-  subst (λ l. AppendsFront out.old out.new (l ++ front.0)) (shorts_are inventory faults start k r lines lines_are) front.2,
+  subst (λ l. AppendsFront out.old.output.written out.new.output.written (l ++ front.0)) (shorts_are inventory faults start k r lines lines_are) front.2,
 )
 
 pub rehearsed :
-    (bytes : List ℕ) (words : List (List ℕ)) (inventory : Inventory) (faults : List NumberedFault) (start : ℕ) (k : State) (lines : List ℕ) (result : Result (Unit {0}) Stop) (new : World) (left : Behind) (out : Sent) (old : Behind) →
+    (bytes : List ℕ) (words : List (List ℕ)) (inventory : Inventory) (faults : List NumberedFault) (start : ℕ) (k : State) (lines : List ℕ) (result : Result (Unit {0}) Stop) (new : World) (left : Behind) (out : Change) (old : Behind) →
     IsCalled bytes words inventory faults → (r : Replan (unplanned inventory.forest) start k) → lines ≡ short_lines k.forest k.shortened →
     Plays inventory.credentials (both (taken k) (Some (fresh inventory faults))) start lines result new out → new.behind ≡ Some left → Rehearses bytes start words result out old left
 rehearsed bytes words inventory faults start k lines (Ok u) new left out old called r lines_are p is =
@@ -105,7 +106,7 @@ rehearsed bytes words inventory faults start k lines (Ok u) new left out old cal
     let text = ap (λ l. l ++ (p.lines ++ done_text p.wakes p.asked)) (shorts_are inventory faults start k r lines lines_are)
     ∙ sym (append_assoc (short_lines inventory.forest k.shortened) p.lines (done_text p.wakes p.asked))
     ∙ whole.1.1 in
-    (inventory, faults, called, whole.0, new, whole.1.0, (subst (Appends out.old out.new) text p.sent.0, p.sent.1), is)
+    (inventory, faults, called, whole.0, new, whole.1.0, (subst (Appends out.old.output.written out.new.output.written) text p.sent.0, p.sent.1), is)
 rehearsed bytes words inventory faults start k lines (Err stops.TooLong) new left out old called r lines_are p is =
     let final = both p.keeper new.behind in
     let text = short_lines inventory.forest k.shortened ++ p.lines in (
@@ -116,7 +117,7 @@ rehearsed bytes words inventory faults start k lines (Err stops.TooLong) new lef
         final,
         text,
         record { due = p.due; asked = p.asked; so_far = so_far_of inventory faults start k r final (Some p.due) 100000 p.asked p.lines p.goes; more = p.more },
-        (subst (λ l. Appends out.old out.new (l ++ p.lines)) (shorts_are inventory faults start k r lines lines_are) p.sent.0, p.sent.1),
+        (subst (λ l. Appends out.old.output.written out.new.output.written (l ++ p.lines)) (shorts_are inventory faults start k r lines lines_are) p.sent.0, p.sent.1),
         is,
       ),
     )
@@ -131,7 +132,7 @@ rehearsed bytes words inventory faults start k lines (Err (stops.Line n)) new le
 
 -- ---- by exit
 
-pub run_stopped : (bytes : List ℕ) (start : ℕ) (words : List (List ℕ)) (stop : Stop) (out : Sent) (old new : Behind) → Rehearses bytes start words (Err stop) out old new → RehearseRun bytes start words (exit_of stop) out old new
+pub run_stopped : (bytes : List ℕ) (start : ℕ) (words : List (List ℕ)) (stop : Stop) (out : Change) (old new : Behind) → Rehearses bytes start words (Err stop) out old new → RehearseRun bytes start words (exit_of stop) out old new
 run_stopped bytes start words (stops.Inventory fault) out old new r = (fault, r.0, r.1, r.2)
 run_stopped bytes start words (stops.FaultWord n) out old new r = (r.0, r.1, n, r.2, r.3, r.4)
 run_stopped bytes start words stops.TooLong out old new r = r
@@ -143,7 +144,7 @@ run_stopped bytes start words (stops.Broker name) out old new r = absurd r
 run_stopped bytes start words (stops.Line n) out old new r = absurd r
 
 pub stopped_told :
-    (bytes : List ℕ) (start : ℕ) (words : List (List ℕ)) (stop : Stop) (out errors : Sent) (old new : Behind) → Rehearses bytes start words (Err stop) out old new → Reports (fault_line (codes "leasekeep") stop) errors →
+    (bytes : List ℕ) (start : ℕ) (words : List (List ℕ)) (stop : Stop) (out errors : Change) (old new : Behind) → Rehearses bytes start words (Err stop) out old new → Reports (fault_line (codes "leasekeep") stop) errors →
     RehearseTold bytes words (exit_of stop) errors
 stopped_told bytes start words (stops.Inventory fault) out errors old new r told = (fault, r.0, told)
 stopped_told bytes start words (stops.FaultWord n) out errors old new r told = (n, r.2, told)
@@ -157,21 +158,18 @@ stopped_told bytes start words (stops.Line n) out errors old new r told = absurd
 
 -- ---- what the calls of the code give
 
-untouched : (a : Option (List ℕ)) (n : ℕ) (b : Bool) (m : Bool) → IsUntouched (record { old = a; new = a; failed_before = n; failed_after = n; flushed_before = b; flushed = b; is_in_memory = m })
-untouched a n b m = (Keeps-refl a, refl, refl)
-
 -- the FAULT words are not taken
 pub words_stopped :
-    (bytes : List ℕ) (start : ℕ) (words : List (List ℕ)) (inventory : Inventory) (answer : Result (Unit {0}) Stop) (stop : Stop) (table now : Table) (a : Option (List ℕ)) (n : ℕ) (b m : Bool) (old : Behind) → read_inventory bytes ≡ Ok inventory →
+    (bytes : List ℕ) (start : ℕ) (words : List (List ℕ)) (inventory : Inventory) (answer : Result (Unit {0}) Stop) (stop : Stop) (table now : Table) (a : Seen) (m : Bool) (old : Behind) → read_inventory bytes ≡ Ok inventory →
     IsErr answer × IsErrAnd answer (λ (q : Stop). q ≡ stop) → SetsFaults words table (Err stop) now →
-    Rehearses bytes start words answer (record { old = a; new = a; failed_before = n; failed_after = n; flushed_before = b; flushed = b; is_in_memory = m }) old old
-words_stopped bytes start words inventory (Ok u) stop table now a n b m old read is sets = absurd (let no = is.0 in cc)
-words_stopped bytes start words inventory (Err q) stop table now a n b m old read is sets =
-    subst (λ (x : Stop). Rehearses bytes start words (Err x) (record { old = a; new = a; failed_before = n; failed_after = n; flushed_before = b; flushed = b; is_in_memory = m }) old old) (sym is.1) (by_stop stop sets) where
+    Rehearses bytes start words answer (change m a a) old old
+words_stopped bytes start words inventory (Ok u) stop table now a m old read is sets = absurd (let no = is.0 in cc)
+words_stopped bytes start words inventory (Err q) stop table now a m old read is sets =
+    subst (λ (x : Stop). Rehearses bytes start words (Err x) (change m a a) old old) (sym is.1) (by_stop stop sets) where
       by_stop : (x : Stop) → SetsFaults words table (Err x) now →
-          Rehearses bytes start words (Err x) (record { old = a; new = a; failed_before = n; failed_after = n; flushed_before = b; flushed = b; is_in_memory = m }) old old
-      by_stop (stops.FaultWord k) is' = (inventory, read, is', untouched a n b m, refl)
-      by_stop stops.Memory is' = inl (untouched a n b m)
+          Rehearses bytes start words (Err x) (change m a a) old old
+      by_stop (stops.FaultWord k) is' = (inventory, read, is', refl, refl)
+      by_stop stops.Memory is' = inl (refl)
       by_stop stops.TooLong is' = absurd is'
       by_stop stops.Read is' = absurd is'
       by_stop stops.Write is' = absurd is'
@@ -181,27 +179,27 @@ words_stopped bytes start words inventory (Err q) stop table now a n b m old rea
       by_stop (stops.Line k) is' = absurd is'
 
 pub memory_stopped :
-    (bytes : List ℕ) (start : ℕ) (words : List (List ℕ)) (answer : Result (Unit {0}) Stop) (a : Option (List ℕ)) (n : ℕ) (b m : Bool) (old new : Behind) → IsErr answer × IsErrAnd answer (λ (q : Stop). q ≡ stops.Memory) →
-    Rehearses bytes start words answer (record { old = a; new = a; failed_before = n; failed_after = n; flushed_before = b; flushed = b; is_in_memory = m }) old new
-memory_stopped bytes start words (Ok u) a n b m old new is = absurd (let no = is.0 in cc)
-memory_stopped bytes start words (Err q) a n b m old new is =
-    subst (λ (x : Stop). Rehearses bytes start words (Err x) (record { old = a; new = a; failed_before = n; failed_after = n; flushed_before = b; flushed = b; is_in_memory = m }) old new) (sym is.1) (inl (untouched a n b m))
+    (bytes : List ℕ) (start : ℕ) (words : List (List ℕ)) (answer : Result (Unit {0}) Stop) (a : Seen) (m : Bool) (old new : Behind) → IsErr answer × IsErrAnd answer (λ (q : Stop). q ≡ stops.Memory) →
+    Rehearses bytes start words answer (change m a a) old new
+memory_stopped bytes start words (Ok u) a m old new is = absurd (let no = is.0 in cc)
+memory_stopped bytes start words (Err q) a m old new is =
+    subst (λ (x : Stop). Rehearses bytes start words (Err x) (change m a a) old new) (sym is.1) (inl (refl))
 
 -- the opening is not planned
 pub opening_stopped :
-    (bytes : List ℕ) (start : ℕ) (words : List (List ℕ)) (inventory : Inventory) (faults : List NumberedFault) (g : Forest) (answer : Result (Unit {0}) Stop) (stop : Stop) (a : Option (List ℕ)) (n : ℕ) (b m : Bool) (old new : Behind) →
+    (bytes : List ℕ) (start : ℕ) (words : List (List ℕ)) (inventory : Inventory) (faults : List NumberedFault) (g : Forest) (answer : Result (Unit {0}) Stop) (stop : Stop) (a : Seen) (m : Bool) (old new : Behind) →
     read_inventory bytes ≡ Ok inventory → faults_of words ≡ Ok faults → g ≡ inventory.forest → new ≡ fresh inventory faults → IsErr answer × IsErrAnd answer (λ (q : Stop). q ≡ stop) → (stop ≡ stops.Memory) ⊎ ((stop ≡ stops.TooLong) × ReplanTooLong g start) →
-    Rehearses bytes start words answer (record { old = a; new = a; failed_before = n; failed_after = n; flushed_before = b; flushed = b; is_in_memory = m }) old new
-opening_stopped bytes start words inventory faults g (Ok u) stop a n b m old new read taken' is_g is_new is long = absurd (let no = is.0 in cc)
-opening_stopped bytes start words inventory faults g (Err q) stop a n b m old new read taken' is_g is_new is (inl memory) =
-    subst (λ (x : Stop). Rehearses bytes start words (Err x) (record { old = a; new = a; failed_before = n; failed_after = n; flushed_before = b; flushed = b; is_in_memory = m }) old new) (sym (is.1 ∙ memory)) (inl (untouched a n b m))
-opening_stopped bytes start words inventory faults g (Err q) stop a n b m old new read taken' is_g is_new is (inr long) =
-    subst (λ (x : Stop). Rehearses bytes start words (Err x) (record { old = a; new = a; failed_before = n; failed_after = n; flushed_before = b; flushed = b; is_in_memory = m }) old new) (sym (is.1 ∙ long.0))
-    (inventory, faults, record { read = read; faults_are = taken' }, inl (subst (λ h. ReplanTooLong h start) is_g long.1, untouched a n b m, is_new))
+    Rehearses bytes start words answer (change m a a) old new
+opening_stopped bytes start words inventory faults g (Ok u) stop a m old new read taken' is_g is_new is long = absurd (let no = is.0 in cc)
+opening_stopped bytes start words inventory faults g (Err q) stop a m old new read taken' is_g is_new is (inl memory) =
+    subst (λ (x : Stop). Rehearses bytes start words (Err x) (change m a a) old new) (sym (is.1 ∙ memory)) (inl (refl))
+opening_stopped bytes start words inventory faults g (Err q) stop a m old new read taken' is_g is_new is (inr long) =
+    subst (λ (x : Stop). Rehearses bytes start words (Err x) (change m a a) old new) (sym (is.1 ∙ long.0))
+    (inventory, faults, record { read = read; faults_are = taken' }, inl (subst (λ h. ReplanTooLong h start) is_g long.1, refl, is_new))
 
 -- the run is played
 pub plays_on :
-    (bytes : List ℕ) (words : List (List ℕ)) (inventory : Inventory) (faults : List NumberedFault) (start at : ℕ) (g : Forest) (cs : List (List ℕ)) (k now : State) (behind : Behind) (lines : List ℕ) (result : Result (Unit {0}) Stop) (new : World) (left : Behind) (out : Sent) (old : Behind) →
+    (bytes : List ℕ) (words : List (List ℕ)) (inventory : Inventory) (faults : List NumberedFault) (start at : ℕ) (g : Forest) (cs : List (List ℕ)) (k now : State) (behind : Behind) (lines : List ℕ) (result : Result (Unit {0}) Stop) (new : World) (left : Behind) (out : Change) (old : Behind) →
     read_inventory bytes ≡ Ok inventory → faults_of words ≡ Ok faults → g ≡ inventory.forest → cs ≡ inventory.credentials → behind ≡ fresh inventory faults → Replan (unplanned g) start k → now ≡ taken k → at ≡ start →
     lines ≡ short_lines k.forest k.shortened → Plays cs (both now (Some behind)) at lines result new out → new.behind ≡ Some left → Rehearses bytes start words result out old left
 plays_on bytes words inventory faults start at g cs k now behind lines result new left out old read taken' is_g is_cs is_behind r is_now is_at lines_are plays is =

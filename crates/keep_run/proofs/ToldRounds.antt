@@ -3,6 +3,7 @@ use Rattle.std.proofs.Common.{◌≡◌, ℕ, ◌+◌, ◌<◌, inl, inr, List, 
 use Rattle.std.proofs.KnownBytes.{Appends-kept, Appends-trans}
 use Rattle.std.proofs.lemmas.List.{append_assoc, map-append, take_more}
 use Rattle.std.specs.Io.KnownBytes.{Appends, Keeps}
+use Rattle.keep_device.specs.Seen.{Change, Seen}
 use Rattle.keep_core.specs.LawsOfSteps.{IsShaped}
 use Rattle.keep_core.specs.State.{State}
 use Rattle.keep_core.specs.declared.event.Output.{Output}
@@ -10,7 +11,6 @@ use Rattle.keep_device.specs.Failures.{HasFailed}
 use Rattle.keep_exchange.specs.Exchanges.{Behind}
 use Rattle.keep_report.specs.declared.stop.Stop.{Stop}
 use Rattle.keep_report.specs.declared.stop.Stop.TheVariants as stops
-use Rattle.keep_report.specs.Sent.{Sent}
 use Rattle.keep_run.specs.Closed.{Exchanged, World, told_next}
 use Rattle.keep_run.specs.code.LineByLine.{IsSent}
 use Rattle.keep_run.specs.code.Playing.{Answers, AnswersAll}
@@ -71,7 +71,7 @@ answers_told port cs t old i output new before text a = record {
 -- ---- over an exchange
 
 -- by the names that the loop over the asked has
-module _ (port : ℕ) (cs : List (List ℕ)) (t : ℕ) (o mid : Option Behind) (start now : State) (asked : List ℕ) (k : ℕ) (next : Option ℕ) (a b : Sent) (same : a.new ≡ b.old) (failures : a.failed_after ≡ b.failed_before)
+module _ (port : ℕ) (cs : List (List ℕ)) (t : ℕ) (o mid : Option Behind) (start now : State) (asked : List ℕ) (k : ℕ) (next : Option ℕ) (a b : Change) (same : a.new ≡ b.old)
     (more : k < length asked) (like : IsShaped start.forest now.forest) where
   abbrev pub i : ℕ
   i = get_or asked k 0
@@ -93,7 +93,7 @@ module _ (port : ℕ) (cs : List (List ℕ)) (t : ℕ) (o mid : Option Behind) (
           (subst (λ n. AnswersAll port cs t (both start o) (take k asked ++ i ∷ []) n (both after new) [] (h.0 ++ one.0)) (sym closes)
           (answers_more port cs t (both start o) (both now mid) (both after new) (take k asked) i next output [] h.0 (h.0 ++ one.0) like h.1.0
           (answers_told port cs t (both now mid) i output (both after new) h.0 one.0 one.1.0))),
-      sent_then a b same failures h.0 one.0 h.1.1 one.1.1,
+      sent_then a b same h.0 one.0 h.1.1 one.1.1,
     ),
   )
 
@@ -104,16 +104,16 @@ module _ (port : ℕ) (cs : List (List ℕ)) (t : ℕ) (o mid : Option Behind) (
     own = one.1.0;
     up_to = up_to port cs t (both start o) (both now mid) (both after new) asked (take k asked) i (drop (k + 1) asked) next one.0 h.0 one.1.0 parts like h.1.0 one.1.1.0;
     n = one.1.1.1.0;
-    front = Appends-trans a.old a.new b.new h.0 (take one.1.1.1.0 one.1.0) h.1.1.0.0 (subst (λ (w : Option (List ℕ)). Appends w b.new (take one.1.1.1.0 one.1.0)) (sym same) one.1.1.1.1);
+    front = Appends-trans a.old.output.written a.new.output.written b.new.output.written h.0 (take one.1.1.1.0 one.1.0) h.1.1.0.0 (subst (λ (w : Seen). Appends w.output.written b.new.output.written (take one.1.1.1.0 one.1.0)) (sym same) one.1.1.1.1);
   }
 
-  broken_on : (new : World) → Before → Keeps b.old b.new → IsAskLeft port cs t (both now mid) (i ∷ []) new.behind → IsRoundBroken port cs t (both start o) asked new (joined a b)
+  broken_on : (new : World) → Before → Keeps b.old.output.written b.new.output.written → IsAskLeft port cs t (both now mid) (i ∷ []) new.behind → IsRoundBroken port cs t (both start o) asked new (joined a b)
   broken_on new h none left = record {
     told = h.0;
     mid = both now mid;
     so_far = so_far port cs t (both start o) (both now mid) asked (take k asked) (i ∷ drop (k + 1) asked) next h.0 parts h.1.0;
     left = left;
-    written = Appends-kept a.old a.new b.new h.0 h.1.1.0.0 (subst (λ (w : Option (List ℕ)). Keeps w b.new) (sym same) none);
+    written = Appends-kept a.old.output.written a.new.output.written b.new.output.written h.0 h.1.1.0.0 (subst (λ (w : Seen). Keeps w.output.written b.new.output.written) (sym same) none);
   }
 
   -- why the round stops
@@ -124,7 +124,7 @@ module _ (port : ℕ) (cs : List (List ℕ)) (t : ℕ) (o mid : Option Behind) (
   stopped_on (stops.FaultWord n) new after h one = absurd one
   stopped_on stops.TooLong new after h one = absurd one
   stopped_on stops.Read new after h one = absurd one
-  stopped_on stops.Write new after h one = (subst (λ n. HasFailed n b.failed_after) (sym failures ∙ h.1.1.1) one.0, cut_on new after h one.1)
+  stopped_on stops.Write new after h one = (subst (λ n. HasFailed n b.new.failed_calls) (sym (ap (λ (s : Seen). s.failed_calls) same) ∙ h.1.1.1) one.0, cut_on new after h one.1)
   stopped_on (stops.Broker name) new after h one = absurd one
   stopped_on (stops.Line n) new after h one = absurd one
   stopped_on stops.Memory new after h (inl none) = inl (broken_on (both after new) h none.0 none.1)

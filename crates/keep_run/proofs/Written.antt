@@ -2,9 +2,10 @@
 use Rattle.std.proofs.Common.{◌≡◌, ◌∙◌, ℕ, ◌+◌, ◌*◌, ◌<◌, ◌≤◌, IsTrue, List, [], ◌++◌, Option, Some, None, Result, Ok, Err, ap, arith, inl, inr, length, refl, subst, sym, take}
 use Rattle.std.specs.Result.{IsErr, IsErrAnd}
 use Rattle.std.specs.Io.KnownBytes.{Appends, Keeps}
-use Rattle.std.proofs.KnownBytes.{Appends-kept}
+use Rattle.std.proofs.KnownBytes.{Appends-kept, Appends-nil}
 use Rattle.std.proofs.Math.Seq.{take-append-add, take-append_seam}
 use Rattle.std.proofs.lemmas.List.{append-nil, append_assoc}
+use Rattle.keep_device.specs.Seen.{Change, Seen}
 use Rattle.keep_device.specs.Failures.{Counts, HasFailed, one_more}
 use Rattle.keep_device.specs.Front.{AppendsFront}
 use Rattle.keep_device.specs.declared.fault.SinkFault.{SinkFault}
@@ -18,7 +19,7 @@ use Rattle.keep_report.specs.declared.stop.Stop.{Stop}
 use Rattle.keep_report.specs.declared.stop.Stop.TheVariants as stops
 use Rattle.keep_report.specs.Exits.{stop_of_sink}
 use Rattle.keep_report.proofs.Counting.{failed_once}
-use Rattle.keep_report.specs.Sent.{Sent}
+use Rattle.keep_report.specs.Sent.{IsUntouched}
 use Rattle.keep_run.specs.Closed.{World}
 use Rattle.keep_run.specs.Hearing.{IsReady}
 use Rattle.keep_run.specs.code.Playing.{Comes, Ends, Finishes, Goes, IsText, LastFront, LastPlays, Plays, PlaysFront}
@@ -101,30 +102,30 @@ module _ (cs : List (List ℕ)) (old : World) (start : ℕ) (before : List ℕ) 
   }
 
   -- memory was wanting: what was written stands
-  pub going_stops : (new : World) (out : Sent) → out.old ≡ first → out.new ≡ written → Plays cs old start before (Err stops.Memory) new out
+  pub going_stops : (new : World) (out : Change) → out.old.output.written ≡ first → out.new.output.written ≡ written → Plays cs old start before (Err stops.Memory) new out
   going_stops new out old_is new_is = (
     g.lines,
     so_far (inventory_with cs old.keeper.forest) old now start (Some due) wakes asked g.lines g.goes,
-    subst (λ o. AppendsFront o out.new (before ++ g.lines)) (sym old_is)
+    subst (λ o. AppendsFront o out.new.output.written (before ++ g.lines)) (sym old_is)
         (subst (λ o. AppendsFront first o (before ++ g.lines)) (sym new_is) (subst (AppendsFront first written) (append-nil (before ++ g.lines)) (whole_front first written (before ++ g.lines) [] g.all))),
   )
 
   -- the lines of a wake-up were not written whole
   pub going_unwritten :
-      (answer : Result (Unit {0}) Stop) (fault : SinkFault) (new final : World) (next : Option ℕ) (w a : ℕ) (text : List ℕ) (out : Sent) → IsErr answer × IsErrAnd answer (λ stop. stop ≡ stop_of_sink fault) →
-      Goes (inventory_with cs now.keeper.forest) now (Some due) new next w a text → out.old ≡ first → out.failed_before ≡ failed → AppendsFront written out.new text → Counts {X = Unit {0}} (Err fault) failed_now out.failed_after →
+      (answer : Result (Unit {0}) Stop) (fault : SinkFault) (new final : World) (next : Option ℕ) (w a : ℕ) (text : List ℕ) (out : Change) → IsErr answer × IsErrAnd answer (λ stop. stop ≡ stop_of_sink fault) →
+      Goes (inventory_with cs now.keeper.forest) now (Some due) new next w a text → out.old.output.written ≡ first → out.old.failed_calls ≡ failed → AppendsFront written out.new.output.written text → Counts {X = Unit {0}} (Err fault) failed_now out.new.failed_calls →
       Plays cs old start before answer final out
   unfolding on
   going_unwritten (Ok u) fault new final next w a text out is more old_is failed_is front count = absurd (let no = is.0 in cc)
   going_unwritten (Err stop) sink.Failed new final next w a text out is more old_is failed_is front count =
       subst (λ (q : Stop). Plays cs old start before (Err q) final out) (sym is.1)
-      (failed_once out.failed_before out.failed_after (count ∙ ap one_more (g.count ∙ sym failed_is)), cut) where
+      (failed_once out.old.failed_calls out.new.failed_calls (count ∙ ap one_more (g.count ∙ sym failed_is)), cut) where
         cut : PlaysFront (inventory_with cs old.keeper.forest) old start before out
         cut = (
           g.lines ++ text,
           so_far (inventory_with cs old.keeper.forest) old new start next (wakes + w) (asked + a) (g.lines ++ text) (on new next w a text more),
-          subst (λ o. AppendsFront o out.new (before ++ (g.lines ++ text))) (sym old_is)
-              (subst (AppendsFront first out.new) (append_assoc before g.lines text) (front_then first written out.new (before ++ g.lines) text g.all front)),
+          subst (λ o. AppendsFront o out.new.output.written (before ++ (g.lines ++ text))) (sym old_is)
+              (subst (AppendsFront first out.new.output.written) (append_assoc before g.lines text) (front_then first written out.new.output.written (before ++ g.lines) text g.all front)),
         )
   going_unwritten (Err stop) sink.OutOfMemory new final next w a text out is more old_is failed_is front count =
       subst (λ (q : Stop). Plays cs old start before (Err q) final out) (sym is.1) cut where
@@ -132,8 +133,8 @@ module _ (cs : List (List ℕ)) (old : World) (start : ℕ) (before : List ℕ) 
         cut = (
           g.lines ++ text,
           so_far (inventory_with cs old.keeper.forest) old new start next (wakes + w) (asked + a) (g.lines ++ text) (on new next w a text more),
-          subst (λ o. AppendsFront o out.new (before ++ (g.lines ++ text))) (sym old_is)
-              (subst (AppendsFront first out.new) (append_assoc before g.lines text) (front_then first written out.new (before ++ g.lines) text g.all front)),
+          subst (λ o. AppendsFront o out.new.output.written (before ++ (g.lines ++ text))) (sym old_is)
+              (subst (AppendsFront first out.new.output.written) (append_assoc before g.lines text) (front_then first written out.new.output.written (before ++ g.lines) text g.all front)),
         )
 
 -- ---- the end
@@ -143,33 +144,33 @@ regroup a b c d = append_assoc a b (c ++ d) ∙ ap (λ l. a ++ l) (sym (append_a
 
 -- only a front of what was left was sent
 cut_at :
-    (cs : List (List ℕ)) (old : World) (start : ℕ) (before : List ℕ) (new : World) (w a : ℕ) (front rest : List ℕ) (written : Option (List ℕ)) (last out : Sent) →
-    Goes (inventory_with cs old.keeper.forest) old (Some start) new None w a (front ++ rest) → Appends out.old written (before ++ front) → AppendsFront last.old last.new (rest ++ done_text w a) → last.old ≡ written → last.new ≡ out.new →
+    (cs : List (List ℕ)) (old : World) (start : ℕ) (before : List ℕ) (new : World) (w a : ℕ) (front rest : List ℕ) (written : Option (List ℕ)) (last out : Change) →
+    Goes (inventory_with cs old.keeper.forest) old (Some start) new None w a (front ++ rest) → Appends out.old.output.written written (before ++ front) → AppendsFront last.old.output.written last.new.output.written (rest ++ done_text w a) → last.old.output.written ≡ written → last.new.output.written ≡ out.new.output.written →
     PlaysFront (inventory_with cs old.keeper.forest) old start before out
 cut_at cs old start before new w a front rest written last out goes all ends old_is new_is =
-    let part : AppendsFront written out.new (rest ++ done_text w a) = subst (λ o. AppendsFront o out.new (rest ++ done_text w a)) old_is (subst (λ o. AppendsFront last.old o (rest ++ done_text w a)) new_is ends) in (
+    let part : AppendsFront written out.new.output.written (rest ++ done_text w a) = subst (λ o. AppendsFront o out.new.output.written (rest ++ done_text w a)) old_is (subst (λ o. AppendsFront last.old.output.written o (rest ++ done_text w a)) new_is ends) in (
       (front ++ rest) ++ done_text w a,
       with_done (inventory_with cs old.keeper.forest) old new start w a (front ++ rest) goes,
-      subst (AppendsFront out.old out.new) (regroup before front rest (done_text w a)) (front_then out.old written out.new (before ++ front) (rest ++ done_text w a) all part),
+      subst (AppendsFront out.old.output.written out.new.output.written) (regroup before front rest (done_text w a)) (front_then out.old.output.written written out.new.output.written (before ++ front) (rest ++ done_text w a) all part),
     )
 
 -- the run has come to its end; front of its lines is written, and what is left of them is sent with the last line
 pub finished :
-    (cs : List (List ℕ)) (old : World) (start : ℕ) (before : List ℕ) (new : World) (w a : ℕ) (front rest : List ℕ) (written : Option (List ℕ)) (failed_now : ℕ) (result : Result (Unit {0}) Stop) (last out : Sent) →
-    Goes (inventory_with cs old.keeper.forest) old (Some start) new None w a (front ++ rest) → Appends out.old written (before ++ front) → w ≤ 100000 → Finishes (rest ++ done_text w a) result last → last.old ≡ written → last.new ≡ out.new →
-    last.failed_before ≡ out.failed_before → last.failed_after ≡ out.failed_after → last.flushed ≡ out.flushed → Plays cs old start before result new out
+    (cs : List (List ℕ)) (old : World) (start : ℕ) (before : List ℕ) (new : World) (w a : ℕ) (front rest : List ℕ) (written : Option (List ℕ)) (failed_now : ℕ) (result : Result (Unit {0}) Stop) (last out : Change) →
+    Goes (inventory_with cs old.keeper.forest) old (Some start) new None w a (front ++ rest) → Appends out.old.output.written written (before ++ front) → w ≤ 100000 → Finishes (rest ++ done_text w a) result last → last.old.output.written ≡ written → last.new.output.written ≡ out.new.output.written →
+    last.old.failed_calls ≡ out.old.failed_calls → last.new.failed_calls ≡ out.new.failed_calls → last.new.output.is_flushed ≡ out.new.output.is_flushed → Plays cs old start before result new out
 finished cs old start before new w a front rest written failed_now (Ok u) last out goes all few ends old_is new_is failed_is failed_after_is flushed_is =
-    let whole : Appends written out.new (rest ++ done_text w a) = subst (λ o. Appends o out.new (rest ++ done_text w a)) old_is (subst (λ o. Appends last.old o (rest ++ done_text w a)) new_is ends.0) in
+    let whole : Appends written out.new.output.written (rest ++ done_text w a) = subst (λ o. Appends o out.new.output.written (rest ++ done_text w a)) old_is (subst (λ o. Appends last.old.output.written o (rest ++ done_text w a)) new_is ends.0) in
     record {
       wakes = w;
       asked = a;
       lines = front ++ rest;
       goes = goes;
       few = few;
-      sent = (subst (Appends out.old out.new) (regroup before front rest (done_text w a)) (appends_then out.old written out.new (before ++ front) (rest ++ done_text w a) all whole), subst IsTrue flushed_is ends.1);
+      sent = (subst (Appends out.old.output.written out.new.output.written) (regroup before front rest (done_text w a)) (appends_then out.old.output.written written out.new.output.written (before ++ front) (rest ++ done_text w a) all whole), subst IsTrue flushed_is ends.1);
     }
 finished cs old start before new w a front rest written failed_now (Err stops.Write) last out goes all few ends old_is new_is failed_is failed_after_is flushed_is = (
-  subst (λ n. HasFailed n out.failed_after) failed_is (subst (HasFailed last.failed_before) failed_after_is ends.0),
+  subst (λ n. HasFailed n out.new.failed_calls) failed_is (subst (HasFailed last.old.failed_calls) failed_after_is ends.0),
   cut_at cs old start before new w a front rest written last out goes all ends.1 old_is new_is,
 )
 finished cs old start before new w a front rest written failed_now (Err stops.Memory) last out goes all few ends old_is new_is failed_is failed_after_is flushed_is = cut_at cs old start before new w a front rest written last out goes all ends old_is new_is
@@ -182,15 +183,15 @@ finished cs old start before new w a front rest written failed_now (Err (stops.B
 finished cs old start before new w a front rest written failed_now (Err (stops.Line n)) last out goes all few ends old_is new_is failed_is failed_after_is flushed_is = absurd ends
 
 last_cut :
-    (cs : List (List ℕ)) (old : World) (start : ℕ) (before : List ℕ) (first : Option (List ℕ)) (failed : ℕ) (now : World) (due asked : ℕ) (written : Option (List ℕ)) (failed_now : ℕ) (last out : Sent) →
-    Going cs old start before first failed now due 100000 asked written failed_now → LastFront cs now.behind now.keeper due asked last → out.old ≡ first → last.old ≡ written → last.new ≡ out.new →
+    (cs : List (List ℕ)) (old : World) (start : ℕ) (before : List ℕ) (first : Option (List ℕ)) (failed : ℕ) (now : World) (due asked : ℕ) (written : Option (List ℕ)) (failed_now : ℕ) (last out : Change) →
+    Going cs old start before first failed now due 100000 asked written failed_now → LastFront cs now.behind now.keeper due asked last → out.old.output.written ≡ first → last.old.output.written ≡ written → last.new.output.written ≡ out.new.output.written →
     PlaysFront (inventory_with cs old.keeper.forest) old start before out
 last_cut cs old start before first failed now due asked written failed_now last out g (inl kept) old_is last_old_is new_is =
-    let stays : Keeps written out.new = subst (λ o. Keeps o out.new) last_old_is (subst (λ o. Keeps last.old o) new_is kept) in (
+    let stays : Keeps written out.new.output.written = subst (λ o. Keeps o out.new.output.written) last_old_is (subst (λ o. Keeps last.old.output.written o) new_is kept) in (
       g.lines,
       so_far (inventory_with cs old.keeper.forest) old now start (Some due) 100000 asked g.lines g.goes,
-      subst (λ o. AppendsFront o out.new (before ++ g.lines)) (sym old_is)
-          (subst (AppendsFront first out.new) (append-nil (before ++ g.lines)) (whole_front first out.new (before ++ g.lines) [] (Appends-kept first written out.new (before ++ g.lines) g.all stays))),
+      subst (λ o. AppendsFront o out.new.output.written (before ++ g.lines)) (sym old_is)
+          (subst (AppendsFront first out.new.output.written) (append-nil (before ++ g.lines)) (whole_front first out.new.output.written (before ++ g.lines) [] (Appends-kept first written out.new.output.written (before ++ g.lines) g.all stays))),
     )
 last_cut cs old start before first failed now due asked written failed_now last out g (inr part) old_is last_old_is new_is =
     cut_at cs old start before part.0 100000 asked g.lines part.1 written last out
@@ -202,8 +203,8 @@ last_cut cs old start before first failed now due asked written failed_now last 
 -- behind the last wake-up that a run may have
 pub last_played :
     (cs : List (List ℕ)) (old : World) (start : ℕ) (before : List ℕ) (first : Option (List ℕ)) (failed : ℕ) (now : World) (due asked : ℕ) (written : Option (List ℕ)) (failed_now : ℕ) (result : Result (Unit {0}) Stop)
-    (keeper : State) (last out : Sent) → Going cs old start before first failed now due 100000 asked written failed_now → LastPlays cs now.behind now.keeper due asked result keeper last → out.old ≡ first → last.old ≡ written →
-    last.new ≡ out.new → last.failed_before ≡ out.failed_before → last.failed_after ≡ out.failed_after → last.flushed ≡ out.flushed → Plays cs old start before result (both keeper now.behind) out
+    (keeper : State) (last out : Change) → Going cs old start before first failed now due 100000 asked written failed_now → LastPlays cs now.behind now.keeper due asked result keeper last → out.old.output.written ≡ first → last.old.output.written ≡ written →
+    last.new.output.written ≡ out.new.output.written → last.old.failed_calls ≡ out.old.failed_calls → last.new.failed_calls ≡ out.new.failed_calls → last.new.output.is_flushed ≡ out.new.output.is_flushed → Plays cs old start before result (both keeper now.behind) out
 last_played cs old start before first failed now due asked written failed_now (Ok u) keeper last out g ends old_is last_old_is new_is failed_is failed_after_is flushed_is =
     finished cs old start before (both keeper now.behind) 100000 asked g.lines ends.0 written failed_now (Ok u) last out
     (subst (λ n. Goes (inventory_with cs old.keeper.forest) old (Some start) (both keeper now.behind) None 100000 n (g.lines ++ ends.0)) (let z : asked + 0 ≡ asked = omega arith in z)
@@ -211,7 +212,7 @@ last_played cs old start before first failed now due asked written failed_now (O
     (goes_as (inventory_with cs old.keeper.forest) (inventory_with cs now.keeper.forest) now (both keeper now.behind) (Some due) None 0 0 ends.0 g.like refl ends.1)))
     (subst (λ o. Appends o written (before ++ g.lines)) (sym old_is) g.all) (omega arith) ends.2 last_old_is new_is failed_is failed_after_is flushed_is
 last_played cs old start before first failed now due asked written failed_now (Err stops.TooLong) keeper last out g ends old_is last_old_is new_is failed_is failed_after_is flushed_is =
-    let none : Appends written out.new [] = subst (λ o. Appends o out.new []) last_old_is (subst (λ o. Appends last.old o []) new_is ends.1.0) in
+    let none : Appends written out.new.output.written [] = subst (λ o. Appends o out.new.output.written []) last_old_is (subst (λ o. Appends last.old.output.written o []) new_is ends.1.0) in
     record {
       keeper = now.keeper;
       due = due;
@@ -220,12 +221,12 @@ last_played cs old start before first failed now due asked written failed_now (E
       goes = g.goes;
       more = ends.0;
       sent = (
-        subst (λ o. Appends o out.new (before ++ g.lines)) (sym old_is) (subst (Appends first out.new) (append-nil (before ++ g.lines)) (appends_then first written out.new (before ++ g.lines) [] g.all none)),
+        subst (λ o. Appends o out.new.output.written (before ++ g.lines)) (sym old_is) (subst (Appends first out.new.output.written) (append-nil (before ++ g.lines)) (appends_then first written out.new.output.written (before ++ g.lines) [] g.all none)),
         subst IsTrue flushed_is ends.1.1,
       );
     }
 last_played cs old start before first failed now due asked written failed_now (Err stops.Write) keeper last out g ends old_is last_old_is new_is failed_is failed_after_is flushed_is = (
-  subst (λ n. HasFailed n out.failed_after) failed_is (subst (HasFailed last.failed_before) failed_after_is ends.0),
+  subst (λ n. HasFailed n out.new.failed_calls) failed_is (subst (HasFailed last.old.failed_calls) failed_after_is ends.0),
   last_cut cs old start before first failed now due asked written failed_now last out g ends.1 old_is last_old_is new_is,
 )
 last_played cs old start before first failed now due asked written failed_now (Err stops.Memory) keeper last out g ends old_is last_old_is new_is failed_is failed_after_is flushed_is =
@@ -239,7 +240,7 @@ last_played cs old start before first failed now due asked written failed_now (E
 
 -- what `last` comes to, where the run is at its end
 pub last_ends :
-    (cs : List (List ℕ)) (behind : Option Behind) (old new : State) (due asked : ℕ) (before text : List ℕ) (result : Result (Unit {0}) Stop) (out : Sent) → before ≡ [] → Ends cs behind old due new before text →
+    (cs : List (List ℕ)) (behind : Option Behind) (old new : State) (due asked : ℕ) (before text : List ℕ) (result : Result (Unit {0}) Stop) (out : Change) → before ≡ [] → Ends cs behind old due new before text →
     Finishes (text ++ done_text 100000 asked) result out → LastPlays cs behind old due asked result new out
 last_ends cs behind old new due asked before text result out none e ends = by_result result ends where
   goes : (piece : List ℕ) × (Goes (inventory_with cs old.forest) (both old behind) (Some due) (both new behind) None 0 0 piece × (text ≡ before ++ piece))
@@ -265,21 +266,24 @@ keeps_appends None b kept = tt
 keeps_appends (Some p) None kept = absurd kept
 keeps_appends (Some p) (Some q) kept = kept ∙ sym (append-nil p)
 
+pub untouched_appends : (out : Change) → IsUntouched out → Appends out.old.output.written out.new.output.written []
+untouched_appends out none = subst (λ (s : Seen). Appends out.old.output.written s.output.written []) (sym none) (Appends-nil out.old.output.written)
+
 -- the lines before the run were not written whole
 pub unwritten_before :
-    (cs : List (List ℕ)) (old new : World) (start : ℕ) (before : List ℕ) (answer : Result (Unit {0}) Stop) (fault : SinkFault) (out : Sent) → IsErr answer × IsErrAnd answer (λ stop. stop ≡ stop_of_sink fault) →
-    AppendsFront out.old out.new before → Counts {X = Unit {0}} (Err fault) out.failed_before out.failed_after → Plays cs old start before answer new out
+    (cs : List (List ℕ)) (old new : World) (start : ℕ) (before : List ℕ) (answer : Result (Unit {0}) Stop) (fault : SinkFault) (out : Change) → IsErr answer × IsErrAnd answer (λ stop. stop ≡ stop_of_sink fault) →
+    AppendsFront out.old.output.written out.new.output.written before → Counts {X = Unit {0}} (Err fault) out.old.failed_calls out.new.failed_calls → Plays cs old start before answer new out
 unwritten_before cs old new start before answer fault out is front count = by_answer answer fault is count where
   cut : PlaysFront (inventory_with cs old.keeper.forest) old start before out
   cut = (
     [],
     so_far (inventory_with cs old.keeper.forest) old old start (Some start) 0 0 [] (goes_nowhere (inventory_with cs old.keeper.forest) old (Some start)),
-    subst (AppendsFront out.old out.new) (sym (append-nil before)) front,
+    subst (AppendsFront out.old.output.written out.new.output.written) (sym (append-nil before)) front,
   )
 
-  by_answer : (r : Result (Unit {0}) Stop) (f : SinkFault) → IsErr r × IsErrAnd r (λ stop. stop ≡ stop_of_sink f) → Counts {X = Unit {0}} (Err f) out.failed_before out.failed_after → Plays cs old start before r new out
+  by_answer : (r : Result (Unit {0}) Stop) (f : SinkFault) → IsErr r × IsErrAnd r (λ stop. stop ≡ stop_of_sink f) → Counts {X = Unit {0}} (Err f) out.old.failed_calls out.new.failed_calls → Plays cs old start before r new out
   by_answer (Ok u) f one counts = absurd (let no = one.0 in cc)
-  by_answer (Err stop) sink.Failed one counts = subst (λ (q : Stop). Plays cs old start before (Err q) new out) (sym one.1) (failed_once out.failed_before out.failed_after counts, cut)
+  by_answer (Err stop) sink.Failed one counts = subst (λ (q : Stop). Plays cs old start before (Err q) new out) (sym one.1) (failed_once out.old.failed_calls out.new.failed_calls counts, cut)
   by_answer (Err stop) sink.OutOfMemory one counts = subst (λ (q : Stop). Plays cs old start before (Err q) new out) (sym one.1) cut
 
 -- ---- the turns of the loop
@@ -295,8 +299,8 @@ piece_goes cs now new due next w a before after none piece =
 -- no wake-up was left, and the lines behind the last one are sent with the last line
 pub going_to_end :
     (cs : List (List ℕ)) (old : World) (start : ℕ) (before : List ℕ) (first : Option (List ℕ)) (failed : ℕ) (now : World) (due wakes asked : ℕ) (written : Option (List ℕ)) (failed_now : ℕ) (new : World) (text : List ℕ)
-    (result : Result (Unit {0}) Stop) (last out : Sent) → Going cs old start before first failed now due wakes asked written failed_now → Goes (inventory_with cs now.keeper.forest) now (Some due) new None 0 0 text → wakes ≤ 100000 →
-    Finishes (text ++ done_text wakes asked) result last → out.old ≡ first → last.old ≡ written → last.new ≡ out.new → last.failed_before ≡ out.failed_before → last.failed_after ≡ out.failed_after → last.flushed ≡ out.flushed →
+    (result : Result (Unit {0}) Stop) (last out : Change) → Going cs old start before first failed now due wakes asked written failed_now → Goes (inventory_with cs now.keeper.forest) now (Some due) new None 0 0 text → wakes ≤ 100000 →
+    Finishes (text ++ done_text wakes asked) result last → out.old.output.written ≡ first → last.old.output.written ≡ written → last.new.output.written ≡ out.new.output.written → last.old.failed_calls ≡ out.old.failed_calls → last.new.failed_calls ≡ out.new.failed_calls → last.new.output.is_flushed ≡ out.new.output.is_flushed →
     Plays cs old start before result new out
 going_to_end cs old start before first failed now due wakes asked written failed_now new text result last out g more few ends old_is last_old_is new_is failed_is failed_after_is flushed_is =
     let s = inventory_with cs old.keeper.forest in
@@ -308,9 +312,9 @@ going_to_end cs old start before first failed now due wakes asked written failed
 -- a wake-up was the last, its lines are written, and the last line is sent
 pub going_done :
     (cs : List (List ℕ)) (old : World) (start : ℕ) (before : List ℕ) (first : Option (List ℕ)) (failed : ℕ) (now : World) (due wakes asked : ℕ) (written : Option (List ℕ)) (failed_now : ℕ) (new : World) (a : ℕ) (text rest : List ℕ)
-    (after : Option (List ℕ)) (result : Result (Unit {0}) Stop) (last out : Sent) → Going cs old start before first failed now due wakes asked written failed_now → Goes (inventory_with cs now.keeper.forest) now (Some due) new None 1 a text →
-    wakes < 100000 → Appends written after text → rest ≡ [] → Finishes (rest ++ done_text (wakes + 1) (asked + a)) result last → out.old ≡ first → last.old ≡ after → last.new ≡ out.new → last.failed_before ≡ out.failed_before →
-    last.failed_after ≡ out.failed_after → last.flushed ≡ out.flushed → Plays cs old start before result new out
+    (after : Option (List ℕ)) (result : Result (Unit {0}) Stop) (last out : Change) → Going cs old start before first failed now due wakes asked written failed_now → Goes (inventory_with cs now.keeper.forest) now (Some due) new None 1 a text →
+    wakes < 100000 → Appends written after text → rest ≡ [] → Finishes (rest ++ done_text (wakes + 1) (asked + a)) result last → out.old.output.written ≡ first → last.old.output.written ≡ after → last.new.output.written ≡ out.new.output.written → last.old.failed_calls ≡ out.old.failed_calls →
+    last.new.failed_calls ≡ out.new.failed_calls → last.new.output.is_flushed ≡ out.new.output.is_flushed → Plays cs old start before result new out
 going_done cs old start before first failed now due wakes asked written failed_now new a text rest after result last out g more few all none ends old_is last_old_is new_is failed_is failed_after_is flushed_is =
     let s = inventory_with cs old.keeper.forest in
     let goes = goes_on s old now new (Some start) (Some due) None wakes 1 asked a g.lines text g.goes (goes_as s (inventory_with cs now.keeper.forest) now new (Some due) None 1 a text g.like refl more) in
@@ -321,7 +325,7 @@ going_done cs old start before first failed now due wakes asked written failed_n
     (omega arith) ends last_old_is new_is failed_is failed_after_is flushed_is
 
 pub for_memory :
-    (cs : List (List ℕ)) (old : World) (start : ℕ) (before : List ℕ) (new : World) (out : Sent) (answer : Result (Unit {0}) Stop) (stop : Stop) → IsErr answer × IsErrAnd answer (λ (q : Stop). q ≡ stop) → stop ≡ stops.Memory →
+    (cs : List (List ℕ)) (old : World) (start : ℕ) (before : List ℕ) (new : World) (out : Change) (answer : Result (Unit {0}) Stop) (stop : Stop) → IsErr answer × IsErrAnd answer (λ (q : Stop). q ≡ stop) → stop ≡ stops.Memory →
     Plays cs old start before (Err stops.Memory) new out → Plays cs old start before answer new out
 for_memory cs old start before new out (Ok u) stop is memory plays = absurd (let no = is.0 in cc)
 for_memory cs old start before new out (Err q) stop is memory plays = subst (λ (r : Stop). Plays cs old start before (Err r) new out) (sym (is.1 ∙ memory)) plays

@@ -1,8 +1,8 @@
 -- Hearing: what an event line comes to: what the keeper puts out, whom it asks, and the lines that say so.
 -- Source: this project's own.
 use Rattle.std.specs.Prelude.{◌≡◌, ℕ, ◌<◌, ◌≤◌, ◌⊎◌, IsTrue, IfSome, true, List, [], ◌∷◌, ◌++◌, Option, Some, None, Result, Ok, Err, codes, decimal, if◌then◌else◌, map, take}
-use Rattle.std.specs.Io.KnownBytes.{Appends}
 use Rattle.std.specs.declared.alloc.AllocError.{AllocError}
+use Rattle.keep_device.specs.Seen.{Change, Receives}
 use Rattle.keep_core.specs.declared.event.Event.TheVariants as events
 use Rattle.keep_core.specs.declared.event.Output.{Output}
 use Rattle.keep_core.specs.declared.event.Output.TheVariants as out
@@ -15,7 +15,7 @@ use Rattle.keep_exchange.specs.Requests.{Asks, request_of}
 use Rattle.keep_inventory.specs.Inventories.{Inventory}
 use Rattle.keep_report.specs.declared.stop.Stop.{Stop}
 use Rattle.keep_report.specs.declared.stop.Stop.TheVariants as stops
-use Rattle.keep_report.specs.Sent.{IsAll, IsUntouched, Sent}
+use Rattle.keep_report.specs.Sent.{IsAll, IsUntouched}
 use Rattle.keep_run.specs.Closed.{AreAnswered, Beat, Exchanged, IsBeat, World, asked_in, asks_some, closing, taken}
 use Rattle.keep_run.specs.declared.live.event_line.Heard.{Heard}
 use Rattle.keep_run.specs.declared.live.event_line.Heard.TheVariants.{Tick, Need, Unknown}
@@ -115,12 +115,12 @@ IsHeardUpTo port cs old heard new told own = (told ≡ []) × IsHeard port cs ol
 
 -- an event is heard up to a write: behind this text what it had told before is written, and no more than a front of the lines of
 -- that write
-pub record IsCutOff (port : ℕ) (cs : List (List ℕ)) (old : World) (heard : Heard) (new : World) (text : List ℕ) (out : Sent) : Type 0 where
+pub record IsCutOff (port : ℕ) (cs : List (List ℕ)) (old : World) (heard : Heard) (new : World) (text : List ℕ) (out : Change) : Type 0 where
   pub told : List ℕ
   pub own : List ℕ
   pub up_to : IsHeardUpTo port cs old heard new told own
   pub n : ℕ
-  pub front : Appends out.old out.new (text ++ (told ++ take n own))
+  pub front : Receives (text ++ (told ++ take n own)) out
 
 -- where memory was wanting, and the table is known: the exchange is as it was, or as asking the first of these at t has left it
 abbrev pub IsAskLeft : ℕ → List (List ℕ) → ℕ → World → List ℕ → Option Behind → Type 0
@@ -129,14 +129,14 @@ IsAskLeft port cs t old (i ∷ others) new =
     (new ≡ old.behind) ⊎ IfSome old.behind (λ b. (came : Result (Option Reply) AllocError) × Asks b t (request_of port cs old.keeper.forest i) came new)
 
 -- a tick is heard up to some answer: behind this text its lines so far are written, and nobody was asked behind it, or the next was
-pub record IsBrokenOff (port : ℕ) (cs : List (List ℕ)) (old : World) (heard : Heard) (new : World) (text : List ℕ) (out : Sent) : Type 0 where
+pub record IsBrokenOff (port : ℕ) (cs : List (List ℕ)) (old : World) (heard : Heard) (new : World) (text : List ℕ) (out : Change) : Type 0 where
   pub t : ℕ
   pub is : heard ≡ Tick t
   pub told : List ℕ
   pub mid : World
   pub others : List ℕ
   pub so_far : TicksSoFar port cs t old others mid told
-  pub written : Appends out.old out.new (text ++ told)
+  pub written : Receives (text ++ told) out
   pub left : IsAskLeft port cs t mid others new.behind
 
 -- whether hearing an event may ask for memory before anybody is asked: a tick that is not before the last moment, and a need
@@ -146,8 +146,8 @@ MayWant old (Need i until) = Unit {0}
 MayWant old Unknown = ⊥
 
 -- memory was wanting before anybody was asked: nothing is written, and the exchange is as it was
-abbrev pub IsWanting : World → Heard → World → Sent → Type 0
-IsWanting old heard new out = MayWant old.keeper heard × ((new.behind ≡ old.behind) × Appends out.old out.new [])
+abbrev pub IsWanting : World → Heard → World → Change → Type 0
+IsWanting old heard new out = MayWant old.keeper heard × ((new.behind ≡ old.behind) × Receives [] out)
 
 -- the plan with a new need would be too long, and nothing is changed
 abbrev pub IsOverlong : World → Heard → World → Type 0
@@ -156,10 +156,10 @@ IsOverlong old heard new = ⊥
 
 -- what hearing an event comes to: its lines were written and flushed; the plan would be too long, and nothing is written; a write
 -- failed, and nobody was asked behind it; or memory was wanting
-abbrev pub HearsTo : ℕ → List (List ℕ) → World → Heard → Result (Unit {0}) Stop → World → Sent → Type 0
+abbrev pub HearsTo : ℕ → List (List ℕ) → World → Heard → Result (Unit {0}) Stop → World → Change → Type 0
 HearsTo port cs old heard (Ok u) new out = (text : List ℕ) × (IsHeard port cs old heard new text × IsAll text out)
 HearsTo port cs old heard (Err stops.TooLong) new out = IsOverlong old heard new × IsUntouched out
-HearsTo port cs old heard (Err stops.Write) new out = HasFailed out.failed_before out.failed_after × IsCutOff port cs old heard new [] out
+HearsTo port cs old heard (Err stops.Write) new out = HasFailed out.old.failed_calls out.new.failed_calls × IsCutOff port cs old heard new [] out
 HearsTo port cs old heard (Err stops.Memory) new out =
     IsWanting old heard new out ⊎ (IsBrokenOff port cs old heard new [] out ⊎ (IsTrue out.is_in_memory × IsCutOff port cs old heard new [] out))
 HearsTo port cs old heard (Err stop) new out = ⊥

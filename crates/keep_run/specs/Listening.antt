@@ -1,14 +1,15 @@
 -- Listening: event lines, one after another: which are heard, what is written of them, and how listening ends.
 -- Source: this project's own.
 use Rattle.std.specs.Prelude.{◌≡◌, ℕ, ◌+◌, ◌-◌, ◌^◌, ◌<◌, ◌≤◌, ◌⊎◌, ◌++◌, IsTrue, List, [], ◌∷◌, Option, None, Some, Result, Ok, Err, IfSome, length, take}
-use Rattle.std.specs.Io.KnownBytes.{Appends, Consumes, IsAtEnd}
+use Rattle.std.specs.Io.KnownBytes.{Consumes, IsAtEnd}
+use Rattle.keep_device.specs.Seen.{Change, Input, Receives}
 use Rattle.keep_words.specs.Pieces.{pieces}
 use Rattle.keep_tree.specs.Forest.{Forest}
 use Rattle.keep_device.specs.Failures.{HasFailed, one_more}
 use Rattle.keep_device.specs.Whole.{MakesAtMost}
 use Rattle.keep_report.specs.declared.stop.Stop.{Stop}
 use Rattle.keep_report.specs.declared.stop.Stop.TheVariants as stops
-use Rattle.keep_report.specs.Sent.{IsAll, Sent}
+use Rattle.keep_report.specs.Sent.{IsAll}
 use Rattle.keep_run.specs.declared.live.event_line.Heard.{Heard}
 use Rattle.keep_run.specs.declared.live.event_line.TheConstants.{MOST_LINE}
 use Rattle.keep_run.specs.declared.live.listening.TheConstants.{EVENT_ROOM, MOST_EVENTS, MOST_EVENT_READS}
@@ -54,50 +55,41 @@ abbrev pub IsTooLong : World → List ℕ → World → Type 0
 IsTooLong old line new = (says : Heard) × ((heard_in old.keeper.forest line ≡ Some says) × IsOverlong old says new)
 
 -- the line is heard up to a write that was cut short
-abbrev pub IsCutShort : ℕ → List (List ℕ) → World → List ℕ → World → List ℕ → Sent → Type 0
+abbrev pub IsCutShort : ℕ → List (List ℕ) → World → List ℕ → World → List ℕ → Change → Type 0
 IsCutShort port cs old line new text out = (says : Heard) × ((heard_in old.keeper.forest line ≡ Some says) × IsCutOff port cs old says new text out)
 
 -- the line is a tick that is heard up to some answer
-abbrev pub IsBrokenShort : ℕ → List (List ℕ) → World → List ℕ → World → List ℕ → Sent → Type 0
+abbrev pub IsBrokenShort : ℕ → List (List ℕ) → World → List ℕ → World → List ℕ → Change → Type 0
 IsBrokenShort port cs old line new text out = (says : Heard) × ((heard_in old.keeper.forest line ≡ Some says) × IsBrokenOff port cs old says new text out)
 
 -- why a run stops behind the lines of this text, at the piece that stands first, which would be the line of that number
-abbrev pub Halts : ℕ → List (List ℕ) → ℕ → World → List (List ℕ) → List ℕ → Stop → World → Type 0 → Sent → Type 0
+abbrev pub Halts : ℕ → List (List ℕ) → ℕ → World → List (List ℕ) → List ℕ → Stop → World → Type 0 → Change → Type 0
 Halts port cs number old behind text (stops.Line n) new HasEnded out = (n ≡ number) × (IsNoEvent old.keeper.forest behind HasEnded × ((new ≡ old) × IsAll text out))
 Halts port cs number old behind text stops.TooLong new HasEnded out = (line : List ℕ) × ((whole_line behind ≡ Some line) × (IsTooLong old line new × IsAll text out))
 Halts port cs number old behind text stops.Write new HasEnded out =
-    HasFailed out.failed_before out.failed_after × ((line : List ℕ) × ((whole_line behind ≡ Some line) × IsCutShort port cs old line new text out))
+    HasFailed out.old.failed_calls out.new.failed_calls × ((line : List ℕ) × ((whole_line behind ≡ Some line) × IsCutShort port cs old line new text out))
 Halts port cs number old behind text stops.Memory new HasEnded out =
-    ((new.behind ≡ old.behind) × Appends out.old out.new text)
+    ((new.behind ≡ old.behind) × Receives text out)
     ⊎ ((line : List ℕ) × ((whole_line behind ≡ Some line) × (IsBrokenShort port cs old line new text out ⊎ (IsTrue out.is_in_memory × IsCutShort port cs old line new text out))))
 Halts port cs number old behind text stop new HasEnded out = ⊥
 
 -- ---- the events
 
--- what a source handed out between two of its states: its bytes before and after, where they are known, and its counts of reads
--- and of failures
-pub record Fed : Type 0 where
-  pub old : Option (List ℕ)
-  pub new : Option (List ℕ)
-  pub reads_before : ℕ
-  pub reads_after : ℕ
-  pub failed_before : ℕ
-  pub failed_after : ℕ
-
 -- the events have ended, and are as long as they may be at most
-abbrev pub HaveEnded : List ℕ → Fed → Type 0
-HaveEnded read fed = IsAtEnd fed.new × (length read ≤ MOST_EVENTS)
+abbrev pub HaveEnded : List ℕ → Change → Type 0
+HaveEnded read fed = IsAtEnd fed.new.input.remaining × (length read ≤ MOST_EVENTS)
 
--- where its bytes are known, at least so many reads were made between the two counts, or the count is at its greatest
-abbrev pub MakesAtLeast : ℕ → Option (List ℕ) → ℕ → ℕ → Type 0
-MakesAtLeast least known before now = IfSome known (λ _. (before + least ≤ now) ⊎ (2 ^ 64 - 1 ≤ now))
+-- where its bytes are known, at least so many reads were made of the input between the two states, or the count is at its
+-- greatest
+abbrev pub MakesAtLeast : ℕ → Input → Input → Type 0
+MakesAtLeast least before now = IfSome before.remaining (λ _. (before.reads_made + least ≤ now.reads_made) ⊎ (2 ^ 64 - 1 ≤ now.reads_made))
 
 -- why the events are not read to their end: a read failed; or they are longer than they may be, or as many reads were made as
 -- there may be
-abbrev pub AreCutOff : List ℕ → Fed → Type 0
+abbrev pub AreCutOff : List ℕ → Change → Type 0
 AreCutOff read fed =
-    (fed.failed_after ≡ one_more fed.failed_before)
-    ⊎ ((fed.failed_after ≡ fed.failed_before) × ((MOST_EVENTS < length read) ⊎ MakesAtLeast MOST_EVENT_READS fed.old fed.reads_before fed.reads_after))
+    (fed.new.failed_calls ≡ one_more fed.old.failed_calls)
+    ⊎ ((fed.new.failed_calls ≡ fed.old.failed_calls) × ((MOST_EVENTS < length read) ⊎ MakesAtLeast MOST_EVENT_READS fed.old.input fed.new.input))
 
 -- of what was read before the last read, which handed out at most 4,096 bytes, the whole lines are among these that were heard,
 -- and less than a line stands behind them
@@ -116,19 +108,19 @@ pub record IsPrompt (read : List ℕ) (lines : List (List ℕ)) : Type 0 where
 
 -- how listening ends behind the lines of this text, before these pieces: the events have ended in a line feed, or are cut off;
 -- or a line stops it
-abbrev pub ListensTo : ℕ → List (List ℕ) → List ℕ → ℕ → World → List (List ℕ) → List ℕ → Result (Unit {0}) Stop → World → Fed → Sent → Type 0
+abbrev pub ListensTo : ℕ → List (List ℕ) → List ℕ → ℕ → World → List (List ℕ) → List ℕ → Result (Unit {0}) Stop → World → Change → Change → Type 0
 ListensTo port cs read number old behind text (Ok u) new fed out =
-    (behind ≡ [] ∷ []) × (HaveEnded read fed × ((fed.failed_after ≡ fed.failed_before) × ((new ≡ old) × IsAll text out)))
+    (behind ≡ [] ∷ []) × (HaveEnded read fed × ((fed.new.failed_calls ≡ fed.old.failed_calls) × ((new ≡ old) × IsAll text out)))
 ListensTo port cs read number old behind text (Err stops.Read) new fed out =
     (rest : List ℕ) × ((behind ≡ rest ∷ []) × ((length rest < MOST_LINE) × (AreCutOff read fed × ((new ≡ old) × IsAll text out))))
-ListensTo port cs read number old behind text (Err stop) new fed out = (fed.failed_after ≡ fed.failed_before) × Halts port cs number old behind text stop new (HaveEnded read fed) out
+ListensTo port cs read number old behind text (Err stop) new fed out = (fed.new.failed_calls ≡ fed.old.failed_calls) × Halts port cs number old behind text stop new (HaveEnded read fed) out
 
 -- listening to the events: what was read of them, by at most 65,536 reads; the lines of its first 1 MiB that were heard, and
 -- what that came to; and how it ended behind them
-pub record Listens (port : ℕ) (cs : List (List ℕ)) (old : World) (result : Result (Unit {0}) Stop) (new : World) (fed : Fed) (out : Sent) : Type 0 where
+pub record Listens (port : ℕ) (cs : List (List ℕ)) (old : World) (result : Result (Unit {0}) Stop) (new : World) (fed : Change) (out : Change) : Type 0 where
   pub read : List ℕ
-  pub consumed : Consumes fed.old fed.new read
-  pub reads : MakesAtMost MOST_EVENT_READS fed.old fed.reads_before fed.reads_after
+  pub consumed : Consumes fed.old.input.remaining fed.new.input.remaining read
+  pub reads : MakesAtMost MOST_EVENT_READS fed.old.input fed.new.input
   pub lines : List (List ℕ)
   pub behind : List (List ℕ)
   pub mid : World

@@ -2,11 +2,11 @@
 -- ends.
 -- Source: this project's own.
 use Rattle.std.specs.Prelude.{◌≡◌, ℕ, ◌+◌, ◌⊎◌, List, ◌++◌, Option, Result, Ok, Err, codes, length, take}
-use Rattle.std.specs.Io.KnownBytes.{Consumes, Keeps}
+use Rattle.std.specs.Io.KnownBytes.{Consumes}
+use Rattle.keep_device.specs.Seen.{Change, ReceivesFront}
 use Rattle.keep_core.specs.Replan.{Replan, ReplanTooLong}
 use Rattle.keep_core.specs.State.{State, unplanned}
 use Rattle.keep_device.specs.Failures.{HasFailed}
-use Rattle.keep_device.specs.Front.{AppendsFront}
 use Rattle.keep_device.specs.Whole.{MakesAtMost}
 use Rattle.keep_exchange.specs.Exchanges.{Behind}
 use Rattle.keep_inventory.specs.Inventory.{read_inventory}
@@ -17,11 +17,11 @@ use Rattle.keep_report.specs.declared.stop.Stop.{Stop}
 use Rattle.keep_report.specs.declared.stop.Stop.TheVariants as stops
 use Rattle.keep_report.specs.Exits.{exit_of}
 use Rattle.keep_report.specs.FaultLine.{fault_line}
-use Rattle.keep_report.specs.Sent.{IsAll, IsUntouched, Sent}
+use Rattle.keep_report.specs.Sent.{IsAll, IsUntouched}
 use Rattle.keep_report.specs.Told.{Reports}
 use Rattle.keep_run.specs.Closed.{World, taken}
 use Rattle.keep_run.specs.declared.live.listening.TheConstants.{MOST_EVENTS, MOST_EVENT_READS}
-use Rattle.keep_run.specs.Listening.{AreHeard, Fed, IsPrompt, ListensTo}
+use Rattle.keep_run.specs.Listening.{AreHeard, IsPrompt, ListensTo}
 use Rattle.keep_run.specs.Looking.{AreLookedUp, IsCut, IsLeft, IsSaid, IsUnlooked, Looked, first, looked_text}
 use Rattle.keep_run.specs.Stops.{both}
 use Rattle.keep_run.specs.Text.{short_lines}
@@ -40,15 +40,15 @@ pub record IsLiveOpening (port start : ℕ) (old : Looked) (opening : World) (te
   pub text_is : text ≡ looked_text looked.inventory (first (length old.inventory.forest.entries)) ++ short_lines looked.inventory.forest keeper.shortened
 
 -- a run that was opened, with these credentials: its lines were written and flushed, and no write failed
-pub record IsOpened (port start : ℕ) (old : Looked) (credentials : List (List ℕ)) (keeper : State) (new : Option Behind) (out : Sent) : Type 0 where
+pub record IsOpened (port start : ℕ) (old : Looked) (credentials : List (List ℕ)) (keeper : State) (new : Option Behind) (out : Change) : Type 0 where
   pub same : credentials ≡ old.inventory.credentials
   pub text : List ℕ
   pub opened : IsLiveOpening port start old (both keeper new) text
   pub sent : IsAll text out
-  pub kept : out.failed_after ≡ out.failed_before
+  pub kept : out.new.failed_calls ≡ out.old.failed_calls
 
 -- all entries were looked up, and their lines written and flushed; the plan from the start is too long
-pub record IsUnplanned (port start : ℕ) (old : Looked) (out : Sent) (new : Option Behind) : Type 0 where
+pub record IsUnplanned (port start : ℕ) (old : Looked) (out : Change) (new : Option Behind) : Type 0 where
   pub looked : Looked
   pub all : AreLookedUp port start old (first (length old.inventory.forest.entries)) looked
   pub long : ReplanTooLong looked.inventory.forest start
@@ -56,16 +56,16 @@ pub record IsUnplanned (port start : ℕ) (old : Looked) (out : Sent) (new : Opt
   pub left : new ≡ looked.behind
 
 -- no more than a front of the lines of the opening was written
-abbrev pub WritesOpening : ℕ → ℕ → Looked → Sent → Option Behind → Type 0
-WritesOpening port start old out new = (opening : World) × (text : List ℕ) × IsLiveOpening port start old opening text × AppendsFront out.old out.new text × (new ≡ opening.behind)
+abbrev pub WritesOpening : ℕ → ℕ → Looked → Change → Option Behind → Type 0
+WritesOpening port start old out new = (opening : World) × (text : List ℕ) × IsLiveOpening port start old opening text × ReceivesFront text out × (new ≡ opening.behind)
 
 -- why a run ends before it listens: a lookup is not applied; the plan is too long; or, behind some lookups or at the opening,
 -- the writer failed or memory was wanting
-abbrev pub EndsEarly : ℕ → ℕ → Looked → Stop → Sent → Option Behind → Type 0
+abbrev pub EndsEarly : ℕ → ℕ → Looked → Stop → Change → Option Behind → Type 0
 EndsEarly port start old (stops.Broker name) out new = IsUnlooked port start old name out new
 EndsEarly port start old stops.TooLong out new = IsUnplanned port start old out new
 EndsEarly port start old stops.Write out new =
-    HasFailed out.failed_before out.failed_after
+    HasFailed out.old.failed_calls out.new.failed_calls
     × (((n : ℕ) × (now : Looked) × IsCut port start old now n out × (new ≡ now.behind)) ⊎ WritesOpening port start old out new)
 EndsEarly port start old stops.Memory out new =
     ((n : ℕ) × (now : Looked) × IsCut port start old now n out × IsLeft port start now n new) ⊎ WritesOpening port start old out new
@@ -84,10 +84,10 @@ pub record IsLiveRun (port start : ℕ) (old : Looked) (lines : List (List ℕ))
 
 -- a run that listened: what was read of the events, by at most 65,536 reads; the lines of its first 1 MiB that were heard, with the
 -- text of the run so far; and how it ended behind them
-pub record HasListened (port start : ℕ) (old : Looked) (result : Result (Unit {0}) Stop) (new : World) (fed : Fed) (out : Sent) : Type 0 where
+pub record HasListened (port start : ℕ) (old : Looked) (result : Result (Unit {0}) Stop) (new : World) (fed : Change) (out : Change) : Type 0 where
   pub read : List ℕ
-  pub consumed : Consumes fed.old fed.new read
-  pub reads : MakesAtMost MOST_EVENT_READS fed.old fed.reads_before fed.reads_after
+  pub consumed : Consumes fed.old.input.remaining fed.new.input.remaining read
+  pub reads : MakesAtMost MOST_EVENT_READS fed.old.input fed.new.input
   pub lines : List (List ℕ)
   pub behind : List (List ℕ)
   pub cut : pieces 10 (take MOST_EVENTS read) ≡ lines ++ behind
@@ -99,26 +99,22 @@ pub record HasListened (port start : ℕ) (old : Looked) (result : Result (Unit 
 
 -- ---- how it ends
 
--- nothing was read, and no read was tried
-abbrev pub IsUnread : Fed → Type 0
-IsUnread fed = Keeps fed.old fed.new × (fed.reads_after ≡ fed.reads_before) × (fed.failed_after ≡ fed.failed_before)
-
 -- how the run of an inventory ends: before it listens, or behind some lines
-abbrev pub RunsTo : ℕ → ℕ → Looked → Result (Unit {0}) Stop → Fed → Sent → Option Behind → Type 0
+abbrev pub RunsTo : ℕ → ℕ → Looked → Result (Unit {0}) Stop → Change → Change → Option Behind → Type 0
 RunsTo port start old (Ok u) fed out new = (final : World) × HasListened port start old (Ok u) final fed out × (new ≡ final.behind)
 RunsTo port start old (Err stop) fed out new =
-    (EndsEarly port start old stop out new × IsUnread fed) ⊎ ((final : World) × HasListened port start old (Err stop) final fed out × (new ≡ final.behind))
+    (EndsEarly port start old stop out new × IsUntouched fed) ⊎ ((final : World) × HasListened port start old (Err stop) final fed out × (new ≡ final.behind))
 
 -- how the run over the bytes of an inventory ends
-abbrev pub LivesTo : ℕ → List ℕ → ℕ → Option Behind → Result (Unit {0}) Stop → Fed → Sent → Option Behind → Type 0
-LivesTo port bytes start old (Err (stops.Inventory fault)) fed out new = (read_inventory bytes ≡ Err fault) × IsUnread fed × IsUntouched out × (new ≡ old)
+abbrev pub LivesTo : ℕ → List ℕ → ℕ → Option Behind → Result (Unit {0}) Stop → Change → Change → Option Behind → Type 0
+LivesTo port bytes start old (Err (stops.Inventory fault)) fed out new = (read_inventory bytes ≡ Err fault) × IsUntouched fed × IsUntouched out × (new ≡ old)
 LivesTo port bytes start old (Err stops.Memory) fed out new =
-    (IsUnread fed × IsUntouched out × (new ≡ old))
+    (IsUntouched fed × IsUntouched out × (new ≡ old))
     ⊎ ((inventory : Inventory) × (read_inventory bytes ≡ Ok inventory) × RunsTo port start (record { inventory = inventory; behind = old }) (Err stops.Memory) fed out new)
 LivesTo port bytes start old result fed out new = (inventory : Inventory) × (read_inventory bytes ≡ Ok inventory) × RunsTo port start (record { inventory = inventory; behind = old }) result fed out new
 
 -- `run` over the bytes of an inventory and a start, and over any exchange, by exit: how the run ends, and what it tells of that
-abbrev pub LiveRun : ℕ → List ℕ → ℕ → Option Behind → Exit → Fed → Sent → Sent → Option Behind → Type 0
+abbrev pub LiveRun : ℕ → List ℕ → ℕ → Option Behind → Exit → Change → Change → Change → Option Behind → Type 0
 LiveRun port bytes start old exits.Done fed out errors new = LivesTo port bytes start old (Ok tt) fed out new × IsUntouched errors
 LiveRun port bytes start old exit fed out errors new =
     (stop : Stop) × (exit ≡ exit_of stop) × LivesTo port bytes start old (Err stop) fed out new × Reports (fault_line (codes "leasekeep") stop) errors

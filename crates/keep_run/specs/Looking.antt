@@ -2,14 +2,14 @@
 -- Source: this project's own; what one lookup comes to is keep_exchange's `Lookups`.
 use Rattle.std.specs.Prelude.{◌≡◌, ℕ, ◌<◌, ◌≤◌, ◌⊎◌, true, false, List, [], ◌∷◌, Option, Result, Ok, Err, length}
 use Rattle.std.specs.List.{flat_map, range_with_len}
+use Rattle.keep_device.specs.Seen.{Change, ReceivesFront}
 use Rattle.keep_device.specs.Failures.{HasFailed}
-use Rattle.keep_device.specs.Front.{AppendsFront}
 use Rattle.keep_exchange.specs.Exchanges.{Behind}
 use Rattle.keep_exchange.specs.Lookups.{IsLookedUp, IsLookupLeft}
 use Rattle.keep_inventory.specs.Inventories.{Inventory}
 use Rattle.keep_report.specs.declared.stop.Stop.{Stop}
 use Rattle.keep_report.specs.declared.stop.Stop.TheVariants as stops
-use Rattle.keep_report.specs.Sent.{IsAll, IsUntouched, Sent}
+use Rattle.keep_report.specs.Sent.{IsAll, IsUntouched}
 use Rattle.keep_run.specs.Hearing.{entry_line}
 use Rattle.keep_run.specs.Text.{name_of}
 use Rattle.keep_tree.specs.Forest.{entry_at}
@@ -38,17 +38,17 @@ looked_text s is = flat_map (looked_line s) is
 -- ---- how looking up ends
 
 -- this text was written and flushed, if there is any; else nothing was done
-abbrev pub IsSaid : List ℕ → Sent → Type 0
+abbrev pub IsSaid : List ℕ → Change → Type 0
 IsSaid text out = IsAll text out ⊎ ((text ≡ []) × IsUntouched out)
 
 -- all entries were looked up, and their lines written and flushed; no write failed
-pub record LooksAll (port t : ℕ) (old : Looked) (out : Sent) (inventory : Inventory) (new : Option Behind) : Type 0 where
+pub record LooksAll (port t : ℕ) (old : Looked) (out : Change) (inventory : Inventory) (new : Option Behind) : Type 0 where
   pub looked : AreLookedUp port t old (first (length old.inventory.forest.entries)) (record { inventory = inventory; behind = new })
   pub said : IsSaid (looked_text inventory (first (length old.inventory.forest.entries))) out
-  pub kept : out.failed_after ≡ out.failed_before
+  pub kept : out.new.failed_calls ≡ out.old.failed_calls
 
 -- the first n entries were looked up, and their lines written and flushed; the lookup of the next, of that name, is not applied
-pub record IsUnlooked (port t : ℕ) (old : Looked) (name : List ℕ) (out : Sent) (new : Option Behind) : Type 0 where
+pub record IsUnlooked (port t : ℕ) (old : Looked) (name : List ℕ) (out : Change) (new : Option Behind) : Type 0 where
   pub n : ℕ
   pub within : n < length old.inventory.forest.entries
   pub now : Looked
@@ -58,21 +58,21 @@ pub record IsUnlooked (port t : ℕ) (old : Looked) (name : List ℕ) (out : Sen
   pub unapplied : IsLookedUp port now.behind t now.inventory n false now.inventory new
 
 -- the first n entries were looked up, and no more than a front of their lines was written
-pub record IsCut (port t : ℕ) (old now : Looked) (n : ℕ) (out : Sent) : Type 0 where
+pub record IsCut (port t : ℕ) (old now : Looked) (n : ℕ) (out : Change) : Type 0 where
   pub within : n ≤ length old.inventory.forest.entries
   pub looked : AreLookedUp port t old (first n) now
-  pub front : AppendsFront out.old out.new (looked_text now.inventory (first n))
+  pub front : ReceivesFront (looked_text now.inventory (first n)) out
 
 -- where memory was wanting, and the table is known, the exchange is as the lookups left it, or as the one under way did
 abbrev pub IsLeft : ℕ → ℕ → Looked → ℕ → Option Behind → Type 0
 IsLeft port t now n new = IsLookupLeft port now.behind t now.inventory n new
 
 -- what looking all entries up comes to: with the inventory as it then is, and what then stands behind the exchange
-abbrev pub LooksAllUp : ℕ → ℕ → Looked → Result (Unit {0}) Stop → Sent → Inventory → Option Behind → Type 0
+abbrev pub LooksAllUp : ℕ → ℕ → Looked → Result (Unit {0}) Stop → Change → Inventory → Option Behind → Type 0
 LooksAllUp port t old (Ok u) out inventory new = LooksAll port t old out inventory new
 LooksAllUp port t old (Err (stops.Broker name)) out inventory new = IsUnlooked port t old name out new
 LooksAllUp port t old (Err stops.Write) out inventory new =
-    (n : ℕ) × (now : Looked) × IsCut port t old now n out × (new ≡ now.behind) × HasFailed out.failed_before out.failed_after
+    (n : ℕ) × (now : Looked) × IsCut port t old now n out × (new ≡ now.behind) × HasFailed out.old.failed_calls out.new.failed_calls
 LooksAllUp port t old (Err stops.Memory) out inventory new = (n : ℕ) × (now : Looked) × IsCut port t old now n out × IsLeft port t now n new
 LooksAllUp port t old (Err stop) out inventory new = ⊥
 
@@ -83,12 +83,12 @@ abbrev pub Applies : ℕ → ℕ → Looked → ℕ → Inventory → Option Beh
 Applies port t old i inventory new = IsLookedUp port old.behind t old.inventory i true inventory new
 
 -- what looking one entry up comes to
-abbrev pub LooksOneUp : ℕ → ℕ → Looked → ℕ → Result (Unit {0}) Stop → Sent → Inventory → Option Behind → Type 0
-LooksOneUp port t old i (Ok u) out inventory new = Applies port t old i inventory new × IsAll (looked_line inventory i) out × (out.failed_after ≡ out.failed_before)
+abbrev pub LooksOneUp : ℕ → ℕ → Looked → ℕ → Result (Unit {0}) Stop → Change → Inventory → Option Behind → Type 0
+LooksOneUp port t old i (Ok u) out inventory new = Applies port t old i inventory new × IsAll (looked_line inventory i) out × (out.new.failed_calls ≡ out.old.failed_calls)
 LooksOneUp port t old i (Err (stops.Broker name)) out inventory new =
     (name ≡ name_of old.inventory.forest i) × IsLookedUp port old.behind t old.inventory i false old.inventory new × IsUntouched out
 LooksOneUp port t old i (Err stops.Write) out inventory new =
-    Applies port t old i inventory new × HasFailed out.failed_before out.failed_after × AppendsFront out.old out.new (looked_line inventory i)
+    Applies port t old i inventory new × HasFailed out.old.failed_calls out.new.failed_calls × ReceivesFront (looked_line inventory i) out
 LooksOneUp port t old i (Err stops.Memory) out inventory new =
-    (IsUntouched out × IsLeft port t old i new) ⊎ (Applies port t old i inventory new × AppendsFront out.old out.new (looked_line inventory i))
+    (IsUntouched out × IsLeft port t old i new) ⊎ (Applies port t old i inventory new × ReceivesFront (looked_line inventory i) out)
 LooksOneUp port t old i (Err stop) out inventory new = ⊥

@@ -1,6 +1,7 @@
 -- The rehearsal of an inventory that a plan keeps, without FAULT words. The contract of a public function without a body.
 use Rattle.std.specs.Prelude.{◌≡◌, ℕ, ◌≤◌, ◌++◌, List, [], Some, Ok, length, map}
 use Rattle.std.specs.List.{All, flat_map}
+use Rattle.keep_device.specs.Seen.{Change}
 use Rattle.keep_moment.specs.declared.moment.TheConstants.{LAST}
 use Rattle.keep_tree.specs.Forest.{end_of}
 use Rattle.keep_rule.specs.Asks.{with_asks}
@@ -14,7 +15,7 @@ use Rattle.keep_inventory.specs.Inventories.{Inventory}
 use Rattle.keep_exchange.specs.Exchanges.{Behind}
 use Rattle.keep_report.specs.declared.exit.Exit.{Exit}
 use Rattle.keep_report.specs.declared.exit.Exit.TheVariants as exits
-use Rattle.keep_report.specs.Sent.{IsAll, Sent}
+use Rattle.keep_report.specs.Sent.{IsAll}
 use Rattle.keep_run.specs.declared.rehearse.playing.TheConstants.{MOST_WAKES}
 use Rattle.keep_run.specs.Closed.{Course, IsClosedRun, World, rounds}
 use Rattle.keep_run.specs.Laws.{IsQuiet}
@@ -23,7 +24,7 @@ use Rattle.keep_run.specs.Text.{beat_text, done_text}
 
 -- the closed run has its rounds at the plan's moments, all who are asked are told the renewal rule's ends, and its lines end in
 -- the plan's number of wake-ups and the sum of the lengths of its Asks
-pub record IsPlannedRun (inventory : Inventory) (start : ℕ) (p : Planned) (out : Sent) (new : Behind) : Type 0 where
+pub record IsPlannedRun (inventory : Inventory) (start : ℕ) (p : Planned) (out : Change) (new : Behind) : Type 0 where
   pub course : Course
   pub final : World
   pub run : IsClosedRun inventory [] start course final
@@ -34,7 +35,7 @@ pub record IsPlannedRun (inventory : Inventory) (start : ℕ) (p : Planned) (out
   pub left : final.behind ≡ Some new
 
 -- it comes to its end, unless the writer fails or memory is wanting
-abbrev pub EndsAsPlanned : Inventory → ℕ → Planned → Exit → Sent → Behind → Type 0
+abbrev pub EndsAsPlanned : Inventory → ℕ → Planned → Exit → Change → Behind → Type 0
 EndsAsPlanned inventory start p exits.Done out new = IsPlannedRun inventory start p out new
 EndsAsPlanned inventory start p exits.Device out new = Unit {0}
 EndsAsPlanned inventory start p exits.Memory out new = Unit {0}
@@ -43,5 +44,5 @@ EndsAsPlanned inventory start p exit out new = ⊥
 -- where `plan` keeps with at most 100,000 wake-ups, the rehearsal without FAULT words makes just these
 abbrev pub PlannedRehearsalLaw : Type 0
 PlannedRehearsalLaw =
-    (bytes : List ℕ) (inventory : Inventory) (start : ℕ) (p : Planned) (exit : Exit) (out : Sent) (old new : Behind) → read_inventory bytes ≡ Ok inventory → start ≤ LAST → Decides inventory.forest start (Keep p) → length (to_come p) ≤ MOST_WAKES →
+    (bytes : List ℕ) (inventory : Inventory) (start : ℕ) (p : Planned) (exit : Exit) (out : Change) (old new : Behind) → read_inventory bytes ≡ Ok inventory → start ≤ LAST → Decides inventory.forest start (Keep p) → length (to_come p) ≤ MOST_WAKES →
     RehearseRun bytes start [] exit out old new → EndsAsPlanned inventory start p exit out new

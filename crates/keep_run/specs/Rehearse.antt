@@ -1,8 +1,8 @@
 -- The run `rehearse`: what it has written, the table and the wire that it leaves, and when it gives which exit.
 -- Source: this project's own.
 use Rattle.std.specs.Prelude.{◌≡◌, ℕ, ◌⊎◌, List, [], ◌++◌, Option, Some, None, Result, Ok, Err, codes}
+use Rattle.keep_device.specs.Seen.{Change, ReceivesFront}
 use Rattle.keep_device.specs.Failures.{HasFailed}
-use Rattle.keep_device.specs.Front.{AppendsFront}
 use Rattle.keep_inventory.specs.declared.fault.InvFault.{InvFault}
 use Rattle.keep_inventory.specs.Inventory.{read_inventory}
 use Rattle.keep_inventory.specs.Inventories.{Inventory}
@@ -15,7 +15,7 @@ use Rattle.keep_report.specs.declared.exit.Exit.TheVariants as exits
 use Rattle.keep_report.specs.declared.stop.Stop.{Stop}
 use Rattle.keep_report.specs.declared.stop.Stop.TheVariants as stops
 use Rattle.keep_report.specs.FaultLine.{fault_line}
-use Rattle.keep_report.specs.Sent.{IsAll, IsUntouched, Sent}
+use Rattle.keep_report.specs.Sent.{IsAll, IsUntouched}
 use Rattle.keep_report.specs.Told.{Reports, Told}
 use Rattle.keep_run.specs.Closed.{Course, IsClosedRun, World}
 use Rattle.keep_run.specs.FaultWords.{faults_of}
@@ -38,22 +38,22 @@ pub record IsRunText (inventory : Inventory) (faults : List NumberedFault) (star
   pub text_is : (text ≡ lines) ⊎ ((next ≡ None) × (text ≡ lines ++ done_text wakes asked))
 
 -- no more than a front of the lines of the run was written
-abbrev pub WritesFront : List ℕ → ℕ → List (List ℕ) → Sent → Type 0
+abbrev pub WritesFront : List ℕ → ℕ → List (List ℕ) → Change → Type 0
 WritesFront bytes start words out =
-    (inventory : Inventory) × (faults : List NumberedFault) × IsCalled bytes words inventory faults × (text : List ℕ) × IsRunText inventory faults start text × AppendsFront out.old out.new text
+    (inventory : Inventory) × (faults : List NumberedFault) × IsCalled bytes words inventory faults × (text : List ℕ) × IsRunText inventory faults start text × ReceivesFront text out
 
 -- the inventory's table with these faults, and nothing carried yet
 abbrev pub fresh : Inventory → List NumberedFault → Behind
 fresh inventory faults = record { table = record { rows = rows_of inventory; faults = faults; count = 0 }; wire = [] }
 
 -- the plan of the opening is too long, and nothing was written; or the lines of 100,000 wake-ups were, and another is due
-abbrev pub RunsLong : Inventory → List NumberedFault → ℕ → Sent → Behind → Type 0
+abbrev pub RunsLong : Inventory → List NumberedFault → ℕ → Change → Behind → Type 0
 RunsLong inventory faults start out behind =
     (ReplanTooLong inventory.forest start × IsUntouched out × (behind ≡ fresh inventory faults))
     ⊎ ((final : World) × (text : List ℕ) × IsStopped inventory faults start final text × IsAll text out × (final.behind ≡ Some behind))
 
 -- `rehearse` over the bytes of an inventory, a start and FAULT words, by exit
-abbrev pub RehearseRun : List ℕ → ℕ → List (List ℕ) → Exit → Sent → Behind → Behind → Type 0
+abbrev pub RehearseRun : List ℕ → ℕ → List (List ℕ) → Exit → Change → Behind → Behind → Type 0
 RehearseRun bytes start words exits.Done out old new =
     (inventory : Inventory) × (faults : List NumberedFault) × IsCalled bytes words inventory faults
     × (course : Course) × (final : World) × IsClosedRun inventory faults start course final × IsAll (course_text inventory course) out × (final.behind ≡ Some new)
@@ -61,17 +61,17 @@ RehearseRun bytes start words exits.Inventory out old new = (fault : InvFault) �
 RehearseRun bytes start words exits.CommandLine out old new =
     (inventory : Inventory) × (read_inventory bytes ≡ Ok inventory) × (position : ℕ) × (faults_of words ≡ Err position) × IsUntouched out × (new ≡ old)
 RehearseRun bytes start words exits.TooLong out old new = (inventory : Inventory) × (faults : List NumberedFault) × IsCalled bytes words inventory faults × RunsLong inventory faults start out new
-RehearseRun bytes start words exits.Device out old new = HasFailed out.failed_before out.failed_after × WritesFront bytes start words out
+RehearseRun bytes start words exits.Device out old new = HasFailed out.old.failed_calls out.new.failed_calls × WritesFront bytes start words out
 RehearseRun bytes start words exits.Memory out old new = IsUntouched out ⊎ WritesFront bytes start words out
 RehearseRun bytes start words exit out old new = ⊥
 
 -- what it has told of its end, by exit
-abbrev pub RehearseTold : List ℕ → List (List ℕ) → Exit → Sent → Type 0
+abbrev pub RehearseTold : List ℕ → List (List ℕ) → Exit → Change → Type 0
 RehearseTold bytes words exits.CommandLine errors = (position : ℕ) × (faults_of words ≡ Err position) × Reports (fault_line (codes "leasekeep") (stops.FaultWord position)) errors
 RehearseTold bytes words exit errors = Told (codes "leasekeep") bytes exit errors
 
 -- the same without its fault line, by what stops it
-abbrev pub Rehearses : List ℕ → ℕ → List (List ℕ) → Result (Unit {0}) Stop → Sent → Behind → Behind → Type 0
+abbrev pub Rehearses : List ℕ → ℕ → List (List ℕ) → Result (Unit {0}) Stop → Change → Behind → Behind → Type 0
 Rehearses bytes start words (Ok u) out old new = RehearseRun bytes start words exits.Done out old new
 Rehearses bytes start words (Err (stops.Inventory fault)) out old new = (read_inventory bytes ≡ Err fault) × IsUntouched out × (new ≡ old)
 Rehearses bytes start words (Err (stops.FaultWord position)) out old new = (inventory : Inventory) × (read_inventory bytes ≡ Ok inventory) × (faults_of words ≡ Err position) × IsUntouched out × (new ≡ old)

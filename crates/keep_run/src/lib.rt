@@ -21,7 +21,6 @@ pub use agent::Agent;
 pub use agent::lines::push_numbered;
 pub use agent::reply::event_from;
 pub use live::event_line::{Heard, MOST_LINE, heard_in};
-pub use live::feeding::Feeding;
 pub use live::hearing::hear;
 pub use live::listening::{EVENT_ROOM, MOST_EVENT_READS, MOST_EVENTS};
 pub use live::run_live;

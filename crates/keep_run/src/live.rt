@@ -5,7 +5,6 @@ ghost use Rattle.keep_run.specs.Hearing.{IsReady};
 ghost use Rattle.keep_run.specs.LiveRun.{EndsEarly, IsOpened, LiveRun, LivesTo};
 
 pub(crate) mod event_line;
-pub(crate) mod feeding;
 pub(crate) mod hearing;
 pub(crate) mod listening;
 mod looking;
@@ -14,15 +13,14 @@ mod telling;
 use crate::agent::Agent;
 use crate::agent::lines::push_short_lines;
 use crate::agent::refused::opened;
-use crate::live::feeding::Feeding;
 use crate::live::listening::listen;
 use crate::live::looking::look_all_up;
 use keep_core::Keeper;
-use keep_device::{Sink, Source, Streams};
+use keep_device::{Sink, Source, Streams, Watched};
 use keep_exchange::Exchange;
 use keep_inventory::{Inventory, read};
 use keep_moment::Moment;
-use keep_report::{Exit, Stop, Watched, send};
+use keep_report::{Exit, Stop, send};
 use std::alloc::Global;
 
 /// Keeps the entries of an inventory alive: looks each of them up at `start`, takes event lines, and renews over the exchange.
@@ -42,7 +40,7 @@ pub fn run_live<R: Source, E: Exchange, W: Sink, F: Sink>(
     exchange: &mut E,
     streams: &mut Streams<R, W, F>,
 ) -> Exit
-    ensures { LiveRun (E.host_port exchange.old) inventory.now start (E.behind exchange.old) result (⟦<R as Feeding>⟧.fed streams.old.lines streams.new.lines) (⟦<W as Watched>⟧.sent streams.old.out streams.new.out) (⟦<F as Watched>⟧.sent streams.old.errors streams.new.errors) (E.behind exchange.new) }
+    ensures { LiveRun (E.host_port exchange.old) inventory.now start (E.behind exchange.old) result (⟦<R as Watched>⟧.change streams.old.lines streams.new.lines) (⟦<W as Watched>⟧.change streams.old.out streams.new.out) (⟦<F as Watched>⟧.change streams.old.errors streams.new.errors) (E.behind exchange.new) }
 {
     match live(
         alloc,
@@ -66,7 +64,7 @@ fn live<R: Source, E: Exchange, W: Sink>(
     exchange: &mut E,
     out: &mut W,
 ) -> Result<(), Stop>
-    ensures { LivesTo (E.host_port exchange.old) bytes.now start (E.behind exchange.old) result (⟦<R as Feeding>⟧.fed events.old events.new) (⟦<W as Watched>⟧.sent out.old out.new) (E.behind exchange.new) }
+    ensures { LivesTo (E.host_port exchange.old) bytes.now start (E.behind exchange.old) result (⟦<R as Watched>⟧.change events.old events.new) (⟦<W as Watched>⟧.change out.old out.new) (E.behind exchange.new) }
 {
     let inventory = read(alloc, bytes)?;
     let mut agent = begin(alloc, inventory, start, exchange, out)?;
@@ -81,11 +79,11 @@ fn begin<E: Exchange, W: Sink>(
     exchange: &mut E,
     out: &mut W,
 ) -> Result<Agent, Stop>
-    ensures early { IfErr result (λ stop. EndsEarly (E.host_port exchange.old) start (record { inventory = inventory; behind = E.behind exchange.old }) stop (⟦<W as Watched>⟧.sent out.old out.new) (E.behind exchange.new)) }
-    ensures opened { IfOk result (λ agent. IsOpened (E.host_port exchange.old) start (record { inventory = inventory; behind = E.behind exchange.old }) agent.credentials agent.keeper (E.behind exchange.new) (⟦<W as Watched>⟧.sent out.old out.new)) }
+    ensures early { IfErr result (λ stop. EndsEarly (E.host_port exchange.old) start (record { inventory = inventory; behind = E.behind exchange.old }) stop (⟦<W as Watched>⟧.change out.old out.new) (E.behind exchange.new)) }
+    ensures opened { IfOk result (λ agent. IsOpened (E.host_port exchange.old) start (record { inventory = inventory; behind = E.behind exchange.old }) agent.credentials agent.keeper (E.behind exchange.new) (⟦<W as Watched>⟧.change out.old out.new)) }
     ensures ready { IfOk result (λ agent. IsReady agent.keeper) }
     ensures port { E.host_port exchange.new ≡ E.host_port exchange.old }
-    ensures flushed { OnOk result (IsTrue (W.is_flushed out.new)) }
+    ensures flushed { OnOk result (IsTrue (W.seen out.new).output.is_flushed) }
 {
     let mut inventory = inventory;
     look_all_up(alloc, &mut inventory, start, exchange, out)?;

@@ -11,11 +11,11 @@ use crate::agent::refused::opened;
 use crate::rehearse::fault_words::set_faults;
 use crate::rehearse::playing::play;
 use keep_core::Keeper;
-use keep_device::Sink;
+use keep_device::{Sink, Watched};
 use keep_exchange::MemoryExchange;
 use keep_inventory::read;
 use keep_moment::{Moment, Text};
-use keep_report::{Exit, Stop, Watched};
+use keep_report::{Exit, Stop};
 use mini_broker::Table;
 use std::alloc::Global;
 
@@ -52,8 +52,8 @@ pub fn run_rehearse<W: Sink, F: Sink>(
     errors: &mut F,
     exchange: &mut MemoryExchange,
 ) -> Exit
-    ensures run { RehearseRun inventory.now script.now.start script.now.faults.now result (⟦<W as Watched>⟧.sent out.old out.new) exchange.old exchange.new }
-    ensures told { RehearseTold inventory.now script.now.faults.now result (⟦<F as Watched>⟧.sent errors.old errors.new) }
+    ensures run { RehearseRun inventory.now script.now.start script.now.faults.now result (⟦<W as Watched>⟧.change out.old out.new) exchange.old exchange.new }
+    ensures told { RehearseTold inventory.now script.now.faults.now result (⟦<F as Watched>⟧.change errors.old errors.new) }
 {
     match rehearse(alloc, inventory, script, out, exchange) {
         Ok(()) => Exit::Done,
@@ -69,7 +69,7 @@ fn rehearse<W: Sink>(
     out: &mut W,
     exchange: &mut MemoryExchange,
 ) -> Result<(), Stop>
-    ensures { Rehearses inventory.now script.now.start script.now.faults.now result (⟦<W as Watched>⟧.sent out.old out.new) exchange.old exchange.new }
+    ensures { Rehearses inventory.now script.now.start script.now.faults.now result (⟦<W as Watched>⟧.change out.old out.new) exchange.old exchange.new }
 {
     let inventory = read(alloc, inventory)?;
     let mut table = Table::load(alloc, &inventory)?;

@@ -1,6 +1,7 @@
 -- WatchEnding: how a watch goes, and what it tells of its end: for `watch` and `run_watch`.
 use Rattle.std.proofs.Common.{◌≡◌, ℕ, inl, inr, List, Option, Result, Ok, Err, codes, refl, sym, subst}
 use Rattle.std.specs.Result.{IsErr, IsErrAnd}
+use Rattle.keep_device.specs.Seen.{Change}
 use Rattle.keep_inventory.specs.Answers.{Fails}
 use Rattle.keep_inventory.specs.declared.fault.InvFault.{InvFault}
 use Rattle.keep_inventory.specs.declared.fault.InvFault.TheVariants as faults
@@ -12,16 +13,15 @@ use Rattle.keep_report.specs.declared.stop.Stop.{Stop}
 use Rattle.keep_report.specs.declared.stop.Stop.TheVariants as stops
 use Rattle.keep_report.specs.Exits.{exit_of, stop_of_inventory}
 use Rattle.keep_report.specs.FaultLine.{fault_line}
-use Rattle.keep_report.specs.Sent.{IsUntouched, Sent}
+use Rattle.keep_report.specs.Sent.{IsUntouched}
 use Rattle.keep_report.specs.Told.{Reports}
-use Rattle.keep_run.specs.Listening.{Fed}
 use Rattle.keep_watching.specs.Clocked.{Side, side}
 use Rattle.keep_watching.specs.Listening.{Listens}
 use Rattle.keep_watching.specs.Watching.{Watching, fresh}
 use Rattle.keep_watching.specs.WatchRun.{HasListened, IsUnbegun, IsWatchStop, WatchEnds, WatchRun, WatchesTo}
 use Rattle.mini_broker.specs.Table.{Table}
 
-by_stop : (bytes : List ℕ) (stop : Stop) (errors : Sent) → IsWatchStop bytes stop → Reports (fault_line (codes "leasekeep") stop) errors → WatchEnds bytes (exit_of stop) errors
+by_stop : (bytes : List ℕ) (stop : Stop) (errors : Change) → IsWatchStop bytes stop → Reports (fault_line (codes "leasekeep") stop) errors → WatchEnds bytes (exit_of stop) errors
 by_stop bytes (stops.Inventory fault) errors is told = (stops.Inventory fault, refl, is, told)
 by_stop bytes (stops.Moments fault) errors is told = absurd is
 by_stop bytes (stops.FaultWord position) errors is told = absurd is
@@ -33,10 +33,10 @@ by_stop bytes (stops.Line number) errors is told = (stops.Line number, refl, is,
 by_stop bytes stops.Memory errors is told = (stops.Memory, refl, is, told)
 
 pub ended :
-    (bytes : List ℕ) (stop : Stop) (exit : Exit) (errors : Sent) → exit ≡ exit_of stop → IsWatchStop bytes stop → Reports (fault_line (codes "leasekeep") stop) errors → WatchEnds bytes exit errors
+    (bytes : List ℕ) (stop : Stop) (exit : Exit) (errors : Change) → exit ≡ exit_of stop → IsWatchStop bytes stop → Reports (fault_line (codes "leasekeep") stop) errors → WatchEnds bytes exit errors
 ended bytes stop exit errors is why told = subst (λ (e : Exit). WatchEnds bytes e errors) (sym is) (by_stop bytes stop errors why told)
 
-module _ (port : ℕ) (bytes : List ℕ) (width : ℕ) (old : Option Table) (fed : Fed) (out : Sent) where
+module _ (port : ℕ) (bytes : List ℕ) (width : ℕ) (old : Option Table) (fed : Change) (out : Change) where
   -- the bytes are no inventory, or memory was wanting
   pub read_watches :
       (result : Result (Unit {0}) Stop) (fault : InvFault) → IsErr result × IsErrAnd result (λ (q : Stop). q ≡ stop_of_inventory fault) → Fails fault (read_inventory bytes) → IsUnbegun old fed out old → WatchesTo port bytes width old result fed out old
@@ -72,11 +72,11 @@ module _ (port : ℕ) (bytes : List ℕ) (width : ℕ) (old : Option Table) (fed
 
   -- ---- by exit
 
-  pub done_runs : (errors : Sent) (new : Option Table) → WatchesTo port bytes width old (Ok tt) fed out new → IsUntouched errors → WatchRun port bytes width old exits.Done fed out errors new
+  pub done_runs : (errors : Change) (new : Option Table) → WatchesTo port bytes width old (Ok tt) fed out new → IsUntouched errors → WatchRun port bytes width old exits.Done fed out errors new
   done_runs errors new h none = (h, none)
 
   pub stopped_runs :
-      (stop : Stop) (exit : Exit) (errors : Sent) (new : Option Table) → exit ≡ exit_of stop → WatchesTo port bytes width old (Err stop) fed out new → Reports (fault_line (codes "leasekeep") stop) errors →
+      (stop : Stop) (exit : Exit) (errors : Change) (new : Option Table) → exit ≡ exit_of stop → WatchesTo port bytes width old (Err stop) fed out new → Reports (fault_line (codes "leasekeep") stop) errors →
       WatchRun port bytes width old exit fed out errors new
   stopped_runs stop exit errors new is h told = subst (λ (e : Exit). WatchRun port bytes width old e fed out errors new) (sym is) (by_exit stop h told) where
     by_exit : (u : Stop) → WatchesTo port bytes width old (Err u) fed out new → Reports (fault_line (codes "leasekeep") u) errors → WatchRun port bytes width old (exit_of u) fed out errors new

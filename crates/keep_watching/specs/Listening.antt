@@ -1,14 +1,14 @@
 -- Listening: lines, one after another: which are heard, what is written of them, and how listening ends.
 -- Source: this project's own.
 use Rattle.std.specs.Prelude.{◌≡◌, ℕ, ◌+◌, ◌-◌, ◌^◌, ◌<◌, ◌≤◌, ◌⊎◌, ◌++◌, IsTrue, List, [], ◌∷◌, None, Some, Result, Ok, Err, length, take}
-use Rattle.std.specs.Io.KnownBytes.{Appends, Consumes, IsAtEnd}
+use Rattle.std.specs.Io.KnownBytes.{Consumes, IsAtEnd}
+use Rattle.keep_device.specs.Seen.{Change, Receives}
 use Rattle.keep_device.specs.Failures.{HasFailed, one_more}
 use Rattle.keep_report.specs.declared.stop.Stop.{Stop}
 use Rattle.keep_report.specs.declared.stop.Stop.TheVariants as stops
-use Rattle.keep_report.specs.Sent.{Sent}
 use Rattle.keep_run.specs.declared.live.event_line.TheConstants.{MOST_LINE}
 use Rattle.keep_run.specs.declared.live.listening.TheConstants.{EVENT_ROOM}
-use Rattle.keep_run.specs.Listening.{Fed, whole_line}
+use Rattle.keep_run.specs.Listening.{whole_line}
 use Rattle.keep_run.specs.Looking.{IsSaid}
 use Rattle.keep_tree.specs.Forest.{Forest}
 use Rattle.keep_watching.specs.Answers.{cut}
@@ -32,28 +32,28 @@ IsNoLine g (rest ∷ []) HasEnded = (MOST_LINE ≤ length rest) ⊎ (HasEnded ×
 IsNoLine g (line ∷ next ∷ more) HasEnded = line_in g line ≡ None
 
 -- the first of these pieces is a line that is heard; behind this text no more than a front of what answers it is written
-pub record IsCutOff (port : ℕ) (old : Side) (behind : List (List ℕ)) (text : List ℕ) (new : Side) (out : Sent) : Type 0 where
+pub record IsCutOff (port : ℕ) (old : Side) (behind : List (List ℕ)) (text : List ℕ) (new : Side) (out : Change) : Type 0 where
   pub line : List ℕ
   pub is : whole_line behind ≡ Some line
   pub own : List ℕ
   pub heard : IsLineHeard port old line new own
   pub n : ℕ
-  pub front : Appends out.old out.new (text ++ take n own)
+  pub front : Receives (text ++ take n own) out
 
 -- why a watch stops behind the lines of this text, at the piece that stands first, which would be the line of that number: it is
 -- no line; or its answer was not written whole; or memory was wanting
-abbrev pub Halts : ℕ → ℕ → Side → List (List ℕ) → List ℕ → Stop → Side → Type 0 → Sent → Type 0
+abbrev pub Halts : ℕ → ℕ → Side → List (List ℕ) → List ℕ → Stop → Side → Type 0 → Change → Type 0
 Halts port number old behind text (stops.Line n) new HasEnded out =
     (n ≡ number) × (IsNoLine old.watching.inventory.forest behind HasEnded × ((new ≡ old) × IsSaid text out))
-Halts port number old behind text stops.Write new HasEnded out = HasFailed out.failed_before out.failed_after × IsCutOff port old behind text new out
-Halts port number old behind text stops.Memory new HasEnded out = Appends out.old out.new text ⊎ (IsTrue out.is_in_memory × IsCutOff port old behind text new out)
+Halts port number old behind text stops.Write new HasEnded out = HasFailed out.old.failed_calls out.new.failed_calls × IsCutOff port old behind text new out
+Halts port number old behind text stops.Memory new HasEnded out = Receives text out ⊎ (IsTrue out.is_in_memory × IsCutOff port old behind text new out)
 Halts port number old behind text stop new HasEnded out = ⊥
 
 -- ---- the input
 
 -- the input is not read to its end: a read failed; or as many reads were made as are counted, of a byte each at least
-abbrev pub IsBrokenOff : List ℕ → Fed → Type 0
-IsBrokenOff read fed = (fed.failed_after ≡ one_more fed.failed_before) ⊎ ((fed.failed_after ≡ fed.failed_before) × (2 ^ 64 - 1 ≤ length read))
+abbrev pub IsBrokenOff : List ℕ → Change → Type 0
+IsBrokenOff read fed = (fed.new.failed_calls ≡ one_more fed.old.failed_calls) ⊎ ((fed.new.failed_calls ≡ fed.old.failed_calls) × (2 ^ 64 - 1 ≤ length read))
 
 -- of what was read before the last read, which handed out at most 4,096 bytes, the whole lines are among these that were heard,
 -- and less than a line stands behind them
@@ -71,19 +71,19 @@ pub record IsPrompt (read : List ℕ) (lines : List (List ℕ)) : Type 0 where
 
 -- how listening ends behind the lines of this text, before these pieces: the input has ended in a line feed, or with no line at
 -- all; or it is broken off; or a line stops it
-abbrev pub ListensTo : ℕ → List ℕ → ℕ → Side → List (List ℕ) → List ℕ → Result (Unit {0}) Stop → Side → Fed → Sent → Type 0
+abbrev pub ListensTo : ℕ → List ℕ → ℕ → Side → List (List ℕ) → List ℕ → Result (Unit {0}) Stop → Side → Change → Change → Type 0
 ListensTo port read number old behind text (Ok u) new fed out =
-    (behind ≡ [] ∷ []) × (IsAtEnd fed.new × ((fed.failed_after ≡ fed.failed_before) × ((new ≡ old) × IsSaid text out)))
+    (behind ≡ [] ∷ []) × (IsAtEnd fed.new.input.remaining × ((fed.new.failed_calls ≡ fed.old.failed_calls) × ((new ≡ old) × IsSaid text out)))
 ListensTo port read number old behind text (Err stops.Read) new fed out =
     (rest : List ℕ) × ((behind ≡ rest ∷ []) × ((length rest < MOST_LINE) × (IsBrokenOff read fed × ((new ≡ old) × IsSaid text out))))
 ListensTo port read number old behind text (Err stop) new fed out =
-    (fed.failed_after ≡ fed.failed_before) × Halts port number old behind text stop new (IsAtEnd fed.new) out
+    (fed.new.failed_calls ≡ fed.old.failed_calls) × Halts port number old behind text stop new (IsAtEnd fed.new.input.remaining) out
 
 -- listening to an input: what was read of it, the lines of that which were heard, and what that came to; and how it ended behind
 -- them. A line's number counts from 1, and no further than a number is written
-pub record Listens (port : ℕ) (old : Side) (result : Result (Unit {0}) Stop) (new : Side) (fed : Fed) (out : Sent) : Type 0 where
+pub record Listens (port : ℕ) (old : Side) (result : Result (Unit {0}) Stop) (new : Side) (fed : Change) (out : Change) : Type 0 where
   pub read : List ℕ
-  pub consumed : Consumes fed.old fed.new read
+  pub consumed : Consumes fed.old.input.remaining fed.new.input.remaining read
   pub lines : List (List ℕ)
   pub behind : List (List ℕ)
   pub mid : Side

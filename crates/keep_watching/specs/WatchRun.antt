@@ -1,6 +1,7 @@
 -- WatchRun: a watch from the bytes of an inventory to the end of the lines: what it writes, why it stops, and what it tells of that.
 -- Source: this project's own.
 use Rattle.std.specs.Prelude.{◌≡◌, ℕ, ◌⊎◌, List, Option, Result, Ok, Err, codes}
+use Rattle.keep_device.specs.Seen.{Change}
 use Rattle.keep_inventory.specs.Inventories.{Inventory}
 use Rattle.keep_inventory.specs.Inventory.{read_inventory}
 use Rattle.keep_report.specs.declared.exit.Exit.{Exit}
@@ -9,10 +10,8 @@ use Rattle.keep_report.specs.declared.stop.Stop.{Stop}
 use Rattle.keep_report.specs.declared.stop.Stop.TheVariants as stops
 use Rattle.keep_report.specs.Exits.{exit_of}
 use Rattle.keep_report.specs.FaultLine.{fault_line}
-use Rattle.keep_report.specs.Sent.{IsUntouched, Sent}
+use Rattle.keep_report.specs.Sent.{IsUntouched}
 use Rattle.keep_report.specs.Told.{Reports}
-use Rattle.keep_run.specs.Listening.{Fed}
-use Rattle.keep_run.specs.LiveRun.{IsUnread}
 use Rattle.keep_watching.specs.Clocked.{Side, side}
 use Rattle.keep_watching.specs.Listening.{Listens}
 use Rattle.keep_watching.specs.Watching.{fresh}
@@ -32,14 +31,14 @@ IsWatchStop bytes (stops.Inventory fault) = read_inventory bytes ≡ Err fault
 IsWatchStop bytes stop = IsListenStop stop
 
 -- the lines have ended, and nothing was told; or why there were no more answers, in the one line of it
-abbrev pub WatchEnds : List ℕ → Exit → Sent → Type 0
+abbrev pub WatchEnds : List ℕ → Exit → Change → Type 0
 WatchEnds bytes exits.Done errors = IsUntouched errors
 WatchEnds bytes exit errors = (stop : Stop) × (exit ≡ exit_of stop) × IsWatchStop bytes stop × Reports (fault_line (codes "leasekeep") stop) errors
 
 -- ---- what it does
 
 -- a watch of that width over the inventory has listened; and the table behind the exchange, where it is known, is as that left it
-pub record HasListened (port : ℕ) (bytes : List ℕ) (width : ℕ) (old : Option Table) (result : Result (Unit {0}) Stop) (fed : Fed) (out : Sent) (new : Option Table) : Type 0 where
+pub record HasListened (port : ℕ) (bytes : List ℕ) (width : ℕ) (old : Option Table) (result : Result (Unit {0}) Stop) (fed : Change) (out : Change) (new : Option Table) : Type 0 where
   pub inventory : Inventory
   pub is : read_inventory bytes ≡ Ok inventory
   pub final : Side
@@ -47,19 +46,19 @@ pub record HasListened (port : ℕ) (bytes : List ℕ) (width : ℕ) (old : Opti
   pub table : new ≡ final.table
 
 -- no line is read, and nothing written or asked
-pub record IsUnbegun (old : Option Table) (fed : Fed) (out : Sent) (new : Option Table) : Type 0 where
-  pub unread : IsUnread fed
+pub record IsUnbegun (old : Option Table) (fed : Change) (out : Change) (new : Option Table) : Type 0 where
+  pub unread : IsUntouched fed
   pub unwritten : IsUntouched out
   pub table : new ≡ old
 
 -- how the watch over the bytes of an inventory goes
-abbrev pub WatchesTo : ℕ → List ℕ → ℕ → Option Table → Result (Unit {0}) Stop → Fed → Sent → Option Table → Type 0
+abbrev pub WatchesTo : ℕ → List ℕ → ℕ → Option Table → Result (Unit {0}) Stop → Change → Change → Option Table → Type 0
 WatchesTo port bytes width old (Err (stops.Inventory fault)) fed out new = (read_inventory bytes ≡ Err fault) × IsUnbegun old fed out new
 WatchesTo port bytes width old (Err stops.Memory) fed out new = IsUnbegun old fed out new ⊎ HasListened port bytes width old (Err stops.Memory) fed out new
 WatchesTo port bytes width old result fed out new = HasListened port bytes width old result fed out new
 
 -- `watch` over the bytes of an inventory, by exit: how the watch goes, and what it tells of its end
-abbrev pub WatchRun : ℕ → List ℕ → ℕ → Option Table → Exit → Fed → Sent → Sent → Option Table → Type 0
+abbrev pub WatchRun : ℕ → List ℕ → ℕ → Option Table → Exit → Change → Change → Change → Option Table → Type 0
 WatchRun port bytes width old exits.Done fed out errors new = WatchesTo port bytes width old (Ok tt) fed out new × IsUntouched errors
 WatchRun port bytes width old exit fed out errors new =
     (stop : Stop) × ((exit ≡ exit_of stop) × (WatchesTo port bytes width old (Err stop) fed out new × Reports (fault_line (codes "leasekeep") stop) errors))

@@ -2,12 +2,11 @@
 ghost use Rattle.keep_watching.specs.WatchFrom.{WatchFrom};
 
 use crate::running::run_watch;
-use keep_device::{Sink, Source, Streams};
+use keep_device::{Sink, Source, Streams, Watched};
 use keep_exchange::Abreast;
 use keep_files::Inputs;
 use keep_inventory::MOST_INVENTORY;
-use keep_report::{Exit, Stop, Watched};
-use keep_run::Feeding;
+use keep_report::{Exit, Stop};
 use std::alloc::Global;
 
 /// The command `watch`: [`run_watch`] over the bytes of an inventory's file, with at most `width` requests abreast over
@@ -23,7 +22,7 @@ pub fn watch_file<I: Inputs, R: Source, X: Abreast, W: Sink, E: Sink>(
     exchange: &mut X,
     streams: &mut Streams<R, W, E>,
 ) -> Exit
-    ensures { WatchFrom (I.bytes_at inputs.old file.now) (X.host_port exchange.old) width (X.table exchange.old) result (⟦<R as Feeding>⟧.fed streams.old.lines streams.new.lines) (⟦<W as Watched>⟧.sent streams.old.out streams.new.out) (⟦<E as Watched>⟧.sent streams.old.errors streams.new.errors) (X.table exchange.new) }
+    ensures { WatchFrom (I.bytes_at inputs.old file.now) (X.host_port exchange.old) width (X.table exchange.old) result (⟦<R as Watched>⟧.change streams.old.lines streams.new.lines) (⟦<W as Watched>⟧.change streams.old.out streams.new.out) (⟦<E as Watched>⟧.change streams.old.errors streams.new.errors) (X.table exchange.new) }
 {
     match inputs.read(alloc, file, MOST_INVENTORY) {
         Ok(inventory) => run_watch(alloc, inventory.list(), width, exchange, streams),

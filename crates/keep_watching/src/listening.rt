@@ -13,10 +13,10 @@ ghost use Rattle.keep_watching.specs.WatchRun.{IsListenStop};
 
 use crate::line::line_in;
 use crate::watching::Watching;
-use keep_device::{Sink, Source, zeros};
+use keep_device::{Sink, Source, Watched, zeros};
 use keep_exchange::Abreast;
-use keep_report::{Stop, Watched, send};
-use keep_run::{EVENT_ROOM, Feeding, MOST_LINE};
+use keep_report::{Stop, send};
+use keep_run::{EVENT_ROOM, MOST_LINE};
 use keep_words::cut;
 use std::alloc::Global;
 
@@ -33,7 +33,7 @@ pub(crate) fn listen<R: Source, E: Abreast, W: Sink>(
     out: &mut W,
 ) -> Result<(), Stop>
     requires closed { IsClosed watching.old.machine }
-    ensures listens { Listens (E.host_port exchange.old) (side watching.old (E.table exchange.old)) result (side watching.new (E.table exchange.new)) (⟦<R as Feeding>⟧.fed lines.old lines.new) (⟦<W as Watched>⟧.sent out.old out.new) }
+    ensures listens { Listens (E.host_port exchange.old) (side watching.old (E.table exchange.old)) result (side watching.new (E.table exchange.new)) (⟦<R as Watched>⟧.change lines.old lines.new) (⟦<W as Watched>⟧.change out.old out.new) }
     ensures stops { IfErr result IsListenStop }
 {
     let mut room = zeros(alloc, EVENT_ROOM)?;
@@ -51,7 +51,7 @@ fn listen_to<R: Source, E: Abreast, W: Sink>(
 ) -> Result<(), Stop>
     requires closed { IsClosed watching.old.machine }
     requires room { length room.old ≡ EVENT_ROOM }
-    ensures { Listens (E.host_port exchange.old) (side watching.old (E.table exchange.old)) result (side watching.new (E.table exchange.new)) (⟦<R as Feeding>⟧.fed lines.old lines.new) (⟦<W as Watched>⟧.sent out.old out.new) }
+    ensures { Listens (E.host_port exchange.old) (side watching.old (E.table exchange.old)) result (side watching.new (E.table exchange.new)) (⟦<R as Watched>⟧.change lines.old lines.new) (⟦<W as Watched>⟧.change out.old out.new) }
 {
     let mut pending = Vec::new(alloc);
     let mut count: u64 = 0;
@@ -92,11 +92,11 @@ fn answer_pending<E: Abreast, W: Sink>(
 ) -> Result<(), Stop>
     requires closed { IsClosed watching.old.machine }
     requires counted { cut count.old ≡ count.old }
-    ensures heard { OnOk result (HearsUpTo (E.host_port exchange.old) count.old (side watching.old (E.table exchange.old)) pending.old.items (pending.new.items ∷ []) (side watching.new (E.table exchange.new)) count.new (⟦<W as Watched>⟧.sent out.old out.new)) }
+    ensures heard { OnOk result (HearsUpTo (E.host_port exchange.old) count.old (side watching.old (E.table exchange.old)) pending.old.items (pending.new.items ∷ []) (side watching.new (E.table exchange.new)) count.new (⟦<W as Watched>⟧.change out.old out.new)) }
     ensures short { OnOk result (length pending.new.items < MOST_LINE) }
     ensures closed { OnOk result (IsClosed watching.new.machine) }
     ensures port { OnOk result (E.host_port exchange.new ≡ E.host_port exchange.old) }
-    ensures halts { IfErr result (λ stop. HaltsWithin (E.host_port exchange.old) count.old (side watching.old (E.table exchange.old)) pending.old.items stop (side watching.new (E.table exchange.new)) (⟦<W as Watched>⟧.sent out.old out.new)) }
+    ensures halts { IfErr result (λ stop. HaltsWithin (E.host_port exchange.old) count.old (side watching.old (E.table exchange.old)) pending.old.items stop (side watching.new (E.table exchange.new)) (⟦<W as Watched>⟧.change out.old out.new)) }
 {
     let answered = answer_whole(alloc, watching, exchange, pending, count, out)?;
     pending.drain(..answered);
@@ -118,11 +118,11 @@ fn answer_whole<E: Abreast, W: Sink>(
 ) -> Result<usize, Stop>
     requires closed { IsClosed watching.old.machine }
     requires counted { cut count.old ≡ count.old }
-    ensures heard { IfOk result (λ n. HearsUpTo (E.host_port exchange.old) count.old (side watching.old (E.table exchange.old)) bytes.now (drop n bytes.now ∷ []) (side watching.new (E.table exchange.new)) count.new (⟦<W as Watched>⟧.sent out.old out.new)) }
+    ensures heard { IfOk result (λ n. HearsUpTo (E.host_port exchange.old) count.old (side watching.old (E.table exchange.old)) bytes.now (drop n bytes.now ∷ []) (side watching.new (E.table exchange.new)) count.new (⟦<W as Watched>⟧.change out.old out.new)) }
     ensures within { IfOk result (λ n. n ≤ length bytes.now) }
     ensures closed { IfOk result (λ _. IsClosed watching.new.machine) }
     ensures port { IfOk result (λ _. E.host_port exchange.new ≡ E.host_port exchange.old) }
-    ensures halts { IfErr result (λ stop. HaltsWithin (E.host_port exchange.old) count.old (side watching.old (E.table exchange.old)) bytes.now stop (side watching.new (E.table exchange.new)) (⟦<W as Watched>⟧.sent out.old out.new)) }
+    ensures halts { IfErr result (λ stop. HaltsWithin (E.host_port exchange.old) count.old (side watching.old (E.table exchange.old)) bytes.now stop (side watching.new (E.table exchange.new)) (⟦<W as Watched>⟧.change out.old out.new)) }
 {
     let mut rest = bytes;
     while let Some((line, behind)) = cut(rest, b'\n') {
@@ -144,7 +144,7 @@ fn answer_line<E: Abreast, W: Sink>(
     out: &mut W,
 ) -> Result<(), Stop>
     requires closed { IsClosed watching.old.machine }
-    ensures hears { HearsLine (E.host_port exchange.old) number (side watching.old (E.table exchange.old)) line.now result (side watching.new (E.table exchange.new)) (⟦<W as Watched>⟧.sent out.old out.new) }
+    ensures hears { HearsLine (E.host_port exchange.old) number (side watching.old (E.table exchange.old)) line.now result (side watching.new (E.table exchange.new)) (⟦<W as Watched>⟧.change out.old out.new) }
     ensures closed { OnOk result (IsClosed watching.new.machine) }
     ensures port { OnOk result (E.host_port exchange.new ≡ E.host_port exchange.old) }
 {

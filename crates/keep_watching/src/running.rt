@@ -4,11 +4,10 @@ ghost use Rattle.keep_watching.specs.WatchRun.{IsWatchStop, WatchEnds, WatchRun,
 
 use crate::listening::listen;
 use crate::watching::Watching;
-use keep_device::{Sink, Source, Streams};
+use keep_device::{Sink, Source, Streams, Watched};
 use keep_exchange::Abreast;
 use keep_inventory::read;
-use keep_report::{Exit, Stop, Watched};
-use keep_run::Feeding;
+use keep_report::{Exit, Stop};
 use std::alloc::Global;
 
 /// Watches over the entries of an inventory, and sends at most `width` requests abreast over the exchange, as `streams.lines`
@@ -25,8 +24,8 @@ pub fn run_watch<R: Source, E: Abreast, W: Sink, F: Sink>(
     exchange: &mut E,
     streams: &mut Streams<R, W, F>,
 ) -> Exit
-    ensures ends { WatchEnds inventory.now result (⟦<F as Watched>⟧.sent streams.old.errors streams.new.errors) }
-    ensures run { WatchRun (E.host_port exchange.old) inventory.now width (E.table exchange.old) result (⟦<R as Feeding>⟧.fed streams.old.lines streams.new.lines) (⟦<W as Watched>⟧.sent streams.old.out streams.new.out) (⟦<F as Watched>⟧.sent streams.old.errors streams.new.errors) (E.table exchange.new) }
+    ensures ends { WatchEnds inventory.now result (⟦<F as Watched>⟧.change streams.old.errors streams.new.errors) }
+    ensures run { WatchRun (E.host_port exchange.old) inventory.now width (E.table exchange.old) result (⟦<R as Watched>⟧.change streams.old.lines streams.new.lines) (⟦<W as Watched>⟧.change streams.old.out streams.new.out) (⟦<F as Watched>⟧.change streams.old.errors streams.new.errors) (E.table exchange.new) }
 {
     match watch(
         alloc,
@@ -51,7 +50,7 @@ fn watch<R: Source, E: Abreast, W: Sink>(
     out: &mut W,
 ) -> Result<(), Stop>
     ensures stops { IfErr result (IsWatchStop bytes.now) }
-    ensures run { WatchesTo (E.host_port exchange.old) bytes.now width (E.table exchange.old) result (⟦<R as Feeding>⟧.fed lines.old lines.new) (⟦<W as Watched>⟧.sent out.old out.new) (E.table exchange.new) }
+    ensures run { WatchesTo (E.host_port exchange.old) bytes.now width (E.table exchange.old) result (⟦<R as Watched>⟧.change lines.old lines.new) (⟦<W as Watched>⟧.change out.old out.new) (E.table exchange.new) }
 {
     let inventory = read(alloc, bytes)?;
     let mut watching = Watching::new(alloc, inventory, width)?;

@@ -1,7 +1,8 @@
 -- What was sent behind what was read: for `serve_stream`.
-use Rattle.std.proofs.Common.{◌≡◌, ℕ, List, ◌++◌, IsTrue, refl, sym, subst, Option, Some, None, Result, Ok, Err, IfErr, IfSome, OnOk, OnErr, take, inl, inr, ap, ◌∙◌}
-use Rattle.std.specs.Io.KnownBytes.{Appends, Keeps}
+use Rattle.std.proofs.Common.{◌≡◌, ℕ, IsTrue, refl, sym, subst, Result, Ok, Err, IfErr, OnOk, OnErr, inl, inr}
+use Rattle.std.specs.Io.KnownBytes.{Keeps}
 use Rattle.keep_device.specs.Front.{AppendsFront}
+use Rattle.keep_device.specs.Seen.{Change}
 use Rattle.mini_broker.specs.declared.stream.StreamFault.{StreamFault}
 use Rattle.mini_broker.specs.declared.stream.StreamFault.TheVariants as streams
 use Rattle.mini_broker.specs.Table.{Table}
@@ -17,18 +18,7 @@ use Rattle.mini_broker.specs.declared.served.Served.{Served}
 use Rattle.mini_broker.specs.declared.served.Served.TheVariants as served
 use Rattle.mini_broker.specs.Request.{status_of}
 use Rattle.mini_broker.specs.Step.{Answer, refuses, tells, drops, Refuses, Says, step}
-use Rattle.mini_broker.specs.Stream.{CountsSending, Ends, Fails, Handles, IsHandled, IsUnserved, Leaves, MaySend, WantsMemory, sent_of}
-
-pub kept_appends : (a b c : Option (List ℕ)) (bs : List ℕ) → Keeps a b → Appends b c bs → Appends a c bs
-kept_appends None b c bs kept more = tt
-kept_appends (Some xs) None c bs kept more = elim kept [ ]
-kept_appends (Some xs) (Some ys) None bs kept more = more
-kept_appends (Some xs) (Some ys) (Some zs) bs kept more = more ∙ ap (λ us. us ++ bs) kept
-
--- what a failed sending appended stands behind what was there before the reading
-pub kept_front : {X E : Type 0} (a b c : Option (List ℕ)) (bs : List ℕ) (r : Result X E) → Keeps a b → OnErr r (AppendsFront b c bs) → OnErr r (AppendsFront a c bs)
-kept_front a b c bs (Ok x) kept front = tt
-kept_front a b c bs (Err e) kept front = (front.0, kept_appends a b c (take front.0 bs) kept front.1)
+use Rattle.mini_broker.specs.Stream.{CountsSending, Fails, Handles, IsHandled, IsUnserved, Leaves, MaySend, WantsMemory, sent_of}
 
 pub of_both : {X E : Type 0} (P Q R : Type 0) (r : Result X E) → (P → Q → R) → OnOk r P → OnOk r Q → OnOk r R
 of_both P Q R (Ok x) f p q = f p q
@@ -36,33 +26,27 @@ of_both P Q R (Err e) f p q = tt
 
 -- a failed sending leaves what handling the message has left
 pub left_by_sending :
-    {X : Type 0} (ends : Ends) (l after : Table) (t : ℕ) (r : Result X StreamFault) (before now : ℕ) → CountsSending r before now →
-    (done : IsHandled ends l t after) → OnErr r (AppendsFront ends.old ends.new (sent_of done.done)) → IfErr r (λ fault. Leaves ends l t fault after)
-left_by_sending ends l after t (Ok x) before now count done front = tt
-left_by_sending ends l after t (Err streams.ReadFailed) before now count done front = elim count [ ]
-left_by_sending ends l after t (Err streams.WriteFailed) before now count done front = record { done = done; front = front }
-left_by_sending ends l after t (Err streams.OutOfMemory) before now count done front = inr (record { done = done; front = front })
+    {X : Type 0} (stream : Change) (l after : Table) (t : ℕ) (r : Result X StreamFault) (before now : ℕ) → CountsSending r before now →
+    (done : IsHandled stream l t after) → OnErr r (AppendsFront stream.old.output.written stream.new.output.written (sent_of done.done)) → IfErr r (λ fault. Leaves stream l t fault after)
+left_by_sending stream l after t (Ok x) before now count done front = tt
+left_by_sending stream l after t (Err streams.ReadFailed) before now count done front = elim count [ ]
+left_by_sending stream l after t (Err streams.WriteFailed) before now count done front = record { done = done; front = front }
+left_by_sending stream l after t (Err streams.OutOfMemory) before now count done front = inr (record { done = done; front = front })
 
-keeps_same : (o : Option (List ℕ)) → Keeps o o
-keeps_same None = tt
-keeps_same (Some xs) = refl
-
-leaves_unserved : (ends : Ends) (l after : Table) (t : ℕ) (message : Result Request HttpFault) → (WantsMemory l t message after → IsUnserved ends l t after) → (fault : StreamFault) → Fails l t message fault after → Leaves ends l t fault after
-leaves_unserved ends l after t message wants streams.ReadFailed fails = fails.1
-leaves_unserved ends l after t message wants streams.WriteFailed fails = absurd fails
-leaves_unserved ends l after t message wants streams.OutOfMemory fails = inl (wants fails)
+leaves_unserved : (stream : Change) (l after : Table) (t : ℕ) (message : Result Request HttpFault) → (WantsMemory l t message after → IsUnserved stream l t after) → (fault : StreamFault) → Fails l t message fault after → Leaves stream l t fault after
+leaves_unserved stream l after t message wants streams.ReadFailed fails = fails.1
+leaves_unserved stream l after t message wants streams.WriteFailed fails = absurd fails
+leaves_unserved stream l after t message wants streams.OutOfMemory fails = inl (wants fails)
 
 -- a message that was not handled leaves what handling it says
 pub left_unserved :
-    {X : Type 0} (ends : Ends) (l after : Table) (t : ℕ) (message : Result Request HttpFault) (left : ℕ) (unread : Option (List ℕ)) →
-    IfSome ends.remaining (λ bytes. SettlesRequest MOST_MESSAGE bytes unread ends.reads_left left message) → unread ≡ ends.rest → Keeps ends.old ends.new →
-    (fault : StreamFault) → Fails l t message fault after → (r : Result X StreamFault) → (y : StreamFault) → r ≡ Err y → y ≡ fault → IfErr r (λ f. Leaves ends l t f after)
-left_unserved ends l after t message left unread read rest unwritten fault fails r y is same =
-    subst (λ x. IfErr x (λ f. Leaves ends l t f after)) (sym is)
-    (subst (λ f. Leaves ends l t f after) (sym same)
-    (leaves_unserved ends l after t message
-    (λ wants. record { message = message; left = left; unread = unread; read = read; kept = subst (λ o. Keeps unread o) rest (keeps_same unread); unwritten = unwritten; wants = wants })
-    fault fails))
+    {X : Type 0} (stream : Change) (l after : Table) (t : ℕ) (message : Result Request HttpFault) → SettlesRequest MOST_MESSAGE stream.old.input stream.new.input message →
+    Keeps stream.old.output.written stream.new.output.written → (fault : StreamFault) → Fails l t message fault after → (r : Result X StreamFault) →
+    (y : StreamFault) → r ≡ Err y → y ≡ fault → IfErr r (λ f. Leaves stream l t f after)
+left_unserved stream l after t message read unwritten fault fails r y is same =
+    subst (λ x. IfErr x (λ f. Leaves stream l t f after)) (sym is)
+    (subst (λ f. Leaves stream l t f after) (sym same)
+    (leaves_unserved stream l after t message (λ wants. record { message = message; read = read; unwritten = unwritten; wants = wants }) fault fails))
 
 -- ---- what is sent may be sent
 

@@ -3,6 +3,7 @@ use Rattle.std.specs.Prelude.{◌≡◌, ℕ, ◌<◌, ◌≤◌, ◌⊎◌, not
 use Rattle.std.specs.List.{list_all}
 use Rattle.keep_moment.specs.declared.moment.TheConstants.{LAST}
 use Rattle.keep_device.specs.Failures.{one_more}
+use Rattle.keep_device.specs.Seen.{Input, Seen}
 use Rattle.mini_broker.specs.declared.moment_line.LineFault.{LineFault}
 use Rattle.mini_broker.specs.declared.moment_line.LineFault.TheVariants as lines
 use Rattle.mini_broker.specs.declared.moment_line.Moments.{Moments}
@@ -50,23 +51,16 @@ CountsLine (Err lines.ReadFailed) before now = now ≡ one_more before
 CountsLine (Err lines.NoMoment) before now = now ≡ before
 CountsLine (Err lines.OutOfMemory) before now = now ≡ before
 
--- an input before and after: its bytes to come, and how many calls of it have failed
-pub record Lines : Type 0 where
-  pub before : Option (List ℕ)
-  pub now : Option (List ℕ)
-  pub failed : ℕ
-  pub failures : ℕ
-
 -- the moment of a line that was read, and no byte behind it; or that none stands in front; and what is left
-abbrev pub TellsLine : Result ℕ LineFault → Lines → Type 0
-TellsLine (Ok m) input = Consumes input.before input.now (moment_line m)
-TellsLine (Err lines.NoMoment) input = IfSome input.before HasNoMoment × PassesLine input.before input.now
-TellsLine (Err fault) input = BreaksOff input.before input.now
+abbrev pub TellsLine : Result ℕ LineFault → Input → Input → Type 0
+TellsLine (Ok m) before now = Consumes before.remaining now.remaining (moment_line m)
+TellsLine (Err lines.NoMoment) before now = IfSome before.remaining HasNoMoment × PassesLine before.remaining now.remaining
+TellsLine (Err fault) before now = BreaksOff before.remaining now.remaining
 
 -- the moment at which the next connection is served: the one of all, or that of the next line
-abbrev pub Tells : Moments → Result ℕ LineFault → Lines → Type 0
-Tells (moments.All m) result input = result ≡ Ok m
-Tells moments.Lines result input = TellsLine result input × CountsLine result input.failed input.failures
+abbrev pub Tells : Moments → Result ℕ LineFault → Seen → Seen → Type 0
+Tells (moments.All m) result before now = result ≡ Ok m
+Tells moments.Lines result before now = TellsLine result before.input now.input × CountsLine result before.failed_calls now.failed_calls
 
 -- where all connections have one moment, nothing is read
 abbrev pub ReadsNothing : {S : Type 0} → Moments → S → S → Type 0

@@ -1,15 +1,15 @@
 -- A request served over a stream: what is read, what the table then is, and what is written.
 -- Source: RFC 9112 (the message that is read and the reply that is written); which unreadable request gets a reply is this
 -- project's own.
-use Rattle.std.specs.Prelude.{◌≡◌, ℕ, ◌⊎◌, List, [], Option, IfSome, Bool, IsTrue, Result, Ok, Err}
-use Rattle.std.specs.Io.KnownBytes.{Appends, Keeps}
+use Rattle.std.specs.Prelude.{◌≡◌, ℕ, ◌⊎◌, List, [], Bool, IsTrue, Result, Ok, Err}
+use Rattle.std.specs.Io.KnownBytes.{Keeps}
 use Rattle.vault_http.specs.declared.http_fault.HttpFault.{HttpFault}
 use Rattle.vault_http.specs.declared.http_fault.HttpFault.TheVariants as https
 use Rattle.vault_http.specs.declared.request.Request.{Request}
 use Rattle.vault_http.specs.declared.writing.SendFault.{SendFault}
 use Rattle.vault_http.specs.declared.writing.SendFault.TheVariants as sends
 use Rattle.keep_device.specs.Failures.{one_more}
-use Rattle.keep_device.specs.Front.{AppendsFront}
+use Rattle.keep_device.specs.Seen.{Change, Receives, ReceivesFront}
 use Rattle.vault_http.specs.Reading.{SettlesRequest}
 use Rattle.vault_http.specs.RoundTrip.{is_sent}
 use Rattle.vault_http.specs.Written.{reply_text}
@@ -27,7 +27,7 @@ abbrev pub sent_of : Served → List ℕ
 sent_of (served.Reply reply) = reply_text reply
 sent_of served.Dropped = []
 
--- what is done with a message: a request is served; one that ends too soon gets no reply; every other that cannot be read
+-- what is done with a message: a request is served; one that stream too soon gets no reply; every other that cannot be read
 -- is refused, and is not counted
 abbrev pub Handles : Table → ℕ → Result Request HttpFault → Table → Served → Type 0
 Handles l t (Ok r) after done = (Says t (step l t r).answer done) × (after ≡ (step l t r).table)
@@ -40,23 +40,10 @@ Handles l t (Err https.BadChunk) after done = (Refuses BadRequest done) × (afte
 Handles l t (Err https.TooLong) after done = (Refuses BadRequest done) × (after ≡ l)
 Handles l t (Err https.TwoLengths) after done = (Refuses BadRequest done) × (after ≡ l)
 
--- a stream before and after: its bytes to come, the reads that it needs at most, what was written, and whether all of it
--- was flushed
-pub record Ends : Type 0 where
-  pub remaining : Option (List ℕ)
-  pub rest : Option (List ℕ)
-  pub reads_left : ℕ
-  pub old : Option (List ℕ)
-  pub new : Option (List ℕ)
-  pub flushed : Bool
-
 -- one message is read by its bytes, where the stream tells them, and it is handled; what was not read stays
-pub record IsHandled (ends : Ends) (l : Table) (t : ℕ) (after : Table) : Type 0 where
+pub record IsHandled (stream : Change) (l : Table) (t : ℕ) (after : Table) : Type 0 where
   pub message : Result Request HttpFault
-  pub left : ℕ
-  pub unread : Option (List ℕ)
-  pub read : IfSome ends.remaining (λ bytes. SettlesRequest MOST_MESSAGE bytes unread ends.reads_left left message)
-  pub kept : Keeps unread ends.rest
+  pub read : SettlesRequest MOST_MESSAGE stream.old.input stream.new.input message
   pub done : Served
   pub handled : Handles l t message after done
 
@@ -71,13 +58,13 @@ IsFlushed (served.Reply reply) flushed = IsTrue flushed
 IsFlushed served.Dropped flushed = Unit {0}
 
 -- one message is handled, and what is sent for it is appended
-pub record IsStreamed (ends : Ends) (l : Table) (t : ℕ) (after : Table) : Type 0 where
-  pub done : IsHandled ends l t after
-  pub sent : Appends ends.old ends.new (sent_of done.done)
-  pub flushed : IsFlushed done.done ends.flushed
+pub record IsStreamed (stream : Change) (l : Table) (t : ℕ) (after : Table) : Type 0 where
+  pub done : IsHandled stream l t after
+  pub sent : Receives (sent_of done.done) stream
+  pub flushed : IsFlushed done.done stream.new.output.is_flushed
 
 -- what want of memory leaves of the table: what it was where the message was not read or is refused, and what a sweep leaves
--- where it is a request. No reply to a message that ends too soon is made, so none wants memory
+-- where it is a request. No reply to a message that stream too soon is made, so none wants memory
 abbrev pub WantsMemory : Table → ℕ → Result Request HttpFault → Table → Type 0
 WantsMemory l t (Ok r) after = after ≡ after_sweep l t
 WantsMemory l t (Err https.Truncated) after = ⊥
@@ -90,27 +77,24 @@ WantsMemory l t (Err https.TooLong) after = after ≡ l
 WantsMemory l t (Err https.TwoLengths) after = after ≡ l
 
 -- one message is read by its bytes, where the stream tells them, or was refused memory, and nothing is sent
-pub record IsUnserved (ends : Ends) (l : Table) (t : ℕ) (after : Table) : Type 0 where
+pub record IsUnserved (stream : Change) (l : Table) (t : ℕ) (after : Table) : Type 0 where
   pub message : Result Request HttpFault
-  pub left : ℕ
-  pub unread : Option (List ℕ)
-  pub read : IfSome ends.remaining (λ bytes. SettlesRequest MOST_MESSAGE bytes unread ends.reads_left left message)
-  pub kept : Keeps unread ends.rest
-  pub unwritten : Keeps ends.old ends.new
+  pub read : SettlesRequest MOST_MESSAGE stream.old.input stream.new.input message
+  pub unwritten : Keeps stream.old.output.written stream.new.output.written
   pub wants : WantsMemory l t message after
 
 -- one message is handled, and of what is sent for it no more than a front is appended
-pub record IsCut (ends : Ends) (l : Table) (t : ℕ) (after : Table) : Type 0 where
-  pub done : IsHandled ends l t after
-  pub front : AppendsFront ends.old ends.new (sent_of done.done)
+pub record IsCut (stream : Change) (l : Table) (t : ℕ) (after : Table) : Type 0 where
+  pub done : IsHandled stream l t after
+  pub front : ReceivesFront (sent_of done.done) stream
 
 -- what a fault leaves: the table as it was where a read failed, and where a write failed what handling the message has left,
 -- with a front of what is sent. Memory may be wanting while a message is read, while a request is served, and while the reply
 -- is sent
-abbrev pub Leaves : Ends → Table → ℕ → StreamFault → Table → Type 0
-Leaves ends l t streams.ReadFailed after = after ≡ l
-Leaves ends l t streams.WriteFailed after = IsCut ends l t after
-Leaves ends l t streams.OutOfMemory after = IsUnserved ends l t after ⊎ IsCut ends l t after
+abbrev pub Leaves : Change → Table → ℕ → StreamFault → Table → Type 0
+Leaves stream l t streams.ReadFailed after = after ≡ l
+Leaves stream l t streams.WriteFailed after = IsCut stream l t after
+Leaves stream l t streams.OutOfMemory after = IsUnserved stream l t after ⊎ IsCut stream l t after
 
 -- one failure more where a read or a write failed, and else none
 abbrev pub CountsStream : {X : Type 0} → Result X StreamFault → ℕ → ℕ → Type 0

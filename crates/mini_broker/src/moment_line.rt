@@ -74,10 +74,10 @@ pub fn next_moment<S: Source>(
     moments: Moments,
     lines: &mut S,
 ) -> Result<Moment, LineFault>
-    ensures tells { Tells moments result (record { before = S.remaining lines.old; now = S.remaining lines.new; failed = S.failed_calls lines.old; failures = S.failed_calls lines.new }) }
+    ensures tells { Tells moments result (S.seen lines.old) (S.seen lines.new) }
     ensures nothing { ReadsNothing moments lines.old lines.new }
-    ensures reads { MakesAtMost MOST_LINE (S.remaining lines.old) (S.reads_made lines.old) (S.reads_made lines.new) }
-    ensures written { Keeps (S.written lines.old) (S.written lines.new) }
+    ensures reads { MakesAtMost MOST_LINE (S.seen lines.old).input (S.seen lines.new).input }
+    ensures output { (S.seen lines.new).output ≡ (S.seen lines.old).output }
 {
     match moments {
         Moments::All(moment) => Ok(moment),
@@ -87,14 +87,14 @@ pub fn next_moment<S: Source>(
 
 /// Reads one line and no byte behind it, and gives the moment that it spells.
 fn read_moment<S: Source>(alloc: Global, source: &mut S) -> Result<Moment, LineFault>
-    ensures line { IfOk result (λ m. Consumes (S.remaining source.old) (S.remaining source.new) (moment_line m)) }
-    ensures none { IsErrOf result lines.NoMoment → IfSome (S.remaining source.old) HasNoMoment }
-    ensures passed { IsErrOf result lines.NoMoment → PassesLine (S.remaining source.old) (S.remaining source.new) }
-    ensures failed { IsErrOf result lines.ReadFailed → BreaksOff (S.remaining source.old) (S.remaining source.new) }
-    ensures memory { IsErrOf result lines.OutOfMemory → BreaksOff (S.remaining source.old) (S.remaining source.new) }
-    ensures reads { MakesAtMost MOST_LINE (S.remaining source.old) (S.reads_made source.old) (S.reads_made source.new) }
-    ensures written { Keeps (S.written source.old) (S.written source.new) }
-    ensures count { CountsLine result (S.failed_calls source.old) (S.failed_calls source.new) }
+    ensures line { IfOk result (λ m. Consumes (S.seen source.old).input.remaining (S.seen source.new).input.remaining (moment_line m)) }
+    ensures none { IsErrOf result lines.NoMoment → IfSome (S.seen source.old).input.remaining HasNoMoment }
+    ensures passed { IsErrOf result lines.NoMoment → PassesLine (S.seen source.old).input.remaining (S.seen source.new).input.remaining }
+    ensures failed { IsErrOf result lines.ReadFailed → BreaksOff (S.seen source.old).input.remaining (S.seen source.new).input.remaining }
+    ensures memory { IsErrOf result lines.OutOfMemory → BreaksOff (S.seen source.old).input.remaining (S.seen source.new).input.remaining }
+    ensures reads { MakesAtMost MOST_LINE (S.seen source.old).input (S.seen source.new).input }
+    ensures output { (S.seen source.new).output ≡ (S.seen source.old).output }
+    ensures count { CountsLine result (S.seen source.old).failed_calls (S.seen source.new).failed_calls }
 {
     let Some(line) = read_line(alloc, source)? else {
         return Err(LineFault::NoMoment);
@@ -108,16 +108,16 @@ fn read_moment<S: Source>(alloc: Global, source: &mut S) -> Result<Moment, LineF
 /// Reads one line and no byte behind it, and gives it without its line feed; `None` where the input ends before that, or the
 /// line has more than 256 bytes.
 fn read_line<S: Source>(alloc: Global, source: &mut S) -> Result<Option<Vec<u8>>, LineFault>
-    ensures line { IfOk result (λ line. IfSome line (λ text. Consumes (S.remaining source.old) (S.remaining source.new) (text.items ++ 10 ∷ []))) }
+    ensures line { IfOk result (λ line. IfSome line (λ text. Consumes (S.seen source.old).input.remaining (S.seen source.new).input.remaining (text.items ++ 10 ∷ []))) }
     ensures one { IfOk result (λ line. IfSome line (λ text. IsOneLine text.items)) }
     ensures short { IfOk result (λ line. IfSome line (λ text. length text.items < MOST_LINE)) }
-    ensures none { result ≡ Ok None → IfSome (S.remaining source.old) HasNoLine }
-    ensures passed { result ≡ Ok None → PassesLine (S.remaining source.old) (S.remaining source.new) }
-    ensures broken { IfErr result (λ _. BreaksOff (S.remaining source.old) (S.remaining source.new)) }
+    ensures none { result ≡ Ok None → IfSome (S.seen source.old).input.remaining HasNoLine }
+    ensures passed { result ≡ Ok None → PassesLine (S.seen source.old).input.remaining (S.seen source.new).input.remaining }
+    ensures broken { IfErr result (λ _. BreaksOff (S.seen source.old).input.remaining (S.seen source.new).input.remaining) }
     ensures fault { IsErrOf result lines.NoMoment → ⊥ }
-    ensures reads { MakesAtMost MOST_LINE (S.remaining source.old) (S.reads_made source.old) (S.reads_made source.new) }
-    ensures written { Keeps (S.written source.old) (S.written source.new) }
-    ensures count { CountsLine result (S.failed_calls source.old) (S.failed_calls source.new) }
+    ensures reads { MakesAtMost MOST_LINE (S.seen source.old).input (S.seen source.new).input }
+    ensures output { (S.seen source.new).output ≡ (S.seen source.old).output }
+    ensures count { CountsLine result (S.seen source.old).failed_calls (S.seen source.new).failed_calls }
 {
     let mut line = Vec::new(alloc);
     for _ in 0..MOST_LINE {
@@ -132,12 +132,12 @@ fn read_line<S: Source>(alloc: Global, source: &mut S) -> Result<Option<Vec<u8>>
 
 /// Reads one byte, `None` at the end of the input.
 fn next_byte<S: Source>(source: &mut S) -> Result<Option<u8>, Failed>
-    ensures some { IfOk result (λ byte. IfSome byte (λ b. Consumes (S.remaining source.old) (S.remaining source.new) (b ∷ []))) }
-    ensures none { result ≡ Ok None → IsAtEnd (S.remaining source.old) × IsAtEnd (S.remaining source.new) × Consumes (S.remaining source.old) (S.remaining source.new) [] }
-    ensures kept { IfErr result (λ _. Keeps (S.remaining source.old) (S.remaining source.new)) }
-    ensures reads { MakesAtMost 1 (S.remaining source.old) (S.reads_made source.old) (S.reads_made source.new) }
-    ensures written { Keeps (S.written source.old) (S.written source.new) }
-    ensures count { CountsRead result (S.failed_calls source.old) (S.failed_calls source.new) }
+    ensures some { IfOk result (λ byte. IfSome byte (λ b. Consumes (S.seen source.old).input.remaining (S.seen source.new).input.remaining (b ∷ []))) }
+    ensures none { result ≡ Ok None → IsAtEnd (S.seen source.old).input.remaining × IsAtEnd (S.seen source.new).input.remaining × Consumes (S.seen source.old).input.remaining (S.seen source.new).input.remaining [] }
+    ensures kept { IfErr result (λ _. Keeps (S.seen source.old).input.remaining (S.seen source.new).input.remaining) }
+    ensures reads { MakesAtMost 1 (S.seen source.old).input (S.seen source.new).input }
+    ensures output { (S.seen source.new).output ≡ (S.seen source.old).output }
+    ensures count { CountsRead result (S.seen source.old).failed_calls (S.seen source.new).failed_calls }
 {
     let mut byte = [0u8];
     if source.read_some(&mut byte)? == 0 {

@@ -1,5 +1,5 @@
 ghost use Rattle.std.specs.Prelude.{◌≡◌, OnErr, OnOk};
-ghost use Rattle.std.specs.Io.KnownBytes.{Appends, Keeps};
+ghost use Rattle.std.specs.Io.KnownBytes.{Appends};
 ghost use Rattle.keep_device.specs.Front.{AppendsFront};
 ghost use Rattle.mini_broker.specs.Stream.{CountsSending, IsFlushed, MaySend, sent_of, stream_fault};
 ghost use Rattle.mini_broker.specs.declared.stream.StreamFault.TheVariants as streams;
@@ -57,12 +57,11 @@ pub(crate) fn send<S: Sink>(
     served: &Served,
 ) -> Result<(), StreamFault>
     requires status { MaySend served.now }
-    ensures written { OnOk result (Appends (S.written stream.old) (S.written stream.new) (sent_of served.now)) }
-    ensures front { OnErr result (AppendsFront (S.written stream.old) (S.written stream.new) (sent_of served.now)) }
-    ensures flushed { OnOk result (IsFlushed served.now (S.is_flushed stream.new)) }
-    ensures remaining { Keeps (S.remaining stream.old) (S.remaining stream.new) }
-    ensures made { S.reads_made stream.new ≡ S.reads_made stream.old }
-    ensures count { CountsSending result (S.failed_calls stream.old) (S.failed_calls stream.new) }
+    ensures written { OnOk result (Appends (S.seen stream.old).output.written (S.seen stream.new).output.written (sent_of served.now)) }
+    ensures front { OnErr result (AppendsFront (S.seen stream.old).output.written (S.seen stream.new).output.written (sent_of served.now)) }
+    ensures flushed { OnOk result (IsFlushed served.now (S.seen stream.new).output.is_flushed) }
+    ensures input { (S.seen stream.new).input ≡ (S.seen stream.old).input }
+    ensures count { CountsSending result (S.seen stream.old).failed_calls (S.seen stream.new).failed_calls }
 {
     match served {
         Served::Reply(reply) => {

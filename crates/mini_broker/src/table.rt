@@ -1,5 +1,4 @@
 ghost use Rattle.std.specs.Prelude.{◌≡◌, ◌++◌, ◌∷◌, [], None, Err, IfErr, IfOk, IfSome, IsErrOf, OnErr, OnOk, IsOkUnless, is_some, option_map};
-ghost use Rattle.std.specs.Io.KnownBytes.{Keeps};
 ghost use Rattle.vault_http.specs.declared.known.TheConstants.{MOST_MESSAGE};
 ghost use Rattle.vault_http.specs.Reading.{CountsMessage, HandedNoRequest, SettlesRequest};
 ghost use Rattle.keep_device.specs.declared.limits.TheConstants.{MOST_READS};
@@ -18,6 +17,7 @@ use crate::served::{ServeFault, Served};
 use crate::slot::{end_named, place_named};
 use crate::slots::Slots;
 use crate::stream::{StreamFault, send};
+use keep_device::Watched;
 use keep_inventory::Inventory;
 use keep_moment::Moment;
 use std::alloc::{AllocError, Global};
@@ -115,12 +115,12 @@ impl Table {
         t: Moment,
         stream: &mut S,
     ) -> Result<(), StreamFault>
-        ensures streamed { OnOk result (IsStreamed (record { remaining = S.remaining stream.old; rest = S.remaining stream.new; reads_left = S.reads_left stream.old; old = S.written stream.old; new = S.written stream.new; flushed = S.is_flushed stream.new }) self.old t self.new) }
-        ensures left { IfErr result (λ fault. Leaves (record { remaining = S.remaining stream.old; rest = S.remaining stream.new; reads_left = S.reads_left stream.old; old = S.written stream.old; new = S.written stream.new; flushed = S.is_flushed stream.new }) self.old t fault self.new) }
-        ensures reads { MakesAtMost MOST_READS (S.remaining stream.old) (S.reads_made stream.old) (S.reads_made stream.new) }
-        ensures count { CountsStream result (S.failed_calls stream.old) (S.failed_calls stream.new) }
-        ensures unread { IsErrOf result StreamFault.ReadFailed → HandedNoRequest MOST_MESSAGE (S.remaining stream.old) (S.remaining stream.new) }
-        ensures unwritten { IsErrOf result StreamFault.ReadFailed → Keeps (S.written stream.old) (S.written stream.new) }
+        ensures streamed { OnOk result (IsStreamed (⟦<S as Watched>⟧.change stream.old stream.new) self.old t self.new) }
+        ensures left { IfErr result (λ fault. Leaves (⟦<S as Watched>⟧.change stream.old stream.new) self.old t fault self.new) }
+        ensures reads { MakesAtMost MOST_READS (S.seen stream.old).input (S.seen stream.new).input }
+        ensures count { CountsStream result (S.seen stream.old).failed_calls (S.seen stream.new).failed_calls }
+        ensures unread { IsErrOf result StreamFault.ReadFailed → HandedNoRequest MOST_MESSAGE (S.seen stream.old).input (S.seen stream.new).input }
+        ensures unwritten { IsErrOf result StreamFault.ReadFailed → (S.seen stream.new).output ≡ (S.seen stream.old).output }
     {
         let alloc = self.slots.allocator();
         let message = self.read_request(alloc, stream);
@@ -135,12 +135,11 @@ impl Table {
         stream: &mut S,
     ) -> Result<Request, HttpFault>
         ensures kept { self.new ≡ self.old }
-        ensures answer { IfSome (S.remaining stream.old) (λ bytes.
-            SettlesRequest MOST_MESSAGE bytes (S.remaining stream.new) (S.reads_left stream.old) (S.reads_left stream.new) result) }
-        ensures reads { MakesAtMost MOST_READS (S.remaining stream.old) (S.reads_made stream.old) (S.reads_made stream.new) }
-        ensures written { Keeps (S.written stream.old) (S.written stream.new) }
-        ensures count { CountsMessage result (S.failed_calls stream.old) (S.failed_calls stream.new) }
-        ensures prompt { IsErrOf result HttpFault.ReadFailed → HandedNoRequest MOST_MESSAGE (S.remaining stream.old) (S.remaining stream.new) }
+        ensures answer { SettlesRequest MOST_MESSAGE (S.seen stream.old).input (S.seen stream.new).input result }
+        ensures reads { MakesAtMost MOST_READS (S.seen stream.old).input (S.seen stream.new).input }
+        ensures output { (S.seen stream.new).output ≡ (S.seen stream.old).output }
+        ensures count { CountsMessage result (S.seen stream.old).failed_calls (S.seen stream.new).failed_calls }
+        ensures prompt { IsErrOf result HttpFault.ReadFailed → HandedNoRequest MOST_MESSAGE (S.seen stream.old).input (S.seen stream.new).input }
     {
         self.room.read_request(alloc, stream, MOST_MESSAGE)
     }

@@ -1,26 +1,26 @@
 -- Serving: what becomes of one connection, and of the broker's table.
 -- Source: this project's own; what is served is mini_broker's `Stream`, and the moment its `MomentLine`.
 use Rattle.std.specs.Prelude.{◌≡◌, ℕ, ◌<◌, ◌⊎◌, Bool, true, false, List, [], ◌∷◌, ◌++◌, codes, decimal, length, map, Option, Some, IfSome, Result, Ok, Err}
-use Rattle.std.specs.Io.KnownBytes.{Keeps}
+use Rattle.keep_device.specs.Seen.{Change, Seen}
 use Rattle.keep_report.specs.declared.stop.Stop.{Stop}
 use Rattle.keep_report.specs.declared.stop.Stop.TheVariants as stops
-use Rattle.keep_report.specs.Sent.{IsUntouched, Sends, Sent}
+use Rattle.keep_report.specs.Sent.{IsUntouched, Sends}
 use Rattle.mini_broker.specs.declared.moment_line.LineFault.{LineFault}
 use Rattle.mini_broker.specs.declared.moment_line.LineFault.TheVariants as line_faults
 use Rattle.mini_broker.specs.declared.moment_line.Moments.{Moments}
 use Rattle.mini_broker.specs.declared.stream.StreamFault.TheVariants as stream_faults
-use Rattle.mini_broker.specs.MomentLine.{Lines, Tells}
-use Rattle.mini_broker.specs.Stream.{Ends, IsStreamed, Leaves}
+use Rattle.mini_broker.specs.MomentLine.{Tells}
+use Rattle.mini_broker.specs.Stream.{IsStreamed, Leaves}
 use Rattle.mini_broker.specs.Table.{Table}
 
 -- nothing was read of the connection or written to it, and the table is as it was
-abbrev pub Stays : Ends → Table → Table → Type 0
-Stays ends old new = (new ≡ old) × (Keeps ends.remaining ends.rest × Keeps ends.old ends.new)
+abbrev pub Stays : Change → Table → Table → Type 0
+Stays stream old new = (new ≡ old) × IsUntouched stream
 
 -- a connection that has its time-outs is served at m, or a read or a write of it fails; one that has none is not served
-abbrev pub IsServedAt : ℕ → Bool → Ends → Table → Table → Type 0
-IsServedAt m true ends old new = IsStreamed ends old m new ⊎ (Leaves ends old m stream_faults.ReadFailed new ⊎ Leaves ends old m stream_faults.WriteFailed new)
-IsServedAt m false ends old new = Stays ends old new
+abbrev pub IsServedAt : ℕ → Bool → Change → Table → Table → Type 0
+IsServedAt m true stream old new = IsStreamed stream old m new ⊎ (Leaves stream old m stream_faults.ReadFailed new ⊎ Leaves stream old m stream_faults.WriteFailed new)
+IsServedAt m false stream old new = Stays stream old new
 
 -- what stops a broker that has no moment for a connection
 abbrev pub stop_of_line : LineFault → Stop
@@ -29,14 +29,14 @@ stop_of_line line_faults.NoMoment = stops.Read
 stop_of_line line_faults.OutOfMemory = stops.Memory
 
 -- no moment is told, and nothing is done
-abbrev pub HasNone : Moments → Lines → Ends → Table → Stop → Table → Type 0
-HasNone moments lines ends old stop new = (fault : LineFault) × ((stop ≡ stop_of_line fault) × (Tells moments (Err fault) lines × Stays ends old new))
+abbrev pub HasNone : Moments → Seen → Seen → Change → Table → Stop → Table → Type 0
+HasNone moments before now stream old stop new = (fault : LineFault) × ((stop ≡ stop_of_line fault) × (Tells moments (Err fault) before now × Stays stream old new))
 
 -- one connection at its moment. It stops the broker where there is no moment, or memory is wanting; not where it fails
-abbrev pub ServesOne : Moments → Lines → Bool → Ends → Table → Result (Unit {0}) Stop → Table → Type 0
-ServesOne moments lines has_time ends old (Ok u) new = (m : ℕ) × (Tells moments (Ok m) lines × IsServedAt m has_time ends old new)
-ServesOne moments lines has_time ends old (Err stop) new =
-    HasNone moments lines ends old stop new ⊎ ((stop ≡ stops.Memory) × ((m : ℕ) × (Tells moments (Ok m) lines × Leaves ends old m stream_faults.OutOfMemory new)))
+abbrev pub ServesOne : Moments → Seen → Seen → Bool → Change → Table → Result (Unit {0}) Stop → Table → Type 0
+ServesOne moments before now has_time stream old (Ok u) new = (m : ℕ) × (Tells moments (Ok m) before now × IsServedAt m has_time stream old new)
+ServesOne moments before now has_time stream old (Err stop) new =
+    HasNone moments before now stream old stop new ⊎ ((stop ≡ stops.Memory) × ((m : ℕ) × (Tells moments (Ok m) before now × Leaves stream old m stream_faults.OutOfMemory new)))
 
 -- ---- connections, one after another
 
@@ -55,22 +55,21 @@ IsNoneHanded stop = (stop ≡ stops.Memory) ⊎ (stop ≡ stops.Read)
 
 -- what became of a connection
 pub record Visit : Type 0 where
-  pub ends : Ends
+  pub stream : Change
   pub has_time : Bool
 
 abbrev pub visited : Visit → Connection
-visited v = record { bytes = v.ends.remaining; has_time = v.has_time }
+visited v = record { bytes = v.stream.old.input.remaining; has_time = v.has_time }
 
--- a broker between two connections: the lines to come, the failures of what they are read from, and the table
+-- a broker between two connections: what its lines are read from, and the table
 pub record Broker : Type 0 where
-  pub lines : Option (List ℕ)
-  pub failures : ℕ
+  pub lines : Seen
   pub table : Table
 
 -- one connection takes a broker from the one state to the other, or stops it
 abbrev pub Visits : Moments → Broker → Visit → Result (Unit {0}) Stop → Broker → Type 0
 Visits moments b v result after =
-    ServesOne moments (record { before = b.lines; now = after.lines; failed = b.failures; failures = after.failures }) v.has_time v.ends b.table result after.table
+    ServesOne moments b.lines after.lines v.has_time v.stream b.table result after.table
 
 -- connections are served one after another
 abbrev pub AreServed : Moments → Broker → List Visit → Broker → Type 0
@@ -95,5 +94,5 @@ abbrev pub served_line : ℕ → List ℕ
 served_line count = codes "served " ++ (decimal count ++ codes "\n")
 
 -- it is told; or why no more than a front of it is, and nothing of it where memory for its text was wanting
-abbrev pub TellsServed : ℕ → Result (Unit {0}) Stop → Sent → Type 0
+abbrev pub TellsServed : ℕ → Result (Unit {0}) Stop → Change → Type 0
 TellsServed count result out = Sends result (served_line count) out ⊎ ((result ≡ Err stops.Memory) × IsUntouched out)

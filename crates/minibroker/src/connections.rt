@@ -25,6 +25,6 @@ pub trait Connections {
     /// Waits for the next connection, and hands it out. An error hands out none: `Memory`, or `Read` where none can be had.
     fn accept(&mut self) -> Result<Handed<Self::Stream>, Stop>
         ensures { MatchResult result
-            (λ h. HandsOut (Self.handed self.old) (Self.handed self.new) (record { bytes = Self.Stream.remaining h.stream; has_time = h.has_time } ∷ []))
+            (λ h. HandsOut (Self.handed self.old) (Self.handed self.new) (record { bytes = (Self.Stream.seen h.stream).input.remaining; has_time = h.has_time } ∷ []))
             (λ stop. IsNoneHanded stop × HandsOut (Self.handed self.old) (Self.handed self.new) []) };
 }

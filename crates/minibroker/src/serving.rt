@@ -2,8 +2,8 @@ ghost use Rattle.std.specs.Prelude.{◌≡◌};
 ghost use Rattle.minibroker.specs.Serving.{ServesAll, ServesOne, TellsServed, stop_of_line};
 
 use crate::connections::{Connections, Handed};
-use keep_device::{Sink, Source};
-use keep_report::{Stop, Watched, send};
+use keep_device::{Sink, Source, Watched};
+use keep_report::{Stop, send};
 use mini_broker::{LineFault, Moments, StreamFault, Table, next_moment};
 use std::alloc::Global;
 
@@ -17,7 +17,7 @@ pub fn serve_all<C: Connections, S: Source>(
     moments: &Moments,
     lines: &mut S,
 ) -> Result<(), Stop>
-    ensures { ServesAll count moments.now (record { lines = S.remaining lines.old; failures = S.failed_calls lines.old; table = table.old }) result (record { lines = S.remaining lines.new; failures = S.failed_calls lines.new; table = table.new }) (C.handed connections.old) (C.handed connections.new) }
+    ensures { ServesAll count moments.now (record { lines = S.seen lines.old; table = table.old }) result (record { lines = S.seen lines.new; table = table.new }) (C.handed connections.old) (C.handed connections.new) }
 {
     for _ in 0..count {
         let Handed {
@@ -41,7 +41,7 @@ pub fn serve_one<S: Source, C: Source + Sink>(
     stream: &mut C,
     has_time: bool,
 ) -> Result<(), Stop>
-    ensures { ServesOne moments (record { before = S.remaining lines.old; now = S.remaining lines.new; failed = S.failed_calls lines.old; failures = S.failed_calls lines.new }) has_time (record { remaining = C.remaining stream.old; rest = C.remaining stream.new; reads_left = C.reads_left stream.old; old = C.written stream.old; new = C.written stream.new; flushed = C.is_flushed stream.new }) table.old result table.new }
+    ensures { ServesOne moments (S.seen lines.old) (S.seen lines.new) has_time (⟦<C as Watched>⟧.change stream.old stream.new) table.old result table.new }
 {
     let moment = match next_moment(alloc, moments, lines) {
         Ok(moment) => moment,
@@ -67,7 +67,7 @@ fn line_stop(fault: LineFault) -> Stop
 
 /// Says how many connections were served. `Write`: `out` failed. `Memory`.
 pub fn tell_served<W: Sink>(alloc: Global, count: u32, out: &mut W) -> Result<(), Stop>
-    ensures { TellsServed count result (⟦<W as Watched>⟧.sent out.old out.new) }
+    ensures { TellsServed count result (⟦<W as Watched>⟧.change out.old out.new) }
 {
     let line = format!(in alloc; "served {count}\n")?;
     send(out, line.as_bytes())

@@ -1,5 +1,5 @@
 -- What reading a message from a source answers, and the count of failures over the reading.
-use Rattle.std.specs.Prelude.{◌≡◌, ℕ, ◌+◌, ◌≤◌, ◌⊎◌, List, Option, Some, Result, Ok, Err}
+use Rattle.std.specs.Prelude.{◌≡◌, ℕ, ◌+◌, ◌≤◌, ◌⊎◌, List, Option, Some, IfSome, Result, Ok, Err}
 use Rattle.std.specs.Io.KnownBytes.{IsAtEnd}
 use Rattle.keep_device.specs.declared.one_read.MoreFault.{MoreFault}
 use Rattle.keep_device.specs.declared.one_read.MoreFault.TheVariants as more
@@ -14,6 +14,7 @@ use Rattle.vault_http.specs.Dates.{IsDatedReply}
 use Rattle.vault_http.specs.Holding.{Holds, HandedNone}
 use Rattle.vault_http.specs.Messages.{IsReply, IsRequest}
 use Rattle.keep_device.specs.declared.limits.TheConstants.{MOST_READS}
+use Rattle.keep_device.specs.Seen.{Input}
 use Rattle.keep_device.specs.Whole.{PassesReads}
 
 -- a read that gave nothing, as the fault of the message
@@ -36,24 +37,29 @@ Settles HasNoHead IsAnswer bytes left before now (Err ReadFailed) = Unit {0}
 Settles HasNoHead IsAnswer bytes left before now (Err TooLong) = IsAnswer bytes (Err TooLong) ⊎ IsLate HasNoHead IsAnswer bytes left before now
 Settles HasNoHead IsAnswer bytes left before now answer = IsAnswer bytes answer
 
+-- the same of an input before and after, where its bytes are known
+abbrev pub SettlesFrom : {A : Type 0} → (List ℕ → Type 0) → (List ℕ → Result A HttpFault → Type 0) → Input → Input → Result A HttpFault → Type 0
+SettlesFrom HasNoHead IsAnswer before now answer =
+    IfSome before.remaining (λ bytes. Settles HasNoHead IsAnswer bytes now.remaining before.reads_left now.reads_left answer)
+
 -- the same of a reply, of one with its date, and of a request, of at most so many bytes
-abbrev pub SettlesReply : ℕ → List ℕ → Option (List ℕ) → ℕ → ℕ → Result Reply HttpFault → Type 0
-SettlesReply max bytes left before now answer = Settles HasNoResponse (IsReply max) bytes left before now answer
+abbrev pub SettlesReply : ℕ → Input → Input → Result Reply HttpFault → Type 0
+SettlesReply max before now answer = SettlesFrom HasNoResponse (IsReply max) before now answer
 
-abbrev pub SettlesDated : ℕ → List ℕ → Option (List ℕ) → ℕ → ℕ → Result DatedReply HttpFault → Type 0
-SettlesDated max bytes left before now answer = Settles HasNoResponse (IsDatedReply max) bytes left before now answer
+abbrev pub SettlesDated : ℕ → Input → Input → Result DatedReply HttpFault → Type 0
+SettlesDated max before now answer = SettlesFrom HasNoResponse (IsDatedReply max) before now answer
 
-abbrev pub SettlesRequest : ℕ → List ℕ → Option (List ℕ) → ℕ → ℕ → Result Request HttpFault → Type 0
-SettlesRequest max bytes left before now answer = Settles HasNoRequest (IsRequest max) bytes left before now answer
+abbrev pub SettlesRequest : ℕ → Input → Input → Result Request HttpFault → Type 0
+SettlesRequest max before now answer = SettlesFrom HasNoRequest (IsRequest max) before now answer
 
-abbrev pub HandedNoReply : ℕ → Option (List ℕ) → Option (List ℕ) → Type 0
-HandedNoReply max before now = HandedNone HasNoResponse (IsReply max) before now
+abbrev pub HandedNoReply : ℕ → Input → Input → Type 0
+HandedNoReply max before now = HandedNone HasNoResponse (IsReply max) before.remaining now.remaining
 
-abbrev pub HandedNoDated : ℕ → Option (List ℕ) → Option (List ℕ) → Type 0
-HandedNoDated max before now = HandedNone HasNoResponse (IsDatedReply max) before now
+abbrev pub HandedNoDated : ℕ → Input → Input → Type 0
+HandedNoDated max before now = HandedNone HasNoResponse (IsDatedReply max) before.remaining now.remaining
 
-abbrev pub HandedNoRequest : ℕ → Option (List ℕ) → Option (List ℕ) → Type 0
-HandedNoRequest max before now = HandedNone HasNoRequest (IsRequest max) before now
+abbrev pub HandedNoRequest : ℕ → Input → Input → Type 0
+HandedNoRequest max before now = HandedNone HasNoRequest (IsRequest max) before.remaining now.remaining
 
 -- where the input is handed out in as many reads as are allowed, and one more for its end, and holds a message, `TooLong`
 -- is told of its bytes alone

@@ -33,7 +33,7 @@ pub use found_head::MOST_FIELDS;
 pub use http_fault::HttpFault;
 pub use keep_device::{
     Counted, Device, Failed, InputFault, MemoryPair, MemorySink, MemorySource, Sink, SinkFault,
-    Source, read_all, write_all,
+    Source, Watched, read_all, write_all,
 };
 pub use known::{MOST_MESSAGE, SMALL_HEAD};
 pub use receive::{read_dated_reply, read_reply, read_request};

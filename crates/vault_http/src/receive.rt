@@ -5,7 +5,7 @@ ghost use Rattle.keep_device.specs.Whole.{MakesAtMost};
 ghost use Rattle.vault_http.specs.declared.http_fault.HttpFault.TheVariants as faults;
 ghost use Rattle.vault_http.specs.Holding.{HandedNone};
 ghost use Rattle.vault_http.specs.Known.{IsCurrent, IsKnown};
-ghost use Rattle.vault_http.specs.Reading.{Settles, SettlesDated, SettlesReply, SettlesRequest, HandedNoDated, HandedNoReply, HandedNoRequest, CountsMessage};
+ghost use Rattle.vault_http.specs.Reading.{SettlesDated, SettlesFrom, SettlesReply, SettlesRequest, HandedNoDated, HandedNoReply, HandedNoRequest, CountsMessage};
 
 use crate::known::{Known, go_on, look};
 use crate::message::Message;
@@ -26,14 +26,13 @@ use std::alloc::Global;
 /// that of the bytes, however they are cut. `ReadFailed`: a read failed. The other faults are those of the bytes;
 /// `TooLong` is also that 4,096 reads did not do: what they handed out settles no answer.
 pub fn read_reply<R: Source>(alloc: Global, reader: &mut R, max: usize) -> Result<Reply, HttpFault>
-    ensures answer { IfSome (R.remaining reader.old) (λ bytes.
-        SettlesReply max bytes (R.remaining reader.new) (R.reads_left reader.old) (R.reads_left reader.new) result) }
-    ensures reads { MakesAtMost MOST_READS (R.remaining reader.old) (R.reads_made reader.old) (R.reads_made reader.new) }
-    ensures written { Keeps (R.written reader.old) (R.written reader.new) }
-    ensures count { CountsMessage result (R.failed_calls reader.old) (R.failed_calls reader.new) }
+    ensures answer { SettlesReply max (R.seen reader.old).input (R.seen reader.new).input result }
+    ensures reads { MakesAtMost MOST_READS (R.seen reader.old).input (R.seen reader.new).input }
+    ensures output { (R.seen reader.new).output ≡ (R.seen reader.old).output }
+    ensures count { CountsMessage result (R.seen reader.old).failed_calls (R.seen reader.new).failed_calls }
 
     // Any read may be the one that fails, so none is made but where more bytes are rightly waited for.
-    ensures prompt { IsErrOf result faults.ReadFailed → HandedNoReply max (R.remaining reader.old) (R.remaining reader.new) }
+    ensures prompt { IsErrOf result faults.ReadFailed → HandedNoReply max (R.seen reader.old).input (R.seen reader.new).input }
 {
     Room::new().read_reply(alloc, reader, max)
 }
@@ -44,14 +43,13 @@ pub fn read_dated_reply<R: Source>(
     reader: &mut R,
     max: usize,
 ) -> Result<DatedReply, HttpFault>
-    ensures answer { IfSome (R.remaining reader.old) (λ bytes.
-        SettlesDated max bytes (R.remaining reader.new) (R.reads_left reader.old) (R.reads_left reader.new) result) }
-    ensures reads { MakesAtMost MOST_READS (R.remaining reader.old) (R.reads_made reader.old) (R.reads_made reader.new) }
-    ensures written { Keeps (R.written reader.old) (R.written reader.new) }
-    ensures count { CountsMessage result (R.failed_calls reader.old) (R.failed_calls reader.new) }
+    ensures answer { SettlesDated max (R.seen reader.old).input (R.seen reader.new).input result }
+    ensures reads { MakesAtMost MOST_READS (R.seen reader.old).input (R.seen reader.new).input }
+    ensures output { (R.seen reader.new).output ≡ (R.seen reader.old).output }
+    ensures count { CountsMessage result (R.seen reader.old).failed_calls (R.seen reader.new).failed_calls }
 
     // Any read may be the one that fails, so none is made but where more bytes are rightly waited for.
-    ensures prompt { IsErrOf result faults.ReadFailed → HandedNoDated max (R.remaining reader.old) (R.remaining reader.new) }
+    ensures prompt { IsErrOf result faults.ReadFailed → HandedNoDated max (R.seen reader.old).input (R.seen reader.new).input }
 {
     Room::new().read_dated_reply(alloc, reader, max)
 }
@@ -62,14 +60,13 @@ pub fn read_request<R: Source>(
     reader: &mut R,
     max: usize,
 ) -> Result<Request, HttpFault>
-    ensures answer { IfSome (R.remaining reader.old) (λ bytes.
-        SettlesRequest max bytes (R.remaining reader.new) (R.reads_left reader.old) (R.reads_left reader.new) result) }
-    ensures reads { MakesAtMost MOST_READS (R.remaining reader.old) (R.reads_made reader.old) (R.reads_made reader.new) }
-    ensures written { Keeps (R.written reader.old) (R.written reader.new) }
-    ensures count { CountsMessage result (R.failed_calls reader.old) (R.failed_calls reader.new) }
+    ensures answer { SettlesRequest max (R.seen reader.old).input (R.seen reader.new).input result }
+    ensures reads { MakesAtMost MOST_READS (R.seen reader.old).input (R.seen reader.new).input }
+    ensures output { (R.seen reader.new).output ≡ (R.seen reader.old).output }
+    ensures count { CountsMessage result (R.seen reader.old).failed_calls (R.seen reader.new).failed_calls }
 
     // Any read may be the one that fails, so none is made but where more bytes are rightly waited for.
-    ensures prompt { IsErrOf result faults.ReadFailed → HandedNoRequest max (R.remaining reader.old) (R.remaining reader.new) }
+    ensures prompt { IsErrOf result faults.ReadFailed → HandedNoRequest max (R.seen reader.old).input (R.seen reader.new).input }
 {
     Room::new().read_request(alloc, reader, max)
 }
@@ -82,12 +79,11 @@ impl Room {
         reader: &mut R,
         max: usize,
     ) -> Result<Reply, HttpFault>
-        ensures answer { IfSome (R.remaining reader.old) (λ bytes.
-            SettlesReply max bytes (R.remaining reader.new) (R.reads_left reader.old) (R.reads_left reader.new) result) }
-        ensures reads { MakesAtMost MOST_READS (R.remaining reader.old) (R.reads_made reader.old) (R.reads_made reader.new) }
-        ensures written { Keeps (R.written reader.old) (R.written reader.new) }
-        ensures count { CountsMessage result (R.failed_calls reader.old) (R.failed_calls reader.new) }
-        ensures prompt { IsErrOf result faults.ReadFailed → HandedNoReply max (R.remaining reader.old) (R.remaining reader.new) }
+        ensures answer { SettlesReply max (R.seen reader.old).input (R.seen reader.new).input result }
+        ensures reads { MakesAtMost MOST_READS (R.seen reader.old).input (R.seen reader.new).input }
+        ensures output { (R.seen reader.new).output ≡ (R.seen reader.old).output }
+        ensures count { CountsMessage result (R.seen reader.old).failed_calls (R.seen reader.new).failed_calls }
+        ensures prompt { IsErrOf result faults.ReadFailed → HandedNoReply max (R.seen reader.old).input (R.seen reader.new).input }
     {
         read_message(alloc, reader, self, max)
     }
@@ -99,12 +95,11 @@ impl Room {
         reader: &mut R,
         max: usize,
     ) -> Result<DatedReply, HttpFault>
-        ensures answer { IfSome (R.remaining reader.old) (λ bytes.
-            SettlesDated max bytes (R.remaining reader.new) (R.reads_left reader.old) (R.reads_left reader.new) result) }
-        ensures reads { MakesAtMost MOST_READS (R.remaining reader.old) (R.reads_made reader.old) (R.reads_made reader.new) }
-        ensures written { Keeps (R.written reader.old) (R.written reader.new) }
-        ensures count { CountsMessage result (R.failed_calls reader.old) (R.failed_calls reader.new) }
-        ensures prompt { IsErrOf result faults.ReadFailed → HandedNoDated max (R.remaining reader.old) (R.remaining reader.new) }
+        ensures answer { SettlesDated max (R.seen reader.old).input (R.seen reader.new).input result }
+        ensures reads { MakesAtMost MOST_READS (R.seen reader.old).input (R.seen reader.new).input }
+        ensures output { (R.seen reader.new).output ≡ (R.seen reader.old).output }
+        ensures count { CountsMessage result (R.seen reader.old).failed_calls (R.seen reader.new).failed_calls }
+        ensures prompt { IsErrOf result faults.ReadFailed → HandedNoDated max (R.seen reader.old).input (R.seen reader.new).input }
     {
         read_message(alloc, reader, self, max)
     }
@@ -116,12 +111,11 @@ impl Room {
         reader: &mut R,
         max: usize,
     ) -> Result<Request, HttpFault>
-        ensures answer { IfSome (R.remaining reader.old) (λ bytes.
-            SettlesRequest max bytes (R.remaining reader.new) (R.reads_left reader.old) (R.reads_left reader.new) result) }
-        ensures reads { MakesAtMost MOST_READS (R.remaining reader.old) (R.reads_made reader.old) (R.reads_made reader.new) }
-        ensures written { Keeps (R.written reader.old) (R.written reader.new) }
-        ensures count { CountsMessage result (R.failed_calls reader.old) (R.failed_calls reader.new) }
-        ensures prompt { IsErrOf result faults.ReadFailed → HandedNoRequest max (R.remaining reader.old) (R.remaining reader.new) }
+        ensures answer { SettlesRequest max (R.seen reader.old).input (R.seen reader.new).input result }
+        ensures reads { MakesAtMost MOST_READS (R.seen reader.old).input (R.seen reader.new).input }
+        ensures output { (R.seen reader.new).output ≡ (R.seen reader.old).output }
+        ensures count { CountsMessage result (R.seen reader.old).failed_calls (R.seen reader.new).failed_calls }
+        ensures prompt { IsErrOf result faults.ReadFailed → HandedNoRequest max (R.seen reader.old).input (R.seen reader.new).input }
     {
         read_message(alloc, reader, self, max)
     }
@@ -134,12 +128,11 @@ fn read_message<M: Message, R: Source>(
     room: &mut Room,
     max: usize,
 ) -> Result<M, HttpFault>
-    ensures answer { IfSome (R.remaining reader.old) (λ whole.
-        Settles M.has_no_head (M.is_answer max) whole (R.remaining reader.new) (R.reads_left reader.old) (R.reads_left reader.new) result) }
-    ensures reads { MakesAtMost MOST_READS (R.remaining reader.old) (R.reads_made reader.old) (R.reads_made reader.new) }
-    ensures written { Keeps (R.written reader.old) (R.written reader.new) }
-    ensures count { CountsMessage result (R.failed_calls reader.old) (R.failed_calls reader.new) }
-    ensures prompt { IsErrOf result faults.ReadFailed → HandedNone M.has_no_head (M.is_answer max) (R.remaining reader.old) (R.remaining reader.new) }
+    ensures answer { SettlesFrom M.has_no_head (M.is_answer max) (R.seen reader.old).input (R.seen reader.new).input result }
+    ensures reads { MakesAtMost MOST_READS (R.seen reader.old).input (R.seen reader.new).input }
+    ensures output { (R.seen reader.new).output ≡ (R.seen reader.old).output }
+    ensures count { CountsMessage result (R.seen reader.old).failed_calls (R.seen reader.new).failed_calls }
+    ensures prompt { IsErrOf result faults.ReadFailed → HandedNone M.has_no_head (M.is_answer max) (R.seen reader.old).input.remaining (R.seen reader.new).input.remaining }
 {
     M::laws();
     let mut bytes = Vec::new(alloc);
@@ -167,12 +160,11 @@ fn message_from<M: Message, R: Source>(
     requires none { bytes.old.items ≡ [] }
     requires known { IsKnown M.has_no_head (M.is_answer max) M.with_body max bytes.old.items known }
     requires current { IsCurrent max bytes.old.items known }
-    ensures answer { IfSome (R.remaining reader.old) (λ whole.
-        Settles M.has_no_head (M.is_answer max) whole (R.remaining reader.new) (R.reads_left reader.old) (R.reads_left reader.new) result) }
-    ensures reads { MakesAtMost MOST_READS (R.remaining reader.old) (R.reads_made reader.old) (R.reads_made reader.new) }
-    ensures written { Keeps (R.written reader.old) (R.written reader.new) }
-    ensures count { CountsMessage result (R.failed_calls reader.old) (R.failed_calls reader.new) }
-    ensures prompt { IsErrOf result faults.ReadFailed → HandedNone M.has_no_head (M.is_answer max) (R.remaining reader.old) (R.remaining reader.new) }
+    ensures answer { SettlesFrom M.has_no_head (M.is_answer max) (R.seen reader.old).input (R.seen reader.new).input result }
+    ensures reads { MakesAtMost MOST_READS (R.seen reader.old).input (R.seen reader.new).input }
+    ensures output { (R.seen reader.new).output ≡ (R.seen reader.old).output }
+    ensures count { CountsMessage result (R.seen reader.old).failed_calls (R.seen reader.new).failed_calls }
+    ensures prompt { IsErrOf result faults.ReadFailed → HandedNone M.has_no_head (M.is_answer max) (R.seen reader.old).input.remaining (R.seen reader.new).input.remaining }
 {
     M::laws();
     let mut known = known;

@@ -60,12 +60,11 @@ pub fn write_request<W: Sink>(
     request: &Request,
 ) -> Result<(), SendFault>
     requires writable { IsWritable request.now }
-    ensures written { OnOk result (Appends (W.written sink.old) (W.written sink.new) (request_text request.now)) }
-    ensures front { OnErr result (AppendsFront (W.written sink.old) (W.written sink.new) (request_text request.now)) }
-    ensures flushed { OnOk result (IsTrue (W.is_flushed sink.new)) }
-    ensures remaining { Keeps (W.remaining sink.old) (W.remaining sink.new) }
-    ensures made { W.reads_made sink.new ≡ W.reads_made sink.old }
-    ensures count { CountsSend result (W.failed_calls sink.old) (W.failed_calls sink.new) }
+    ensures written { OnOk result (Appends (W.seen sink.old).output.written (W.seen sink.new).output.written (request_text request.now)) }
+    ensures front { OnErr result (AppendsFront (W.seen sink.old).output.written (W.seen sink.new).output.written (request_text request.now)) }
+    ensures flushed { OnOk result (IsTrue (W.seen sink.new).output.is_flushed) }
+    ensures input { (W.seen sink.new).input ≡ (W.seen sink.old).input }
+    ensures count { CountsSend result (W.seen sink.old).failed_calls (W.seen sink.new).failed_calls }
 {
     let text = text_of_request(alloc, request)?;
     send(sink, &text)
@@ -76,12 +75,11 @@ pub fn write_request<W: Sink>(
 /// `WriteFailed`: a write or the flush failed. After either error no more than a front of the text went out.
 pub fn write_reply<W: Sink>(alloc: Global, sink: &mut W, reply: &Reply) -> Result<(), SendFault>
     requires status { IsTrue (is_sent reply.now.status) }
-    ensures written { OnOk result (Appends (W.written sink.old) (W.written sink.new) (reply_text reply.now)) }
-    ensures front { OnErr result (AppendsFront (W.written sink.old) (W.written sink.new) (reply_text reply.now)) }
-    ensures flushed { OnOk result (IsTrue (W.is_flushed sink.new)) }
-    ensures remaining { Keeps (W.remaining sink.old) (W.remaining sink.new) }
-    ensures made { W.reads_made sink.new ≡ W.reads_made sink.old }
-    ensures count { CountsSend result (W.failed_calls sink.old) (W.failed_calls sink.new) }
+    ensures written { OnOk result (Appends (W.seen sink.old).output.written (W.seen sink.new).output.written (reply_text reply.now)) }
+    ensures front { OnErr result (AppendsFront (W.seen sink.old).output.written (W.seen sink.new).output.written (reply_text reply.now)) }
+    ensures flushed { OnOk result (IsTrue (W.seen sink.new).output.is_flushed) }
+    ensures input { (W.seen sink.new).input ≡ (W.seen sink.old).input }
+    ensures count { CountsSend result (W.seen sink.old).failed_calls (W.seen sink.new).failed_calls }
 {
     let text = text_of_reply(alloc, reply)?;
     send(sink, &text)
@@ -89,12 +87,11 @@ pub fn write_reply<W: Sink>(alloc: Global, sink: &mut W, reply: &Reply) -> Resul
 
 /// Writes all of a text and flushes the sink.
 fn send<W: Sink>(sink: &mut W, text: &[u8]) -> Result<(), SendFault>
-    ensures written { OnOk result (Appends (W.written sink.old) (W.written sink.new) text.now) }
-    ensures front { OnErr result (AppendsFront (W.written sink.old) (W.written sink.new) text.now) }
-    ensures flushed { OnOk result (IsTrue (W.is_flushed sink.new)) }
-    ensures remaining { Keeps (W.remaining sink.old) (W.remaining sink.new) }
-    ensures made { W.reads_made sink.new ≡ W.reads_made sink.old }
-    ensures count { CountsSend result (W.failed_calls sink.old) (W.failed_calls sink.new) }
+    ensures written { OnOk result (Appends (W.seen sink.old).output.written (W.seen sink.new).output.written text.now) }
+    ensures front { OnErr result (AppendsFront (W.seen sink.old).output.written (W.seen sink.new).output.written text.now) }
+    ensures flushed { OnOk result (IsTrue (W.seen sink.new).output.is_flushed) }
+    ensures input { (W.seen sink.new).input ≡ (W.seen sink.old).input }
+    ensures count { CountsSend result (W.seen sink.old).failed_calls (W.seen sink.new).failed_calls }
 {
     write_all(sink, text)?;
     sink.flush()?;

@@ -1,5 +1,6 @@
 -- Words for the parts of a run: what is made before the first write, and its delivery. No public clause cites them.
 use Rattle.std.specs.Prelude.{◌≡◌, ◌⊎◌, ℕ, List, Result, Ok, Err, slice_index}
+use Rattle.keep_device.specs.Seen.{Change}
 use Rattle.keep_tree.specs.Forest.{Forest}
 use Rattle.keep_plan.specs.declared.decision.Decision.{Decision}
 use Rattle.keep_plan.specs.declared.decision.Decision.TheVariants as decision
@@ -10,7 +11,7 @@ use Rattle.keep_report.specs.declared.exit.Exit.TheVariants as exits
 use Rattle.keep_report.specs.declared.stop.Stop.{Stop}
 use Rattle.keep_report.specs.declared.stop.Stop.TheVariants as stops
 use Rattle.keep_report.specs.Exits.{exit_of}
-use Rattle.keep_report.specs.Sent.{IsAll, IsUntouched, Sends, Sent}
+use Rattle.keep_report.specs.Sent.{IsAll, IsUntouched, Sends}
 use Rattle.keep_report.specs.Told.{Reports}
 use Rattle.keep_engine.specs.declared.outcome.Outcome.{Outcome}
 use Rattle.keep_engine.specs.Running.{Halts, Texts, line_of}
@@ -28,7 +29,7 @@ Makes Text Halt bytes (Err stops.Memory) = Unit {0}
 Makes Text Halt bytes made = (inventory : Inventory) × (read_inventory bytes ≡ Ok inventory) × MakesOf Text Halt inventory.forest made
 
 -- a text was sent, or why only a front of it was; or why there is none was told
-abbrev pub Delivers : Result Outcome Stop → Exit → Sent → Sent → Type 0
+abbrev pub Delivers : Result Outcome Stop → Exit → Change → Change → Type 0
 Delivers (Ok outcome) exit out errors =
     ((exit ≡ outcome.exit) × IsAll outcome.text out × IsUntouched errors)
     ⊎ ((stop : Stop) × Sends (Err stop) outcome.text out × (exit ≡ exit_of stop) × Reports (line_of stop) errors)

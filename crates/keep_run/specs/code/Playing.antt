@@ -3,6 +3,7 @@
 use Rattle.std.specs.Prelude.{◌≡◌, ◌≢◌, ℕ, ◌<◌, ◌≤◌, ◌++◌, ◌⊎◌, List, [], Option, Some, None, Result, Ok, Err, length, map}
 use Rattle.std.specs.Io.KnownBytes.{Keeps}
 use Rattle.std.specs.List.{All, flat_map}
+use Rattle.keep_device.specs.Seen.{Change, ReceivesFront}
 use Rattle.keep_moment.specs.declared.moment.TheConstants.{LAST}
 use Rattle.keep_rule.specs.Schedule.{RisesStrictly}
 use Rattle.keep_inventory.specs.Inventories.{Inventory}
@@ -20,10 +21,9 @@ use Rattle.keep_run.specs.declared.rehearse.waking.Opened.{Opened}
 use Rattle.keep_run.specs.declared.rehearse.waking.Woken.{Woken}
 use Rattle.keep_run.specs.Closed.{AreAnswered, Beat, Exchanged, IsAnswered, Played, World, closing, requests_of, rounds, taken}
 use Rattle.keep_device.specs.Failures.{HasFailed}
-use Rattle.keep_device.specs.Front.{AppendsFront}
 use Rattle.keep_report.specs.declared.stop.Stop.{Stop}
 use Rattle.keep_report.specs.declared.stop.Stop.TheVariants as stops
-use Rattle.keep_report.specs.Sent.{IsAll, Sent}
+use Rattle.keep_report.specs.Sent.{IsAll}
 use Rattle.keep_run.specs.Replies.{IsAnswerOf}
 use Rattle.keep_run.specs.Stops.{IsDue, both}
 use Rattle.keep_run.specs.Text.{answer_text, beat_text, done_text, inventory_with, short_lines, wake_line}
@@ -151,21 +151,21 @@ Wakes cs old due (Some w) new before after = (text : List ℕ) × (Goes (invento
 -- ---- what is written
 
 -- what sending these last lines came to
-abbrev pub Finishes : List ℕ → Result (Unit {0}) Stop → Sent → Type 0
+abbrev pub Finishes : List ℕ → Result (Unit {0}) Stop → Change → Type 0
 Finishes text (Ok u) out = IsAll text out
-Finishes text (Err stops.Write) out = HasFailed out.failed_before out.failed_after × AppendsFront out.old out.new text
-Finishes text (Err stops.Memory) out = AppendsFront out.old out.new text
+Finishes text (Err stops.Write) out = HasFailed out.old.failed_calls out.new.failed_calls × ReceivesFront text out
+Finishes text (Err stops.Memory) out = ReceivesFront text out
 Finishes text (Err stop) out = ⊥
 
 -- behind 100,000 wake-ups: no more than a front of the last lines was written
-abbrev pub LastFront : List (List ℕ) → Option Behind → State → ℕ → ℕ → Sent → Type 0
+abbrev pub LastFront : List (List ℕ) → Option Behind → State → ℕ → ℕ → Change → Type 0
 LastFront cs behind old due asked out =
-    Keeps out.old out.new ⊎ ((new : World) × (text : List ℕ) × Goes (inventory_with cs old.forest) (both old behind) (Some due) new None 0 0 text × AppendsFront out.old out.new (text ++ done_text MOST_WAKES asked))
+    Keeps out.old.output.written out.new.output.written ⊎ ((new : World) × (text : List ℕ) × Goes (inventory_with cs old.forest) (both old behind) (Some due) new None 0 0 text × ReceivesFront (text ++ done_text MOST_WAKES asked) out)
 
-abbrev pub LastPlays : List (List ℕ) → Option Behind → State → ℕ → ℕ → Result (Unit {0}) Stop → State → Sent → Type 0
+abbrev pub LastPlays : List (List ℕ) → Option Behind → State → ℕ → ℕ → Result (Unit {0}) Stop → State → Change → Type 0
 LastPlays cs behind old due asked (Ok u) new out = (text : List ℕ) × Goes (inventory_with cs old.forest) (both old behind) (Some due) (both new behind) None 0 0 text × IsAll (text ++ done_text MOST_WAKES asked) out
 LastPlays cs behind old due asked (Err stops.TooLong) new out = IsDue cs (both old behind) due × IsAll [] out
-LastPlays cs behind old due asked (Err stops.Write) new out = HasFailed out.failed_before out.failed_after × LastFront cs behind old due asked out
+LastPlays cs behind old due asked (Err stops.Write) new out = HasFailed out.old.failed_calls out.new.failed_calls × LastFront cs behind old due asked out
 LastPlays cs behind old due asked (Err stops.Memory) new out = LastFront cs behind old due asked out
 LastPlays cs behind old due asked (Err stop) new out = ⊥
 
@@ -179,7 +179,7 @@ pub record IsText (s : Inventory) (old : World) (start : ℕ) (text : List ℕ) 
   pub goes : Goes s old (Some start) new next wakes asked lines
   pub text_is : (text ≡ lines) ⊎ ((next ≡ None) × (text ≡ lines ++ done_text wakes asked))
 
-pub record PlaysWhole (s : Inventory) (old : World) (start : ℕ) (before : List ℕ) (new : World) (out : Sent) : Type 0 where
+pub record PlaysWhole (s : Inventory) (old : World) (start : ℕ) (before : List ℕ) (new : World) (out : Change) : Type 0 where
   pub wakes : ℕ
   pub asked : ℕ
   pub lines : List ℕ
@@ -187,7 +187,7 @@ pub record PlaysWhole (s : Inventory) (old : World) (start : ℕ) (before : List
   pub few : wakes ≤ MOST_WAKES
   pub sent : IsAll (before ++ (lines ++ done_text wakes asked)) out
 
-pub record PlaysLong (s : Inventory) (old : World) (start : ℕ) (before : List ℕ) (behind : Option Behind) (out : Sent) : Type 0 where
+pub record PlaysLong (s : Inventory) (old : World) (start : ℕ) (before : List ℕ) (behind : Option Behind) (out : Change) : Type 0 where
   pub keeper : State
   pub due : ℕ
   pub asked : ℕ
@@ -197,13 +197,13 @@ pub record PlaysLong (s : Inventory) (old : World) (start : ℕ) (before : List 
   pub sent : IsAll (before ++ lines) out
 
 -- no more than a front of the lines was written
-abbrev pub PlaysFront : Inventory → World → ℕ → List ℕ → Sent → Type 0
-PlaysFront s old start before out = (text : List ℕ) × IsText s old start text × AppendsFront out.old out.new (before ++ text)
+abbrev pub PlaysFront : Inventory → World → ℕ → List ℕ → Change → Type 0
+PlaysFront s old start before out = (text : List ℕ) × IsText s old start text × ReceivesFront (before ++ text) out
 
 -- what playing a run came to
-abbrev pub Plays : List (List ℕ) → World → ℕ → List ℕ → Result (Unit {0}) Stop → World → Sent → Type 0
+abbrev pub Plays : List (List ℕ) → World → ℕ → List ℕ → Result (Unit {0}) Stop → World → Change → Type 0
 Plays cs old start before (Ok u) new out = PlaysWhole (inventory_with cs old.keeper.forest) old start before new out
 Plays cs old start before (Err stops.TooLong) new out = PlaysLong (inventory_with cs old.keeper.forest) old start before new.behind out
-Plays cs old start before (Err stops.Write) new out = HasFailed out.failed_before out.failed_after × PlaysFront (inventory_with cs old.keeper.forest) old start before out
+Plays cs old start before (Err stops.Write) new out = HasFailed out.old.failed_calls out.new.failed_calls × PlaysFront (inventory_with cs old.keeper.forest) old start before out
 Plays cs old start before (Err stops.Memory) new out = PlaysFront (inventory_with cs old.keeper.forest) old start before out
 Plays cs old start before (Err stop) new out = ⊥

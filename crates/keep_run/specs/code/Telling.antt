@@ -1,14 +1,13 @@
 -- Telling: words for the parts of a live tick, whose answers are told one by one. No public clause cites them.
 -- Source: this project's own.
 use Rattle.std.specs.Prelude.{◌≡◌, ℕ, ◌⊎◌, IsTrue, List, [], ◌∷◌, ◌++◌, Option, Result, Ok, Err, map, take}
-use Rattle.std.specs.Io.KnownBytes.{Appends, Keeps}
+use Rattle.std.specs.Io.KnownBytes.{Keeps}
 use Rattle.std.specs.List.{flat_map}
+use Rattle.keep_device.specs.Seen.{Change, Receives, ReceivesFront}
 use Rattle.keep_core.specs.declared.event.Output.{Output}
 use Rattle.keep_device.specs.Failures.{HasFailed}
-use Rattle.keep_device.specs.Front.{AppendsFront}
 use Rattle.keep_report.specs.declared.stop.Stop.{Stop}
 use Rattle.keep_report.specs.declared.stop.Stop.TheVariants as stops
-use Rattle.keep_report.specs.Sent.{Sent}
 use Rattle.keep_run.specs.Closed.{AreAnswered, Exchanged, World}
 use Rattle.keep_run.specs.code.LineByLine.{IsSent}
 use Rattle.keep_run.specs.Hearing.{IsAskLeft, IsOverlong}
@@ -19,14 +18,14 @@ use Rattle.keep_run.specs.Text.{answer_text, inventory_with}
 -- ---- one answer
 
 -- one was asked and answered, and no more than a front of its lines was written
-abbrev pub IsOneCut : ℕ → List (List ℕ) → ℕ → World → ℕ → World → Sent → Type 0
-IsOneCut port cs t old i new out = (output : Output) × ((text : List ℕ) × (Answers port cs t old i output new [] text × AppendsFront out.old out.new text))
+abbrev pub IsOneCut : ℕ → List (List ℕ) → ℕ → World → ℕ → World → Change → Type 0
+IsOneCut port cs t old i new out = (output : Output) × ((text : List ℕ) × (Answers port cs t old i output new [] text × ReceivesFront text out))
 
 -- what asking one comes to: its lines were written and flushed, or why not
-abbrev pub TellsOne : ℕ → List (List ℕ) → ℕ → World → ℕ → Result Output Stop → World → Sent → Type 0
+abbrev pub TellsOne : ℕ → List (List ℕ) → ℕ → World → ℕ → Result Output Stop → World → Change → Type 0
 TellsOne port cs t old i (Ok output) new out = (text : List ℕ) × (Answers port cs t old i output new [] text × IsSent text out)
-TellsOne port cs t old i (Err stops.Write) new out = HasFailed out.failed_before out.failed_after × IsOneCut port cs t old i new out
-TellsOne port cs t old i (Err stops.Memory) new out = (Keeps out.old out.new × IsAskLeft port cs t old (i ∷ []) new.behind) ⊎ (IsTrue out.is_in_memory × IsOneCut port cs t old i new out)
+TellsOne port cs t old i (Err stops.Write) new out = HasFailed out.old.failed_calls out.new.failed_calls × IsOneCut port cs t old i new out
+TellsOne port cs t old i (Err stops.Memory) new out = (Keeps out.old.output.written out.new.output.written × IsAskLeft port cs t old (i ∷ []) new.behind) ⊎ (IsTrue out.is_in_memory × IsOneCut port cs t old i new out)
 TellsOne port cs t old i (Err stop) new out = ⊥
 
 -- ---- a round
@@ -50,25 +49,25 @@ pub record IsRoundUpTo (port : ℕ) (cs : List (List ℕ)) (t : ℕ) (old : Worl
   pub own_is : own ≡ answer_text (inventory_with cs old.keeper.forest) x
 
 -- no more than a front of the lines of an answer was written, behind those of the answers before
-pub record IsRoundCut (port : ℕ) (cs : List (List ℕ)) (t : ℕ) (old : World) (asked : List ℕ) (new : World) (out : Sent) : Type 0 where
+pub record IsRoundCut (port : ℕ) (cs : List (List ℕ)) (t : ℕ) (old : World) (asked : List ℕ) (new : World) (out : Change) : Type 0 where
   pub told : List ℕ
   pub own : List ℕ
   pub up_to : IsRoundUpTo port cs t old asked new told own
   pub n : ℕ
-  pub front : Appends out.old out.new (told ++ take n own)
+  pub front : Receives (told ++ take n own) out
 
 -- the lines of some answers were written, and nobody was asked behind them, or the next was
-pub record IsRoundBroken (port : ℕ) (cs : List (List ℕ)) (t : ℕ) (old : World) (asked : List ℕ) (new : World) (out : Sent) : Type 0 where
+pub record IsRoundBroken (port : ℕ) (cs : List (List ℕ)) (t : ℕ) (old : World) (asked : List ℕ) (new : World) (out : Change) : Type 0 where
   pub told : List ℕ
   pub mid : World
   pub so_far : IsRoundSoFar port cs t old asked mid told
   pub left : IsAskLeft port cs t mid so_far.others new.behind
-  pub written : Appends out.old out.new told
+  pub written : Receives told out
 
 -- what a round comes to: the lines of each answer were written and flushed before the next was asked, or why not
-abbrev pub TellsRound : ℕ → List (List ℕ) → ℕ → World → List ℕ → Result (Option ℕ) Stop → World → Sent → Type 0
+abbrev pub TellsRound : ℕ → List (List ℕ) → ℕ → World → List ℕ → Result (Option ℕ) Stop → World → Change → Type 0
 TellsRound port cs t old asked (Ok next) new out = (text : List ℕ) × (AnswersAll port cs t old asked next new [] text × IsSent text out)
-TellsRound port cs t old asked (Err stops.Write) new out = HasFailed out.failed_before out.failed_after × IsRoundCut port cs t old asked new out
+TellsRound port cs t old asked (Err stops.Write) new out = HasFailed out.old.failed_calls out.new.failed_calls × IsRoundCut port cs t old asked new out
 TellsRound port cs t old asked (Err stops.Memory) new out = IsRoundBroken port cs t old asked new out ⊎ (IsTrue out.is_in_memory × IsRoundCut port cs t old asked new out)
 TellsRound port cs t old asked (Err stop) new out = ⊥
 

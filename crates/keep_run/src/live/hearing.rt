@@ -15,10 +15,10 @@ use crate::agent::ticking::tick;
 use crate::live::event_line::Heard;
 use crate::live::telling::tell_round;
 use keep_core::{Event, Output};
-use keep_device::Sink;
+use keep_device::{Sink, Watched};
 use keep_exchange::Exchange;
 use keep_moment::Moment;
-use keep_report::{Stop, Watched, send};
+use keep_report::{Stop, send};
 use std::alloc::Global;
 
 /// Hears an event line, and writes and flushes its lines as they come: `wake` before the first request of its round, and the
@@ -40,10 +40,10 @@ pub fn hear<E: Exchange, W: Sink>(
 ) -> Result<(), Stop>
     requires ready { IsReady agent.old.keeper }
     requires within { IsWithin (length agent.old.keeper.forest.entries) heard }
-    requires flushed { IsTrue (W.is_flushed out.old) }
+    requires flushed { IsTrue (W.seen out.old).output.is_flushed }
     requires begun { E.limit exchange.old ≡ E.longest exchange.old }
-    ensures hears { HearsTo (E.host_port exchange.old) agent.old.credentials (both agent.old.keeper (E.behind exchange.old)) heard result (both agent.new.keeper (E.behind exchange.new)) (⟦<W as Watched>⟧.sent out.old out.new) }
-    ensures count { OnOk result (W.failed_calls out.new ≡ W.failed_calls out.old) }
+    ensures hears { HearsTo (E.host_port exchange.old) agent.old.credentials (both agent.old.keeper (E.behind exchange.old)) heard result (both agent.new.keeper (E.behind exchange.new)) (⟦<W as Watched>⟧.change out.old out.new) }
+    ensures count { OnOk result ((W.seen out.new).failed_calls ≡ (W.seen out.old).failed_calls) }
     ensures ready { OnOk result (IsReady agent.new.keeper) }
     ensures credentials { agent.new.credentials ≡ agent.old.credentials }
     ensures port { E.host_port exchange.new ≡ E.host_port exchange.old }
@@ -97,9 +97,9 @@ fn hear_tick<E: Exchange, W: Sink>(
     out: &mut W,
 ) -> Result<(), Stop>
     requires ready { IsReady agent.old.keeper }
-    requires flushed { IsTrue (W.is_flushed out.old) }
-    ensures hears { HearsTo (E.host_port exchange.old) agent.old.credentials (both agent.old.keeper (E.behind exchange.old)) (heards.Tick t) result (both agent.new.keeper (E.behind exchange.new)) (⟦<W as Watched>⟧.sent out.old out.new) }
-    ensures count { OnOk result (W.failed_calls out.new ≡ W.failed_calls out.old) }
+    requires flushed { IsTrue (W.seen out.old).output.is_flushed }
+    ensures hears { HearsTo (E.host_port exchange.old) agent.old.credentials (both agent.old.keeper (E.behind exchange.old)) (heards.Tick t) result (both agent.new.keeper (E.behind exchange.new)) (⟦<W as Watched>⟧.change out.old out.new) }
+    ensures count { OnOk result ((W.seen out.new).failed_calls ≡ (W.seen out.old).failed_calls) }
     ensures ready { OnOk result (IsReady agent.new.keeper) }
     ensures credentials { agent.new.credentials ≡ agent.old.credentials }
     ensures port { E.host_port exchange.new ≡ E.host_port exchange.old }

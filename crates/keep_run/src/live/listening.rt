@@ -12,11 +12,10 @@ ghost use Rattle.keep_run.specs.Stops.{both};
 
 use crate::agent::Agent;
 use crate::live::event_line::{MOST_LINE, heard_in};
-use crate::live::feeding::Feeding;
 use crate::live::hearing::hear;
-use keep_device::{Sink, Source, zeros};
+use keep_device::{Sink, Source, Watched, zeros};
 use keep_exchange::Exchange;
-use keep_report::{Stop, Watched};
+use keep_report::Stop;
 use keep_words::cut;
 use std::alloc::Global;
 
@@ -44,9 +43,9 @@ pub(crate) fn listen<R: Source, E: Exchange, W: Sink>(
     out: &mut W,
 ) -> Result<(), Stop>
     requires ready { IsReady agent.old.keeper }
-    requires flushed { IsTrue (W.is_flushed out.old) }
-    ensures listens { Listens (E.host_port exchange.old) agent.old.credentials (both agent.old.keeper (E.behind exchange.old)) result (both agent.new.keeper (E.behind exchange.new)) (⟦<R as Feeding>⟧.fed events.old events.new) (⟦<W as Watched>⟧.sent out.old out.new) }
-    ensures written { Keeps (R.written events.old) (R.written events.new) }
+    requires flushed { IsTrue (W.seen out.old).output.is_flushed }
+    ensures listens { Listens (E.host_port exchange.old) agent.old.credentials (both agent.old.keeper (E.behind exchange.old)) result (both agent.new.keeper (E.behind exchange.new)) (⟦<R as Watched>⟧.change events.old events.new) (⟦<W as Watched>⟧.change out.old out.new) }
+    ensures output { (R.seen events.new).output ≡ (R.seen events.old).output }
 {
     let mut room = zeros(alloc, EVENT_ROOM)?;
     listen_to(alloc, agent, events, exchange, &mut room, out)
@@ -62,10 +61,10 @@ fn listen_to<R: Source, E: Exchange, W: Sink>(
     out: &mut W,
 ) -> Result<(), Stop>
     requires ready { IsReady agent.old.keeper }
-    requires flushed { IsTrue (W.is_flushed out.old) }
+    requires flushed { IsTrue (W.seen out.old).output.is_flushed }
     requires room { length room.old ≡ EVENT_ROOM }
-    ensures listens { Listens (E.host_port exchange.old) agent.old.credentials (both agent.old.keeper (E.behind exchange.old)) result (both agent.new.keeper (E.behind exchange.new)) (⟦<R as Feeding>⟧.fed events.old events.new) (⟦<W as Watched>⟧.sent out.old out.new) }
-    ensures written { Keeps (R.written events.old) (R.written events.new) }
+    ensures listens { Listens (E.host_port exchange.old) agent.old.credentials (both agent.old.keeper (E.behind exchange.old)) result (both agent.new.keeper (E.behind exchange.new)) (⟦<R as Watched>⟧.change events.old events.new) (⟦<W as Watched>⟧.change out.old out.new) }
+    ensures output { (R.seen events.new).output ≡ (R.seen events.old).output }
 {
     let mut pending = Vec::new(alloc);
     let mut left = MOST_EVENTS;
@@ -112,13 +111,13 @@ fn hear_pending<E: Exchange, W: Sink>(
     out: &mut W,
 ) -> Result<(), Stop>
     requires ready { IsReady agent.old.keeper }
-    requires flushed { IsTrue (W.is_flushed out.old) }
+    requires flushed { IsTrue (W.seen out.old).output.is_flushed }
     requires few { lines.old + length pending.old.items ≤ MOST_EVENTS }
-    ensures heard { OnOk result (HearsUpTo (E.host_port exchange.old) agent.old.credentials lines.old (both agent.old.keeper (E.behind exchange.old)) pending.old.items (pending.new.items ∷ []) (both agent.new.keeper (E.behind exchange.new)) lines.new (⟦<W as Watched>⟧.sent out.old out.new)) }
+    ensures heard { OnOk result (HearsUpTo (E.host_port exchange.old) agent.old.credentials lines.old (both agent.old.keeper (E.behind exchange.old)) pending.old.items (pending.new.items ∷ []) (both agent.new.keeper (E.behind exchange.new)) lines.new (⟦<W as Watched>⟧.change out.old out.new)) }
     ensures short { OnOk result (length pending.new.items < MOST_LINE) }
     ensures fewer { OnOk result (lines.new + length pending.new.items ≤ lines.old + length pending.old.items) }
     ensures ready { OnOk result (IsReady agent.new.keeper) }
-    ensures halts { IfErr result (λ stop. HaltsWithin (E.host_port exchange.old) agent.old.credentials lines.old (both agent.old.keeper (E.behind exchange.old)) pending.old.items stop (both agent.new.keeper (E.behind exchange.new)) (⟦<W as Watched>⟧.sent out.old out.new)) }
+    ensures halts { IfErr result (λ stop. HaltsWithin (E.host_port exchange.old) agent.old.credentials lines.old (both agent.old.keeper (E.behind exchange.old)) pending.old.items stop (both agent.new.keeper (E.behind exchange.new)) (⟦<W as Watched>⟧.change out.old out.new)) }
     ensures credentials { agent.new.credentials ≡ agent.old.credentials }
     ensures port { E.host_port exchange.new ≡ E.host_port exchange.old }
 {
@@ -141,13 +140,13 @@ fn hear_whole<E: Exchange, W: Sink>(
     out: &mut W,
 ) -> Result<usize, Stop>
     requires ready { IsReady agent.old.keeper }
-    requires flushed { IsTrue (W.is_flushed out.old) }
+    requires flushed { IsTrue (W.seen out.old).output.is_flushed }
     requires few { lines.old + length bytes.now ≤ MOST_EVENTS }
-    ensures heard { IfOk result (λ n. HearsUpTo (E.host_port exchange.old) agent.old.credentials lines.old (both agent.old.keeper (E.behind exchange.old)) bytes.now (drop n bytes.now ∷ []) (both agent.new.keeper (E.behind exchange.new)) lines.new (⟦<W as Watched>⟧.sent out.old out.new)) }
+    ensures heard { IfOk result (λ n. HearsUpTo (E.host_port exchange.old) agent.old.credentials lines.old (both agent.old.keeper (E.behind exchange.old)) bytes.now (drop n bytes.now ∷ []) (both agent.new.keeper (E.behind exchange.new)) lines.new (⟦<W as Watched>⟧.change out.old out.new)) }
     ensures within { IfOk result (λ n. n ≤ length bytes.now) }
     ensures fewer { IfOk result (λ n. lines.new ≤ lines.old + n) }
     ensures ready { IfOk result (λ _. IsReady agent.new.keeper) }
-    ensures halts { IfErr result (λ stop. HaltsWithin (E.host_port exchange.old) agent.old.credentials lines.old (both agent.old.keeper (E.behind exchange.old)) bytes.now stop (both agent.new.keeper (E.behind exchange.new)) (⟦<W as Watched>⟧.sent out.old out.new)) }
+    ensures halts { IfErr result (λ stop. HaltsWithin (E.host_port exchange.old) agent.old.credentials lines.old (both agent.old.keeper (E.behind exchange.old)) bytes.now stop (both agent.new.keeper (E.behind exchange.new)) (⟦<W as Watched>⟧.change out.old out.new)) }
     ensures credentials { agent.new.credentials ≡ agent.old.credentials }
     ensures port { E.host_port exchange.new ≡ E.host_port exchange.old }
 {
@@ -171,9 +170,9 @@ fn hear_line<E: Exchange, W: Sink>(
     out: &mut W,
 ) -> Result<(), Stop>
     requires ready { IsReady agent.old.keeper }
-    requires flushed { IsTrue (W.is_flushed out.old) }
+    requires flushed { IsTrue (W.seen out.old).output.is_flushed }
     ensures event { IsErrOf result stops.Memory → IsSome (heard_in agent.old.keeper.forest line.now) }
-    ensures hears { HearsLine (E.host_port exchange.old) agent.old.credentials number (both agent.old.keeper (E.behind exchange.old)) line.now result (both agent.new.keeper (E.behind exchange.new)) (⟦<W as Watched>⟧.sent out.old out.new) }
+    ensures hears { HearsLine (E.host_port exchange.old) agent.old.credentials number (both agent.old.keeper (E.behind exchange.old)) line.now result (both agent.new.keeper (E.behind exchange.new)) (⟦<W as Watched>⟧.change out.old out.new) }
     ensures ready { OnOk result (IsReady agent.new.keeper) }
     ensures credentials { agent.new.credentials ≡ agent.old.credentials }
     ensures port { E.host_port exchange.new ≡ E.host_port exchange.old }

@@ -4,11 +4,11 @@ ghost use Rattle.keep_run.specs.Looking.{LooksAllUp, LooksOneUp, looked_line};
 ghost use Rattle.keep_run.specs.code.Playing.{Finishes};
 
 use crate::agent::lines::push_entry;
-use keep_device::Sink;
+use keep_device::{Sink, Watched};
 use keep_exchange::{Exchange, look_up};
 use keep_inventory::Inventory;
 use keep_moment::{Moment, Text};
-use keep_report::{Stop, Watched, send};
+use keep_report::{Stop, send};
 use std::alloc::Global;
 
 /// Looks each entry up at `start`, by index, and writes and flushes its line before the next is looked up.
@@ -21,7 +21,7 @@ pub(crate) fn look_all_up<E: Exchange, W: Sink>(
     exchange: &mut E,
     out: &mut W,
 ) -> Result<(), Stop>
-    ensures looked { LooksAllUp (E.host_port exchange.old) start (record { inventory = inventory.old; behind = E.behind exchange.old }) result (⟦<W as Watched>⟧.sent out.old out.new) inventory.new (E.behind exchange.new) }
+    ensures looked { LooksAllUp (E.host_port exchange.old) start (record { inventory = inventory.old; behind = E.behind exchange.old }) result (⟦<W as Watched>⟧.change out.old out.new) inventory.new (E.behind exchange.new) }
     ensures port { E.host_port exchange.new ≡ E.host_port exchange.old }
 {
     let mut i = 0;
@@ -42,7 +42,7 @@ fn look_one_up<E: Exchange, W: Sink>(
     out: &mut W,
 ) -> Result<(), Stop>
     requires { i < length inventory.old.forest.entries }
-    ensures looked { LooksOneUp (E.host_port exchange.old) start (record { inventory = inventory.old; behind = E.behind exchange.old }) i result (⟦<W as Watched>⟧.sent out.old out.new) inventory.new (E.behind exchange.new) }
+    ensures looked { LooksOneUp (E.host_port exchange.old) start (record { inventory = inventory.old; behind = E.behind exchange.old }) i result (⟦<W as Watched>⟧.change out.old out.new) inventory.new (E.behind exchange.new) }
     ensures port { E.host_port exchange.new ≡ E.host_port exchange.old }
 {
     let name = Text::of(alloc, inventory.forest().get(i).name.list())?;
@@ -60,8 +60,8 @@ fn write_entry<W: Sink>(
     out: &mut W,
 ) -> Result<(), Stop>
     requires { i < length inventory.now.forest.entries }
-    ensures written { Finishes (looked_line inventory.now i) result (⟦<W as Watched>⟧.sent out.old out.new) }
-    ensures kept { OnOk result (W.failed_calls out.new ≡ W.failed_calls out.old) }
+    ensures written { Finishes (looked_line inventory.now i) result (⟦<W as Watched>⟧.change out.old out.new) }
+    ensures kept { OnOk result ((W.seen out.new).failed_calls ≡ (W.seen out.old).failed_calls) }
 {
     let entry = inventory.forest().get(i);
     let mut text = Vec::new(alloc);

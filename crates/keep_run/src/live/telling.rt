@@ -10,10 +10,10 @@ ghost use Rattle.keep_run.specs.code.Telling.{TellsOne, TellsRound};
 use crate::agent::Agent;
 use crate::agent::answering::{answer, told_next};
 use keep_core::Output;
-use keep_device::Sink;
+use keep_device::{Sink, Watched};
 use keep_exchange::Exchange;
 use keep_moment::Moment;
-use keep_report::{Stop, Watched, send};
+use keep_report::{Stop, send};
 use std::alloc::Global;
 
 /// The asked entries send their requests at `t`, one after another, and the lines of each answer are written and flushed before
@@ -29,8 +29,8 @@ pub(crate) fn tell_round<E: Exchange, W: Sink>(
     requires waits { Waits agent.old.keeper t asked.now }
     requires some { asked.now ≢ [] }
     requires quiet { agent.old.keeper.shortened ≡ [] }
-    requires flushed { IsTrue (W.is_flushed out.old) }
-    ensures tells { TellsRound (E.host_port exchange.old) agent.old.credentials t (both agent.old.keeper (E.behind exchange.old)) asked.now result (both agent.new.keeper (E.behind exchange.new)) (⟦<W as Watched>⟧.sent out.old out.new) }
+    requires flushed { IsTrue (W.seen out.old).output.is_flushed }
+    ensures tells { TellsRound (E.host_port exchange.old) agent.old.credentials t (both agent.old.keeper (E.behind exchange.old)) asked.now result (both agent.new.keeper (E.behind exchange.new)) (⟦<W as Watched>⟧.change out.old out.new) }
     ensures ready { IfOk result (λ _. IsReady agent.new.keeper) }
     ensures credentials { agent.new.credentials ≡ agent.old.credentials }
     ensures port { E.host_port exchange.new ≡ E.host_port exchange.old }
@@ -56,8 +56,8 @@ fn tell_answer<E: Exchange, W: Sink>(
     requires within { i < length agent.old.keeper.forest.entries }
     requires waits { waits_for agent.old.keeper.round i ≡ true }
     requires quiet { agent.old.keeper.shortened ≡ [] }
-    requires flushed { IsTrue (W.is_flushed out.old) }
-    ensures tells { TellsOne (E.host_port exchange.old) agent.old.credentials t (both agent.old.keeper (E.behind exchange.old)) i result (both agent.new.keeper (E.behind exchange.new)) (⟦<W as Watched>⟧.sent out.old out.new) }
+    requires flushed { IsTrue (W.seen out.old).output.is_flushed }
+    ensures tells { TellsOne (E.host_port exchange.old) agent.old.credentials t (both agent.old.keeper (E.behind exchange.old)) i result (both agent.new.keeper (E.behind exchange.new)) (⟦<W as Watched>⟧.change out.old out.new) }
     ensures hears { IfOk result (λ output. Hears i agent.old.keeper output agent.new.keeper) }
     ensures credentials { agent.new.credentials ≡ agent.old.credentials }
     ensures port { E.host_port exchange.new ≡ E.host_port exchange.old }

@@ -9,9 +9,9 @@ ghost use Rattle.keep_run.specs.Stops.{both};
 use crate::agent::Agent;
 use crate::agent::lines::push_done;
 use crate::rehearse::waking::{open, wake};
-use keep_device::{Sink, write_all};
+use keep_device::{Sink, Watched, write_all};
 use keep_exchange::MemoryExchange;
-use keep_report::{Stop, Watched, send};
+use keep_report::{Stop, send};
 use std::alloc::Global;
 
 /// The most wake-ups of a rehearsal.
@@ -29,7 +29,7 @@ pub(crate) fn play<W: Sink>(
 ) -> Result<(), Stop>
     requires ready { IsReady agent.old.keeper }
     requires comes { Comes agent.old.keeper.last (Some start) }
-    ensures { Plays agent.old.credentials (both agent.old.keeper (Some exchange.old)) start lines.now result (both agent.new.keeper (Some exchange.new)) (⟦<W as Watched>⟧.sent out.old out.new) }
+    ensures { Plays agent.old.credentials (both agent.old.keeper (Some exchange.old)) start lines.now result (both agent.new.keeper (Some exchange.new)) (⟦<W as Watched>⟧.change out.old out.new) }
 {
     write_all(out, lines)?;
     let mut due = start;
@@ -59,7 +59,7 @@ fn last<W: Sink>(
 ) -> Result<(), Stop>
     requires ready { IsReady agent.old.keeper }
     requires comes { Comes agent.old.keeper.last (Some due) }
-    ensures { (cs : List (List ℕ)) (behind : Option Behind) → LastPlays cs behind agent.old.keeper due requests result agent.new.keeper (⟦<W as Watched>⟧.sent out.old out.new) }
+    ensures { (cs : List (List ℕ)) (behind : Option Behind) → LastPlays cs behind agent.old.keeper due requests result agent.new.keeper (⟦<W as Watched>⟧.change out.old out.new) }
 {
     let mut text = Vec::new(alloc);
     match open(alloc, agent, due, &mut text)? {
@@ -79,7 +79,7 @@ fn finish<W: Sink>(
     text: Vec<u8>,
     out: &mut W,
 ) -> Result<(), Stop>
-    ensures { Finishes (text.items ++ done_text wakes requests) result (⟦<W as Watched>⟧.sent out.old out.new) }
+    ensures { Finishes (text.items ++ done_text wakes requests) result (⟦<W as Watched>⟧.change out.old out.new) }
 {
     let mut text = text;
     push_done(alloc, wakes, requests, &mut text)?;

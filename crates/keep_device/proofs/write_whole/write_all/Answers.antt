@@ -3,7 +3,7 @@ use Rattle.std.proofs.Common.{◌≡◌, ℕ, ◌+◌, ◌-◌, List, length, ta
 use Rattle.std.proofs.lemmas.List.{take_rest}
 use Rattle.std.proofs.Math.Seq.{take-add}
 use Rattle.std.proofs.lemmas.Grind.{common_steps}
-use Rattle.std.proofs.KnownBytes.{Appends-trans, Keeps-trans}
+use Rattle.std.proofs.KnownBytes.{Appends-trans}
 use Rattle.std.specs.Io.KnownBytes.{Appends}
 use Rattle.keep_device.proofs.write_whole.write_all.Goals as goal
 
@@ -20,7 +20,6 @@ loop-at-preserved g c =
     record {
       within = grind (arith, common_steps);
       written = next_piece _ _ _ _ _ _ i.written e.bytes;
-      remaining = Keeps-trans _ _ _ i.remaining e.remaining;
-      made = e.made ∙ i.made;
+      input = e.input ∙ i.input;
       count = e.count ∙ i.count;
     }

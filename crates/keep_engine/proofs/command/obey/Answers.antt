@@ -1,5 +1,5 @@
 -- Each command is obeyed by the run over the bytes of its files.
-use Rattle.std.proofs.Common.{List, Ok, Option, subst, ℕ}
+use Rattle.std.proofs.Common.{List, Ok, subst, ℕ}
 use Rattle.keep_files.specs.Files.{IsRead}
 use Rattle.keep_engine.specs.Obeys.{ObeysOver}
 use Rattle.keep_inventory.specs.declared.limits.TheConstants.{MOST_INVENTORY}

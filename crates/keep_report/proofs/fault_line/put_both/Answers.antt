@@ -4,4 +4,4 @@ use Rattle.keep_report.proofs.fault_line.put_both.Goals as goal
 
 pub returns : goal.returns
 returns g c =
-    piece_more c.put-2.result _ c.args.first.now c.args.second.now _ (g.E.Device.written c.put.new.errors) _ _ (g.E.Device.failed_calls c.put.new.errors) _ g.E.Device.is_in_memory c.in_ok-put.ensures c.put-2.ensures
+    piece_more c.put-2.result _ c.args.first.now c.args.second.now _ (g.E.Device.seen c.put.new.errors) _ g.E.Device.is_in_memory c.in_ok-put.ensures c.put-2.ensures

@@ -9,27 +9,27 @@ pub returns-in_err-put-2 : goal.returns-in_err-put-2
 unfolding fault_line
 returns-in_err-put-2 g c =
     let said = codes ": " ++ (stop_words c.args.stop.now ++ (10 ∷ [])) in
-    piece_named c.from_residual-in_err-put-2.result (c.as_bytes.result.now ++ said) (c.args.program.now ++ said) _ _ _ _ g.E.Device.is_in_memory
-    (piece_more c.from_residual-in_err-put-2.result _ c.as_bytes.result.now said _ (g.E.Device.written c.put.new.errors) _ _ (g.E.Device.failed_calls c.put.new.errors) _ g.E.Device.is_in_memory c.in_ok-put.ensures
-    (piece_cut c.from_residual-in_err-put-2.result c.in_err-put-2.field-0.0 (codes ": ") (stop_words c.args.stop.now ++ (10 ∷ [])) _ _ _ _ g.E.Device.is_in_memory (handed_on c.from_residual-in_err-put-2.result c.in_err-put-2.field-0.0 c.from_residual-in_err-put-2.ensures) c.in_err-put-2.ensures))
+    piece_named c.from_residual-in_err-put-2.result (c.as_bytes.result.now ++ said) (c.args.program.now ++ said) _
+    (piece_more c.from_residual-in_err-put-2.result _ c.as_bytes.result.now said _ (g.E.Device.seen c.put.new.errors) _ g.E.Device.is_in_memory c.in_ok-put.ensures
+    (piece_cut c.from_residual-in_err-put-2.result c.in_err-put-2.field-0.0 (codes ": ") (stop_words c.args.stop.now ++ (10 ∷ [])) _ (handed_on c.from_residual-in_err-put-2.result c.in_err-put-2.field-0.0 c.from_residual-in_err-put-2.ensures) c.in_err-put-2.ensures))
     (ap (λ (l : List ℕ). l ++ said) (sym c.as_bytes.ensures.value))
 
 pub returns-in_err-put_stop : goal.returns-in_err-put_stop
 unfolding fault_line
 returns-in_err-put_stop g c =
     let said = codes ": " ++ (stop_words c.args.stop.now ++ (10 ∷ [])) in
-    piece_named c.from_residual-in_err-put_stop.result (c.as_bytes.result.now ++ said) (c.args.program.now ++ said) _ _ _ _ g.E.Device.is_in_memory
-    (piece_more c.from_residual-in_err-put_stop.result _ c.as_bytes.result.now said _ (g.E.Device.written c.put.new.errors) _ _ (g.E.Device.failed_calls c.put.new.errors) _ g.E.Device.is_in_memory c.in_ok-put.ensures
-    (piece_more c.from_residual-in_err-put_stop.result _ (codes ": ") (stop_words c.args.stop.now ++ (10 ∷ [])) _ (g.E.Device.written c.put-2.new.errors) _ _ (g.E.Device.failed_calls c.put-2.new.errors) _ g.E.Device.is_in_memory c.in_ok-put-2.ensures
-    (piece_cut c.from_residual-in_err-put_stop.result c.in_err-put_stop.field-0.0 (stop_words c.args.stop.now) (10 ∷ []) _ _ _ _ g.E.Device.is_in_memory (handed_on c.from_residual-in_err-put_stop.result c.in_err-put_stop.field-0.0 c.from_residual-in_err-put_stop.ensures) c.in_err-put_stop.ensures)))
+    piece_named c.from_residual-in_err-put_stop.result (c.as_bytes.result.now ++ said) (c.args.program.now ++ said) _
+    (piece_more c.from_residual-in_err-put_stop.result _ c.as_bytes.result.now said _ (g.E.Device.seen c.put.new.errors) _ g.E.Device.is_in_memory c.in_ok-put.ensures
+    (piece_more c.from_residual-in_err-put_stop.result _ (codes ": ") (stop_words c.args.stop.now ++ (10 ∷ [])) _ (g.E.Device.seen c.put-2.new.errors) _ g.E.Device.is_in_memory c.in_ok-put-2.ensures
+    (piece_cut c.from_residual-in_err-put_stop.result c.in_err-put_stop.field-0.0 (stop_words c.args.stop.now) (10 ∷ []) _ (handed_on c.from_residual-in_err-put_stop.result c.in_err-put_stop.field-0.0 c.from_residual-in_err-put_stop.ensures) c.in_err-put_stop.ensures)))
     (ap (λ (l : List ℕ). l ++ said) (sym c.as_bytes.ensures.value))
 
 pub returns : goal.returns
 unfolding fault_line
 returns g c =
     let said = codes ": " ++ (stop_words c.args.stop.now ++ (10 ∷ [])) in
-    piece_named c.put-3.result (c.as_bytes.result.now ++ said) (c.args.program.now ++ said) _ _ _ _ g.E.Device.is_in_memory
-    (piece_more c.put-3.result _ c.as_bytes.result.now said _ (g.E.Device.written c.put.new.errors) _ _ (g.E.Device.failed_calls c.put.new.errors) _ g.E.Device.is_in_memory c.in_ok-put.ensures
-    (piece_more c.put-3.result _ (codes ": ") (stop_words c.args.stop.now ++ (10 ∷ [])) _ (g.E.Device.written c.put-2.new.errors) _ _ (g.E.Device.failed_calls c.put-2.new.errors) _ g.E.Device.is_in_memory c.in_ok-put-2.ensures
-    (piece_more c.put-3.result _ (stop_words c.args.stop.now) (10 ∷ []) _ (g.E.Device.written c.put_stop.new.errors) _ _ (g.E.Device.failed_calls c.put_stop.new.errors) _ g.E.Device.is_in_memory c.in_ok-put_stop.ensures c.put-3.ensures)))
+    piece_named c.put-3.result (c.as_bytes.result.now ++ said) (c.args.program.now ++ said) _
+    (piece_more c.put-3.result _ c.as_bytes.result.now said _ (g.E.Device.seen c.put.new.errors) _ g.E.Device.is_in_memory c.in_ok-put.ensures
+    (piece_more c.put-3.result _ (codes ": ") (stop_words c.args.stop.now ++ (10 ∷ [])) _ (g.E.Device.seen c.put-2.new.errors) _ g.E.Device.is_in_memory c.in_ok-put-2.ensures
+    (piece_more c.put-3.result _ (stop_words c.args.stop.now) (10 ∷ []) _ (g.E.Device.seen c.put_stop.new.errors) _ g.E.Device.is_in_memory c.in_ok-put_stop.ensures c.put-3.ensures)))
     (ap (λ (l : List ℕ). l ++ said) (sym c.as_bytes.ensures.value))

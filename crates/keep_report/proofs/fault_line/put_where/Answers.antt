@@ -5,4 +5,4 @@ use Rattle.keep_report.proofs.fault_line.put_where.Goals as goal
 
 pub returns : goal.returns
 returns g c =
-    piece_more c.put_place.result _ c.args.words.now (place_word c.args.place) _ (g.E.Device.written c.put.new.errors) _ _ (g.E.Device.failed_calls c.put.new.errors) _ g.E.Device.is_in_memory c.in_ok-put.ensures c.put_place.ensures
+    piece_more c.put_place.result _ c.args.words.now (place_word c.args.place) _ (g.E.Device.seen c.put.new.errors) _ g.E.Device.is_in_memory c.in_ok-put.ensures c.put_place.ensures

@@ -5,8 +5,9 @@ use Rattle.keep_report.proofs.sending.send.Goals as goal
 
 pub returns-in_err-flush-clause-sent : goal.returns-in_err-flush-clause-sent
 returns-in_err-flush-clause-sent g c =
-    let old = g.W.Device.written c.args.out.now in
-    let mid = g.W.Device.written c.write_all.new.sink in
-    let whole : Appends old mid c.args.text.now = c.in_ok-write_all.ensures.written in
-    unsent c.from_residual-in_err-flush.result c.in_err-flush.field-0.0 c.args.text.now _ (g.W.Device.failed_calls c.write_all.new.sink) c.from_residual-in_err-flush.ensures
-    (whole_front old mid (g.W.Device.written c.flush.new.self) c.args.text.now whole c.in_err-flush.ensures.bytes) c.in_ok-write_all.ensures.count c.in_err-flush.ensures.count c.in_err-flush.ensures.memory
+    let old = (g.W.Device.seen c.args.out.now).output.written in
+    let mid = g.W.Device.seen c.write_all.new.sink in
+    let whole : Appends old mid.output.written c.args.text.now = c.in_ok-write_all.ensures.written in
+    unsent c.from_residual-in_err-flush.result c.in_err-flush.field-0.0 c.args.text.now _ mid.failed_calls c.from_residual-in_err-flush.ensures
+    (whole_front old mid.output.written (g.W.Device.seen c.flush.new.self).output.written c.args.text.now whole c.in_err-flush.ensures.bytes)
+    c.in_ok-write_all.ensures.count c.in_err-flush.ensures.count c.in_err-flush.ensures.memory

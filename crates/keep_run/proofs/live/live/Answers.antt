@@ -4,15 +4,15 @@ use Rattle.keep_run.proofs.live.live.Goals as goal
 
 pub returns-in_err-inventory : goal.returns-in_err-inventory
 returns-in_err-inventory g c =
-    read_lives _ c.args.bytes.now c.args.start (g.E.Exchange.behind c.args.exchange.now) c.from_residual.result c.in_err-inventory.field-0.0 _ _ _ _ _ _ _ c.from_residual.ensures c.in_err-inventory.ensures
+    read_lives _ c.args.bytes.now c.args.start (g.E.Exchange.behind c.args.exchange.now) c.from_residual.result c.in_err-inventory.field-0.0 _ _ _ _ c.from_residual.ensures c.in_err-inventory.ensures
 
 pub returns-in_err-agent : goal.returns-in_err-agent
 returns-in_err-agent g c =
     early_lives (g.E.Exchange.host_port c.args.exchange.now) c.args.bytes.now c.args.start (g.E.Exchange.behind c.args.exchange.now) c.from_residual-in_err-agent.result c.in_err-agent.field-0.0 c.in_ok-inventory.inventory
-    (g.R.Device.remaining c.args.events.now) (g.R.Device.reads_made c.args.events.now) (g.R.Device.failed_calls c.args.events.now) _
+    g.R.Device.is_in_memory (g.R.Device.seen c.args.events.now) _
     (g.E.Exchange.behind c.begin.new.exchange) c.in_ok-inventory.ensures c.from_residual-in_err-agent.ensures c.in_err-agent.ensures.early
 
 pub returns : goal.returns
 returns g c =
-    listened_lives (g.E.Exchange.host_port c.args.exchange.now) c.args.bytes.now c.args.start (g.E.Exchange.behind c.args.exchange.now) (g.E.Exchange.host_port c.begin.new.exchange) c.in_ok-inventory.inventory _ _ _ _ _ _ _ _ _ _ _ _ _ c.listen.result _ _
+    listened_lives (g.E.Exchange.host_port c.args.exchange.now) c.args.bytes.now c.args.start (g.E.Exchange.behind c.args.exchange.now) (g.E.Exchange.host_port c.begin.new.exchange) c.in_ok-inventory.inventory _ _ _ _ _ _ _ c.listen.result _ _
     c.in_ok-inventory.ensures c.in_ok-agent.ensures.port c.in_ok-agent.ensures.opened c.listen.ensures.listens

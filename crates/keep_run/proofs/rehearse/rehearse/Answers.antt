@@ -1,11 +1,11 @@
 -- A rehearsal stops at its words or its opening, or else plays from the keeper that it opened.
 use Rattle.std.proofs.Common.{◌≡◌, ◌∙◌, ◌++◌, ◌≤◌, Some, [], ap, length, refl, sym, subst}
+use Rattle.keep_device.specs.Seen.{Change, change}
 use Rattle.keep_moment.specs.declared.moment.TheConstants.{LAST}
 use Rattle.keep_tree.specs.Forest.{Forest}
 use Rattle.keep_core.specs.State.{State}
 use Rattle.mini_broker.specs.Table.{Table}
 use Rattle.keep_run.specs.Agent.{Agent}
-use Rattle.keep_report.specs.Sent.{Sent}
 use Rattle.keep_run.specs.Hearing.{IsReady}
 use Rattle.keep_run.specs.code.Playing.{Comes, Plays}
 use Rattle.keep_run.specs.Stops.{both}
@@ -17,7 +17,7 @@ use Rattle.keep_run.proofs.rehearse.rehearse.Goals as goal
 
 pub returns-in_err-set_faults : goal.returns-in_err-set_faults
 returns-in_err-set_faults g c =
-    words_stopped c.args.inventory.now c.args.script.now.start c.args.script.now.faults.now c.in_ok-inventory.inventory c.from_residual-in_err-set_faults.result c.in_err-set_faults.field-0.0 c.in_ok-table.table c.set_faults.new.table _ _ _ _ c.args.exchange.now
+    words_stopped c.args.inventory.now c.args.script.now.start c.args.script.now.faults.now c.in_ok-inventory.inventory c.from_residual-in_err-set_faults.result c.in_err-set_faults.field-0.0 c.in_ok-table.table c.set_faults.new.table _ _ c.args.exchange.now
     c.in_ok-inventory.ensures c.from_residual-in_err-set_faults.ensures c.in_err-set_faults.ensures
 
 pub returns-in_err-keeper : goal.returns-in_err-keeper
@@ -25,7 +25,7 @@ returns-in_err-keeper g c =
     let sets = c.in_ok-set_faults.ensures in
     let table = sets.2 ∙ ap (λ (t : Table). record t { faults = sets.0 }) c.in_ok-table.ensures in
     let behind = c.give.ensures ∙ ap (λ (t : Table). record { table = t; wire = [] }) table in
-    opening_stopped c.args.inventory.now c.args.script.now.start c.args.script.now.faults.now c.in_ok-inventory.inventory sets.0 c.into_parts-forest.result.0 c.from_residual-in_err-keeper.result c.in_err-keeper.field-0.0 _ _ _ _ c.args.exchange.now c.give.new.self
+    opening_stopped c.args.inventory.now c.args.script.now.start c.args.script.now.faults.now c.in_ok-inventory.inventory sets.0 c.into_parts-forest.result.0 c.from_residual-in_err-keeper.result c.in_err-keeper.field-0.0 _ _ c.args.exchange.now c.give.new.self
     c.in_ok-inventory.ensures sets.1 c.into_parts-forest.ensures.forest behind c.from_residual-in_err-keeper.ensures (stopped_as c.into_parts-forest.result.0 c.args.script.now.start c.new-made.result c.in_err-keeper.field-0.0 c.new-made.ensures.refused c.in_err-keeper.ensures.keeper c.in_err-keeper.ensures.stop)
 
 pub push_short_lines-requires : goal.push_short_lines-requires
@@ -37,7 +37,7 @@ push_short_lines-requires g c =
 
 pub returns-in_err-push_short_lines : goal.returns-in_err-push_short_lines
 returns-in_err-push_short_lines g c =
-    memory_stopped c.args.inventory.now c.args.script.now.start c.args.script.now.faults.now c.from_residual-in_err-push_short_lines.result _ _ _ _ c.args.exchange.now c.give.new.self c.from_residual-in_err-push_short_lines.ensures
+    memory_stopped c.args.inventory.now c.args.script.now.start c.args.script.now.faults.now c.from_residual-in_err-push_short_lines.result _ _ c.args.exchange.now c.give.new.self c.from_residual-in_err-push_short_lines.ensures
 
 pub play-requires-clause-ready : goal.play-requires-clause-ready
 play-requires-clause-ready g c =
@@ -65,15 +65,7 @@ returns g c =
     ∙ ap (λ l. l ++ short_lines c.forest.result.now c.list.result.now) c.new-lines.ensures.items
     ∙ ap (λ h. short_lines h c.list.result.now) (c.forest.ensures ∙ ap (λ (s : State). s.forest) c.take_shortened-short.ensures.after)
     ∙ ap (short_lines k.forest) (c.list.ensures ∙ c.take_shortened-short.ensures.value) in
-    let out : Sent = record {
-      old = g.W.Device.written c.args.out.now;
-      new = g.W.Device.written c.play.new.out;
-      failed_before = g.W.Device.failed_calls c.args.out.now;
-      failed_after = g.W.Device.failed_calls c.play.new.out;
-      flushed_before = g.W.Device.is_flushed c.args.out.now;
-      flushed = g.W.Device.is_flushed c.play.new.out;
-      is_in_memory = g.W.Device.is_in_memory;
-    } in
+    let out : Change = change g.W.Device.is_in_memory (g.W.Device.seen c.args.out.now) (g.W.Device.seen c.play.new.out) in
     let final = both c.play.new.agent.keeper (Some c.play.new.exchange) in
     let plays = subst (λ (agent : Agent). Plays agent.credentials (both agent.keeper (Some c.give.new.self)) c.get.result c.deref.result.now c.play.result final out) c.new-agent.ensures c.play.ensures in
     plays_on c.args.inventory.now c.args.script.now.faults.now c.in_ok-inventory.inventory sets.0 c.args.script.now.start c.get.result c.into_parts-forest.result.0 c.into_parts-forest.result.1 k now c.give.new.self c.deref.result.now c.play.result

@@ -1,9 +1,9 @@
 -- The line is heard and its answer is sent, or why not.
 use Rattle.std.proofs.Common.{◌≡◌, ◌∙◌, [], Some, Result, ap, refl, subst, sym}
-use Rattle.std.proofs.KnownBytes.{Keeps-refl}
+use Rattle.keep_device.specs.Seen.{Change, change}
 use Rattle.keep_report.specs.declared.stop.Stop.{Stop}
 use Rattle.keep_report.specs.declared.stop.Stop.TheVariants as stops
-use Rattle.keep_report.specs.Sent.{Sends, Sent}
+use Rattle.keep_report.specs.Sent.{Sends}
 use Rattle.keep_run.proofs.LineByLine.{handed_on}
 use Rattle.keep_tree.specs.Forest.{Forest}
 use Rattle.keep_watching.specs.Answers.{Appended}
@@ -16,48 +16,24 @@ use Rattle.keep_watching.proofs.listening.answer_line.Goals as goal
 
 pub returns-in_default-clause-hears : goal.returns-in_default-clause-hears
 returns-in_default-clause-hears g c =
-    let out : Sent = record {
-      old = g.W.Device.written c.args.out.now;
-      new = g.W.Device.written c.args.out.now;
-      failed_before = g.W.Device.failed_calls c.args.out.now;
-      failed_after = g.W.Device.failed_calls c.args.out.now;
-      flushed_before = g.W.Device.is_flushed c.args.out.now;
-      flushed = g.W.Device.is_flushed c.args.out.now;
-      is_in_memory = g.W.Device.is_in_memory;
-    } in
+    let out : Change = change g.W.Device.is_in_memory (g.W.Device.seen c.args.out.now) (g.W.Device.seen c.args.out.now) in
     let line = c.args.line.now in
     line_is_none (g.E.Abreast.host_port c.args.exchange.now) c.args.number (side c.args.watching.now (g.E.Abreast.table c.args.exchange.now)) line out
-    (ap (λ (h : Forest). line_in h line) (sym c.names.ensures.names) ∙ sym c.line_in.ensures.said ∙ c.in_default.is) (Keeps-refl (g.W.Device.written c.args.out.now), refl, refl)
+    (ap (λ (h : Forest). line_in h line) (sym c.names.ensures.names) ∙ sym c.line_in.ensures.said ∙ c.in_default.is) refl
 
 pub returns-in_err-take-clause-hears : goal.returns-in_err-take-clause-hears
 returns-in_err-take-clause-hears g c =
-    let out : Sent = record {
-      old = g.W.Device.written c.args.out.now;
-      new = g.W.Device.written c.args.out.now;
-      failed_before = g.W.Device.failed_calls c.args.out.now;
-      failed_after = g.W.Device.failed_calls c.args.out.now;
-      flushed_before = g.W.Device.is_flushed c.args.out.now;
-      flushed = g.W.Device.is_flushed c.args.out.now;
-      is_in_memory = g.W.Device.is_in_memory;
-    } in
+    let out : Change = change g.W.Device.is_in_memory (g.W.Device.seen c.args.out.now) (g.W.Device.seen c.args.out.now) in
     let port = g.E.Abreast.host_port c.args.exchange.now in
     let old : Side = side c.args.watching.now (g.E.Abreast.table c.args.exchange.now) in
     let new : Side = side c.take.new.self (g.E.Abreast.table c.take.new.exchange) in
     let line = c.args.line.now in
     handed_on c.from_residual.result stops.Memory (λ (r : Result (Unit {0}) Stop). HearsLine port c.args.number old line r new out) c.from_residual.ensures
-    (line_wants port c.args.number old line new out (Keeps-refl (g.W.Device.written c.args.out.now)))
+    (line_wants port c.args.number old line new out refl)
 
 pub returns-clause-hears : goal.returns-clause-hears
 returns-clause-hears g c =
-    let out : Sent = record {
-      old = g.W.Device.written c.args.out.now;
-      new = g.W.Device.written c.send.new.out;
-      failed_before = g.W.Device.failed_calls c.args.out.now;
-      failed_after = g.W.Device.failed_calls c.send.new.out;
-      flushed_before = g.W.Device.is_flushed c.args.out.now;
-      flushed = g.W.Device.is_flushed c.send.new.out;
-      is_in_memory = g.W.Device.is_in_memory;
-    } in
+    let out : Change = change g.W.Device.is_in_memory (g.W.Device.seen c.args.out.now) (g.W.Device.seen c.send.new.out) in
     let port = g.E.Abreast.host_port c.args.exchange.now in
     let old : Side = side c.args.watching.now (g.E.Abreast.table c.args.exchange.now) in
     let new : Side = side c.take.new.self (g.E.Abreast.table c.take.new.exchange) in

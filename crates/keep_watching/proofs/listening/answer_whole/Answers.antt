@@ -1,8 +1,8 @@
 -- Each line goes on from what was heard before it.
 use Rattle.std.proofs.Common.{◌≡◌, ℕ, ◌+◌, ◌<◌, ◌≤◌, Result, Ok, Err, length, refl, subst, sym, arith, ◌∙◌}
 use Rattle.std.specs.Result.{IfErr}
+use Rattle.keep_device.specs.Seen.{Change, change}
 use Rattle.keep_report.specs.declared.stop.Stop.{Stop}
-use Rattle.keep_report.specs.Sent.{Sent}
 use Rattle.keep_run.proofs.LineByLine.{behind_line, handed_on, joined}
 use Rattle.keep_words.specs.Pieces.{pieces}
 use Rattle.keep_watching.specs.Answers.{cut}
@@ -16,24 +16,8 @@ returns-in_err-answer_line-clause-halts g c =
     let old : Side = side c.args.watching.now (g.E.Abreast.table c.args.exchange.now) in
     let mid : Side = side c.loop-line.watching (g.E.Abreast.table c.loop-line.exchange) in
     let new : Side = side c.answer_line.new.watching (g.E.Abreast.table c.answer_line.new.exchange) in
-    let a : Sent = record {
-      old = g.W.Device.written c.args.out.now;
-      new = g.W.Device.written c.loop-line.out;
-      failed_before = g.W.Device.failed_calls c.args.out.now;
-      failed_after = g.W.Device.failed_calls c.loop-line.out;
-      flushed_before = g.W.Device.is_flushed c.args.out.now;
-      flushed = g.W.Device.is_flushed c.loop-line.out;
-      is_in_memory = g.W.Device.is_in_memory;
-    } in
-    let b : Sent = record {
-      old = g.W.Device.written c.loop-line.out;
-      new = g.W.Device.written c.answer_line.new.out;
-      failed_before = g.W.Device.failed_calls c.loop-line.out;
-      failed_after = g.W.Device.failed_calls c.answer_line.new.out;
-      flushed_before = g.W.Device.is_flushed c.loop-line.out;
-      flushed = g.W.Device.is_flushed c.answer_line.new.out;
-      is_in_memory = g.W.Device.is_in_memory;
-    } in
+    let a : Change = change g.W.Device.is_in_memory (g.W.Device.seen c.args.out.now) (g.W.Device.seen c.loop-line.out) in
+    let b : Change = change g.W.Device.is_in_memory (g.W.Device.seen c.loop-line.out) (g.W.Device.seen c.answer_line.new.out) in
     let port = g.E.Abreast.host_port c.args.exchange.now in
     let number : c.saturating_add.result ≡ cut (c.loop-line.count + 1) = (let n = c.saturating_add.ensures in omega (arith, n)) in
     let stop = c.in_err-answer_line.field-0.0 in
@@ -41,31 +25,15 @@ returns-in_err-answer_line-clause-halts g c =
     subst (λ p. HearsLine p (cut (c.loop-line.count + 1)) mid c.in-Some.line.now (Err stop) new b) c.loop-line.invariant.port
     (subst (λ n. HearsLine (g.E.Abreast.host_port c.loop-line.exchange) n mid c.in-Some.line.now (Err stop) new b) number c.in_err-answer_line.ensures.hears) in
     handed_on c.from_residual.result stop (λ (r : Result ℕ Stop). IfErr r (λ (s : Stop). HaltsWithin port c.args.count.now old c.args.bytes.now s new (joined a b))) c.from_residual.ensures
-    (stopped_on port c.args.count.now old c.args.bytes.now c.loop-line.rest.now c.in-Some.line.now c.in-Some.behind.now mid c.loop-line.count a b stop new refl refl refl c.loop-line.invariant.up_to c.in-Some.ensures one)
+    (stopped_on port c.args.count.now old c.args.bytes.now c.loop-line.rest.now c.in-Some.line.now c.in-Some.behind.now mid c.loop-line.count a b stop new refl c.loop-line.invariant.up_to c.in-Some.ensures one)
 
 pub loop-line-preserved : goal.loop-line-preserved
 loop-line-preserved g c =
     let old : Side = side c.args.watching.now (g.E.Abreast.table c.args.exchange.now) in
     let mid : Side = side c.loop-line.watching (g.E.Abreast.table c.loop-line.exchange) in
     let new : Side = side c.answer_line.new.watching (g.E.Abreast.table c.answer_line.new.exchange) in
-    let a : Sent = record {
-      old = g.W.Device.written c.args.out.now;
-      new = g.W.Device.written c.loop-line.out;
-      failed_before = g.W.Device.failed_calls c.args.out.now;
-      failed_after = g.W.Device.failed_calls c.loop-line.out;
-      flushed_before = g.W.Device.is_flushed c.args.out.now;
-      flushed = g.W.Device.is_flushed c.loop-line.out;
-      is_in_memory = g.W.Device.is_in_memory;
-    } in
-    let b : Sent = record {
-      old = g.W.Device.written c.loop-line.out;
-      new = g.W.Device.written c.answer_line.new.out;
-      failed_before = g.W.Device.failed_calls c.loop-line.out;
-      failed_after = g.W.Device.failed_calls c.answer_line.new.out;
-      flushed_before = g.W.Device.is_flushed c.loop-line.out;
-      flushed = g.W.Device.is_flushed c.answer_line.new.out;
-      is_in_memory = g.W.Device.is_in_memory;
-    } in
+    let a : Change = change g.W.Device.is_in_memory (g.W.Device.seen c.args.out.now) (g.W.Device.seen c.loop-line.out) in
+    let b : Change = change g.W.Device.is_in_memory (g.W.Device.seen c.loop-line.out) (g.W.Device.seen c.answer_line.new.out) in
     let port = g.E.Abreast.host_port c.args.exchange.now in
     let number : c.saturating_add.result ≡ cut (c.loop-line.count + 1) = (let n = c.saturating_add.ensures in omega (arith, n)) in
     let bytes = c.args.bytes.now in
@@ -79,7 +47,7 @@ loop-line-preserved g c =
     let within : length rest ≤ length bytes = c.loop-line.invariant.within in
     record {
       up_to = subst (λ n. HearsUpTo port c.args.count.now old bytes (pieces 10 behind) new n (joined a b)) (sym number)
-          (heard_on port c.args.count.now old bytes rest c.in-Some.line.now behind mid c.loop-line.count a b new refl refl refl c.loop-line.invariant.up_to c.in-Some.ensures one);
+          (heard_on port c.args.count.now old bytes rest c.in-Some.line.now behind mid c.loop-line.count a b new refl c.loop-line.invariant.up_to c.in-Some.ensures one);
       rest = cut'.0;
       within = omega (arith, shorter, within);
       counted = omega (arith, number);

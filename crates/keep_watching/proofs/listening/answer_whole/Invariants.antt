@@ -1,5 +1,6 @@
 -- The lines before `rest` are heard, and `rest` is what stands behind them.
 use Rattle.std.proofs.Common.{◌≡◌, ◌-◌, ◌≤◌, drop, length}
+use Rattle.keep_device.specs.Seen.{change}
 use Rattle.keep_words.specs.Pieces.{pieces}
 use Rattle.keep_watching.specs.Answers.{cut}
 use Rattle.keep_watching.specs.Clocked.{side}
@@ -10,15 +11,7 @@ use Rattle.keep_watching.proofs.listening.answer_whole.Given as goal
 abbrev pub invariant-loop-line : goal.invariant-loop-line
 invariant-loop-line g l = record {
   up_to : HearsUpTo (g.E.Abreast.host_port l.fn.exchange) l.fn.count (side l.fn.watching (g.E.Abreast.table l.fn.exchange)) l.bytes (pieces 10 l.rest) (side l.watching (g.E.Abreast.table l.exchange)) l.count
-      (record {
-        old = g.W.Device.written l.fn.out;
-        new = g.W.Device.written l.out;
-        failed_before = g.W.Device.failed_calls l.fn.out;
-        failed_after = g.W.Device.failed_calls l.out;
-        flushed_before = g.W.Device.is_flushed l.fn.out;
-        flushed = g.W.Device.is_flushed l.out;
-        is_in_memory = g.W.Device.is_in_memory;
-      });
+      (change g.W.Device.is_in_memory (g.W.Device.seen l.fn.out) (g.W.Device.seen l.out));
   rest : drop (length l.bytes - length l.rest) l.bytes ≡ l.rest;
   within : length l.rest ≤ length l.bytes;
   counted : cut l.count ≡ l.count;

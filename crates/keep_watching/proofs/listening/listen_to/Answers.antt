@@ -1,11 +1,9 @@
 -- What each read brings goes on from what was heard before it.
 use Rattle.std.proofs.Common.{◌≡◌, ◌+◌, ◌<◌, ◌∷◌, ◌++◌, [], Result, OnOk, ap, arith, length, refl, subst, sym, take, ◌∙◌, inr}
-use Rattle.std.proofs.KnownBytes.{Keeps-refl}
 use Rattle.std.specs.Result.{IfErr}
+use Rattle.keep_device.specs.Seen.{Change, change}
 use Rattle.keep_report.specs.declared.stop.Stop.{Stop}
 use Rattle.keep_report.specs.declared.stop.Stop.TheVariants as stops
-use Rattle.keep_report.specs.Sent.{Sent}
-use Rattle.keep_run.specs.Listening.{Fed}
 use Rattle.keep_run.proofs.LineByLine.{handed_on, joined}
 use Rattle.keep_watching.specs.Answers.{cut}
 use Rattle.keep_watching.specs.Clocked.{Side, side}
@@ -18,25 +16,10 @@ pub loop-init : goal.loop-init
 loop-init g c =
     let port = g.E.Abreast.host_port c.args.exchange.now in
     let old : Side = side c.args.watching.now (g.E.Abreast.table c.args.exchange.now) in
-    let fed : Fed = record {
-      old = g.R.Device.remaining c.args.lines.now;
-      new = g.R.Device.remaining c.args.lines.now;
-      reads_before = g.R.Device.reads_made c.args.lines.now;
-      reads_after = g.R.Device.reads_made c.args.lines.now;
-      failed_before = g.R.Device.failed_calls c.args.lines.now;
-      failed_after = g.R.Device.failed_calls c.args.lines.now;
-    } in
-    let a : Sent = record {
-      old = g.W.Device.written c.args.out.now;
-      new = g.W.Device.written c.args.out.now;
-      failed_before = g.W.Device.failed_calls c.args.out.now;
-      failed_after = g.W.Device.failed_calls c.args.out.now;
-      flushed_before = g.W.Device.is_flushed c.args.out.now;
-      flushed = g.W.Device.is_flushed c.args.out.now;
-      is_in_memory = g.W.Device.is_in_memory;
-    } in
+    let fed : Change = change g.R.Device.is_in_memory (g.R.Device.seen c.args.lines.now) (g.R.Device.seen c.args.lines.now) in
+    let a : Change = change g.W.Device.is_in_memory (g.W.Device.seen c.args.out.now) (g.W.Device.seen c.args.out.now) in
     record {
-      listening = subst (λ p. IsListening port old 0 p old 0 fed a) (sym c.new-pending.ensures.items) (listening_first port old fed a refl refl (inr (refl, (Keeps-refl (g.W.Device.written c.args.out.now), refl, refl)), refl));
+      listening = subst (λ p. IsListening port old 0 p old 0 fed a) (sym c.new-pending.ensures.items) (listening_first port old (g.R.Device.seen c.args.lines.now) g.R.Device.is_in_memory a (inr (refl, refl), refl));
       counted = omega arith;
       closed = c.requires.closed;
       port = refl;
@@ -47,62 +30,28 @@ returns-in_default g c =
     let port = g.E.Abreast.host_port c.args.exchange.now in
     let old : Side = side c.args.watching.now (g.E.Abreast.table c.args.exchange.now) in
     let now : Side = side c.loop.watching (g.E.Abreast.table c.loop.exchange) in
-    let fed : Fed = record {
-      old = g.R.Device.remaining c.args.lines.now;
-      new = g.R.Device.remaining c.loop.lines;
-      reads_before = g.R.Device.reads_made c.args.lines.now;
-      reads_after = g.R.Device.reads_made c.loop.lines;
-      failed_before = g.R.Device.failed_calls c.args.lines.now;
-      failed_after = g.R.Device.failed_calls c.loop.lines;
-    } in
-    let a : Sent = record {
-      old = g.W.Device.written c.args.out.now;
-      new = g.W.Device.written c.loop.out;
-      failed_before = g.W.Device.failed_calls c.args.out.now;
-      failed_after = g.W.Device.failed_calls c.loop.out;
-      flushed_before = g.W.Device.is_flushed c.args.out.now;
-      flushed = g.W.Device.is_flushed c.loop.out;
-      is_in_memory = g.W.Device.is_in_memory;
-    } in
+    let fed : Change = change g.R.Device.is_in_memory (g.R.Device.seen c.args.lines.now) (g.R.Device.seen c.loop.lines) in
+    let a : Change = change g.W.Device.is_in_memory (g.W.Device.seen c.args.out.now) (g.W.Device.seen c.loop.out) in
     let here : IsListening port old c.loop.counter c.loop.pending.items now c.loop.count fed a = c.loop.invariant.listening in
-    let rest = g.R.Device.remaining c.read_some.new.self in
-    let reads = g.R.Device.reads_made c.read_some.new.self in
-    let failures = g.R.Device.failed_calls c.read_some.new.self in
-    read_failed port old c.loop.counter c.loop.pending.items now c.loop.count fed a here rest reads failures c.in_default.ensures.bytes c.in_default.ensures.count
+    let next = g.R.Device.seen c.read_some.new.self in
+    read_failed port old c.loop.counter c.loop.pending.items now c.loop.count fed a here next c.in_default.ensures.bytes c.in_default.ensures.count
 
 pub returns-then-n-eq0 : goal.returns-then-n-eq0
 returns-then-n-eq0 g c =
     let port = g.E.Abreast.host_port c.args.exchange.now in
     let old : Side = side c.args.watching.now (g.E.Abreast.table c.args.exchange.now) in
     let now : Side = side c.loop.watching (g.E.Abreast.table c.loop.exchange) in
-    let fed : Fed = record {
-      old = g.R.Device.remaining c.args.lines.now;
-      new = g.R.Device.remaining c.loop.lines;
-      reads_before = g.R.Device.reads_made c.args.lines.now;
-      reads_after = g.R.Device.reads_made c.loop.lines;
-      failed_before = g.R.Device.failed_calls c.args.lines.now;
-      failed_after = g.R.Device.failed_calls c.loop.lines;
-    } in
-    let a : Sent = record {
-      old = g.W.Device.written c.args.out.now;
-      new = g.W.Device.written c.loop.out;
-      failed_before = g.W.Device.failed_calls c.args.out.now;
-      failed_after = g.W.Device.failed_calls c.loop.out;
-      flushed_before = g.W.Device.is_flushed c.args.out.now;
-      flushed = g.W.Device.is_flushed c.loop.out;
-      is_in_memory = g.W.Device.is_in_memory;
-    } in
+    let fed : Change = change g.R.Device.is_in_memory (g.R.Device.seen c.args.lines.now) (g.R.Device.seen c.loop.lines) in
+    let a : Change = change g.W.Device.is_in_memory (g.W.Device.seen c.args.out.now) (g.W.Device.seen c.loop.out) in
     let here : IsListening port old c.loop.counter c.loop.pending.items now c.loop.count fed a = c.loop.invariant.listening in
-    let rest = g.R.Device.remaining c.read_some.new.self in
-    let reads = g.R.Device.reads_made c.read_some.new.self in
-    let failures = g.R.Device.failed_calls c.read_some.new.self in
+    let next = g.R.Device.seen c.read_some.new.self in
     let length_of = c.read_some.auto.buf in
     let length_before = c.loop.auto.room in
     let length_first = c.requires.room in
     let fits : length c.read_some.new.buf ≡ 4096 = omega arith in
     let none : take c.in-Ok.n c.read_some.new.buf ≡ [] = ap (λ m. take m c.read_some.new.buf) c.if-n-eq0.true in
     let some : 0 < length c.read_some.new.buf = omega (arith, fits) in
-    ended_as port old c.loop.counter c.loop.pending.items now c.loop.count fed a here rest reads failures (take c.in-Ok.n c.read_some.new.buf) c.in-Ok.ensures.bytes.0 none (c.in-Ok.ensures.bytes.1 c.if-n-eq0.true some) c.in-Ok.ensures.count
+    ended_as port old c.loop.counter c.loop.pending.items now c.loop.count fed a here next (take c.in-Ok.n c.read_some.new.buf) c.in-Ok.ensures.bytes.0 none (c.in-Ok.ensures.bytes.1 c.if-n-eq0.true some) c.in-Ok.ensures.count
     c.at_end.result (subst (λ p. OnOk c.at_end.result (p ≡ [])) c.deref.ensures.value c.at_end.ensures.none)
     (subst (λ p. IfErr c.at_end.result (λ (stop : Stop). (stop ≡ stops.Line (cut (c.loop.count + 1))) × (0 < length p))) c.deref.ensures.value c.at_end.ensures.some)
 
@@ -111,146 +60,58 @@ returns-in_err-extend_from_slice g c =
     let port = g.E.Abreast.host_port c.args.exchange.now in
     let old : Side = side c.args.watching.now (g.E.Abreast.table c.args.exchange.now) in
     let now : Side = side c.loop.watching (g.E.Abreast.table c.loop.exchange) in
-    let fed : Fed = record {
-      old = g.R.Device.remaining c.args.lines.now;
-      new = g.R.Device.remaining c.loop.lines;
-      reads_before = g.R.Device.reads_made c.args.lines.now;
-      reads_after = g.R.Device.reads_made c.loop.lines;
-      failed_before = g.R.Device.failed_calls c.args.lines.now;
-      failed_after = g.R.Device.failed_calls c.loop.lines;
-    } in
-    let a : Sent = record {
-      old = g.W.Device.written c.args.out.now;
-      new = g.W.Device.written c.loop.out;
-      failed_before = g.W.Device.failed_calls c.args.out.now;
-      failed_after = g.W.Device.failed_calls c.loop.out;
-      flushed_before = g.W.Device.is_flushed c.args.out.now;
-      flushed = g.W.Device.is_flushed c.loop.out;
-      is_in_memory = g.W.Device.is_in_memory;
-    } in
+    let fed : Change = change g.R.Device.is_in_memory (g.R.Device.seen c.args.lines.now) (g.R.Device.seen c.loop.lines) in
+    let a : Change = change g.W.Device.is_in_memory (g.W.Device.seen c.args.out.now) (g.W.Device.seen c.loop.out) in
     let here : IsListening port old c.loop.counter c.loop.pending.items now c.loop.count fed a = c.loop.invariant.listening in
-    let rest = g.R.Device.remaining c.read_some.new.self in
-    let reads = g.R.Device.reads_made c.read_some.new.self in
-    let failures = g.R.Device.failed_calls c.read_some.new.self in
-    let after : Fed = record {
-      old = g.R.Device.remaining c.args.lines.now;
-      new = g.R.Device.remaining c.read_some.new.self;
-      reads_before = g.R.Device.reads_made c.args.lines.now;
-      reads_after = g.R.Device.reads_made c.read_some.new.self;
-      failed_before = g.R.Device.failed_calls c.args.lines.now;
-      failed_after = g.R.Device.failed_calls c.read_some.new.self;
-    } in
+    let next = g.R.Device.seen c.read_some.new.self in
+    let after : Change = change g.R.Device.is_in_memory (g.R.Device.seen c.args.lines.now) (g.R.Device.seen c.read_some.new.self) in
     let length_of = c.read_some.auto.buf in
     let length_before = c.loop.auto.room in
     let length_first = c.requires.room in
     let fits : length c.read_some.new.buf ≡ 4096 = omega arith in
     handed_on c.from_residual.result stops.Memory (λ (r : Result (Unit {0}) Stop). Listens port old r now after a) c.from_residual.ensures
-    (no_memory port old c.loop.counter c.loop.pending.items now c.loop.count fed a here rest reads failures c.read_some.new.buf c.in-Ok.n c.in-Ok.ensures.bytes.0 c.in-Ok.ensures.count c.in-Ok.ensures.bound fits now)
+    (no_memory port old c.loop.counter c.loop.pending.items now c.loop.count fed a here next c.read_some.new.buf c.in-Ok.n c.in-Ok.ensures.bytes.0 c.in-Ok.ensures.count c.in-Ok.ensures.bound fits now)
 
 pub returns-in_err-answer_pending : goal.returns-in_err-answer_pending
 returns-in_err-answer_pending g c =
     let port = g.E.Abreast.host_port c.args.exchange.now in
     let old : Side = side c.args.watching.now (g.E.Abreast.table c.args.exchange.now) in
     let now : Side = side c.loop.watching (g.E.Abreast.table c.loop.exchange) in
-    let fed : Fed = record {
-      old = g.R.Device.remaining c.args.lines.now;
-      new = g.R.Device.remaining c.loop.lines;
-      reads_before = g.R.Device.reads_made c.args.lines.now;
-      reads_after = g.R.Device.reads_made c.loop.lines;
-      failed_before = g.R.Device.failed_calls c.args.lines.now;
-      failed_after = g.R.Device.failed_calls c.loop.lines;
-    } in
-    let a : Sent = record {
-      old = g.W.Device.written c.args.out.now;
-      new = g.W.Device.written c.loop.out;
-      failed_before = g.W.Device.failed_calls c.args.out.now;
-      failed_after = g.W.Device.failed_calls c.loop.out;
-      flushed_before = g.W.Device.is_flushed c.args.out.now;
-      flushed = g.W.Device.is_flushed c.loop.out;
-      is_in_memory = g.W.Device.is_in_memory;
-    } in
+    let fed : Change = change g.R.Device.is_in_memory (g.R.Device.seen c.args.lines.now) (g.R.Device.seen c.loop.lines) in
+    let a : Change = change g.W.Device.is_in_memory (g.W.Device.seen c.args.out.now) (g.W.Device.seen c.loop.out) in
     let here : IsListening port old c.loop.counter c.loop.pending.items now c.loop.count fed a = c.loop.invariant.listening in
-    let rest = g.R.Device.remaining c.read_some.new.self in
-    let reads = g.R.Device.reads_made c.read_some.new.self in
-    let failures = g.R.Device.failed_calls c.read_some.new.self in
-    let after : Fed = record {
-      old = g.R.Device.remaining c.args.lines.now;
-      new = g.R.Device.remaining c.read_some.new.self;
-      reads_before = g.R.Device.reads_made c.args.lines.now;
-      reads_after = g.R.Device.reads_made c.read_some.new.self;
-      failed_before = g.R.Device.failed_calls c.args.lines.now;
-      failed_after = g.R.Device.failed_calls c.read_some.new.self;
-    } in
+    let next = g.R.Device.seen c.read_some.new.self in
+    let after : Change = change g.R.Device.is_in_memory (g.R.Device.seen c.args.lines.now) (g.R.Device.seen c.read_some.new.self) in
     let length_of = c.read_some.auto.buf in
     let length_before = c.loop.auto.room in
     let length_first = c.requires.room in
     let fits : length c.read_some.new.buf ≡ 4096 = omega arith in
     let items : c.extend_from_slice.new.self.items ≡ c.loop.pending.items ++ take c.in-Ok.n c.read_some.new.buf = c.in_ok-extend_from_slice.ensures.items in
-    let b : Sent = record {
-      old = g.W.Device.written c.loop.out;
-      new = g.W.Device.written c.answer_pending.new.out;
-      failed_before = g.W.Device.failed_calls c.loop.out;
-      failed_after = g.W.Device.failed_calls c.answer_pending.new.out;
-      flushed_before = g.W.Device.is_flushed c.loop.out;
-      flushed = g.W.Device.is_flushed c.answer_pending.new.out;
-      is_in_memory = g.W.Device.is_in_memory;
-    } in
+    let b : Change = change g.W.Device.is_in_memory (g.W.Device.seen c.loop.out) (g.W.Device.seen c.answer_pending.new.out) in
     let new : Side = side c.answer_pending.new.watching (g.E.Abreast.table c.answer_pending.new.exchange) in
     let stop = c.in_err-answer_pending.field-0.0 in
     let halts : HaltsWithin port c.loop.count now (c.loop.pending.items ++ take c.in-Ok.n c.read_some.new.buf) stop new b =
     subst (λ p. HaltsWithin p c.loop.count now (c.loop.pending.items ++ take c.in-Ok.n c.read_some.new.buf) stop new b) c.loop.invariant.port
     (subst (λ p. HaltsWithin (g.E.Abreast.host_port c.loop.exchange) c.loop.count now p stop new b) items c.in_err-answer_pending.ensures.halts) in
     handed_on c.from_residual-in_err-answer_pending.result stop (λ (r : Result (Unit {0}) Stop). Listens port old r new after (joined a b)) c.from_residual-in_err-answer_pending.ensures
-    (halted port old c.loop.counter c.loop.pending.items now c.loop.count fed a here rest reads failures c.read_some.new.buf c.in-Ok.n c.in-Ok.ensures.bytes.0 c.in-Ok.ensures.count c.in-Ok.ensures.bound fits b refl refl refl stop new halts)
+    (halted port old c.loop.counter c.loop.pending.items now c.loop.count fed a here next c.read_some.new.buf c.in-Ok.n c.in-Ok.ensures.bytes.0 c.in-Ok.ensures.count c.in-Ok.ensures.bound fits b refl stop new halts)
 
 pub loop-preserved : goal.loop-preserved
 loop-preserved g c =
     let port = g.E.Abreast.host_port c.args.exchange.now in
     let old : Side = side c.args.watching.now (g.E.Abreast.table c.args.exchange.now) in
     let now : Side = side c.loop.watching (g.E.Abreast.table c.loop.exchange) in
-    let fed : Fed = record {
-      old = g.R.Device.remaining c.args.lines.now;
-      new = g.R.Device.remaining c.loop.lines;
-      reads_before = g.R.Device.reads_made c.args.lines.now;
-      reads_after = g.R.Device.reads_made c.loop.lines;
-      failed_before = g.R.Device.failed_calls c.args.lines.now;
-      failed_after = g.R.Device.failed_calls c.loop.lines;
-    } in
-    let a : Sent = record {
-      old = g.W.Device.written c.args.out.now;
-      new = g.W.Device.written c.loop.out;
-      failed_before = g.W.Device.failed_calls c.args.out.now;
-      failed_after = g.W.Device.failed_calls c.loop.out;
-      flushed_before = g.W.Device.is_flushed c.args.out.now;
-      flushed = g.W.Device.is_flushed c.loop.out;
-      is_in_memory = g.W.Device.is_in_memory;
-    } in
+    let fed : Change = change g.R.Device.is_in_memory (g.R.Device.seen c.args.lines.now) (g.R.Device.seen c.loop.lines) in
+    let a : Change = change g.W.Device.is_in_memory (g.W.Device.seen c.args.out.now) (g.W.Device.seen c.loop.out) in
     let here : IsListening port old c.loop.counter c.loop.pending.items now c.loop.count fed a = c.loop.invariant.listening in
-    let rest = g.R.Device.remaining c.read_some.new.self in
-    let reads = g.R.Device.reads_made c.read_some.new.self in
-    let failures = g.R.Device.failed_calls c.read_some.new.self in
-    let after : Fed = record {
-      old = g.R.Device.remaining c.args.lines.now;
-      new = g.R.Device.remaining c.read_some.new.self;
-      reads_before = g.R.Device.reads_made c.args.lines.now;
-      reads_after = g.R.Device.reads_made c.read_some.new.self;
-      failed_before = g.R.Device.failed_calls c.args.lines.now;
-      failed_after = g.R.Device.failed_calls c.read_some.new.self;
-    } in
+    let next = g.R.Device.seen c.read_some.new.self in
+    let after : Change = change g.R.Device.is_in_memory (g.R.Device.seen c.args.lines.now) (g.R.Device.seen c.read_some.new.self) in
     let length_of = c.read_some.auto.buf in
     let length_before = c.loop.auto.room in
     let length_first = c.requires.room in
     let fits : length c.read_some.new.buf ≡ 4096 = omega arith in
     let items : c.extend_from_slice.new.self.items ≡ c.loop.pending.items ++ take c.in-Ok.n c.read_some.new.buf = c.in_ok-extend_from_slice.ensures.items in
-    let b : Sent = record {
-      old = g.W.Device.written c.loop.out;
-      new = g.W.Device.written c.answer_pending.new.out;
-      failed_before = g.W.Device.failed_calls c.loop.out;
-      failed_after = g.W.Device.failed_calls c.answer_pending.new.out;
-      flushed_before = g.W.Device.is_flushed c.loop.out;
-      flushed = g.W.Device.is_flushed c.answer_pending.new.out;
-      is_in_memory = g.W.Device.is_in_memory;
-    } in
+    let b : Change = change g.W.Device.is_in_memory (g.W.Device.seen c.loop.out) (g.W.Device.seen c.answer_pending.new.out) in
     let new : Side = side c.answer_pending.new.watching (g.E.Abreast.table c.answer_pending.new.exchange) in
     let heard : HearsUpTo port c.loop.count now (c.loop.pending.items ++ take c.in-Ok.n c.read_some.new.buf) (c.answer_pending.new.pending.items ∷ []) new c.answer_pending.new.count b =
     subst (λ p. HearsUpTo p c.loop.count now (c.loop.pending.items ++ take c.in-Ok.n c.read_some.new.buf) (c.answer_pending.new.pending.items ∷ []) new c.answer_pending.new.count b) c.loop.invariant.port
@@ -259,7 +120,7 @@ loop-preserved g c =
     let some : 0 < c.in-Ok.n = grind (arith, none) in
     let counted = heard.count in
     record {
-      listening = listening_more port old c.loop.counter c.loop.pending.items now c.loop.count fed a here rest reads failures c.read_some.new.buf c.in-Ok.n c.in-Ok.ensures.bytes.0 c.in-Ok.ensures.count c.in-Ok.ensures.bound fits b refl refl refl
+      listening = listening_more port old c.loop.counter c.loop.pending.items now c.loop.count fed a here next c.read_some.new.buf c.in-Ok.n c.in-Ok.ensures.bytes.0 c.in-Ok.ensures.count c.in-Ok.ensures.bound fits b refl
           c.answer_pending.new.pending.items new c.answer_pending.new.count some c.in_ok-answer_pending.ensures.short heard;
       counted = omega (arith, counted);
       closed = c.in_ok-answer_pending.ensures.closed;
@@ -271,23 +132,8 @@ returns g c =
     let port = g.E.Abreast.host_port c.args.exchange.now in
     let old : Side = side c.args.watching.now (g.E.Abreast.table c.args.exchange.now) in
     let now : Side = side c.loop.watching (g.E.Abreast.table c.loop.exchange) in
-    let fed : Fed = record {
-      old = g.R.Device.remaining c.args.lines.now;
-      new = g.R.Device.remaining c.loop.lines;
-      reads_before = g.R.Device.reads_made c.args.lines.now;
-      reads_after = g.R.Device.reads_made c.loop.lines;
-      failed_before = g.R.Device.failed_calls c.args.lines.now;
-      failed_after = g.R.Device.failed_calls c.loop.lines;
-    } in
-    let a : Sent = record {
-      old = g.W.Device.written c.args.out.now;
-      new = g.W.Device.written c.loop.out;
-      failed_before = g.W.Device.failed_calls c.args.out.now;
-      failed_after = g.W.Device.failed_calls c.loop.out;
-      flushed_before = g.W.Device.is_flushed c.args.out.now;
-      flushed = g.W.Device.is_flushed c.loop.out;
-      is_in_memory = g.W.Device.is_in_memory;
-    } in
+    let fed : Change = change g.R.Device.is_in_memory (g.R.Device.seen c.args.lines.now) (g.R.Device.seen c.loop.lines) in
+    let a : Change = change g.W.Device.is_in_memory (g.W.Device.seen c.args.out.now) (g.W.Device.seen c.loop.out) in
     let here : IsListening port old c.loop.counter c.loop.pending.items now c.loop.count fed a = c.loop.invariant.listening in
     let past = c.loop-test.false in
     let within = c.loop.auto.counter-end in

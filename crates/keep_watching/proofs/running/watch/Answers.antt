@@ -1,10 +1,8 @@
 -- How the watch goes, by what its parts come to.
 use Rattle.std.proofs.Common.{Option, Result, inl, refl}
-use Rattle.std.proofs.KnownBytes.{Keeps-refl}
+use Rattle.keep_device.specs.Seen.{Change, change}
 use Rattle.keep_report.specs.declared.stop.Stop.{Stop}
 use Rattle.keep_report.specs.declared.stop.Stop.TheVariants as stops
-use Rattle.keep_report.specs.Sent.{Sent}
-use Rattle.keep_run.specs.Listening.{Fed}
 use Rattle.keep_run.proofs.LineByLine.{handed_on}
 use Rattle.keep_watching.specs.Clocked.{side}
 use Rattle.keep_watching.specs.WatchRun.{IsUnbegun, WatchesTo}
@@ -16,70 +14,25 @@ pub returns-in_err-inventory-clause-run : goal.returns-in_err-inventory-clause-r
 returns-in_err-inventory-clause-run g c =
     let port = g.E.Abreast.host_port c.args.exchange.now in
     let old : Option Table = g.E.Abreast.table c.args.exchange.now in
-    let fed : Fed = record {
-      old = g.R.Device.remaining c.args.lines.now;
-      new = g.R.Device.remaining c.args.lines.now;
-      reads_before = g.R.Device.reads_made c.args.lines.now;
-      reads_after = g.R.Device.reads_made c.args.lines.now;
-      failed_before = g.R.Device.failed_calls c.args.lines.now;
-      failed_after = g.R.Device.failed_calls c.args.lines.now;
-    } in
-    let out : Sent = record {
-      old = g.W.Device.written c.args.out.now;
-      new = g.W.Device.written c.args.out.now;
-      failed_before = g.W.Device.failed_calls c.args.out.now;
-      failed_after = g.W.Device.failed_calls c.args.out.now;
-      flushed_before = g.W.Device.is_flushed c.args.out.now;
-      flushed = g.W.Device.is_flushed c.args.out.now;
-      is_in_memory = g.W.Device.is_in_memory;
-    } in
-    let none : IsUnbegun old fed out old = record { unread = (Keeps-refl (g.R.Device.remaining c.args.lines.now), refl, refl); unwritten = (Keeps-refl (g.W.Device.written c.args.out.now), refl, refl); table = refl } in
+    let fed : Change = change g.R.Device.is_in_memory (g.R.Device.seen c.args.lines.now) (g.R.Device.seen c.args.lines.now) in
+    let out : Change = change g.W.Device.is_in_memory (g.W.Device.seen c.args.out.now) (g.W.Device.seen c.args.out.now) in
+    let none : IsUnbegun old fed out old = record { unread = refl; unwritten = refl; table = refl } in
     read_watches port c.args.bytes.now c.args.width old fed out c.from_residual.result c.in_err-inventory.field-0.0 c.from_residual.ensures c.in_err-inventory.ensures none
 
 pub returns-in_err-watching-clause-run : goal.returns-in_err-watching-clause-run
 returns-in_err-watching-clause-run g c =
     let port = g.E.Abreast.host_port c.args.exchange.now in
     let old : Option Table = g.E.Abreast.table c.args.exchange.now in
-    let fed : Fed = record {
-      old = g.R.Device.remaining c.args.lines.now;
-      new = g.R.Device.remaining c.args.lines.now;
-      reads_before = g.R.Device.reads_made c.args.lines.now;
-      reads_after = g.R.Device.reads_made c.args.lines.now;
-      failed_before = g.R.Device.failed_calls c.args.lines.now;
-      failed_after = g.R.Device.failed_calls c.args.lines.now;
-    } in
-    let out : Sent = record {
-      old = g.W.Device.written c.args.out.now;
-      new = g.W.Device.written c.args.out.now;
-      failed_before = g.W.Device.failed_calls c.args.out.now;
-      failed_after = g.W.Device.failed_calls c.args.out.now;
-      flushed_before = g.W.Device.is_flushed c.args.out.now;
-      flushed = g.W.Device.is_flushed c.args.out.now;
-      is_in_memory = g.W.Device.is_in_memory;
-    } in
-    let none : IsUnbegun old fed out old = record { unread = (Keeps-refl (g.R.Device.remaining c.args.lines.now), refl, refl); unwritten = (Keeps-refl (g.W.Device.written c.args.out.now), refl, refl); table = refl } in
+    let fed : Change = change g.R.Device.is_in_memory (g.R.Device.seen c.args.lines.now) (g.R.Device.seen c.args.lines.now) in
+    let out : Change = change g.W.Device.is_in_memory (g.W.Device.seen c.args.out.now) (g.W.Device.seen c.args.out.now) in
+    let none : IsUnbegun old fed out old = record { unread = refl; unwritten = refl; table = refl } in
     handed_on c.from_residual-in_err-watching.result stops.Memory (λ (r : Result (Unit {0}) Stop). WatchesTo port c.args.bytes.now c.args.width old r fed out old) c.from_residual-in_err-watching.ensures (inl none)
 
 pub returns-clause-run : goal.returns-clause-run
 returns-clause-run g c =
     let port = g.E.Abreast.host_port c.args.exchange.now in
     let old : Option Table = g.E.Abreast.table c.args.exchange.now in
-    let fed : Fed = record {
-      old = g.R.Device.remaining c.args.lines.now;
-      new = g.R.Device.remaining c.listen.new.lines;
-      reads_before = g.R.Device.reads_made c.args.lines.now;
-      reads_after = g.R.Device.reads_made c.listen.new.lines;
-      failed_before = g.R.Device.failed_calls c.args.lines.now;
-      failed_after = g.R.Device.failed_calls c.listen.new.lines;
-    } in
-    let out : Sent = record {
-      old = g.W.Device.written c.args.out.now;
-      new = g.W.Device.written c.listen.new.out;
-      failed_before = g.W.Device.failed_calls c.args.out.now;
-      failed_after = g.W.Device.failed_calls c.listen.new.out;
-      flushed_before = g.W.Device.is_flushed c.args.out.now;
-      flushed = g.W.Device.is_flushed c.listen.new.out;
-      is_in_memory = g.W.Device.is_in_memory;
-    } in
+    let fed : Change = change g.R.Device.is_in_memory (g.R.Device.seen c.args.lines.now) (g.R.Device.seen c.listen.new.lines) in
+    let out : Change = change g.W.Device.is_in_memory (g.W.Device.seen c.args.out.now) (g.W.Device.seen c.listen.new.out) in
     listened_watches port c.args.bytes.now c.args.width old fed out c.in_ok-inventory.inventory c.in_ok-watching.watching (side c.listen.new.watching (g.E.Abreast.table c.listen.new.exchange)) c.listen.result
     c.in_ok-inventory.ensures c.in_ok-watching.ensures c.listen.ensures.listens

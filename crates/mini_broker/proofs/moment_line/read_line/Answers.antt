@@ -10,13 +10,13 @@ use Rattle.mini_broker.proofs.moment_line.read_line.Goals as goal
 pub returns-clause-none : goal.returns-clause-none
 returns-clause-none g c = λ is.
     let long : MOST_LINE ≤ length c.loop.line.items = omega (arith, c.loop-test.false, c.loop.invariant.turns) in
-    none_so_long (g.S.Device.remaining c.args.source.now) (g.S.Device.remaining c.loop.source) c.loop.line.items c.loop.invariant.given long c.loop.invariant.one
+    none_so_long (g.S.Device.seen c.args.source.now).input.remaining (g.S.Device.seen c.loop.source).input.remaining c.loop.line.items c.loop.invariant.given long c.loop.invariant.one
 
 pub returns-in_err-push-in-Some-clause-broken : goal.returns-in_err-push-in-Some-clause-broken
 returns-in_err-push-in-Some-clause-broken g c =
-    let before = g.S.Device.remaining c.args.source.now in
-    let mid = g.S.Device.remaining c.loop.source in
-    let now = g.S.Device.remaining c.next_byte.new.source in
+    let before = (g.S.Device.seen c.args.source.now).input.remaining in
+    let mid = (g.S.Device.seen c.loop.source).input.remaining in
+    let now = (g.S.Device.seen c.next_byte.new.source).input.remaining in
     let given : Consumes mid now (c.in-Some.byte ∷ []) = subst (λ o. IfSome o (λ b. Consumes mid now (b ∷ []))) c.in-Some.is c.in_ok-next_byte.ensures.some in
     let other : (c.in-Some.byte == 10) ≡ false = grind (arith, nat_tests, c.in-Some.byte-test) in
     let short : length c.loop.line.items < MOST_LINE = omega (arith, c.loop-test.true, c.loop.invariant.turns) in

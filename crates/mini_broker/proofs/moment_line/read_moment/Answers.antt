@@ -7,12 +7,12 @@ use Rattle.mini_broker.proofs.MomentLines.{no_line_no_moment, other_line}
 use Rattle.mini_broker.proofs.moment_line.read_moment.Goals as goal
 
 pub returns-in_default-clause-none : goal.returns-in_default-clause-none
-returns-in_default-clause-none g c = λ is. no_line_no_moment (g.S.Device.remaining c.args.source.now) (c.in_ok-line.ensures.none (ap (λ o. Ok o) c.in_default.is))
+returns-in_default-clause-none g c = λ is. no_line_no_moment (g.S.Device.seen c.args.source.now).input.remaining (c.in_ok-line.ensures.none (ap (λ o. Ok o) c.in_default.is))
 
 pub returns-in_default-number_up_to-clause-none : goal.returns-in_default-number_up_to-clause-none
 returns-in_default-number_up_to-clause-none g c = λ is.
-    let before = g.S.Device.remaining c.args.source.now in
-    let now = g.S.Device.remaining c.read_line.new.source in
+    let before = (g.S.Device.seen c.args.source.now).input.remaining in
+    let now = (g.S.Device.seen c.read_line.new.source).input.remaining in
     let line : List ℕ = c.in-Some.line.items in
     let given : Consumes before now (line ++ 10 ∷ []) = subst (λ (o : Option (Vec ℕ Global)). IfSome o (λ text. Consumes before now (text.items ++ 10 ∷ []))) c.in-Some.is c.in_ok-line.ensures.line in
     let one : IsOneLine line = subst (λ (o : Option (Vec ℕ Global)). IfSome o (λ text. IsOneLine text.items)) c.in-Some.is c.in_ok-line.ensures.one in
@@ -23,8 +23,8 @@ returns-in_default-clause-passed g c = λ is. c.in_ok-line.ensures.passed (ap (�
 
 pub returns-in_default-number_up_to-clause-passed : goal.returns-in_default-number_up_to-clause-passed
 returns-in_default-number_up_to-clause-passed g c = λ is.
-    let before = g.S.Device.remaining c.args.source.now in
-    let now = g.S.Device.remaining c.read_line.new.source in
+    let before = (g.S.Device.seen c.args.source.now).input.remaining in
+    let now = (g.S.Device.seen c.read_line.new.source).input.remaining in
     let line : List ℕ = c.in-Some.line.items in
     let given : Consumes before now (line ++ 10 ∷ []) = subst (λ (o : Option (Vec ℕ Global)). IfSome o (λ text. Consumes before now (text.items ++ 10 ∷ []))) c.in-Some.is c.in_ok-line.ensures.line in
     let one : IsOneLine line = subst (λ (o : Option (Vec ℕ Global)). IfSome o (λ text. IsOneLine text.items)) c.in-Some.is c.in_ok-line.ensures.one in

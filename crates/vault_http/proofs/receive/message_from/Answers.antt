@@ -21,17 +21,17 @@ go_on-requires g c =
 pub returns-in-Done-clause-answer : goal.returns-in-Done-clause-answer
 returns-in-Done-clause-answer g c =
     let IsAnswer = g.M.Message.is_answer c.args.max in
-    let first = g.R.Device.remaining c.args.reader.now in
+    let first = (g.R.Device.seen c.args.reader.now).input.remaining in
     let judged = subst (λ t. (more : List ℕ) → (IsTrue (not c.in_ok-some.some) → more ≡ []) → UnlessMemory c.in-Done.answer (IsAnswer (t ++ more) c.in-Done.answer))
     c.deref.ensures.value c.in-Done.ensures.answer in
-    settled g.M.Message.has_no_head IsAnswer first (g.R.Device.remaining c.read_more.new.source) c.read_more.new.bytes.items (not c.in_ok-some.some) c.in-Done.answer
-    (g.R.Device.reads_left c.args.reader.now) (g.R.Device.reads_left c.read_more.new.source)
+    settled g.M.Message.has_no_head IsAnswer first (g.R.Device.seen c.read_more.new.source).input.remaining c.read_more.new.bytes.items (not c.in_ok-some.some) c.in-Done.answer
+    (g.R.Device.seen c.args.reader.now).input.reads_left (g.R.Device.seen c.read_more.new.source).input.reads_left
     (c.in_ok-some.ensures.given first c.loop.invariant.given) (λ e. (c.in_ok-some.ensures.end (not-true c.in_ok-some.some e)).0) judged
 
 pub returns-in-Done-clause-count : goal.returns-in-Done-clause-count
 returns-in-Done-clause-count g c =
     let bytes = c.deref.result.now ++ [] in
-    counted g.M.Message.has_no_head (g.M.Message.is_answer c.args.max) c.in-Done.answer bytes (g.R.Device.failed_calls c.args.reader.now) (g.R.Device.failed_calls c.read_more.new.source)
+    counted g.M.Message.has_no_head (g.M.Message.is_answer c.args.max) c.in-Done.answer bytes (g.R.Device.seen c.args.reader.now).failed_calls (g.R.Device.seen c.read_more.new.source).failed_calls
     (c.laws.ensures.never c.args.max bytes) (c.in-Done.ensures.answer [] (λ e. refl)) (c.in_ok-some.ensures.count ∙ c.loop.invariant.count)
 
 pub returns-in_err-some-clause-prompt : goal.returns-in_err-some-clause-prompt
@@ -40,9 +40,9 @@ returns-in_err-some-clause-prompt g c =
     let IsAnswer = g.M.Message.is_answer max in
     let wait = waited g.M.Message.has_no_head IsAnswer g.M.Message.with_body max c.loop.bytes.items c.loop.known (λ m. c.laws.ensures.message max c.loop.bytes.items m)
     c.loop.invariant.known c.loop.invariant.current in
-    let given : Keeps (g.R.Device.remaining c.loop.reader) (g.R.Device.remaining c.read_more.new.source)
-    → HandedNone g.M.Message.has_no_head IsAnswer (g.R.Device.remaining c.args.reader.now) (g.R.Device.remaining c.read_more.new.source) =
-    λ kept. handed_none g.M.Message.has_no_head IsAnswer (g.R.Device.remaining c.args.reader.now) (g.R.Device.remaining c.loop.reader) (g.R.Device.remaining c.read_more.new.source)
+    let given : Keeps (g.R.Device.seen c.loop.reader).input.remaining (g.R.Device.seen c.read_more.new.source).input.remaining
+    → HandedNone g.M.Message.has_no_head IsAnswer (g.R.Device.seen c.args.reader.now).input.remaining (g.R.Device.seen c.read_more.new.source).input.remaining =
+    λ kept. handed_none g.M.Message.has_no_head IsAnswer (g.R.Device.seen c.args.reader.now).input.remaining (g.R.Device.seen c.loop.reader).input.remaining (g.R.Device.seen c.read_more.new.source).input.remaining
     c.loop.bytes.items c.loop.invariant.given kept wait in
     search rules
 
@@ -52,5 +52,5 @@ returns-clause-answer g c =
     let IsAnswer = g.M.Message.is_answer max in
     let wait = waited g.M.Message.has_no_head IsAnswer g.M.Message.with_body max c.loop.bytes.items c.loop.known (λ m. c.laws.ensures.message max c.loop.bytes.items m)
     c.loop.invariant.known c.loop.invariant.current in
-    late g.M.Message.has_no_head IsAnswer (g.R.Device.remaining c.args.reader.now) (g.R.Device.remaining c.loop.reader) c.loop.bytes.items
-    c.loop.counter (g.R.Device.reads_left c.args.reader.now) (g.R.Device.reads_left c.loop.reader) (omega (arith, c.loop-test.false)) c.loop.invariant.given wait c.loop.invariant.pace c.loop.invariant.last
+    late g.M.Message.has_no_head IsAnswer (g.R.Device.seen c.args.reader.now).input.remaining (g.R.Device.seen c.loop.reader).input.remaining c.loop.bytes.items
+    c.loop.counter (g.R.Device.seen c.args.reader.now).input.reads_left (g.R.Device.seen c.loop.reader).input.reads_left (omega (arith, c.loop-test.false)) c.loop.invariant.given wait c.loop.invariant.pace c.loop.invariant.last

@@ -8,8 +8,8 @@ use Rattle.vault_http.proofs.receive.read_message.Goals as goal
 pub returns-in-Done-clause-answer : goal.returns-in-Done-clause-answer
 returns-in-Done-clause-answer g c =
     let IsAnswer = g.M.Message.is_answer c.args.max in
-    let first = g.R.Device.remaining c.args.reader.now in
-    let left = g.R.Device.reads_left c.args.reader.now in
+    let first = (g.R.Device.seen c.args.reader.now).input.remaining in
+    let left = (g.R.Device.seen c.args.reader.now).input.reads_left in
     let judged = subst (λ t. (more : List ℕ) → (IsTrue false → more ≡ []) → UnlessMemory c.in-Done.answer (IsAnswer (t ++ more) c.in-Done.answer))
     (c.deref.ensures.value ∙ c.new-bytes.ensures.items) c.in-Done.ensures.answer in
     settled g.M.Message.has_no_head IsAnswer first first [] false c.in-Done.answer left left (Consumes-nil first) (λ e. absurd (cc e)) judged

@@ -1,9 +1,10 @@
 -- What a tick comes to: a line that tells it late; a round, behind the lines that say so; or lines that ask nobody.
 use Rattle.std.proofs.Common.{◌<◌, ◌≡◌, ◌++◌, ◌∙◌, Ok, Err, ap, arith, subst, refl}
+use Rattle.keep_device.specs.Seen.{Change, change}
 use Rattle.keep_core.specs.declared.event.Output.TheVariants as out
 use Rattle.keep_core.specs.State.{State}
 use Rattle.keep_report.specs.declared.stop.Stop.TheVariants as stops
-use Rattle.keep_report.specs.Sent.{IsAll, Sends, Sent}
+use Rattle.keep_report.specs.Sent.{IsAll, Sends}
 use Rattle.keep_run.specs.code.LineByLine.{IsSent}
 use Rattle.keep_run.specs.Hearing.{HearsTo, next_line}
 use Rattle.keep_run.specs.declared.live.event_line.Heard.TheVariants as heards
@@ -26,15 +27,7 @@ returns-in_err-send-in-Ask-clause-hears g c =
     let port = g.E.Exchange.host_port c.args.exchange.now in
     let cs = c.args.agent.now.credentials in
     let o = g.E.Exchange.behind c.args.exchange.now in
-    let w : Sent = record {
-      old = g.W.Device.written c.args.out.now;
-      new = g.W.Device.written c.send-in-Ask.new.out;
-      failed_before = g.W.Device.failed_calls c.args.out.now;
-      failed_after = g.W.Device.failed_calls c.send-in-Ask.new.out;
-      flushed_before = g.W.Device.is_flushed c.args.out.now;
-      flushed = g.W.Device.is_flushed c.send-in-Ask.new.out;
-      is_in_memory = g.W.Device.is_in_memory;
-    } in
+    let w : Change = change g.W.Device.is_in_memory (g.W.Device.seen c.args.out.now) (g.W.Device.seen c.send-in-Ask.new.out) in
     let ticks = ticks_as c.get-3.result c.args.t c.args.agent.now.keeper c.tick.new.agent.keeper c.in_ok-asked.field-0 (out.Ask c.in-Ask.asked) c.new-text.result.items c.tick.new.text.items c.get-3.ensures.value c.in-Ask.is
     c.new-text.ensures.items c.in_ok-asked.ensures.ticks in
     handed_on c.from_residual-in_err-send-in-Ask.result c.in_err-send-in-Ask.field-0.0 (λ r. HearsTo port cs (both c.args.agent.now.keeper o) (heards.Tick c.args.t) r (both c.tick.new.agent.keeper o) w) c.from_residual-in_err-send-in-Ask.ensures
@@ -47,29 +40,13 @@ returns-in_err-next-in-Ask-clause-hears g c =
     let cs = c.args.agent.now.credentials in
     let o = g.E.Exchange.behind c.args.exchange.now in
     let n = g.E.Exchange.behind c.tell_round.new.exchange in
-    let w : Sent = record {
-      old = g.W.Device.written c.args.out.now;
-      new = g.W.Device.written c.send-in-Ask.new.out;
-      failed_before = g.W.Device.failed_calls c.args.out.now;
-      failed_after = g.W.Device.failed_calls c.send-in-Ask.new.out;
-      flushed_before = g.W.Device.is_flushed c.args.out.now;
-      flushed = g.W.Device.is_flushed c.send-in-Ask.new.out;
-      is_in_memory = g.W.Device.is_in_memory;
-    } in
-    let r : Sent = record {
-      old = g.W.Device.written c.send-in-Ask.new.out;
-      new = g.W.Device.written c.tell_round.new.out;
-      failed_before = g.W.Device.failed_calls c.send-in-Ask.new.out;
-      failed_after = g.W.Device.failed_calls c.tell_round.new.out;
-      flushed_before = g.W.Device.is_flushed c.send-in-Ask.new.out;
-      flushed = g.W.Device.is_flushed c.tell_round.new.out;
-      is_in_memory = g.W.Device.is_in_memory;
-    } in
+    let w : Change = change g.W.Device.is_in_memory (g.W.Device.seen c.args.out.now) (g.W.Device.seen c.send-in-Ask.new.out) in
+    let r : Change = change g.W.Device.is_in_memory (g.W.Device.seen c.send-in-Ask.new.out) (g.W.Device.seen c.tell_round.new.out) in
     let ticks = ticks_as c.get-3.result c.args.t c.args.agent.now.keeper c.tick.new.agent.keeper c.in_ok-asked.field-0 (out.Ask c.in-Ask.asked) c.new-text.result.items c.tick.new.text.items c.get-3.ensures.value c.in-Ask.is
     c.new-text.ensures.items c.in_ok-asked.ensures.ticks in
     let before : IsSent c.tick.new.text.items w = (subst (λ l. IsAll l w) c.deref.ensures.value c.in_ok-send-in-Ask.ensures.sent, c.in_ok-send-in-Ask.ensures.count) in
     handed_on c.from_residual-in_err-next-in-Ask.result c.in_err-next-in-Ask.field-0.0 (λ q. HearsTo port cs (both c.args.agent.now.keeper o) (heards.Tick c.args.t) q (both c.tell_round.new.agent.keeper n) (joined w r)) c.from_residual-in_err-next-in-Ask.ensures
-    (round_stops port cs c.args.t o n c.args.agent.now.keeper c.tick.new.agent.keeper c.tell_round.new.agent.keeper c.in-Ask.asked c.tick.new.text.items ticks w r refl refl before c.in_err-next-in-Ask.field-0.0
+    (round_stops port cs c.args.t o n c.args.agent.now.keeper c.tick.new.agent.keeper c.tell_round.new.agent.keeper c.in-Ask.asked c.tick.new.text.items ticks w r refl before c.in_err-next-in-Ask.field-0.0
     (round_as port cs c.args.t (both c.tick.new.agent.keeper o) (both c.tell_round.new.agent.keeper n) c.list-asked.result.now c.in-Ask.asked (Err c.in_err-next-in-Ask.field-0.0) r c.list-asked.ensures
     (subst (λ ks. TellsRound port ks c.args.t (both c.tick.new.agent.keeper o) c.list-asked.result.now (Err c.in_err-next-in-Ask.field-0.0) (both c.tell_round.new.agent.keeper n) r) c.in_ok-asked.ensures.credentials c.in_err-next-in-Ask.ensures.tells)))
 
@@ -79,29 +56,13 @@ returns-in_err-push_next-in-Ask-clause-hears g c =
     let cs = c.args.agent.now.credentials in
     let o = g.E.Exchange.behind c.args.exchange.now in
     let n = g.E.Exchange.behind c.tell_round.new.exchange in
-    let w : Sent = record {
-      old = g.W.Device.written c.args.out.now;
-      new = g.W.Device.written c.send-in-Ask.new.out;
-      failed_before = g.W.Device.failed_calls c.args.out.now;
-      failed_after = g.W.Device.failed_calls c.send-in-Ask.new.out;
-      flushed_before = g.W.Device.is_flushed c.args.out.now;
-      flushed = g.W.Device.is_flushed c.send-in-Ask.new.out;
-      is_in_memory = g.W.Device.is_in_memory;
-    } in
-    let r : Sent = record {
-      old = g.W.Device.written c.send-in-Ask.new.out;
-      new = g.W.Device.written c.tell_round.new.out;
-      failed_before = g.W.Device.failed_calls c.send-in-Ask.new.out;
-      failed_after = g.W.Device.failed_calls c.tell_round.new.out;
-      flushed_before = g.W.Device.is_flushed c.send-in-Ask.new.out;
-      flushed = g.W.Device.is_flushed c.tell_round.new.out;
-      is_in_memory = g.W.Device.is_in_memory;
-    } in
+    let w : Change = change g.W.Device.is_in_memory (g.W.Device.seen c.args.out.now) (g.W.Device.seen c.send-in-Ask.new.out) in
+    let r : Change = change g.W.Device.is_in_memory (g.W.Device.seen c.send-in-Ask.new.out) (g.W.Device.seen c.tell_round.new.out) in
     let ticks = ticks_as c.get-3.result c.args.t c.args.agent.now.keeper c.tick.new.agent.keeper c.in_ok-asked.field-0 (out.Ask c.in-Ask.asked) c.new-text.result.items c.tick.new.text.items c.get-3.ensures.value c.in-Ask.is
     c.new-text.ensures.items c.in_ok-asked.ensures.ticks in
     let before : IsSent c.tick.new.text.items w = (subst (λ l. IsAll l w) c.deref.ensures.value c.in_ok-send-in-Ask.ensures.sent, c.in_ok-send-in-Ask.ensures.count) in
     handed_on c.from_residual-in_err-push_next-in-Ask.result stops.Memory (λ q. HearsTo port cs (both c.args.agent.now.keeper o) (heards.Tick c.args.t) q (both c.tell_round.new.agent.keeper n) (joined w r)) c.from_residual-in_err-push_next-in-Ask.ensures
-    (round_memory port cs c.args.t o n c.args.agent.now.keeper c.tick.new.agent.keeper c.tell_round.new.agent.keeper c.in-Ask.asked c.tick.new.text.items ticks w r refl refl before c.in_ok-next-in-Ask.next
+    (round_memory port cs c.args.t o n c.args.agent.now.keeper c.tick.new.agent.keeper c.tell_round.new.agent.keeper c.in-Ask.asked c.tick.new.text.items ticks w r refl before c.in_ok-next-in-Ask.next
     (round_as port cs c.args.t (both c.tick.new.agent.keeper o) (both c.tell_round.new.agent.keeper n) c.list-asked.result.now c.in-Ask.asked (Ok c.in_ok-next-in-Ask.next) r c.list-asked.ensures
     (subst (λ ks. TellsRound port ks c.args.t (both c.tick.new.agent.keeper o) c.list-asked.result.now (Ok c.in_ok-next-in-Ask.next) (both c.tell_round.new.agent.keeper n) r) c.in_ok-asked.ensures.credentials c.in_ok-next-in-Ask.ensures.tells)))
 
@@ -111,53 +72,21 @@ returns-in-Ask-clause-hears g c =
     let cs = c.args.agent.now.credentials in
     let o = g.E.Exchange.behind c.args.exchange.now in
     let n = g.E.Exchange.behind c.tell_round.new.exchange in
-    let w : Sent = record {
-      old = g.W.Device.written c.args.out.now;
-      new = g.W.Device.written c.send-in-Ask.new.out;
-      failed_before = g.W.Device.failed_calls c.args.out.now;
-      failed_after = g.W.Device.failed_calls c.send-in-Ask.new.out;
-      flushed_before = g.W.Device.is_flushed c.args.out.now;
-      flushed = g.W.Device.is_flushed c.send-in-Ask.new.out;
-      is_in_memory = g.W.Device.is_in_memory;
-    } in
-    let r : Sent = record {
-      old = g.W.Device.written c.send-in-Ask.new.out;
-      new = g.W.Device.written c.tell_round.new.out;
-      failed_before = g.W.Device.failed_calls c.send-in-Ask.new.out;
-      failed_after = g.W.Device.failed_calls c.tell_round.new.out;
-      flushed_before = g.W.Device.is_flushed c.send-in-Ask.new.out;
-      flushed = g.W.Device.is_flushed c.tell_round.new.out;
-      is_in_memory = g.W.Device.is_in_memory;
-    } in
-    let l : Sent = record {
-      old = g.W.Device.written c.tell_round.new.out;
-      new = g.W.Device.written c.send-in-Ask-2.new.out;
-      failed_before = g.W.Device.failed_calls c.tell_round.new.out;
-      failed_after = g.W.Device.failed_calls c.send-in-Ask-2.new.out;
-      flushed_before = g.W.Device.is_flushed c.tell_round.new.out;
-      flushed = g.W.Device.is_flushed c.send-in-Ask-2.new.out;
-      is_in_memory = g.W.Device.is_in_memory;
-    } in
+    let w : Change = change g.W.Device.is_in_memory (g.W.Device.seen c.args.out.now) (g.W.Device.seen c.send-in-Ask.new.out) in
+    let r : Change = change g.W.Device.is_in_memory (g.W.Device.seen c.send-in-Ask.new.out) (g.W.Device.seen c.tell_round.new.out) in
+    let l : Change = change g.W.Device.is_in_memory (g.W.Device.seen c.tell_round.new.out) (g.W.Device.seen c.send-in-Ask-2.new.out) in
     let ticks = ticks_as c.get-3.result c.args.t c.args.agent.now.keeper c.tick.new.agent.keeper c.in_ok-asked.field-0 (out.Ask c.in-Ask.asked) c.new-text.result.items c.tick.new.text.items c.get-3.ensures.value c.in-Ask.is
     c.new-text.ensures.items c.in_ok-asked.ensures.ticks in
     let before : IsSent c.tick.new.text.items w = (subst (λ l. IsAll l w) c.deref.ensures.value c.in_ok-send-in-Ask.ensures.sent, c.in_ok-send-in-Ask.ensures.count) in
     let last : c.push_next.new.text.items ≡ next_line c.in_ok-next-in-Ask.next = c.in_ok-push_next-in-Ask.ensures ∙ ap (λ x. x ++ next_line c.in_ok-next-in-Ask.next) c.new-last.ensures.items in
-    round_sent port cs c.args.t o n c.args.agent.now.keeper c.tick.new.agent.keeper c.tell_round.new.agent.keeper c.in-Ask.asked c.tick.new.text.items ticks w r refl refl before c.in_ok-next-in-Ask.next c.push_next.new.text.items c.send-in-Ask-2.result l refl
-    refl last (round_as port cs c.args.t (both c.tick.new.agent.keeper o) (both c.tell_round.new.agent.keeper n) c.list-asked.result.now c.in-Ask.asked (Ok c.in_ok-next-in-Ask.next) r c.list-asked.ensures
+    round_sent port cs c.args.t o n c.args.agent.now.keeper c.tick.new.agent.keeper c.tell_round.new.agent.keeper c.in-Ask.asked c.tick.new.text.items ticks w r refl before c.in_ok-next-in-Ask.next c.push_next.new.text.items c.send-in-Ask-2.result l refl
+    last (round_as port cs c.args.t (both c.tick.new.agent.keeper o) (both c.tell_round.new.agent.keeper n) c.list-asked.result.now c.in-Ask.asked (Ok c.in_ok-next-in-Ask.next) r c.list-asked.ensures
     (subst (λ ks. TellsRound port ks c.args.t (both c.tick.new.agent.keeper o) c.list-asked.result.now (Ok c.in_ok-next-in-Ask.next) (both c.tell_round.new.agent.keeper n) r) c.in_ok-asked.ensures.credentials c.in_ok-next-in-Ask.ensures.tells))
     (subst (λ x. Sends c.send-in-Ask-2.result x l) c.deref-in-Ask.ensures.value c.send-in-Ask-2.ensures.sent)
 
 pub returns-in-Sleep-clause-hears : goal.returns-in-Sleep-clause-hears
 returns-in-Sleep-clause-hears g c =
-    let w : Sent = record {
-      old = g.W.Device.written c.args.out.now;
-      new = g.W.Device.written c.send-in-Sleep.new.out;
-      failed_before = g.W.Device.failed_calls c.args.out.now;
-      failed_after = g.W.Device.failed_calls c.send-in-Sleep.new.out;
-      flushed_before = g.W.Device.is_flushed c.args.out.now;
-      flushed = g.W.Device.is_flushed c.send-in-Sleep.new.out;
-      is_in_memory = g.W.Device.is_in_memory;
-    } in
+    let w : Change = change g.W.Device.is_in_memory (g.W.Device.seen c.args.out.now) (g.W.Device.seen c.send-in-Sleep.new.out) in
     let ticks = ticks_as c.get-3.result c.args.t c.args.agent.now.keeper c.tick.new.agent.keeper c.in_ok-asked.field-0 (out.Sleep c.in-Sleep.later) c.new-text.result.items c.tick.new.text.items c.get-3.ensures.value c.in-Sleep.is
     c.new-text.ensures.items c.in_ok-asked.ensures.ticks in
     quiet_sent (g.E.Exchange.host_port c.args.exchange.now) c.args.agent.now.credentials (g.E.Exchange.behind c.args.exchange.now) c.args.t c.args.agent.now.keeper c.tick.new.agent.keeper (out.Sleep c.in-Sleep.later) c.tick.new.text.items c.push_sleep.new.text.items c.send-in-Sleep.result w ticks
@@ -171,15 +100,7 @@ returns-in-Sleep-clause-ready g c =
 
 pub returns : goal.returns
 returns g c =
-    let w : Sent = record {
-      old = g.W.Device.written c.args.out.now;
-      new = g.W.Device.written c.send-in_default.new.out;
-      failed_before = g.W.Device.failed_calls c.args.out.now;
-      failed_after = g.W.Device.failed_calls c.send-in_default.new.out;
-      flushed_before = g.W.Device.is_flushed c.args.out.now;
-      flushed = g.W.Device.is_flushed c.send-in_default.new.out;
-      is_in_memory = g.W.Device.is_in_memory;
-    } in
+    let w : Change = change g.W.Device.is_in_memory (g.W.Device.seen c.args.out.now) (g.W.Device.seen c.send-in_default.new.out) in
     let first = c.in_ok-asked.ensures.ticks in
     let idle = only_idle c.get-3.result c.args.agent.now.keeper first.keeper c.in_ok-asked.field-0 first.turn c.in_default.not-Ask c.in_default.not-Sleep in
     let ticks = ticks_as c.get-3.result c.args.t c.args.agent.now.keeper c.tick.new.agent.keeper c.in_ok-asked.field-0 out.Idle c.new-text.result.items c.tick.new.text.items c.get-3.ensures.value idle c.new-text.ensures.items first in

@@ -1,6 +1,6 @@
 -- What the line says is heard. That the line begins leaves what stands behind the exchange.
 use Rattle.std.proofs.Common.{ap, sym, subst, ◌∙◌}
-use Rattle.keep_report.specs.Sent.{Sent}
+use Rattle.keep_device.specs.Seen.{Change, change}
 use Rattle.keep_tree.specs.Forest.{Forest}
 use Rattle.keep_run.specs.EventLines.{heard_in}
 use Rattle.keep_run.specs.Hearing.{HearsTo}
@@ -13,15 +13,7 @@ returns-clause-hears g c =
     let before = g.E.Exchange.behind c.args.exchange.now in
     let after = g.E.Exchange.behind c.hear.new.exchange in
     let line = c.args.line.now in
-    let out : Sent = record {
-      old = g.W.Device.written c.args.out.now;
-      new = g.W.Device.written c.hear.new.out;
-      failed_before = g.W.Device.failed_calls c.args.out.now;
-      failed_after = g.W.Device.failed_calls c.hear.new.out;
-      flushed_before = g.W.Device.is_flushed c.args.out.now;
-      flushed = g.W.Device.is_flushed c.hear.new.out;
-      is_in_memory = g.W.Device.is_in_memory;
-    } in
+    let out : Change = change g.W.Device.is_in_memory (g.W.Device.seen c.args.out.now) (g.W.Device.seen c.hear.new.out) in
     line_hears (g.E.Exchange.host_port c.args.exchange.now) c.args.agent.now.credentials c.args.number (both c.args.agent.now.keeper before) line c.in-Some.heard (both c.hear.new.agent.keeper after) c.hear.result out
     (sym (c.in-Some.ensures.heard ∙ ap (λ (h : Forest). heard_in h line) c.forest.ensures)) c.requires.flushed
     (subst (λ p. HearsTo p c.args.agent.now.credentials (both c.args.agent.now.keeper before) c.in-Some.heard c.hear.result (both c.hear.new.agent.keeper after) out) c.begin_line.ensures.port

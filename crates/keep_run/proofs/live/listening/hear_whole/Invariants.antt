@@ -1,5 +1,6 @@
 -- The lines before `rest` are heard, and `rest` is what stands behind them.
 use Rattle.std.proofs.Common.{◌≡◌, ◌+◌, ◌-◌, ◌≤◌, drop, length}
+use Rattle.keep_device.specs.Seen.{change}
 use Rattle.keep_words.specs.Pieces.{pieces}
 use Rattle.keep_run.specs.code.LineByLine.{HearsUpTo}
 use Rattle.keep_run.specs.Hearing.{IsReady}
@@ -9,15 +10,7 @@ use Rattle.keep_run.proofs.live.listening.hear_whole.Given as goal
 abbrev pub invariant-loop-line : goal.invariant-loop-line
 invariant-loop-line g l = record {
   up_to : HearsUpTo (g.E.Exchange.host_port l.fn.exchange) l.fn.agent.credentials l.fn.lines (both l.fn.agent.keeper (g.E.Exchange.behind l.fn.exchange)) l.bytes (pieces 10 l.rest) (both l.agent.keeper (g.E.Exchange.behind l.exchange)) l.lines
-      (record {
-        old = g.W.Device.written l.fn.out;
-        new = g.W.Device.written l.out;
-        failed_before = g.W.Device.failed_calls l.fn.out;
-        failed_after = g.W.Device.failed_calls l.out;
-        flushed_before = g.W.Device.is_flushed l.fn.out;
-        flushed = g.W.Device.is_flushed l.out;
-        is_in_memory = g.W.Device.is_in_memory;
-      });
+      (change g.W.Device.is_in_memory (g.W.Device.seen l.fn.out) (g.W.Device.seen l.out));
   rest : drop (length l.bytes - length l.rest) l.bytes ≡ l.rest;
   within : length l.rest ≤ length l.bytes;
   few : l.lines + length l.rest ≤ l.fn.lines + length l.bytes;

@@ -1,12 +1,12 @@
 -- What each read brings goes on from what was heard before it.
 use Rattle.std.proofs.Common.{◌≡◌, ℕ, ◌+◌, ◌-◌, ◌<◌, ◌≤◌, ◌∷◌, ◌++◌, [], List, Result, OnOk, ap, arith, length, min, refl, subst, sym, take, ◌∙◌}
-use Rattle.std.proofs.KnownBytes.{Appends-nil, Keeps-refl, Keeps-trans}
+use Rattle.std.proofs.KnownBytes.{Appends-nil}
 use Rattle.std.specs.Result.{IfErr}
+use Rattle.keep_device.specs.Seen.{Change, change}
 use Rattle.keep_report.specs.declared.stop.Stop.{Stop}
 use Rattle.keep_report.specs.declared.stop.Stop.TheVariants as stops
-use Rattle.keep_report.specs.Sent.{Sent}
 use Rattle.keep_run.specs.code.LineByLine.{HaltsWithin, HearsUpTo, IsListening}
-use Rattle.keep_run.specs.Listening.{Fed, Listens}
+use Rattle.keep_run.specs.Listening.{Listens}
 use Rattle.keep_run.specs.Stops.{both}
 use Rattle.keep_run.specs.Closed.{World}
 use Rattle.keep_run.proofs.Agents.{as_begun}
@@ -19,29 +19,14 @@ loop-init g c =
     let port = g.E.Exchange.host_port c.args.exchange.now in
     let cs = c.args.agent.now.credentials in
     let old : World = both c.args.agent.now.keeper (g.E.Exchange.behind c.args.exchange.now) in
-    let fed : Fed = record {
-      old = g.R.Device.remaining c.args.events.now;
-      new = g.R.Device.remaining c.args.events.now;
-      reads_before = g.R.Device.reads_made c.args.events.now;
-      reads_after = g.R.Device.reads_made c.args.events.now;
-      failed_before = g.R.Device.failed_calls c.args.events.now;
-      failed_after = g.R.Device.failed_calls c.args.events.now;
-    } in
-    let a : Sent = record {
-      old = g.W.Device.written c.args.out.now;
-      new = g.W.Device.written c.args.out.now;
-      failed_before = g.W.Device.failed_calls c.args.out.now;
-      failed_after = g.W.Device.failed_calls c.args.out.now;
-      flushed_before = g.W.Device.is_flushed c.args.out.now;
-      flushed = g.W.Device.is_flushed c.args.out.now;
-      is_in_memory = g.W.Device.is_in_memory;
-    } in
+    let fed : Change = change g.R.Device.is_in_memory (g.R.Device.seen c.args.events.now) (g.R.Device.seen c.args.events.now) in
+    let a : Change = change g.W.Device.is_in_memory (g.W.Device.seen c.args.out.now) (g.W.Device.seen c.args.out.now) in
     record {
-      listening = subst (λ p. IsListening port cs old 0 p 1048576 old 0 fed a) (sym c.new-pending.ensures.items) (listening_first port cs old fed a refl refl refl ((Appends-nil (g.W.Device.written c.args.out.now), c.requires.flushed), refl));
+      listening = subst (λ p. IsListening port cs old 0 p 1048576 old 0 fed a) (sym c.new-pending.ensures.items) (listening_first port cs old (g.R.Device.seen c.args.events.now) g.R.Device.is_in_memory a ((Appends-nil (g.W.Device.seen c.args.out.now).output.written, c.requires.flushed), refl));
       ready = c.requires.ready;
       credentials = refl;
       port = refl;
-      written = Keeps-refl (g.R.Device.written c.args.events.now);
+      output = refl;
     }
 
 pub returns-in_default-clause-listens : goal.returns-in_default-clause-listens
@@ -50,28 +35,11 @@ returns-in_default-clause-listens g c =
     let cs = c.args.agent.now.credentials in
     let old : World = both c.args.agent.now.keeper (g.E.Exchange.behind c.args.exchange.now) in
     let now : World = both c.loop.agent.keeper (g.E.Exchange.behind c.loop.exchange) in
-    let fed : Fed = record {
-      old = g.R.Device.remaining c.args.events.now;
-      new = g.R.Device.remaining c.loop.events;
-      reads_before = g.R.Device.reads_made c.args.events.now;
-      reads_after = g.R.Device.reads_made c.loop.events;
-      failed_before = g.R.Device.failed_calls c.args.events.now;
-      failed_after = g.R.Device.failed_calls c.loop.events;
-    } in
-    let a : Sent = record {
-      old = g.W.Device.written c.args.out.now;
-      new = g.W.Device.written c.loop.out;
-      failed_before = g.W.Device.failed_calls c.args.out.now;
-      failed_after = g.W.Device.failed_calls c.loop.out;
-      flushed_before = g.W.Device.is_flushed c.args.out.now;
-      flushed = g.W.Device.is_flushed c.loop.out;
-      is_in_memory = g.W.Device.is_in_memory;
-    } in
+    let fed : Change = change g.R.Device.is_in_memory (g.R.Device.seen c.args.events.now) (g.R.Device.seen c.loop.events) in
+    let a : Change = change g.W.Device.is_in_memory (g.W.Device.seen c.args.out.now) (g.W.Device.seen c.loop.out) in
     let here : IsListening port cs old c.loop.counter c.loop.pending.items c.loop.left now c.loop.lines fed a = c.loop.invariant.listening in
-    let rest = g.R.Device.remaining c.read_some.new.self in
-    let reads = g.R.Device.reads_made c.read_some.new.self in
-    let failures = g.R.Device.failed_calls c.read_some.new.self in
-    read_failed port cs old c.loop.counter c.loop.pending.items c.loop.left now c.loop.lines fed a here rest reads failures c.in_default.ensures.bytes c.in_default.ensures.made c.in_default.ensures.count c.loop-test.true
+    let next = g.R.Device.seen c.read_some.new.self in
+    read_failed port cs old c.loop.counter c.loop.pending.items c.loop.left now c.loop.lines fed a here next c.in_default.ensures.bytes c.in_default.ensures.made c.in_default.ensures.count c.loop-test.true
 
 pub returns-then-n-eq0-clause-listens : goal.returns-then-n-eq0-clause-listens
 returns-then-n-eq0-clause-listens g c =
@@ -79,34 +47,17 @@ returns-then-n-eq0-clause-listens g c =
     let cs = c.args.agent.now.credentials in
     let old : World = both c.args.agent.now.keeper (g.E.Exchange.behind c.args.exchange.now) in
     let now : World = both c.loop.agent.keeper (g.E.Exchange.behind c.loop.exchange) in
-    let fed : Fed = record {
-      old = g.R.Device.remaining c.args.events.now;
-      new = g.R.Device.remaining c.loop.events;
-      reads_before = g.R.Device.reads_made c.args.events.now;
-      reads_after = g.R.Device.reads_made c.loop.events;
-      failed_before = g.R.Device.failed_calls c.args.events.now;
-      failed_after = g.R.Device.failed_calls c.loop.events;
-    } in
-    let a : Sent = record {
-      old = g.W.Device.written c.args.out.now;
-      new = g.W.Device.written c.loop.out;
-      failed_before = g.W.Device.failed_calls c.args.out.now;
-      failed_after = g.W.Device.failed_calls c.loop.out;
-      flushed_before = g.W.Device.is_flushed c.args.out.now;
-      flushed = g.W.Device.is_flushed c.loop.out;
-      is_in_memory = g.W.Device.is_in_memory;
-    } in
+    let fed : Change = change g.R.Device.is_in_memory (g.R.Device.seen c.args.events.now) (g.R.Device.seen c.loop.events) in
+    let a : Change = change g.W.Device.is_in_memory (g.W.Device.seen c.args.out.now) (g.W.Device.seen c.loop.out) in
     let here : IsListening port cs old c.loop.counter c.loop.pending.items c.loop.left now c.loop.lines fed a = c.loop.invariant.listening in
-    let rest = g.R.Device.remaining c.read_some.new.self in
-    let reads = g.R.Device.reads_made c.read_some.new.self in
-    let failures = g.R.Device.failed_calls c.read_some.new.self in
+    let next = g.R.Device.seen c.read_some.new.self in
     let length_of = c.read_some.auto.buf in
     let length_before = c.loop.auto.room in
     let length_first = c.requires.room in
     let fits : length c.read_some.new.buf ≡ 4096 = omega arith in
     let none : take c.in-Ok.n c.read_some.new.buf ≡ [] = ap (λ m. take m c.read_some.new.buf) c.if-n-eq0.true in
     let some : 0 < length c.read_some.new.buf = omega arith in
-    ended_as port cs old c.loop.counter c.loop.pending.items c.loop.left now c.loop.lines fed a here rest reads failures (take c.in-Ok.n c.read_some.new.buf) c.in-Ok.ensures.bytes.0 none (c.in-Ok.ensures.bytes.1 c.if-n-eq0.true some) c.in-Ok.ensures.made c.in-Ok.ensures.count c.loop-test.true
+    ended_as port cs old c.loop.counter c.loop.pending.items c.loop.left now c.loop.lines fed a here next (take c.in-Ok.n c.read_some.new.buf) c.in-Ok.ensures.bytes.0 none (c.in-Ok.ensures.bytes.1 c.if-n-eq0.true some) c.in-Ok.ensures.made c.in-Ok.ensures.count c.loop-test.true
     c.at_end.result (subst (λ p. OnOk c.at_end.result (p ≡ [])) c.deref.ensures.value c.at_end.ensures.none)
     (subst (λ p. IfErr c.at_end.result (λ (stop : Stop). (stop ≡ stops.Line (c.loop.lines + 1)) × (0 < length p))) c.deref.ensures.value c.at_end.ensures.some)
 
@@ -116,41 +67,17 @@ returns-in_err-extend_from_slice-clause-listens g c =
     let cs = c.args.agent.now.credentials in
     let old : World = both c.args.agent.now.keeper (g.E.Exchange.behind c.args.exchange.now) in
     let now : World = both c.loop.agent.keeper (g.E.Exchange.behind c.loop.exchange) in
-    let fed : Fed = record {
-      old = g.R.Device.remaining c.args.events.now;
-      new = g.R.Device.remaining c.loop.events;
-      reads_before = g.R.Device.reads_made c.args.events.now;
-      reads_after = g.R.Device.reads_made c.loop.events;
-      failed_before = g.R.Device.failed_calls c.args.events.now;
-      failed_after = g.R.Device.failed_calls c.loop.events;
-    } in
-    let a : Sent = record {
-      old = g.W.Device.written c.args.out.now;
-      new = g.W.Device.written c.loop.out;
-      failed_before = g.W.Device.failed_calls c.args.out.now;
-      failed_after = g.W.Device.failed_calls c.loop.out;
-      flushed_before = g.W.Device.is_flushed c.args.out.now;
-      flushed = g.W.Device.is_flushed c.loop.out;
-      is_in_memory = g.W.Device.is_in_memory;
-    } in
+    let fed : Change = change g.R.Device.is_in_memory (g.R.Device.seen c.args.events.now) (g.R.Device.seen c.loop.events) in
+    let a : Change = change g.W.Device.is_in_memory (g.W.Device.seen c.args.out.now) (g.W.Device.seen c.loop.out) in
     let here : IsListening port cs old c.loop.counter c.loop.pending.items c.loop.left now c.loop.lines fed a = c.loop.invariant.listening in
-    let rest = g.R.Device.remaining c.read_some.new.self in
-    let reads = g.R.Device.reads_made c.read_some.new.self in
-    let failures = g.R.Device.failed_calls c.read_some.new.self in
-    let after : Fed = record {
-      old = g.R.Device.remaining c.args.events.now;
-      new = g.R.Device.remaining c.read_some.new.self;
-      reads_before = g.R.Device.reads_made c.args.events.now;
-      reads_after = g.R.Device.reads_made c.read_some.new.self;
-      failed_before = g.R.Device.failed_calls c.args.events.now;
-      failed_after = g.R.Device.failed_calls c.read_some.new.self;
-    } in
+    let next = g.R.Device.seen c.read_some.new.self in
+    let after : Change = change g.R.Device.is_in_memory (g.R.Device.seen c.args.events.now) (g.R.Device.seen c.read_some.new.self) in
     let length_of = c.read_some.auto.buf in
     let length_before = c.loop.auto.room in
     let length_first = c.requires.room in
     let fits : length c.read_some.new.buf ≡ 4096 = omega arith in
     handed_on c.from_residual.result stops.Memory (λ (r : Result (Unit {0}) Stop). Listens port cs old r now after a) c.from_residual.ensures
-    (no_memory port cs old c.loop.counter c.loop.pending.items c.loop.left now c.loop.lines fed a here rest reads failures c.read_some.new.buf c.in-Ok.n c.in-Ok.ensures.bytes.0 c.in-Ok.ensures.made c.in-Ok.ensures.count c.in-Ok.ensures.bound fits c.loop-test.true now refl)
+    (no_memory port cs old c.loop.counter c.loop.pending.items c.loop.left now c.loop.lines fed a here next c.read_some.new.buf c.in-Ok.n c.in-Ok.ensures.bytes.0 c.in-Ok.ensures.made c.in-Ok.ensures.count c.in-Ok.ensures.bound fits c.loop-test.true now refl)
 
 pub returns-in_err-hear_pending-clause-listens : goal.returns-in_err-hear_pending-clause-listens
 returns-in_err-hear_pending-clause-listens g c =
@@ -158,35 +85,11 @@ returns-in_err-hear_pending-clause-listens g c =
     let cs = c.args.agent.now.credentials in
     let old : World = both c.args.agent.now.keeper (g.E.Exchange.behind c.args.exchange.now) in
     let now : World = both c.loop.agent.keeper (g.E.Exchange.behind c.loop.exchange) in
-    let fed : Fed = record {
-      old = g.R.Device.remaining c.args.events.now;
-      new = g.R.Device.remaining c.loop.events;
-      reads_before = g.R.Device.reads_made c.args.events.now;
-      reads_after = g.R.Device.reads_made c.loop.events;
-      failed_before = g.R.Device.failed_calls c.args.events.now;
-      failed_after = g.R.Device.failed_calls c.loop.events;
-    } in
-    let a : Sent = record {
-      old = g.W.Device.written c.args.out.now;
-      new = g.W.Device.written c.loop.out;
-      failed_before = g.W.Device.failed_calls c.args.out.now;
-      failed_after = g.W.Device.failed_calls c.loop.out;
-      flushed_before = g.W.Device.is_flushed c.args.out.now;
-      flushed = g.W.Device.is_flushed c.loop.out;
-      is_in_memory = g.W.Device.is_in_memory;
-    } in
+    let fed : Change = change g.R.Device.is_in_memory (g.R.Device.seen c.args.events.now) (g.R.Device.seen c.loop.events) in
+    let a : Change = change g.W.Device.is_in_memory (g.W.Device.seen c.args.out.now) (g.W.Device.seen c.loop.out) in
     let here : IsListening port cs old c.loop.counter c.loop.pending.items c.loop.left now c.loop.lines fed a = c.loop.invariant.listening in
-    let rest = g.R.Device.remaining c.read_some.new.self in
-    let reads = g.R.Device.reads_made c.read_some.new.self in
-    let failures = g.R.Device.failed_calls c.read_some.new.self in
-    let after : Fed = record {
-      old = g.R.Device.remaining c.args.events.now;
-      new = g.R.Device.remaining c.read_some.new.self;
-      reads_before = g.R.Device.reads_made c.args.events.now;
-      reads_after = g.R.Device.reads_made c.read_some.new.self;
-      failed_before = g.R.Device.failed_calls c.args.events.now;
-      failed_after = g.R.Device.failed_calls c.read_some.new.self;
-    } in
+    let next = g.R.Device.seen c.read_some.new.self in
+    let after : Change = change g.R.Device.is_in_memory (g.R.Device.seen c.args.events.now) (g.R.Device.seen c.read_some.new.self) in
     let length_of = c.read_some.auto.buf in
     let length_before = c.loop.auto.room in
     let length_first = c.requires.room in
@@ -196,20 +99,12 @@ returns-in_err-hear_pending-clause-listens g c =
     let items : c.extend_from_slice.new.self.items ≡ c.loop.pending.items ++ take (min c.in-Ok.n c.loop.left) c.read_some.new.buf =
     c.in_ok-extend_from_slice.ensures.items ∙ ap (λ m. c.loop.pending.items ++ take m c.read_some.new.buf) taken in
     let new : World = both c.hear_pending.new.agent.keeper (g.E.Exchange.behind c.hear_pending.new.exchange) in
-    let b : Sent = record {
-      old = g.W.Device.written c.loop.out;
-      new = g.W.Device.written c.hear_pending.new.out;
-      failed_before = g.W.Device.failed_calls c.loop.out;
-      failed_after = g.W.Device.failed_calls c.hear_pending.new.out;
-      flushed_before = g.W.Device.is_flushed c.loop.out;
-      flushed = g.W.Device.is_flushed c.hear_pending.new.out;
-      is_in_memory = g.W.Device.is_in_memory;
-    } in
+    let b : Change = change g.W.Device.is_in_memory (g.W.Device.seen c.loop.out) (g.W.Device.seen c.hear_pending.new.out) in
     let stop = c.in_err-hear_pending.field-0.0 in
     let halts = subst (λ p. HaltsWithin port cs c.loop.lines now p stop new b) items
     (as_begun c.loop.invariant.port c.loop.invariant.credentials (λ p ks. HaltsWithin p ks c.loop.lines now c.extend_from_slice.new.self.items stop new b) c.in_err-hear_pending.ensures.halts) in
     handed_on c.from_residual-in_err-hear_pending.result stop (λ (r : Result (Unit {0}) Stop). Listens port cs old r new after (joined a b)) c.from_residual-in_err-hear_pending.ensures
-    (halted port cs old c.loop.counter c.loop.pending.items c.loop.left now c.loop.lines fed a here rest reads failures c.read_some.new.buf c.in-Ok.n c.in-Ok.ensures.bytes.0 c.in-Ok.ensures.made c.in-Ok.ensures.count c.in-Ok.ensures.bound fits c.loop-test.true b refl refl stop new halts)
+    (halted port cs old c.loop.counter c.loop.pending.items c.loop.left now c.loop.lines fed a here next c.read_some.new.buf c.in-Ok.n c.in-Ok.ensures.bytes.0 c.in-Ok.ensures.made c.in-Ok.ensures.count c.in-Ok.ensures.bound fits c.loop-test.true b refl stop new halts)
 
 pub returns-then-taken-n-clause-listens : goal.returns-then-taken-n-clause-listens
 returns-then-taken-n-clause-listens g c =
@@ -217,27 +112,10 @@ returns-then-taken-n-clause-listens g c =
     let cs = c.args.agent.now.credentials in
     let old : World = both c.args.agent.now.keeper (g.E.Exchange.behind c.args.exchange.now) in
     let now : World = both c.loop.agent.keeper (g.E.Exchange.behind c.loop.exchange) in
-    let fed : Fed = record {
-      old = g.R.Device.remaining c.args.events.now;
-      new = g.R.Device.remaining c.loop.events;
-      reads_before = g.R.Device.reads_made c.args.events.now;
-      reads_after = g.R.Device.reads_made c.loop.events;
-      failed_before = g.R.Device.failed_calls c.args.events.now;
-      failed_after = g.R.Device.failed_calls c.loop.events;
-    } in
-    let a : Sent = record {
-      old = g.W.Device.written c.args.out.now;
-      new = g.W.Device.written c.loop.out;
-      failed_before = g.W.Device.failed_calls c.args.out.now;
-      failed_after = g.W.Device.failed_calls c.loop.out;
-      flushed_before = g.W.Device.is_flushed c.args.out.now;
-      flushed = g.W.Device.is_flushed c.loop.out;
-      is_in_memory = g.W.Device.is_in_memory;
-    } in
+    let fed : Change = change g.R.Device.is_in_memory (g.R.Device.seen c.args.events.now) (g.R.Device.seen c.loop.events) in
+    let a : Change = change g.W.Device.is_in_memory (g.W.Device.seen c.args.out.now) (g.W.Device.seen c.loop.out) in
     let here : IsListening port cs old c.loop.counter c.loop.pending.items c.loop.left now c.loop.lines fed a = c.loop.invariant.listening in
-    let rest = g.R.Device.remaining c.read_some.new.self in
-    let reads = g.R.Device.reads_made c.read_some.new.self in
-    let failures = g.R.Device.failed_calls c.read_some.new.self in
+    let next = g.R.Device.seen c.read_some.new.self in
     let length_of = c.read_some.auto.buf in
     let length_before = c.loop.auto.room in
     let length_first = c.requires.room in
@@ -247,20 +125,12 @@ returns-then-taken-n-clause-listens g c =
     let items : c.extend_from_slice.new.self.items ≡ c.loop.pending.items ++ take (min c.in-Ok.n c.loop.left) c.read_some.new.buf =
     c.in_ok-extend_from_slice.ensures.items ∙ ap (λ m. c.loop.pending.items ++ take m c.read_some.new.buf) taken in
     let new : World = both c.hear_pending.new.agent.keeper (g.E.Exchange.behind c.hear_pending.new.exchange) in
-    let b : Sent = record {
-      old = g.W.Device.written c.loop.out;
-      new = g.W.Device.written c.hear_pending.new.out;
-      failed_before = g.W.Device.failed_calls c.loop.out;
-      failed_after = g.W.Device.failed_calls c.hear_pending.new.out;
-      flushed_before = g.W.Device.is_flushed c.loop.out;
-      flushed = g.W.Device.is_flushed c.hear_pending.new.out;
-      is_in_memory = g.W.Device.is_in_memory;
-    } in
+    let b : Change = change g.W.Device.is_in_memory (g.W.Device.seen c.loop.out) (g.W.Device.seen c.hear_pending.new.out) in
     let less = c.if-taken-n.true in
     let over : c.loop.left < c.in-Ok.n = omega arith in
     let heard = subst (λ p. HearsUpTo port cs c.loop.lines now p (c.hear_pending.new.pending.items ∷ []) new c.hear_pending.new.lines b) items
     (as_begun c.loop.invariant.port c.loop.invariant.credentials (λ p ks. HearsUpTo p ks c.loop.lines now c.extend_from_slice.new.self.items (c.hear_pending.new.pending.items ∷ []) new c.hear_pending.new.lines b) c.in_ok-hear_pending.ensures.heard) in
-    too_many port cs old c.loop.counter c.loop.pending.items c.loop.left now c.loop.lines fed a here rest reads failures c.read_some.new.buf c.in-Ok.n c.in-Ok.ensures.bytes.0 c.in-Ok.ensures.made c.in-Ok.ensures.count c.in-Ok.ensures.bound fits c.loop-test.true b refl refl c.hear_pending.new.pending.items new c.hear_pending.new.lines over c.in_ok-hear_pending.ensures.short heard
+    too_many port cs old c.loop.counter c.loop.pending.items c.loop.left now c.loop.lines fed a here next c.read_some.new.buf c.in-Ok.n c.in-Ok.ensures.bytes.0 c.in-Ok.ensures.made c.in-Ok.ensures.count c.in-Ok.ensures.bound fits c.loop-test.true b refl c.hear_pending.new.pending.items new c.hear_pending.new.lines over c.in_ok-hear_pending.ensures.short heard
 
 pub loop-preserved : goal.loop-preserved
 loop-preserved g c =
@@ -268,35 +138,11 @@ loop-preserved g c =
     let cs = c.args.agent.now.credentials in
     let old : World = both c.args.agent.now.keeper (g.E.Exchange.behind c.args.exchange.now) in
     let now : World = both c.loop.agent.keeper (g.E.Exchange.behind c.loop.exchange) in
-    let fed : Fed = record {
-      old = g.R.Device.remaining c.args.events.now;
-      new = g.R.Device.remaining c.loop.events;
-      reads_before = g.R.Device.reads_made c.args.events.now;
-      reads_after = g.R.Device.reads_made c.loop.events;
-      failed_before = g.R.Device.failed_calls c.args.events.now;
-      failed_after = g.R.Device.failed_calls c.loop.events;
-    } in
-    let a : Sent = record {
-      old = g.W.Device.written c.args.out.now;
-      new = g.W.Device.written c.loop.out;
-      failed_before = g.W.Device.failed_calls c.args.out.now;
-      failed_after = g.W.Device.failed_calls c.loop.out;
-      flushed_before = g.W.Device.is_flushed c.args.out.now;
-      flushed = g.W.Device.is_flushed c.loop.out;
-      is_in_memory = g.W.Device.is_in_memory;
-    } in
+    let fed : Change = change g.R.Device.is_in_memory (g.R.Device.seen c.args.events.now) (g.R.Device.seen c.loop.events) in
+    let a : Change = change g.W.Device.is_in_memory (g.W.Device.seen c.args.out.now) (g.W.Device.seen c.loop.out) in
     let here : IsListening port cs old c.loop.counter c.loop.pending.items c.loop.left now c.loop.lines fed a = c.loop.invariant.listening in
-    let rest = g.R.Device.remaining c.read_some.new.self in
-    let reads = g.R.Device.reads_made c.read_some.new.self in
-    let failures = g.R.Device.failed_calls c.read_some.new.self in
-    let after : Fed = record {
-      old = g.R.Device.remaining c.args.events.now;
-      new = g.R.Device.remaining c.read_some.new.self;
-      reads_before = g.R.Device.reads_made c.args.events.now;
-      reads_after = g.R.Device.reads_made c.read_some.new.self;
-      failed_before = g.R.Device.failed_calls c.args.events.now;
-      failed_after = g.R.Device.failed_calls c.read_some.new.self;
-    } in
+    let next = g.R.Device.seen c.read_some.new.self in
+    let after : Change = change g.R.Device.is_in_memory (g.R.Device.seen c.args.events.now) (g.R.Device.seen c.read_some.new.self) in
     let length_of = c.read_some.auto.buf in
     let length_before = c.loop.auto.room in
     let length_first = c.requires.room in
@@ -306,27 +152,19 @@ loop-preserved g c =
     let items : c.extend_from_slice.new.self.items ≡ c.loop.pending.items ++ take (min c.in-Ok.n c.loop.left) c.read_some.new.buf =
     c.in_ok-extend_from_slice.ensures.items ∙ ap (λ m. c.loop.pending.items ++ take m c.read_some.new.buf) taken in
     let new : World = both c.hear_pending.new.agent.keeper (g.E.Exchange.behind c.hear_pending.new.exchange) in
-    let b : Sent = record {
-      old = g.W.Device.written c.loop.out;
-      new = g.W.Device.written c.hear_pending.new.out;
-      failed_before = g.W.Device.failed_calls c.loop.out;
-      failed_after = g.W.Device.failed_calls c.hear_pending.new.out;
-      flushed_before = g.W.Device.is_flushed c.loop.out;
-      flushed = g.W.Device.is_flushed c.hear_pending.new.out;
-      is_in_memory = g.W.Device.is_in_memory;
-    } in
+    let b : Change = change g.W.Device.is_in_memory (g.W.Device.seen c.loop.out) (g.W.Device.seen c.hear_pending.new.out) in
     let no_less = c.if-taken-n.false in
     let within : c.in-Ok.n ≤ c.loop.left = omega arith in
     let heard = subst (λ p. HearsUpTo port cs c.loop.lines now p (c.hear_pending.new.pending.items ∷ []) new c.hear_pending.new.lines b) items
     (as_begun c.loop.invariant.port c.loop.invariant.credentials (λ p ks. HearsUpTo p ks c.loop.lines now c.extend_from_slice.new.self.items (c.hear_pending.new.pending.items ∷ []) new c.hear_pending.new.lines b) c.in_ok-hear_pending.ensures.heard) in
     let fewer = subst (λ (p : List ℕ). c.hear_pending.new.lines + length c.hear_pending.new.pending.items ≤ c.loop.lines + length p) items c.in_ok-hear_pending.ensures.fewer in
-    let on = listening_more port cs old c.loop.counter c.loop.pending.items c.loop.left now c.loop.lines fed a here rest reads failures c.read_some.new.buf c.in-Ok.n c.in-Ok.ensures.bytes.0 c.in-Ok.ensures.made c.in-Ok.ensures.count c.in-Ok.ensures.bound fits c.loop-test.true b refl refl c.hear_pending.new.pending.items new c.hear_pending.new.lines within c.in_ok-hear_pending.ensures.short fewer heard in
+    let on = listening_more port cs old c.loop.counter c.loop.pending.items c.loop.left now c.loop.lines fed a here next c.read_some.new.buf c.in-Ok.n c.in-Ok.ensures.bytes.0 c.in-Ok.ensures.made c.in-Ok.ensures.count c.in-Ok.ensures.bound fits c.loop-test.true b refl c.hear_pending.new.pending.items new c.hear_pending.new.lines within c.in_ok-hear_pending.ensures.short fewer heard in
     record {
       listening = subst (λ m. IsListening port cs old (c.loop.counter + 1) c.hear_pending.new.pending.items (c.loop.left - m) new c.hear_pending.new.lines after (joined a b)) (sym taken) on;
       ready = c.in_ok-hear_pending.ensures.ready;
       credentials = c.in_ok-hear_pending.ensures.credentials ∙ c.loop.invariant.credentials;
       port = c.in_ok-hear_pending.ensures.port ∙ c.loop.invariant.port;
-      written = Keeps-trans _ _ _ c.loop.invariant.written c.in-Ok.ensures.written;
+      output = c.in-Ok.ensures.output ∙ c.loop.invariant.output;
     }
 
 pub returns-clause-listens : goal.returns-clause-listens
@@ -335,23 +173,8 @@ returns-clause-listens g c =
     let cs = c.args.agent.now.credentials in
     let old : World = both c.args.agent.now.keeper (g.E.Exchange.behind c.args.exchange.now) in
     let now : World = both c.loop.agent.keeper (g.E.Exchange.behind c.loop.exchange) in
-    let fed : Fed = record {
-      old = g.R.Device.remaining c.args.events.now;
-      new = g.R.Device.remaining c.loop.events;
-      reads_before = g.R.Device.reads_made c.args.events.now;
-      reads_after = g.R.Device.reads_made c.loop.events;
-      failed_before = g.R.Device.failed_calls c.args.events.now;
-      failed_after = g.R.Device.failed_calls c.loop.events;
-    } in
-    let a : Sent = record {
-      old = g.W.Device.written c.args.out.now;
-      new = g.W.Device.written c.loop.out;
-      failed_before = g.W.Device.failed_calls c.args.out.now;
-      failed_after = g.W.Device.failed_calls c.loop.out;
-      flushed_before = g.W.Device.is_flushed c.args.out.now;
-      flushed = g.W.Device.is_flushed c.loop.out;
-      is_in_memory = g.W.Device.is_in_memory;
-    } in
+    let fed : Change = change g.R.Device.is_in_memory (g.R.Device.seen c.args.events.now) (g.R.Device.seen c.loop.events) in
+    let a : Change = change g.W.Device.is_in_memory (g.W.Device.seen c.args.out.now) (g.W.Device.seen c.loop.out) in
     let here : IsListening port cs old c.loop.counter c.loop.pending.items c.loop.left now c.loop.lines fed a = c.loop.invariant.listening in
     let past = c.loop-test.false in
     let within = c.loop.auto.counter-end in

@@ -1,12 +1,13 @@
 -- The entries before the index are looked up, one after another, and there are 4096 at most.
 use Rattle.std.proofs.Common.{◌≡◌, ◌-◌}
-use Rattle.keep_run.proofs.LookedUp.{Looking, sent_by}
+use Rattle.keep_device.specs.Seen.{change}
+use Rattle.keep_run.proofs.LookedUp.{Looking}
 use Rattle.keep_run.proofs.live.looking.look_all_up.Given as goal
 
 abbrev pub invariant-loop-i : goal.invariant-loop-i
 invariant-loop-i g l = record {
   looking : Looking (g.E.Exchange.host_port l.fn.exchange) l.start (record { inventory = l.fn.inventory; behind = g.E.Exchange.behind l.fn.exchange }) l.i l.inventory (g.E.Exchange.behind l.exchange)
-      (sent_by (g.W.Device.written l.fn.out) (g.W.Device.written l.out) (g.W.Device.failed_calls l.fn.out) (g.W.Device.failed_calls l.out) (g.W.Device.is_flushed l.fn.out) (g.W.Device.is_flushed l.out) g.W.Device.is_in_memory);
+      (change g.W.Device.is_in_memory (g.W.Device.seen l.fn.out) (g.W.Device.seen l.out));
   port : g.E.Exchange.host_port l.exchange ≡ g.E.Exchange.host_port l.fn.exchange;
 }
 

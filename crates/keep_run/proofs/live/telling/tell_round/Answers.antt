@@ -1,8 +1,8 @@
 -- Each answer is told behind those before it.
 use Rattle.std.proofs.Common.{[], Err, Ok, ◌+◌, ◌∙◌, ap, drop, get_or, refl, sym, subst}
 use Rattle.std.proofs.KnownBytes.{Appends-nil}
+use Rattle.keep_device.specs.Seen.{Change, change}
 use Rattle.keep_core.proofs.Shaped.{both_shaped, same}
-use Rattle.keep_report.specs.Sent.{Sent}
 use Rattle.keep_run.specs.Stops.{both}
 use Rattle.keep_run.specs.code.Telling.{TellsOne, TellsRound}
 use Rattle.keep_run.proofs.Agents.{as_begun}
@@ -18,7 +18,7 @@ loop-i-init g c = record {
     [],
     (
       none_answered (g.E.Exchange.host_port c.args.exchange.now) c.args.agent.now.credentials c.args.t (both c.args.agent.now.keeper (g.E.Exchange.behind c.args.exchange.now)) [],
-      ((Appends-nil (g.W.Device.written c.args.out.now), c.requires.flushed), refl),
+      ((Appends-nil (g.W.Device.seen c.args.out.now).output.written, c.requires.flushed), refl),
     ),
   );
   shaped = same c.args.agent.now.keeper.forest;
@@ -35,26 +35,10 @@ returns-in_err-output-clause-tells g c =
     let o = g.E.Exchange.behind c.args.exchange.now in
     let mid = g.E.Exchange.behind c.loop-i.exchange in
     let new = g.E.Exchange.behind c.tell_answer.new.exchange in
-    let a : Sent = record {
-      old = g.W.Device.written c.args.out.now;
-      new = g.W.Device.written c.loop-i.out;
-      failed_before = g.W.Device.failed_calls c.args.out.now;
-      failed_after = g.W.Device.failed_calls c.loop-i.out;
-      flushed_before = g.W.Device.is_flushed c.args.out.now;
-      flushed = g.W.Device.is_flushed c.loop-i.out;
-      is_in_memory = g.W.Device.is_in_memory;
-    } in
-    let b : Sent = record {
-      old = g.W.Device.written c.loop-i.out;
-      new = g.W.Device.written c.tell_answer.new.out;
-      failed_before = g.W.Device.failed_calls c.loop-i.out;
-      failed_after = g.W.Device.failed_calls c.tell_answer.new.out;
-      flushed_before = g.W.Device.is_flushed c.loop-i.out;
-      flushed = g.W.Device.is_flushed c.tell_answer.new.out;
-      is_in_memory = g.W.Device.is_in_memory;
-    } in
+    let a : Change = change g.W.Device.is_in_memory (g.W.Device.seen c.args.out.now) (g.W.Device.seen c.loop-i.out) in
+    let b : Change = change g.W.Device.is_in_memory (g.W.Device.seen c.loop-i.out) (g.W.Device.seen c.tell_answer.new.out) in
     handed_on c.from_residual.result c.in_err-output.field-0.0 (λ r. TellsRound port cs c.args.t (both c.args.agent.now.keeper o) c.args.asked.now r (both c.tell_answer.new.agent.keeper new) (joined a b)) c.from_residual.ensures
-    (stopped_on port cs c.args.t o mid c.args.agent.now.keeper c.loop-i.agent.keeper c.args.asked.now c.loop-i.i-index c.loop-i.next a b refl refl c.loop-i-test.true c.loop-i.invariant.shaped c.in_err-output.field-0.0 new
+    (stopped_on port cs c.args.t o mid c.args.agent.now.keeper c.loop-i.agent.keeper c.args.asked.now c.loop-i.i-index c.loop-i.next a b refl c.loop-i-test.true c.loop-i.invariant.shaped c.in_err-output.field-0.0 new
     c.tell_answer.new.agent.keeper c.loop-i.invariant.told
     (as_begun c.loop-i.invariant.port c.loop-i.invariant.credentials (λ p ks. TellsOne p ks c.args.t (both c.loop-i.agent.keeper mid) (get_or c.args.asked.now c.loop-i.i-index 0) (Err c.in_err-output.field-0.0) (both c.tell_answer.new.agent.keeper new) b) c.in_err-output.ensures.tells))
 
@@ -66,29 +50,13 @@ loop-i-preserved g c =
     let asked = c.args.asked.now in
     let k = c.loop-i.i-index in
     let start = c.args.agent.now.keeper in
-    let a : Sent = record {
-      old = g.W.Device.written c.args.out.now;
-      new = g.W.Device.written c.loop-i.out;
-      failed_before = g.W.Device.failed_calls c.args.out.now;
-      failed_after = g.W.Device.failed_calls c.loop-i.out;
-      flushed_before = g.W.Device.is_flushed c.args.out.now;
-      flushed = g.W.Device.is_flushed c.loop-i.out;
-      is_in_memory = g.W.Device.is_in_memory;
-    } in
-    let b : Sent = record {
-      old = g.W.Device.written c.loop-i.out;
-      new = g.W.Device.written c.tell_answer.new.out;
-      failed_before = g.W.Device.failed_calls c.loop-i.out;
-      failed_after = g.W.Device.failed_calls c.tell_answer.new.out;
-      flushed_before = g.W.Device.is_flushed c.loop-i.out;
-      flushed = g.W.Device.is_flushed c.tell_answer.new.out;
-      is_in_memory = g.W.Device.is_in_memory;
-    } in
+    let a : Change = change g.W.Device.is_in_memory (g.W.Device.seen c.args.out.now) (g.W.Device.seen c.loop-i.out) in
+    let b : Change = change g.W.Device.is_in_memory (g.W.Device.seen c.loop-i.out) (g.W.Device.seen c.tell_answer.new.out) in
     let hears = c.in_ok-output.ensures.hears in
     let waits = stands_now c.args.t k asked c.loop-i.next c.loop-i.agent.keeper c.loop-i-test.true c.loop-i.invariant.stands in
     let like = hears_shaped c.loop-i.agent.keeper c.tell_answer.new.agent.keeper (get_or asked k 0) c.in_ok-output.output hears in
     record {
-      told = told_more (g.E.Exchange.host_port c.args.exchange.now) c.args.agent.now.credentials c.args.t o mid start c.loop-i.agent.keeper asked k c.loop-i.next a b refl refl c.loop-i-test.true c.loop-i.invariant.shaped new c.tell_answer.new.agent.keeper c.in_ok-output.output
+      told = told_more (g.E.Exchange.host_port c.args.exchange.now) c.args.agent.now.credentials c.args.t o mid start c.loop-i.agent.keeper asked k c.loop-i.next a b refl c.loop-i-test.true c.loop-i.invariant.shaped new c.tell_answer.new.agent.keeper c.in_ok-output.output
           c.told_next-next.result c.told_next-next.ensures c.loop-i.invariant.told
           (as_begun c.loop-i.invariant.port c.loop-i.invariant.credentials (λ p ks. TellsOne p ks c.args.t (both c.loop-i.agent.keeper mid) (get_or asked k 0) (Ok c.in_ok-output.output) (both c.tell_answer.new.agent.keeper new) b) c.in_ok-output.ensures.tells);
       shaped = both_shaped start.forest c.loop-i.agent.keeper.forest c.tell_answer.new.agent.keeper.forest c.loop-i.invariant.shaped like;

@@ -1,8 +1,8 @@
 -- One wake-up more is played and its lines are written; a run that stops on the way is told as far as it came.
 use Rattle.std.proofs.Common.{◌≡◌, ◌∙◌, ◌≤◌, None, Some, arith, refl, subst}
 use Rattle.std.specs.Io.KnownBytes.{Appends}
+use Rattle.keep_device.specs.Seen.{Change, change}
 use Rattle.keep_device.specs.Front.{AppendsFront}
-use Rattle.keep_report.specs.Sent.{Sent}
 use Rattle.keep_run.specs.code.Playing.{Comes, Goes, Wakes, next_in, requests_in}
 use Rattle.keep_run.specs.Stops.{both}
 use Rattle.keep_run.specs.Text.{inventory_with}
@@ -27,17 +27,9 @@ returns-in_err-woken g c =
     let old = both c.args.agent.now.keeper (Some c.args.exchange.now) in
     let now = both c.loop-wakes.agent.keeper (Some c.loop-wakes.exchange) in
     let new = both c.wake.new.agent.keeper (Some c.wake.new.exchange) in
-    let out : Sent = record {
-      old = g.W.Device.written c.args.out.now;
-      new = g.W.Device.written c.loop-wakes.out;
-      failed_before = g.W.Device.failed_calls c.args.out.now;
-      failed_after = g.W.Device.failed_calls c.loop-wakes.out;
-      flushed_before = g.W.Device.is_flushed c.args.out.now;
-      flushed = g.W.Device.is_flushed c.loop-wakes.out;
-      is_in_memory = g.W.Device.is_in_memory;
-    } in
+    let out : Change = change g.W.Device.is_in_memory (g.W.Device.seen c.args.out.now) (g.W.Device.seen c.loop-wakes.out) in
     for_memory cs old c.args.start c.args.lines.now new out c.from_residual-in_err-woken.result c.in_err-woken.field-0.0 c.from_residual-in_err-woken.ensures c.in_err-woken.ensures.memory
-    (going_stops cs old c.args.start c.args.lines.now out.old out.failed_before now c.loop-wakes.due c.loop-wakes.wakes c.loop-wakes.requests out.new out.failed_after c.loop-wakes.invariant.going new out refl refl)
+    (going_stops cs old c.args.start c.args.lines.now out.old.output.written out.old.failed_calls now c.loop-wakes.due c.loop-wakes.wakes c.loop-wakes.requests out.new.output.written out.new.failed_calls c.loop-wakes.invariant.going new out refl refl)
 
 pub returns-in_default : goal.returns-in_default
 returns-in_default g c =
@@ -58,7 +50,7 @@ returns-in_err-write_all-2 g c =
     let wakes = subst (λ ks. Wakes ks now c.loop-wakes.due c.in_ok-woken.field-0 new c.new-text.result.items c.wake.new.text.items) c.loop-wakes.invariant.credentials c.in_ok-woken.ensures.wakes in
     let piece = subst (λ w. Wakes cs now c.loop-wakes.due w new c.new-text.result.items c.wake.new.text.items) c.in-Some.is wakes in
     let more = piece_goes cs now new c.loop-wakes.due c.in-Some.woken.next 1 c.in-Some.woken.requests c.new-text.result.items c.wake.new.text.items c.new-text.ensures.items piece in
-    let front = subst (AppendsFront (g.W.Device.written c.loop-wakes.out) (g.W.Device.written c.write_all-in-loop-wakes.new.sink)) c.deref.ensures.value c.in_err-write_all-2.ensures.front in
+    let front = subst (AppendsFront (g.W.Device.seen c.loop-wakes.out).output.written (g.W.Device.seen c.write_all-in-loop-wakes.new.sink).output.written) c.deref.ensures.value c.in_err-write_all-2.ensures.front in
     going_unwritten cs (both c.args.agent.now.keeper (Some c.args.exchange.now)) c.args.start c.args.lines.now _ _ now c.loop-wakes.due c.loop-wakes.wakes c.loop-wakes.requests _ _ c.loop-wakes.invariant.going
     c.from_residual-in_err-write_all-2.result c.in_err-write_all-2.field-0.0 new new c.in-Some.woken.next 1 c.in-Some.woken.requests c.wake.new.text.items _ c.from_residual-in_err-write_all-2.ensures more refl refl front
     c.in_err-write_all-2.ensures.count
@@ -72,7 +64,7 @@ returns-in_default-next g c =
     let piece = subst (λ w. Wakes cs now c.loop-wakes.due w new c.new-text.result.items c.wake.new.text.items) c.in-Some.is wakes in
     let more = subst (λ n. Goes (inventory_with cs now.keeper.forest) now (Some c.loop-wakes.due) new n 1 c.in-Some.woken.requests c.wake.new.text.items) c.in_default-next.is
     (piece_goes cs now new c.loop-wakes.due c.in-Some.woken.next 1 c.in-Some.woken.requests c.new-text.result.items c.wake.new.text.items c.new-text.ensures.items piece) in
-    let all = subst (Appends (g.W.Device.written c.loop-wakes.out) (g.W.Device.written c.write_all-in-loop-wakes.new.sink)) c.deref.ensures.value c.in_ok-write_all-2.ensures.written in
+    let all = subst (Appends (g.W.Device.seen c.loop-wakes.out).output.written (g.W.Device.seen c.write_all-in-loop-wakes.new.sink).output.written) c.deref.ensures.value c.in_ok-write_all-2.ensures.written in
     going_done cs (both c.args.agent.now.keeper (Some c.args.exchange.now)) c.args.start c.args.lines.now _ _ now c.loop-wakes.due c.loop-wakes.wakes c.loop-wakes.requests _ _ new c.in-Some.woken.requests c.wake.new.text.items c.new.result.items _
     c.finish-in_default-next.result _ _ c.loop-wakes.invariant.going more c.loop-wakes-test.true all c.new.ensures.items c.finish-in_default-next.ensures refl refl refl (c.in_ok-write_all-2.ensures.count ∙ c.loop-wakes.invariant.going.count) refl refl
 
@@ -87,7 +79,7 @@ loop-wakes-preserved g c =
     (piece_goes cs now new c.loop-wakes.due c.in-Some.woken.next 1 c.in-Some.woken.requests c.new-text.result.items c.wake.new.text.items c.new-text.ensures.items piece) in
     let few = subst (λ w. requests_in w ≤ 4096) c.in-Some.is c.in_ok-woken.ensures.few in
     let comes = subst (Comes c.wake.new.agent.keeper.last) c.in-Some-next.is (subst (λ w. Comes c.wake.new.agent.keeper.last (next_in w)) c.in-Some.is c.in_ok-woken.ensures.comes) in
-    let all = subst (Appends (g.W.Device.written c.loop-wakes.out) (g.W.Device.written c.write_all-in-loop-wakes.new.sink)) c.deref.ensures.value c.in_ok-write_all-2.ensures.written in
+    let all = subst (Appends (g.W.Device.seen c.loop-wakes.out).output.written (g.W.Device.seen c.write_all-in-loop-wakes.new.sink).output.written) c.deref.ensures.value c.in_ok-write_all-2.ensures.written in
     record {
       going = going_more cs (both c.args.agent.now.keeper (Some c.args.exchange.now)) c.args.start c.args.lines.now _ _ now c.loop-wakes.due c.loop-wakes.wakes c.loop-wakes.requests _ _ c.loop-wakes.invariant.going new c.in-Some-next.next c.in-Some.woken.requests
           c.wake.new.text.items _ _ more c.in_ok-woken.ensures.shaped c.in_ok-woken.ensures.ready comes few all c.in_ok-write_all-2.ensures.count;
@@ -100,20 +92,12 @@ returns g c =
     let now = both c.loop-wakes.agent.keeper (Some c.loop-wakes.exchange) in
     let done : c.loop-wakes.wakes ≡ 100000 = (let a = c.loop-wakes-test.false in let b = c.loop-wakes.auto.wakes-end in omega arith) in
     let old = both c.args.agent.now.keeper (Some c.args.exchange.now) in
-    let first = g.W.Device.written c.args.out.now in
-    let failed = g.W.Device.failed_calls c.args.out.now in
-    let written = g.W.Device.written c.loop-wakes.out in
-    let failed_now = g.W.Device.failed_calls c.loop-wakes.out in
-    let last : Sent = record {
-      old = written;
-      new = g.W.Device.written c.last.new.out;
-      failed_before = failed_now;
-      failed_after = g.W.Device.failed_calls c.last.new.out;
-      flushed_before = g.W.Device.is_flushed c.loop-wakes.out;
-      flushed = g.W.Device.is_flushed c.last.new.out;
-      is_in_memory = g.W.Device.is_in_memory;
-    } in
-    let out : Sent = record last { old = first; failed_before = failed; flushed_before = g.W.Device.is_flushed c.args.out.now } in
+    let first = (g.W.Device.seen c.args.out.now).output.written in
+    let failed = (g.W.Device.seen c.args.out.now).failed_calls in
+    let written = (g.W.Device.seen c.loop-wakes.out).output.written in
+    let failed_now = (g.W.Device.seen c.loop-wakes.out).failed_calls in
+    let last : Change = change g.W.Device.is_in_memory (g.W.Device.seen c.loop-wakes.out) (g.W.Device.seen c.last.new.out) in
+    let out : Change = record last { old = g.W.Device.seen c.args.out.now } in
     let going = subst (λ n. Going cs old c.args.start c.args.lines.now first failed now c.loop-wakes.due n c.loop-wakes.requests written failed_now) done c.loop-wakes.invariant.going in
     last_played cs old c.args.start c.args.lines.now first failed now c.loop-wakes.due c.loop-wakes.requests written failed_now c.last.result c.last.new.agent.keeper last out going (c.last.ensures cs (Some c.loop-wakes.exchange)) refl refl refl
     c.loop-wakes.invariant.going.count refl refl
