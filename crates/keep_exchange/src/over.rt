@@ -10,7 +10,7 @@ use crate::line::carry;
 use crate::patience::{Patience, Timed};
 use std::alloc::Global;
 use std::net::{IpAddr, Ipv4Addr, SocketAddr};
-use vault_http::{HttpFault, Reply, Request, Room, Sink, Source};
+use vault_http::{HttpFault, Reply, Request, Room, Sink, Source, Watched};
 
 /// Writes the request to the line, once, and reads the reply, and learns from it how long the next ones may take.
 pub(crate) fn exchange_over<L: Source + Sink + Timed>(
@@ -21,8 +21,8 @@ pub(crate) fn exchange_over<L: Source + Sink + Timed>(
     patience: &mut Patience,
 ) -> Result<Reply, ExchangeFault>
     requires { IsWritable request.now }
-    ensures carried { Carries request.now (record { remaining = L.remaining line.old; rest = L.remaining line.new; reads_left = L.reads_left line.old; old = L.written line.old; new = L.written line.new; flushed = L.is_flushed line.new }) result }
-    ensures count { CountsExchange result (L.failed_calls line.old) (L.failed_calls line.new) }
+    ensures carried { Carries request.now (⟦<L as Watched>⟧.change line.old line.new) result }
+    ensures count { CountsExchange result (L.seen line.old).failed_calls (L.seen line.new).failed_calls }
     ensures learned { patience.new ≡ record patience.old { is_short = learned (is_ok result) (L.late line.new) patience.old.is_short } }
 {
     let result = carry(alloc, line, room, request);
