@@ -1,5 +1,6 @@
 mod faulty;
 mod lookups;
+mod served;
 
 use faulty::FAULTY;
 use keep_inventory::{Credentials, InvFault, Inventory, Key, Terms, read};
@@ -258,7 +259,7 @@ fn steps_and_ceilings(rt: HostRuntime) -> Result<(), Fail> {
 }
 
 // For which lengths a front of the web example is refused, both ends counted, and with which fault.
-const REFUSED_FRONTS: [(usize, usize, InvFault); 11] = [
+const REFUSED_FRONTS: [(usize, usize, InvFault); 10] = [
     (1, 8, InvFault::NotToml),
     (9, 10, InvFault::MissingKey(0, Key::Name)),
     (11, 21, InvFault::NotToml),
@@ -266,14 +267,14 @@ const REFUSED_FRONTS: [(usize, usize, InvFault); 11] = [
     (24, 32, InvFault::NotToml),
     (33, 37, InvFault::MissingKey(0, Key::End)),
     (38, 43, InvFault::NotToml),
-    (44, 48, InvFault::MissingKey(0, Key::Increment)),
     (49, 60, InvFault::NotToml),
     (64, 73, InvFault::NotToml),
     (79, 85, InvFault::NotToml),
 ];
 
 // For which lengths a front of the web example is read, both ends counted, and the token's step, ceiling and need.
-const READ_FRONTS: [(usize, usize, u32, u64, u64); 10] = [
+const READ_FRONTS: [(usize, usize, u32, u64, u64); 11] = [
+    (44, 48, 3600, 2765800, 0),
     (61, 61, 6, 2765800, 0),
     (62, 63, 60, 2765800, 0),
     (74, 74, 60, 1009, 0),

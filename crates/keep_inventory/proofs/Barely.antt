@@ -1,31 +1,35 @@
 -- Barely: what is read of a tree, but for credentials, is read of the tree without the keys of credentials.
 use Rattle.std.proofs.Common.{◌≡◌, ℕ, Bool, true, false, cond, List, ◌∷◌, [], ◌++◌, length, Some, None, Option, Result, Ok, Err, option_map, refl, sym, ap, ◌∙◌, unwrap_or, Ordering, Less, Equal, Greater}
 use Rattle.std.proofs.lemmas.Map.Text.{is_eq-slice_cmp}
+use Rattle.std.specs.Option.{is_some}
 use Rattle.std.specs.Cmp.Lexicographic.{slice_cmp, bytes_decides}
 use Rattle.std.specs.Ordering.{nat_cmp, is_eq, match_ordering}
 use Rattle.toml.specs.Data.{string, integer, float, boolean, datetime, array, table, Data, Items, no_items, item, Members, no_members, member, get_member}
 use Rattle.toml.specs.Text.{are_tables}
 use Rattle.keep_tree.specs.declared.forest.TheConstants.{MARGIN_MAX}
 use Rattle.keep_tree.specs.Forest.{Forest}
-use Rattle.keep_inventory.specs.declared.limits.TheConstants.{SPAN_MAX, SYSTEM_MAX}
+use Rattle.keep_inventory.specs.declared.limits.TheConstants.{SPAN_MAX, STEP_ABSENT, SYSTEM_MAX}
 use Rattle.keep_inventory.specs.declared.fault.InvFault.{InvFault}
 use Rattle.keep_inventory.specs.declared.fault.InvFault.TheVariants.{BadValue}
 use Rattle.keep_inventory.specs.declared.key.Key.{Key}
-use Rattle.keep_inventory.specs.declared.key.Key.TheVariants.{SystemMax, Margin, Token, Lease, Name, Parent, Issued, End, Renewable, Increment, Period, MaxTtl, ExplicitMaxTtl, Need}
+use Rattle.keep_inventory.specs.declared.key.Key.TheVariants.{SystemMax, Margin, Token, Lease, Name, Parent, Issued, End, Renewable, Increment, Period, MaxTtl, ExplicitMaxTtl, Need, SecretFile, LeaseIdFile}
 use Rattle.keep_inventory.specs.declared.row.Life.{Life}
 use Rattle.keep_inventory.specs.declared.row.Row.{Row}
 use Rattle.keep_inventory.specs.declared.terms.Terms.{Terms}
 use Rattle.keep_inventory.specs.Keys.{top_keys, key_text}
 use Rattle.keep_inventory.specs.Answers.{◌>>=◌}
-use Rattle.keep_inventory.specs.Values.{only, read_if, whole, moment, ending, flag, text, tables, value_at, needed}
+use Rattle.keep_inventory.specs.Values.{alone_if, ending, flag, has_if, moment, need, needed, only, path, read_if, span, tables, text, there, value_at}
 use Rattle.keep_inventory.specs.Terms.{max_ttl_of}
 use Rattle.keep_inventory.specs.Inventories.{Inventory}
 use Rattle.keep_inventory.specs.Intake.{Intake, nothing, inventory_with}
-use Rattle.keep_inventory.specs.Rows.{has_step, life_of, lease_terms, token_terms}
-use Rattle.keep_inventory.specs.Inventory.{token_entered, lease_entered, entered_by, intake_of, read_inventory, inventory_of, tree_of}
+use Rattle.keep_inventory.specs.Rows.{file_at, life_of, lease_terms, step_or, token_terms}
+use Rattle.keep_inventory.specs.Inventory.{token_entered, lease_entered, entered_by, intake_of, read_served, served_of, tree_of}
+use Rattle.keep_inventory.specs.Languages.{full}
+use Rattle.keep_inventory.specs.Served.{Served}
 use Rattle.keep_inventory.specs.Bare.{bare, bare_items, bare_members, is_secret_key}
-use Rattle.keep_inventory.specs.Laws.{SecrecyLaw}
-use Rattle.keep_inventory.proofs.Chains.{bind_ok}
+use Rattle.keep_inventory.specs.Laws.{SecrecyLaw, ServedSecrecyLaw}
+use Rattle.keep_inventory.proofs.Chains.{bind_ok, follow}
+use Rattle.keep_inventory.proofs.Inventoried.{whole_is}
 use Rattle.keep_inventory.proofs.Parts.{LeaseParts, TokenParts, lease_parts, made_lease, made_token, token_parts}
 use Rattle.keep_inventory.proofs.Taken.{grown, lease_entered_ok, token_entered_ok}
 
@@ -63,14 +67,32 @@ bare_found k stays (member l d ms) = found_in k l d ms (is_secret_key l) (λ goe
 abbrev Blind : {A : Type 0} → (Data → Option A) → Type 0
 Blind f = (d : Data) → f (bare d) ≡ f d
 
-blind_whole : (low high : ℕ) → Blind (whole low high)
-blind_whole low high (string s) = refl
-blind_whole low high (integer z) = refl
-blind_whole low high (float x) = refl
-blind_whole low high (boolean b) = refl
-blind_whole low high (datetime dt) = refl
-blind_whole low high (array ds) = refl
-blind_whole low high (table ms) = refl
+blind_span : (low high : ℕ) → Blind (span full low high)
+blind_span low high (string s) = refl
+blind_span low high (integer z) = refl
+blind_span low high (float x) = refl
+blind_span low high (boolean b) = refl
+blind_span low high (datetime dt) = refl
+blind_span low high (array ds) = refl
+blind_span low high (table ms) = refl
+
+blind_need : Blind (need full)
+blind_need (string s) = refl
+blind_need (integer z) = refl
+blind_need (float x) = refl
+blind_need (boolean b) = refl
+blind_need (datetime dt) = refl
+blind_need (array ds) = refl
+blind_need (table ms) = refl
+
+blind_path : Blind path
+blind_path (string s) = refl
+blind_path (integer z) = refl
+blind_path (float x) = refl
+blind_path (boolean b) = refl
+blind_path (datetime dt) = refl
+blind_path (array ds) = refl
+blind_path (table ms) = refl
 
 blind_moment : Blind moment
 blind_moment (string s) = refl
@@ -118,8 +140,16 @@ read_bare {A = A} f blind place key (Some d) = ap (λ (o : Option A). ◌taken�
 kept : {A : Type 0} (f : Data → Option A) → Blind f → (place : Option ℕ) (key : Key) → is_secret_key (key_text key) ≡ false → (ms : Members) → value_at f place key (bare_members ms) ≡ value_at f place key ms
 kept f blind place key stays ms = ap (read_if f place key) (bare_found (key_text key) stays ms) ∙ read_bare f blind place key (get_member (key_text key) ms)
 
-kept_whole : (low high : ℕ) (place : Option ℕ) (key : Key) → is_secret_key (key_text key) ≡ false → (ms : Members) → value_at (whole low high) place key (bare_members ms) ≡ value_at (whole low high) place key ms
-kept_whole low high place key stays ms = kept (whole low high) (blind_whole low high) place key stays ms
+kept_span : (low high : ℕ) (place : Option ℕ) (key : Key) → is_secret_key (key_text key) ≡ false → (ms : Members) → value_at (span full low high) place key (bare_members ms) ≡ value_at (span full low high) place key ms
+kept_span low high place key stays ms = kept (span full low high) (blind_span low high) place key stays ms
+
+-- whether a key is there
+there_bare : (key : Key) → is_secret_key (key_text key) ≡ false → (ms : Members) → there key (bare_members ms) ≡ there key ms
+there_bare key stays ms = ap is_some (bare_found (key_text key) stays ms) ∙ mapped (get_member (key_text key) ms)
+  where
+    mapped : (o : Option Data) → is_some (option_map bare o) ≡ is_some o
+    mapped None = refl
+    mapped (Some d) = refl
 
 -- ---- the tables of an array
 
@@ -166,64 +196,64 @@ or_none (Some ds) = refl
 
 -- ---- the parts of a row
 
-abbrev life_by : ℕ → Result (Option ℕ) InvFault → Result (Option ℕ) InvFault → Result (Option Bool) InvFault → Result Life InvFault
-life_by index a b c = do
-  issued_if ← a
-  issued ← needed index Issued issued_if
-  ends_if ← b
-  ends ← needed index End ends_if
+abbrev life_by : ℕ → Bool → Result (Option ℕ) InvFault → Result (Option ℕ) InvFault → Result (Option Bool) InvFault → Result Life InvFault
+life_by index here a b c = do
+  issued ← a
+  issue_there ← has_if here index Issued (is_some issued)
+  ends ← b
+  end_there ← has_if (is_some issued) index End (is_some ends)
   renewable ← c
-  Ok (record { issued = issued; end = ends; renewable = unwrap_or renewable true })
+  Ok (record { issued = unwrap_or issued 0; end = unwrap_or ends 0; renewable = unwrap_or renewable true; is_told = is_some issued })
 
-life_bare : (index : ℕ) (ms : Members) → life_of index (bare_members ms) ≡ life_of index ms
+life_bare : (index : ℕ) (ms : Members) → life_of full index (bare_members ms) ≡ life_of full index ms
 unfolding life_of is_secret_key
 life_bare index ms =
+    let here = there_bare End refl ms in
     let a = kept moment blind_moment (Some index) Issued refl ms in
     let b = kept ending blind_ending (Some index) End refl ms in
     let c = kept flag blind_flag (Some index) Renewable refl ms in
-    ap (λ x. life_by index x (value_at ending (Some index) End (bare_members ms)) (value_at flag (Some index) Renewable (bare_members ms))) a
-    ∙ ap (λ y. life_by index (value_at moment (Some index) Issued ms) y (value_at flag (Some index) Renewable (bare_members ms))) b
-    ∙ ap (life_by index (value_at moment (Some index) Issued ms) (value_at ending (Some index) End ms)) c
+    ap (λ x. life_by index x (value_at moment (Some index) Issued (bare_members ms)) (value_at ending (Some index) End (bare_members ms)) (value_at flag (Some index) Renewable (bare_members ms))) here
+    ∙ ap (λ x. life_by index (there End ms) x (value_at ending (Some index) End (bare_members ms)) (value_at flag (Some index) Renewable (bare_members ms))) a
+    ∙ ap (λ y. life_by index (there End ms) (value_at moment (Some index) Issued ms) y (value_at flag (Some index) Renewable (bare_members ms))) b
+    ∙ ap (life_by index (there End ms) (value_at moment (Some index) Issued ms) (value_at ending (Some index) End ms)) c
 
-abbrev token_terms_by : ℕ → ℕ → ℕ → Result (Option ℕ) InvFault → Result (Option ℕ) InvFault → Result (Option ℕ) InvFault → Result (Option ℕ) InvFault → Result Terms InvFault
-token_terms_by system_max index issued a b c d = do
+abbrev token_terms_by : ℕ → ℕ → Result (Option ℕ) InvFault → Result (Option ℕ) InvFault → Result (Option ℕ) InvFault → Result (Option ℕ) InvFault → Result Terms InvFault
+token_terms_by system_max issued a b c d = do
   increment ← a
   period ← b
-  step ← has_step index increment (unwrap_or period 0)
   max_ttl ← c
   explicit_max ← d
-  Ok (record { issued = issued; increment = increment; period = unwrap_or period 0; max_ttl = max_ttl_of system_max max_ttl; explicit_max = unwrap_or explicit_max 0 })
+  Ok (record { issued = issued; increment = step_or increment (unwrap_or period 0); period = unwrap_or period 0; max_ttl = max_ttl_of system_max max_ttl; explicit_max = unwrap_or explicit_max 0 })
 
 abbrev Span : ℕ → Key → Members → Result (Option ℕ) InvFault
-Span index key ms = value_at (whole 0 SPAN_MAX) (Some index) key ms
+Span index key ms = value_at (span full 0 SPAN_MAX) (Some index) key ms
 
-token_terms_bare : (system_max index issued : ℕ) (ms : Members) → token_terms system_max index issued (bare_members ms) ≡ token_terms system_max index issued ms
+token_terms_bare : (system_max index issued : ℕ) (ms : Members) → token_terms full system_max index issued (bare_members ms) ≡ token_terms full system_max index issued ms
 unfolding token_terms is_secret_key
 token_terms_bare system_max index issued ms =
-    let by = token_terms_by system_max index issued in
-    let a = kept_whole 0 SPAN_MAX (Some index) Increment refl ms in
-    let b = kept_whole 0 SPAN_MAX (Some index) Period refl ms in
-    let c = kept_whole 0 SPAN_MAX (Some index) MaxTtl refl ms in
-    let d = kept_whole 0 SPAN_MAX (Some index) ExplicitMaxTtl refl ms in
+    let by = token_terms_by system_max issued in
+    let a = kept_span 0 SPAN_MAX (Some index) Increment refl ms in
+    let b = kept_span 0 SPAN_MAX (Some index) Period refl ms in
+    let c = kept_span 0 SPAN_MAX (Some index) MaxTtl refl ms in
+    let d = kept_span 0 SPAN_MAX (Some index) ExplicitMaxTtl refl ms in
     ap (λ x. by x (Span index Period (bare_members ms)) (Span index MaxTtl (bare_members ms)) (Span index ExplicitMaxTtl (bare_members ms))) a
     ∙ ap (λ x. by (Span index Increment ms) x (Span index MaxTtl (bare_members ms)) (Span index ExplicitMaxTtl (bare_members ms))) b
     ∙ ap (λ x. by (Span index Increment ms) (Span index Period ms) x (Span index ExplicitMaxTtl (bare_members ms))) c
     ∙ ap (by (Span index Increment ms) (Span index Period ms) (Span index MaxTtl ms)) d
 
-abbrev lease_terms_by : ℕ → ℕ → ℕ → Result (Option ℕ) InvFault → Result (Option ℕ) InvFault → Result Terms InvFault
-lease_terms_by system_max index issued a b = do
-  increment_if ← a
-  increment ← needed index Increment increment_if
+abbrev lease_terms_by : ℕ → ℕ → Result (Option ℕ) InvFault → Result (Option ℕ) InvFault → Result Terms InvFault
+lease_terms_by system_max issued a b = do
+  increment ← a
   max_ttl ← b
-  Ok (record { issued = issued; increment = Some increment; period = 0; max_ttl = max_ttl_of system_max max_ttl; explicit_max = 0 })
+  Ok (record { issued = issued; increment = Some (unwrap_or increment STEP_ABSENT); period = 0; max_ttl = max_ttl_of system_max max_ttl; explicit_max = 0 })
 
-lease_terms_bare : (system_max index issued : ℕ) (ms : Members) → lease_terms system_max index issued (bare_members ms) ≡ lease_terms system_max index issued ms
+lease_terms_bare : (system_max index issued : ℕ) (ms : Members) → lease_terms full system_max index issued (bare_members ms) ≡ lease_terms full system_max index issued ms
 unfolding lease_terms is_secret_key
 lease_terms_bare system_max index issued ms =
-    let a = kept_whole 0 SPAN_MAX (Some index) Increment refl ms in
-    let b = kept_whole 0 SPAN_MAX (Some index) MaxTtl refl ms in
-    ap (λ x. lease_terms_by system_max index issued x (Span index MaxTtl (bare_members ms))) a
-    ∙ ap (lease_terms_by system_max index issued (Span index Increment ms)) b
+    let a = kept_span 0 SPAN_MAX (Some index) Increment refl ms in
+    let b = kept_span 0 SPAN_MAX (Some index) MaxTtl refl ms in
+    ap (λ x. lease_terms_by system_max issued x (Span index MaxTtl (bare_members ms))) a
+    ∙ ap (lease_terms_by system_max issued (Span index Increment ms)) b
 
 -- ---- a row, but for its credential
 
@@ -233,10 +263,11 @@ plain_token system_max g ms = do
   name_if ← value_at text (Some (length g.entries)) Name ms
   name ← needed (length g.entries) Name name_if
   parent ← value_at text (Some (length g.entries)) Parent ms
-  life ← life_of (length g.entries) ms
-  terms ← token_terms system_max (length g.entries) life.issued ms
-  need ← value_at moment (Some (length g.entries)) Need ms
-  Ok (made_token g name parent life terms need None)
+  life ← life_of full (length g.entries) ms
+  terms ← token_terms full system_max (length g.entries) life.issued ms
+  need_if ← value_at (need full) (Some (length g.entries)) Need ms
+  file ← value_at path (Some (length g.entries)) SecretFile ms
+  Ok (made_token g name parent life terms need_if None file)
 
 abbrev plain_lease : ℕ → Forest → Members → Result Row InvFault
 plain_lease system_max g ms = do
@@ -244,17 +275,20 @@ plain_lease system_max g ms = do
   name ← needed (length g.entries) Name name_if
   token_if ← value_at text (Some (length g.entries)) Token ms
   token ← needed (length g.entries) Token token_if
-  life ← life_of (length g.entries) ms
-  terms ← lease_terms system_max (length g.entries) life.issued ms
-  need ← value_at moment (Some (length g.entries)) Need ms
-  Ok (made_lease g name token life terms need None)
+  life ← life_of full (length g.entries) ms
+  terms ← lease_terms full system_max (length g.entries) life.issued ms
+  need_if ← value_at (need full) (Some (length g.entries)) Need ms
+  file ← value_at path (Some (length g.entries)) LeaseIdFile ms
+  Ok (made_lease g name token life terms need_if None file)
 
--- a step of a chain whose value is known
-follow : {A B : Type 0} (r : Result A InvFault) (x : A) (f : A → Result B InvFault) (y : Result B InvFault) → r ≡ Ok x → f x ≡ y → (r >>= f) ≡ y
-follow r x f y e k = ap (λ q. q >>= f) e ∙ k
+file_read : (index : ℕ) (key : Key) (beside : Bool) (ms : Members) (file : Option (List ℕ)) → file_at index key beside ms ≡ Ok file → value_at path (Some index) key ms ≡ Ok file
+file_read index key beside ms file e =
+    bind_ok (value_at path (Some index) key ms) _ file e (λ o a e1.
+    bind_ok (alone_if beside index key (is_some o)) _ file e1 (λ u b e2.
+    let same : o ≡ file = cc in a ∙ ap (λ (x : Option (List ℕ)). Ok x) same))
 
-token_read : (system_max : ℕ) (g : Forest) (ms : Members) (row : Row) → (p : TokenParts system_max g ms row) →
-    plain_token system_max g (bare_members ms) ≡ Ok (made_token g p.name p.parent p.life p.terms p.need None)
+token_read : (system_max : ℕ) (g : Forest) (ms : Members) (row : Row) → (p : TokenParts full system_max g ms row) →
+    plain_token system_max g (bare_members ms) ≡ Ok (made_token g p.name p.parent p.life p.terms p.need_if None p.file)
 unfolding is_secret_key
 token_read system_max g ms row p =
     let n = length g.entries in
@@ -263,10 +297,11 @@ token_read system_max g ms row p =
     (follow _ p.parent _ _ (kept text blind_text (Some n) Parent refl ms ∙ p.parent_read)
     (follow _ p.life _ _ (life_bare n ms ∙ p.life_read)
     (follow _ p.terms _ _ (token_terms_bare system_max n p.life.issued ms ∙ p.terms_read)
-    (follow _ p.need _ _ (kept moment blind_moment (Some n) Need refl ms ∙ p.need_read) refl)))))
+    (follow _ p.need_if _ _ (kept (need full) blind_need (Some n) Need refl ms ∙ p.need_read)
+    (follow _ p.file _ _ (kept path blind_path (Some n) SecretFile refl ms ∙ file_read n SecretFile (is_some p.secret) ms p.file p.file_read) refl))))))
 
-lease_read : (system_max : ℕ) (g : Forest) (ms : Members) (row : Row) → (p : LeaseParts system_max g ms row) →
-    plain_lease system_max g (bare_members ms) ≡ Ok (made_lease g p.name p.token p.life p.terms p.need None)
+lease_read : (system_max : ℕ) (g : Forest) (ms : Members) (row : Row) → (p : LeaseParts full system_max g ms row) →
+    plain_lease system_max g (bare_members ms) ≡ Ok (made_lease g p.name p.token p.life p.terms p.need_if None p.file)
 unfolding is_secret_key
 lease_read system_max g ms row p =
     let n = length g.entries in
@@ -276,15 +311,16 @@ lease_read system_max g ms row p =
     (follow _ p.token _ _ p.token_there
     (follow _ p.life _ _ (life_bare n ms ∙ p.life_read)
     (follow _ p.terms _ _ (lease_terms_bare system_max n p.life.issued ms ∙ p.terms_read)
-    (follow _ p.need _ _ (kept moment blind_moment (Some n) Need refl ms ∙ p.need_read) refl))))))
+    (follow _ p.need_if _ _ (kept (need full) blind_need (Some n) Need refl ms ∙ p.need_read)
+    (follow _ p.file _ _ (kept path blind_path (Some n) LeaseIdFile refl ms ∙ file_read n LeaseIdFile (is_some p.lease_id) ms p.file p.file_read) refl)))))))
 
 -- ---- an inventory, but for its credentials
 
 abbrev shorn : Intake → Intake
-shorn s = record { forest = s.forest; secrets = []; lease_ids = []; terms = s.terms }
+shorn s = record { forest = s.forest; secrets = []; lease_ids = []; terms = s.terms; notes = s.notes }
 
 abbrev with_row : Intake → Row → Intake
-with_row s row = record { forest = grown s.forest row.entry; secrets = []; lease_ids = []; terms = s.terms ++ row.terms ∷ [] }
+with_row s row = record { forest = grown s.forest row.entry; secrets = []; lease_ids = []; terms = s.terms ++ row.terms ∷ []; notes = s.notes ++ row.note ∷ [] }
 
 abbrev plain_token_entered : ℕ → Intake → Members → Result Intake InvFault
 plain_token_entered system_max s ms = plain_token system_max s.forest ms >>= λ row. Ok (with_row s row)
@@ -295,18 +331,18 @@ plain_lease_entered system_max s ms = plain_lease system_max s.forest ms >>= λ 
 abbrev Shears : (Intake → Members → Result Intake InvFault) → (Intake → Members → Result Intake InvFault) → Type 0
 Shears step plain = (s t : Intake) (ms : Members) → step s ms ≡ Ok t → plain (shorn s) (bare_members ms) ≡ Ok (shorn t)
 
-token_shorn : (system_max : ℕ) → Shears (token_entered system_max) (plain_token_entered system_max)
+token_shorn : (system_max : ℕ) → Shears (token_entered full system_max) (plain_token_entered system_max)
 token_shorn system_max s t ms e =
-    let taken = token_entered_ok system_max s t ms e in
-    let p = token_parts system_max s.forest ms taken.0 taken.1 in
-    follow _ (made_token s.forest p.name p.parent p.life p.terms p.need None) _ _ (token_read system_max s.forest ms taken.0 p)
+    let taken = token_entered_ok full system_max s t ms e in
+    let p = token_parts full system_max s.forest ms taken.0 taken.1 in
+    follow _ (made_token s.forest p.name p.parent p.life p.terms p.need_if None p.file) _ _ (token_read system_max s.forest ms taken.0 p)
     (ap (λ (row : Row). Ok (with_row s row)) p.made ∙ ap (λ (i : Intake). Ok (shorn i)) taken.3)
 
-lease_shorn : (system_max : ℕ) → Shears (lease_entered system_max) (plain_lease_entered system_max)
+lease_shorn : (system_max : ℕ) → Shears (lease_entered full system_max) (plain_lease_entered system_max)
 lease_shorn system_max s t ms e =
-    let taken = lease_entered_ok system_max s t ms e in
-    let p = lease_parts system_max s.forest ms taken.0 taken.1 in
-    follow _ (made_lease s.forest p.name p.token p.life p.terms p.need None) _ _ (lease_read system_max s.forest ms taken.0 p)
+    let taken = lease_entered_ok full system_max s t ms e in
+    let p = lease_parts full system_max s.forest ms taken.0 taken.1 in
+    follow _ (made_lease s.forest p.name p.token p.life p.terms p.need_if None p.file) _ _ (lease_read system_max s.forest ms taken.0 p)
     (ap (λ (row : Row). Ok (with_row s row)) p.made ∙ ap (λ (i : Intake). Ok (shorn i)) taken.3)
 
 all_shorn : (step plain : Intake → Members → Result Intake InvFault) → Shears step plain → (key : Key) (s t : Intake) (ds : Items) → entered_by step key s ds ≡ Ok t → entered_by plain key (shorn s) (bare_items ds) ≡ Ok (shorn t)
@@ -322,27 +358,27 @@ all_shorn step plain shears key s t (item (array x) ds) e = absurd (cc)
 
 abbrev plain_intake : Members → Result Intake InvFault
 plain_intake ms = do
-  system_max ← value_at (whole 1 SPAN_MAX) None SystemMax ms
-  margin ← value_at (whole 1 MARGIN_MAX) None Margin ms
+  system_max ← value_at (span full 1 SPAN_MAX) None SystemMax ms
+  margin ← value_at (span full 1 MARGIN_MAX) None Margin ms
   tokens ← value_at tables None Token ms
   leases ← value_at tables None Lease ms
   with_tokens ← entered_by (plain_token_entered (unwrap_or system_max SYSTEM_MAX)) Token (nothing (unwrap_or margin 1)) (unwrap_or tokens no_items)
   entered_by (plain_lease_entered (unwrap_or system_max SYSTEM_MAX)) Lease with_tokens (unwrap_or leases no_items)
 
-bare_intake : (ms : Members) (t : Intake) → intake_of ms ≡ Ok t → plain_intake (bare_members ms) ≡ Ok (shorn t)
+bare_intake : (ms : Members) (t : Intake) → intake_of full ms ≡ Ok t → plain_intake (bare_members ms) ≡ Ok (shorn t)
 unfolding intake_of is_secret_key
 bare_intake ms t e =
     bind_ok (only top_keys None ms) _ t e (λ known k e1.
-    bind_ok (value_at (whole 1 SPAN_MAX) None SystemMax ms) _ t e1 (λ system_max a e2.
-    bind_ok (value_at (whole 1 MARGIN_MAX) None Margin ms) _ t e2 (λ margin b e3.
+    bind_ok (value_at (span full 1 SPAN_MAX) None SystemMax ms) _ t e1 (λ system_max a e2.
+    bind_ok (value_at (span full 1 MARGIN_MAX) None Margin ms) _ t e2 (λ margin b e3.
     bind_ok (value_at tables None Token ms) _ t e3 (λ tokens c e4.
     bind_ok (value_at tables None Lease ms) _ t e4 (λ leases d e5.
-    bind_ok (entered_by (token_entered (unwrap_or system_max SYSTEM_MAX)) Token (nothing (unwrap_or margin 1)) (unwrap_or tokens no_items)) _ t e5 (λ u f e6.
+    bind_ok (entered_by (token_entered full (unwrap_or system_max SYSTEM_MAX)) Token (nothing (unwrap_or margin 1)) (unwrap_or tokens no_items)) _ t e5 (λ u f e6.
     let max = unwrap_or system_max SYSTEM_MAX in
-    let first = all_shorn (token_entered max) (plain_token_entered max) (token_shorn max) Token (nothing (unwrap_or margin 1)) u (unwrap_or tokens no_items) f in
-    let second = all_shorn (lease_entered max) (plain_lease_entered max) (lease_shorn max) Lease u t (unwrap_or leases no_items) e6 in
-    follow _ system_max _ _ (kept_whole 1 SPAN_MAX None SystemMax refl ms ∙ a)
-    (follow _ margin _ _ (kept_whole 1 MARGIN_MAX None Margin refl ms ∙ b)
+    let first = all_shorn (token_entered full max) (plain_token_entered max) (token_shorn max) Token (nothing (unwrap_or margin 1)) u (unwrap_or tokens no_items) f in
+    let second = all_shorn (lease_entered full max) (plain_lease_entered max) (lease_shorn max) Lease u t (unwrap_or leases no_items) e6 in
+    follow _ system_max _ _ (kept_span 1 SPAN_MAX None SystemMax refl ms ∙ a)
+    (follow _ margin _ _ (kept_span 1 MARGIN_MAX None Margin refl ms ∙ b)
     (follow _ (option_map bare_items tokens) _ _ (kept_tables Token refl ms tokens c)
     (follow _ (option_map bare_items leases) _ _ (kept_tables Lease refl ms leases d)
     (follow _ (shorn u) _ _ (ap (entered_by (plain_token_entered max) Token (nothing (unwrap_or margin 1))) (or_none tokens) ∙ first)
@@ -350,20 +386,28 @@ bare_intake ms t e =
 
 -- ---- two documents
 
-inventory_is_read : (bytes : List ℕ) (ms : Members) (inventory : Inventory) → tree_of bytes ≡ Ok ms → read_inventory bytes ≡ Ok inventory →
-    plain_intake (bare_members ms) ≡ Ok (record { forest = inventory.forest; secrets = []; lease_ids = []; terms = inventory.terms })
-unfolding read_inventory inventory_of
-inventory_is_read bytes ms inventory reads e =
-    bind_ok (tree_of bytes) _ inventory e (λ ns read e1.
-    bind_ok (intake_of ns) _ inventory e1 (λ t is e2.
+served_is_read : (bytes : List ℕ) (ms : Members) (v : Served) → tree_of bytes ≡ Ok ms → read_served bytes ≡ Ok v →
+    plain_intake (bare_members ms) ≡ Ok (record { forest = v.inventory.forest; secrets = []; lease_ids = []; terms = v.inventory.terms; notes = v.notes })
+unfolding read_served served_of
+served_is_read bytes ms v reads e =
+    bind_ok (tree_of bytes) _ v e (λ ns read e1.
+    bind_ok (intake_of full ns) _ v e1 (λ t is e2.
     let tree : ns ≡ ms = cc in
-    let same : inventory_with t ≡ inventory = cc in
-    ap (λ (i : Members). plain_intake (bare_members i)) (sym tree) ∙ bare_intake ns t is ∙ ap (λ (x : Inventory). Ok (record { forest = x.forest; secrets = []; lease_ids = []; terms = x.terms })) same))
+    let same : ◌≡◌ {A = Served} (record { inventory = inventory_with t; notes = t.notes; has_margin = there Margin ns }) v = cc in
+    ap (λ (i : Members). plain_intake (bare_members i)) (sym tree) ∙ bare_intake ns t is
+    ∙ ap (λ (x : Served). Ok (record { forest = x.inventory.forest; secrets = []; lease_ids = []; terms = x.inventory.terms; notes = x.notes })) same))
+
+pub served_secrecy_law : ServedSecrecyLaw
+served_secrecy_law bytes other v w alike e f =
+    let one = served_is_read bytes alike.tree v alike.reads e in
+    let two = served_is_read other alike.other_tree w alike.other_reads f in
+    let both = sym one ∙ ap plain_intake alike.same ∙ two in
+    let same : ◌≡◌ {A = Intake} (record { forest = v.inventory.forest; secrets = []; lease_ids = []; terms = v.inventory.terms; notes = v.notes }) (record { forest = w.inventory.forest; secrets = []; lease_ids = []; terms = w.inventory.terms; notes = w.notes }) = cc in
+    ((ap (λ (i : Intake). i.forest) same, ap (λ (i : Intake). i.terms) same), ap (λ (i : Intake). i.notes) same)
 
 pub secrecy_law : SecrecyLaw
 secrecy_law bytes other inventory other_inventory alike e f =
-    let one = inventory_is_read bytes alike.tree inventory alike.reads e in
-    let two = inventory_is_read other alike.other_tree other_inventory alike.other_reads f in
-    let both = sym one ∙ ap plain_intake alike.same ∙ two in
-    let same : ◌≡◌ {A = Intake} (record { forest = inventory.forest; secrets = []; lease_ids = []; terms = inventory.terms }) (record { forest = other_inventory.forest; secrets = []; lease_ids = []; terms = other_inventory.terms }) = cc in
-    (ap (λ (i : Intake). i.forest) same, ap (λ (i : Intake). i.terms) same)
+    let one = whole_is bytes inventory e in
+    let two = whole_is other other_inventory f in
+    let same = served_secrecy_law bytes other one.0 two.0 alike one.1 two.1 in
+    (sym (ap (λ (i : Inventory). i.forest) one.2) ∙ same.0.0 ∙ ap (λ (i : Inventory). i.forest) two.2, sym (ap (λ (i : Inventory). i.terms) one.2) ∙ same.0.1 ∙ ap (λ (i : Inventory). i.terms) two.2)

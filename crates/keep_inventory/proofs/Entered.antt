@@ -1,5 +1,5 @@
 -- Entered: what holds of an inventory whatever tables it was read from: what its margin gives it and each table keeps.
-use Rattle.std.proofs.Common.{◌≡◌, ℕ, ◌≤◌, ◌&&◌, Bool, true, false, cond, Some, None, Option, Result, Ok, Err, IfSome, nat_le, refl, subst, arith, unwrap_or}
+use Rattle.std.proofs.Common.{◌≡◌, ℕ, ◌≤◌, ◌&&◌, Bool, true, false, cond, List, Some, None, Option, Result, Ok, Err, IfSome, nat_le, refl, subst, arith, unwrap_or}
 use Rattle.std.proofs.lemmas.Bool.{and_parts}
 use Rattle.std.proofs.lemmas.Bool.Decides.{nat_tests}
 use Rattle.std.proofs.Math.IntN.{pos, negsuc}
@@ -10,8 +10,10 @@ use Rattle.keep_inventory.specs.declared.fault.InvFault.{InvFault}
 use Rattle.keep_inventory.specs.declared.fault.InvFault.TheVariants.{BadValue}
 use Rattle.keep_inventory.specs.declared.key.Key.{Key}
 use Rattle.keep_inventory.specs.declared.key.Key.TheVariants.{SystemMax, Margin, Token, Lease}
+use Rattle.keep_inventory.specs.Languages.{Language, strict, full}
+use Rattle.keep_inventory.specs.Durations.{duration_of}
 use Rattle.keep_inventory.specs.Keys.{top_keys, key_text}
-use Rattle.keep_inventory.specs.Values.{only, read_if, whole, tables, value_at}
+use Rattle.keep_inventory.specs.Values.{if_within, in_units, only, read_if, span, tables, value_at, whole}
 use Rattle.keep_inventory.specs.Intake.{Intake, nothing}
 use Rattle.keep_inventory.specs.Inventory.{token_entered, lease_entered, entered_by, intake_of}
 use Rattle.keep_inventory.proofs.Chains.{bind_ok}
@@ -44,6 +46,23 @@ whole_is low high (datetime x) = tt
 whole_is low high (array x) = tt
 whole_is low high (table x) = tt
 
+span_text : (l : Language) (low high : ℕ) (s : List ℕ) → IfSome (in_units l low high s) (Within low high)
+span_text strict low high s = tt
+span_text full low high s = of_range (duration_of s)
+  where
+    of_range : (o : Option ℕ) → IfSome (if_within low high o) (Within low high)
+    of_range None = tt
+    of_range (Some n) = ranged low high n (nat_le low n && nat_le n high) (both_tests low high n)
+
+span_is : (l : Language) (low high : ℕ) (d : Data) → IfSome (span l low high d) (Within low high)
+span_is l low high (string s) = span_text l low high s
+span_is l low high (integer z) = whole_is low high (integer z)
+span_is l low high (float x) = tt
+span_is l low high (boolean x) = tt
+span_is l low high (datetime x) = tt
+span_is l low high (array x) = tt
+span_is l low high (table x) = tt
+
 abbrev taken : Option ℕ → Key → Option ℕ → Result (Option ℕ) InvFault
 taken place key o = elim o [ Some x ↦ Ok (Some x) | None ↦ Err (BadValue place key) ]
 
@@ -51,27 +70,27 @@ found_is : (P : ℕ → Type 0) (place : Option ℕ) (key : Key) (absent : ℕ) 
 found_is P place key absent None found h e = absurd cc
 found_is P place key absent (Some n) found h e = let same : Some n ≡ found = cc in subst (λ m. P (unwrap_or m absent)) same h
 
-read_is : (low high absent : ℕ) → Within low high absent → (place : Option ℕ) (key : Key) (o : Option Data) (found : Option ℕ) → read_if (whole low high) place key o ≡ Ok found → Within low high (unwrap_or found absent)
-read_is low high absent k place key None found e = let same : None ≡ found = cc in subst (λ m. Within low high (unwrap_or m absent)) same k
-read_is low high absent k place key (Some d) found e = found_is (Within low high) place key absent (whole low high d) found (whole_is low high d) e
+read_is : (l : Language) (low high absent : ℕ) → Within low high absent → (place : Option ℕ) (key : Key) (o : Option Data) (found : Option ℕ) → read_if (span l low high) place key o ≡ Ok found → Within low high (unwrap_or found absent)
+read_is l low high absent k place key None found e = let same : None ≡ found = cc in subst (λ m. Within low high (unwrap_or m absent)) same k
+read_is l low high absent k place key (Some d) found e = found_is (Within low high) place key absent (span l low high d) found (span_is l low high d) e
 
-pub within_read : (low high absent : ℕ) → Within low high absent → (place : Option ℕ) (key : Key) (ms : Members) (found : Option ℕ) → value_at (whole low high) place key ms ≡ Ok found → Within low high (unwrap_or found absent)
-within_read low high absent k place key ms found e = read_is low high absent k place key (get_member (key_text key) ms) found e
+pub within_read : (l : Language) (low high absent : ℕ) → Within low high absent → (place : Option ℕ) (key : Key) (ms : Members) (found : Option ℕ) → value_at (span l low high) place key ms ≡ Ok found → Within low high (unwrap_or found absent)
+within_read l low high absent k place key ms found e = read_is l low high absent k place key (get_member (key_text key) ms) found e
 
 -- ---- all tables
 
 pub intake_keeps : (First Rest : Intake → Type 0) → ((margin : ℕ) → Within 1 MARGIN_MAX margin → First (nothing margin)) → ((s : Intake) → First s → Rest s) →
-    ((system_max : ℕ) → KeepsIt First (token_entered system_max)) → ((system_max : ℕ) → KeepsIt Rest (lease_entered system_max)) →
-    (ms : Members) (t : Intake) → intake_of ms ≡ Ok t → Rest t
+    (l : Language) → ((system_max : ℕ) → KeepsIt First (token_entered l system_max)) → ((system_max : ℕ) → KeepsIt Rest (lease_entered l system_max)) →
+    (ms : Members) (t : Intake) → intake_of l ms ≡ Ok t → Rest t
 unfolding intake_of
-intake_keeps First Rest begins passes tokens_keep leases_keep ms t e =
+intake_keeps First Rest begins passes l tokens_keep leases_keep ms t e =
     bind_ok (only top_keys None ms) _ t e (λ known k e1.
-    bind_ok (value_at (whole 1 SPAN_MAX) None SystemMax ms) _ t e1 (λ system_max a e2.
-    bind_ok (value_at (whole 1 MARGIN_MAX) None Margin ms) _ t e2 (λ margin b e3.
+    bind_ok (value_at (span l 1 SPAN_MAX) None SystemMax ms) _ t e1 (λ system_max a e2.
+    bind_ok (value_at (span l 1 MARGIN_MAX) None Margin ms) _ t e2 (λ margin b e3.
     bind_ok (value_at tables None Token ms) _ t e3 (λ tokens c e4.
     bind_ok (value_at tables None Lease ms) _ t e4 (λ leases d e5.
-    bind_ok (entered_by (token_entered (unwrap_or system_max SYSTEM_MAX)) Token (nothing (unwrap_or margin 1)) (unwrap_or tokens no_items)) _ t e5 (λ u f e6.
+    bind_ok (entered_by (token_entered l (unwrap_or system_max SYSTEM_MAX)) Token (nothing (unwrap_or margin 1)) (unwrap_or tokens no_items)) _ t e5 (λ u f e6.
     let most = unwrap_or system_max SYSTEM_MAX in
-    let first = begins (unwrap_or margin 1) (within_read 1 MARGIN_MAX 1 (omega arith, omega arith) None Margin ms margin b) in
-    let second = all_keep First (token_entered most) (tokens_keep most) Token (nothing (unwrap_or margin 1)) u (unwrap_or tokens no_items) first f in
-    all_keep Rest (lease_entered most) (leases_keep most) Lease u t (unwrap_or leases no_items) (passes u second) e6))))))
+    let first = begins (unwrap_or margin 1) (within_read l 1 MARGIN_MAX 1 (omega arith, omega arith) None Margin ms margin b) in
+    let second = all_keep First (token_entered l most) (tokens_keep most) Token (nothing (unwrap_or margin 1)) u (unwrap_or tokens no_items) first f in
+    all_keep Rest (lease_entered l most) (leases_keep most) Lease u t (unwrap_or leases no_items) (passes u second) e6))))))

@@ -1,6 +1,6 @@
 -- Inventoried: what is read of a text is an inventory, whatever tables it was read from: the tokens come first, then the leases, and
 -- each row that is taken keeps what every inventory keeps.
-use Rattle.std.proofs.Common.{◌≡◌, ℕ, ◌+◌, ◌-◌, ◌<◌, ◌≤◌, List, ◌∷◌, [], ◌++◌, length, Ok, refl, sym, ap, ◌∙◌, subst, arith, ⊎_elim}
+use Rattle.std.proofs.Common.{◌≡◌, ℕ, ◌+◌, ◌-◌, ◌<◌, ◌≤◌, List, ◌∷◌, [], ◌++◌, length, Bool, Option, Some, None, Ok, refl, sym, ap, ◌∙◌, subst, arith, ⊎_elim}
 use Rattle.std.specs.List.{All}
 use Rattle.std.proofs.lemmas.Bool.{cases_lt}
 use Rattle.std.proofs.lemmas.List.{length_push}
@@ -15,12 +15,17 @@ use Rattle.keep_tree.specs.Forest.{Forest, entry_at}
 use Rattle.keep_tree.specs.Push.{IsForest}
 use Rattle.keep_tree.proofs.Entries.{entry_at_push_old, entry_at_push_new}
 use Rattle.keep_tree.proofs.Placed.{empty_is_forest, pushed_is_forest}
+use Rattle.keep_inventory.specs.declared.fault.InvFault.{InvFault}
+use Rattle.keep_inventory.specs.declared.key.Key.TheVariants.{Margin}
 use Rattle.keep_inventory.specs.declared.row.Row.{Row}
 use Rattle.keep_inventory.specs.declared.terms.Terms.{Terms}
 use Rattle.keep_inventory.specs.Inventories.{AreApart, IsSendable, IsInventory, Inventory, terms_at}
 use Rattle.keep_inventory.specs.Intake.{Intake, nothing, inventory_with}
-use Rattle.keep_inventory.specs.Inventory.{token_entered, lease_entered, intake_of, read_inventory, inventory_of, tree_of}
-use Rattle.keep_inventory.specs.Laws.{InventoryLaw, SendableLaw}
+use Rattle.keep_inventory.specs.Languages.{Language, full}
+use Rattle.keep_inventory.specs.Served.{IsServed, Served, first_open, unless, whole_of}
+use Rattle.keep_inventory.specs.Values.{there}
+use Rattle.keep_inventory.specs.Inventory.{token_entered, lease_entered, intake_of, read_inventory, read_served, served_of, tree_of}
+use Rattle.keep_inventory.specs.Laws.{InventoryLaw, SendableLaw, ServedLaw}
 use Rattle.keep_inventory.proofs.Chains.{bind_ok}
 use Rattle.keep_inventory.proofs.Apart.{Unlike, last_or_before, unlike_more}
 use Rattle.keep_inventory.proofs.Entered.{Within, intake_keeps}
@@ -36,6 +41,7 @@ record Sorted (s : Intake) : Type 0 where
   forest : IsForest s.forest
   matched : length s.secrets + length s.lease_ids ≡ length s.forest.entries
   termed : length s.terms ≡ length s.forest.entries
+  noted : length s.notes ≡ length s.forest.entries
   tokens : (i : ℕ) → i < length s.secrets → (entry_at s.forest.entries i).kind ≡ kind.Token
   leases : (i : ℕ) → length s.secrets ≤ i → i < length s.forest.entries → (entry_at s.forest.entries i).kind ≡ kind.Lease
   secrets_unlike : Unlike s.secrets
@@ -78,13 +84,16 @@ token_sorted s row is fits alone =
     let l = length_push s.forest.entries row.entry in
     let k = length_push s.secrets row.credential in
     let n = length_push s.terms row.terms in
+    let o = length_push s.notes row.note in
     let m = old.matched in
     let c = old.termed in
+    let d = old.noted in
     let none = alone.1 in (
       record {
         forest = pushed_is_forest s.forest old.forest row.entry fits.entry;
         matched = omega (arith, l, k, m, none);
         termed = omega (arith, l, n, c);
+        noted = omega (arith, l, o, d);
         tokens = λ i h. last_or_before (length s.secrets) i _ (omega (arith, h, k))
             (λ last. kind_new s.forest.entries row.entry kind.Token i (omega (arith, last, m, none)) is.kind)
             (λ before. kind_old s.forest.entries row.entry kind.Token i (omega (arith, before, m, none)) (old.tokens i before));
@@ -103,12 +112,15 @@ lease_sorted s row is fits old =
     let l = length_push s.forest.entries row.entry in
     let k = length_push s.lease_ids row.credential in
     let n = length_push s.terms row.terms in
+    let o = length_push s.notes row.note in
     let m = old.matched in
     let c = old.termed in
+    let d = old.noted in
     record {
       forest = pushed_is_forest s.forest old.forest row.entry fits.entry;
       matched = omega (arith, l, k, m);
       termed = omega (arith, l, n, c);
+      noted = omega (arith, l, o, d);
       tokens = λ i h. kind_old s.forest.entries row.entry kind.Token i (omega (arith, h, m)) (old.tokens i h);
       leases = λ i past h. last_or_before (length s.forest.entries) i _ (omega (arith, h, l))
           (λ last. kind_new s.forest.entries row.entry kind.Lease i last is.kind)
@@ -120,31 +132,31 @@ lease_sorted s row is fits old =
       good = good_more s.forest.entries s.terms row.entry row.terms c old.good is.good;
     }
 
-token_is : (system_max : ℕ) (g : Forest) (texts : List (List ℕ)) (ms : Members) (row : Row) → TokenParts system_max g ms row → Fits g texts row → IsRowOf kind.Token row
-token_is system_max g texts ms row parts fits = record {
+token_is : (l : Language) (system_max : ℕ) (g : Forest) (texts : List (List ℕ)) (ms : Members) (row : Row) → TokenParts l system_max g ms row → Fits g texts row → IsRowOf kind.Token row
+token_is l system_max g texts ms row parts fits = record {
   kind = ap (λ (r : Row). r.entry.kind) (sym parts.made);
-  sendable = token_sendable system_max g ms row parts fits.entry;
-  good = token_good system_max g ms row parts;
+  sendable = token_sendable l system_max g ms row parts fits.entry;
+  good = token_good l system_max g ms row parts;
 }
 
-lease_is : (system_max : ℕ) (g : Forest) (texts : List (List ℕ)) (ms : Members) (row : Row) → LeaseParts system_max g ms row → Fits g texts row → IsRowOf kind.Lease row
-lease_is system_max g texts ms row parts fits = record {
+lease_is : (l : Language) (system_max : ℕ) (g : Forest) (texts : List (List ℕ)) (ms : Members) (row : Row) → LeaseParts l system_max g ms row → Fits g texts row → IsRowOf kind.Lease row
+lease_is l system_max g texts ms row parts fits = record {
   kind = ap (λ (r : Row). r.entry.kind) (sym parts.made);
-  sendable = lease_sendable system_max g ms row parts fits.entry;
-  good = lease_good system_max g ms row parts;
+  sendable = lease_sendable l system_max g ms row parts fits.entry;
+  good = lease_good l system_max g ms row parts;
 }
 
-token_step : (system_max : ℕ) → KeepsIt TokensAlone (token_entered system_max)
-token_step system_max s t ms m e =
-    let taken = token_entered_ok system_max s t ms e in
+token_step : (l : Language) (system_max : ℕ) → KeepsIt TokensAlone (token_entered l system_max)
+token_step l system_max s t ms m e =
+    let taken = token_entered_ok l system_max s t ms e in
     let row = taken.0 in
-    subst TokensAlone taken.3 (token_sorted s row (token_is system_max s.forest s.secrets ms row (token_parts system_max s.forest ms row taken.1) taken.2) taken.2 m)
+    subst TokensAlone taken.3 (token_sorted s row (token_is l system_max s.forest s.secrets ms row (token_parts l system_max s.forest ms row taken.1) taken.2) taken.2 m)
 
-lease_step : (system_max : ℕ) → KeepsIt Sorted (lease_entered system_max)
-lease_step system_max s t ms m e =
-    let taken = lease_entered_ok system_max s t ms e in
+lease_step : (l : Language) (system_max : ℕ) → KeepsIt Sorted (lease_entered l system_max)
+lease_step l system_max s t ms m e =
+    let taken = lease_entered_ok l system_max s t ms e in
     let row = taken.0 in
-    subst Sorted taken.3 (lease_sorted s row (lease_is system_max s.forest s.lease_ids ms row (lease_parts system_max s.forest ms row taken.1) taken.2) taken.2 m)
+    subst Sorted taken.3 (lease_sorted s row (lease_is l system_max s.forest s.lease_ids ms row (lease_parts l system_max s.forest ms row taken.1) taken.2) taken.2 m)
 
 none_sorted : (margin : ℕ) → Within 1 MARGIN_MAX margin → TokensAlone (nothing margin)
 none_sorted margin within = (
@@ -152,6 +164,7 @@ none_sorted margin within = (
     forest = empty_is_forest margin (omega (arith, within.0)) within.1;
     matched = refl;
     termed = refl;
+    noted = refl;
     tokens = λ i h. absurd (omega (arith, h));
     leases = λ i past h. absurd (omega (arith, h));
     secrets_unlike = λ i j a b same. absurd (omega (arith, a));
@@ -199,19 +212,33 @@ sorted_is_inventory s sorted = record {
   ceiling_is = λ i h. (sorted.good i h).2;
 }
 
-pub intake_is_inventory : (ms : Members) (t : Intake) → intake_of ms ≡ Ok t → IsInventory (inventory_with t)
-intake_is_inventory ms t e = sorted_is_inventory t (intake_keeps TokensAlone Sorted none_sorted (λ s alone. alone.0) token_step lease_step ms t e)
+pub intake_is_served : (l : Language) (ms : Members) (t : Intake) (has_margin : Bool) → intake_of l ms ≡ Ok t → IsServed (record { inventory = inventory_with t; notes = t.notes; has_margin = has_margin })
+intake_is_served l ms t has_margin e =
+    let sorted = intake_keeps TokensAlone Sorted none_sorted (λ s alone. alone.0) l (token_step l) (lease_step l) ms t e in
+    record { inventory = sorted_is_inventory t sorted; notes = sorted.noted }
 
-inventory_of_is : (ms : Members) (inventory : Inventory) → inventory_of ms ≡ Ok inventory → IsInventory inventory
-unfolding inventory_of
-inventory_of_is ms inventory e =
-    bind_ok (intake_of ms) _ inventory e (λ t is e1.
-    let same : inventory_with t ≡ inventory = cc in
-    subst IsInventory same (intake_is_inventory ms t is))
+served_of_is : (l : Language) (ms : Members) (v : Served) → served_of l ms ≡ Ok v → IsServed v
+unfolding served_of
+served_of_is l ms v e =
+    bind_ok (intake_of l ms) _ v e (λ t is e1.
+    let same : ◌≡◌ {A = Served} (record { inventory = inventory_with t; notes = t.notes; has_margin = there Margin ms }) v = cc in
+    subst IsServed same (intake_is_served l ms t (there Margin ms) is))
+
+pub served_law : ServedLaw
+unfolding read_served
+served_law bytes v e = bind_ok (tree_of bytes) _ v e (λ ms read e1. served_of_is full ms v e1)
+
+-- an inventory that is read was read of what is served
+pub whole_is : (bytes : List ℕ) (inventory : Inventory) → read_inventory bytes ≡ Ok inventory → (v : Served) × (read_served bytes ≡ Ok v) × (v.inventory ≡ inventory)
+unfolding read_inventory whole_of
+whole_is bytes inventory e = bind_ok (read_served bytes) _ inventory e (λ v read e1. (v, read, closed v.inventory (first_open 0 v.notes) e1))
+  where
+    closed : (i : Inventory) (o : Option InvFault) → unless i o ≡ Ok inventory → i ≡ inventory
+    closed i None e = cc
+    closed i (Some fault) e = absurd cc
 
 pub inventory_law : InventoryLaw
-unfolding read_inventory
-inventory_law bytes inventory e = bind_ok (tree_of bytes) _ inventory e (λ ms read e1. inventory_of_is ms inventory e1)
+inventory_law bytes inventory e = let whole = whole_is bytes inventory e in subst IsInventory whole.2 (served_law bytes whole.0 whole.1).inventory
 
 pub sendable_law : SendableLaw
-sendable_law bytes inventory e = (inventory_law bytes inventory e).sendable
+sendable_law bytes v e = (served_law bytes v e).inventory.sendable

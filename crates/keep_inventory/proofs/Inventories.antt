@@ -9,8 +9,10 @@ use Rattle.std.proofs.lemmas.Str.Ascii.{IsAscii-from_all}
 use Rattle.std.proofs.Math.ListN.{length-append}
 use Rattle.std.proofs.Math.Seq.{get_or-append_right}
 use Rattle.keep_tree.specs.Forest.{entry_at}
+use Rattle.keep_inventory.specs.declared.note.Note.{Note}
 use Rattle.keep_inventory.specs.declared.terms.Terms.{Terms}
 use Rattle.keep_inventory.specs.Inventories.{IsSendable, IsInventory, Inventory, no_terms, terms_at, credential_at}
+use Rattle.keep_inventory.specs.Served.{no_note, note_at}
 use Rattle.keep_inventory.specs.Laws.{TextLaw}
 
 pub terms_read : (ts : List Terms) (i : ℕ) (x : Terms) → i < length ts → x ≡ get_or ts i x → x ≡ terms_at ts i
@@ -37,6 +39,14 @@ terms_old ts t i h = get_or_append_left ts (t ∷ []) no_terms i h
 pub terms_new : (ts : List Terms) (t : Terms) (n : ℕ) → length ts ≡ n → terms_at (ts ++ t ∷ []) n ≡ t
 unfolding terms_at
 terms_new ts t n h = get_or_push ts t no_terms n h
+
+pub note_old : (ns : List Note) (n : Note) (i : ℕ) → i < length ns → note_at (ns ++ n ∷ []) i ≡ note_at ns i
+unfolding note_at
+note_old ns n i h = get_or_append_left ns (n ∷ []) no_note i h
+
+pub note_new : (ns : List Note) (note : Note) (n : ℕ) → length ns ≡ n → note_at (ns ++ note ∷ []) n ≡ note
+unfolding note_at
+note_new ns note n h = get_or_push ns note no_note n h
 
 pub credential_old : (cs : List (List ℕ)) (c : List ℕ) (i : ℕ) → i < length cs → credential_at (cs ++ c ∷ []) i ≡ credential_at cs i
 unfolding credential_at

@@ -1,6 +1,7 @@
 pub mod Keys
 pub mod Tables
 pub mod Trees
+pub mod Durations
 pub mod Inventories
 pub mod Registers
 pub mod Chains
@@ -10,9 +11,10 @@ pub mod Entered
 pub mod Apart
 pub mod Sendable
 pub mod Spans
-pub mod Barely
 pub mod Inventoried
+pub mod Barely
 pub mod Rowed
 pub mod Grown
 pub mod Written
+pub mod Strictly
 pub mod Told

@@ -1,5 +1,6 @@
 -- Rowed: the row that is read of a table is what the table writes.
-use Rattle.std.proofs.Common.{◌≡◌, ℕ, suc, ◌<◌, Bool, true, false, cond, List, [], ◌∷◌, Some, None, Option, Result, Ok, Err, bytes_eq, length, option_map, refl, sym, ap, subst, arith, unwrap_or}
+use Rattle.std.proofs.Common.{◌≡◌, ℕ, suc, ◌<◌, ◌&&◌, ◌∙◌, Bool, true, false, cond, List, [], ◌∷◌, Some, None, Option, Result, Ok, Err, bytes_eq, length, option_map, refl, sym, ap, subst, arith, unwrap_or}
+use Rattle.std.specs.Option.{is_some}
 use Rattle.std.specs.Cmp.Lexicographic.{bytes_decides}
 use Rattle.toml.specs.Data.{Data, Members, get_member}
 use Rattle.keep_tree.specs.declared.entry.Entry.{Entry}
@@ -9,18 +10,19 @@ use Rattle.keep_tree.proofs.Placed.{parent_below, taken_from_refusal}
 use Rattle.keep_inventory.specs.declared.fault.InvFault.{InvFault}
 use Rattle.keep_inventory.specs.declared.fault.InvFault.TheVariants.{BadValue, UnknownKey}
 use Rattle.keep_inventory.specs.declared.key.Key.{Key}
-use Rattle.keep_inventory.specs.declared.key.Key.TheVariants.{Token, Name, Parent, Issued, End, Renewable, Increment, Period, MaxTtl, ExplicitMaxTtl, Need, Secret, LeaseId}
-use Rattle.keep_inventory.specs.declared.limits.TheConstants.{SPAN_MAX}
+use Rattle.keep_inventory.specs.declared.key.Key.TheVariants.{Token, Name, Parent, Issued, End, Renewable, Increment, Period, MaxTtl, ExplicitMaxTtl, Need, Secret, SecretFile, LeaseId, LeaseIdFile}
+use Rattle.keep_inventory.specs.declared.limits.TheConstants.{SPAN_MAX, STEP_ABSENT}
 use Rattle.keep_inventory.specs.declared.row.Life.{Life}
 use Rattle.keep_inventory.specs.declared.row.Row.{Row}
 use Rattle.keep_inventory.specs.declared.terms.Terms.{Terms}
+use Rattle.keep_inventory.specs.Languages.{full}
 use Rattle.keep_inventory.specs.Keys.{all_keys, is_one_of, key_text, lease_keys, token_keys}
-use Rattle.keep_inventory.specs.Values.{credential, ending, flag, moment, needed, only, read_if, text, value_at, whole}
+use Rattle.keep_inventory.specs.Values.{alone_if, credential, ending, flag, has_if, moment, need, needed, only, path, read_if, span, text, there, value_at}
 use Rattle.keep_inventory.specs.Terms.{max_ttl_of}
-use Rattle.keep_inventory.specs.Rows.{has_step, index_or_none, lease_row, lease_terms, life_of, token_row, token_terms}
-use Rattle.keep_inventory.specs.Written.{IsLease, IsNamed, IsParent, IsToken, Writes, WritesMost, WritesOr}
-use Rattle.keep_inventory.proofs.Chains.{bind_ok}
-use Rattle.keep_inventory.proofs.Parts.{lease_parts, token_parts}
+use Rattle.keep_inventory.specs.Rows.{file_at, index_or_none, lease_row, lease_terms, life_of, step_or, token_row, token_terms}
+use Rattle.keep_inventory.specs.Written.{IsLease, IsNamed, IsParent, IsSecret, IsToken, IsTold, Writes, WritesMost, WritesOr}
+use Rattle.keep_inventory.proofs.Chains.{bind_ok, test_passed}
+use Rattle.keep_inventory.proofs.Parts.{lease_parts, made_lease, made_token, token_parts}
 
 -- ---- the value at a key
 
@@ -54,24 +56,32 @@ only_is keys place ms u e = passed (all_keys (is_one_of keys) ms) (UnknownKey pl
 
 -- ---- issue, end, and whether it can be renewed
 
-record Lived (ms : Members) (life : Life) : Type 0 where
-  issued : Writes moment Issued ms (Some life.issued)
-  end : Writes ending End ms (Some life.end)
+record Lived (ms : Members) (life : Life) (e : Entry) (t : Terms) : Type 0 where
+  told : t.issued ≡ life.issued → e.end ≡ life.end → IsTold ms e t life.is_told
   renewable : WritesOr flag Renewable ms true life.renewable
 
-lived : (index : ℕ) (ms : Members) (life : Life) → life_of index ms ≡ Ok life → Lived ms life
+told_is : (ms : Members) (e : Entry) (t : Terms) (issued ends : Option ℕ) (u w : Unit {0}) (index : ℕ) → Writes moment Issued ms issued → Writes ending End ms ends →
+    has_if (there End ms) index Issued (is_some issued) ≡ Ok u → has_if (is_some issued) index End (is_some ends) ≡ Ok w → t.issued ≡ unwrap_or issued 0 → e.end ≡ unwrap_or ends 0 → IsTold ms e t (is_some issued)
+told_is ms e t (Some n) (Some m) u w index a b c d same_issue same_end = (subst (λ k. Writes moment Issued ms (Some k)) (sym same_issue) a, subst (λ k. Writes ending End ms (Some k)) (sym same_end) b)
+told_is ms e t (Some n) None u w index a b c d same_issue same_end = absurd cc
+told_is ms e t None (Some m) u w index a b c d same_issue same_end = absurd (no_end ms index u b.0 b.1 c)
+  where
+    no_end : (ms : Members) (index : ℕ) (u : Unit {0}) (d : Data) → get_member (key_text End) ms ≡ Some d → has_if (there End ms) index Issued false ≡ Ok u → ⊥
+    no_end ms index u d is e = let here : has_if true index Issued false ≡ Ok u = ap (λ (o : Option Data). has_if (is_some o) index Issued false) (sym is) ∙ e in cc
+told_is ms e t None None u w index a b c d same_issue same_end = (a, b, same_issue, same_end)
+
+lived : (index : ℕ) (ms : Members) (life : Life) (e : Entry) (t : Terms) → life_of full index ms ≡ Ok life → Lived ms life e t
 unfolding life_of
-lived index ms life e =
-    bind_ok (value_at moment (Some index) Issued ms) _ life e (λ issued_if a e1.
-    bind_ok (needed index Issued issued_if) _ life e1 (λ issued b e2.
-    bind_ok (value_at ending (Some index) End ms) _ life e2 (λ ends_if c e3.
-    bind_ok (needed index End ends_if) _ life e3 (λ ends d e4.
+lived index ms life e t read =
+    bind_ok (value_at moment (Some index) Issued ms) _ life read (λ issued a e1.
+    bind_ok (has_if (there End ms) index Issued (is_some issued)) _ life e1 (λ u b e2.
+    bind_ok (value_at ending (Some index) End ms) _ life e2 (λ ends c e3.
+    bind_ok (has_if (is_some issued) index End (is_some ends)) _ life e3 (λ w d e4.
     bind_ok (value_at flag (Some index) Renewable ms) _ life e4 (λ renewable f e5.
-    let made : Life = record { issued = issued; end = ends; renewable = unwrap_or renewable true } in
+    let made : Life = record { issued = unwrap_or issued 0; end = unwrap_or ends 0; renewable = unwrap_or renewable true; is_told = is_some issued } in
     let same : made ≡ life = cc in
-    subst (Lived ms) same (record {
-      issued = needed_writes moment (Some index) index Issued ms issued_if issued a b;
-      end = needed_writes ending (Some index) index End ms ends_if ends c d;
+    subst (λ (x : Life). Lived ms x e t) same (record {
+      told = λ same_issue same_end. told_is ms e t issued ends u w index (writes_is moment (Some index) Issued ms issued a) (writes_is ending (Some index) End ms ends c) b d same_issue same_end;
       renewable = (renewable, writes_is flag (Some index) Renewable ms renewable f, refl);
     }))))))
 
@@ -79,55 +89,73 @@ lived index ms life e =
 
 record TokenTerms (system_max from : ℕ) (ms : Members) (t : Terms) : Type 0 where
   issued : t.issued ≡ from
-  increment : Writes (whole 0 SPAN_MAX) Increment ms t.increment
-  period : WritesOr (whole 0 SPAN_MAX) Period ms 0 t.period
+  increment : Option ℕ
+  written : Writes (span full 0 SPAN_MAX) Increment ms increment
+  increment_is : t.increment ≡ step_or increment t.period
+  period : WritesOr (span full 0 SPAN_MAX) Period ms 0 t.period
   max_ttl : WritesMost system_max ms t.max_ttl
-  explicit_max : WritesOr (whole 0 SPAN_MAX) ExplicitMaxTtl ms 0 t.explicit_max
+  explicit_max : WritesOr (span full 0 SPAN_MAX) ExplicitMaxTtl ms 0 t.explicit_max
 
-token_termed : (system_max index issued : ℕ) (ms : Members) (t : Terms) → token_terms system_max index issued ms ≡ Ok t → TokenTerms system_max issued ms t
+token_termed : (system_max index issued : ℕ) (ms : Members) (t : Terms) → token_terms full system_max index issued ms ≡ Ok t → TokenTerms system_max issued ms t
 unfolding token_terms
 token_termed system_max index issued ms t e =
-    bind_ok (value_at (whole 0 SPAN_MAX) (Some index) Increment ms) _ t e (λ increment a e1.
-    bind_ok (value_at (whole 0 SPAN_MAX) (Some index) Period ms) _ t e1 (λ period b e2.
-    bind_ok (has_step index increment (unwrap_or period 0)) _ t e2 (λ u c e3.
-    bind_ok (value_at (whole 0 SPAN_MAX) (Some index) MaxTtl ms) _ t e3 (λ max_ttl d e4.
-    bind_ok (value_at (whole 0 SPAN_MAX) (Some index) ExplicitMaxTtl ms) _ t e4 (λ explicit_max f e5.
-    let made : Terms = record { issued = issued; increment = increment; period = unwrap_or period 0; max_ttl = max_ttl_of system_max max_ttl; explicit_max = unwrap_or explicit_max 0 } in
+    bind_ok (value_at (span full 0 SPAN_MAX) (Some index) Increment ms) _ t e (λ increment a e1.
+    bind_ok (value_at (span full 0 SPAN_MAX) (Some index) Period ms) _ t e1 (λ period b e2.
+    bind_ok (value_at (span full 0 SPAN_MAX) (Some index) MaxTtl ms) _ t e2 (λ max_ttl d e4.
+    bind_ok (value_at (span full 0 SPAN_MAX) (Some index) ExplicitMaxTtl ms) _ t e4 (λ explicit_max f e5.
+    let made : Terms = record { issued = issued; increment = step_or increment (unwrap_or period 0); period = unwrap_or period 0; max_ttl = max_ttl_of system_max max_ttl; explicit_max = unwrap_or explicit_max 0 } in
     let same : made ≡ t = cc in
     subst (TokenTerms system_max issued ms) same (record {
       issued = refl;
-      increment = writes_is (whole 0 SPAN_MAX) (Some index) Increment ms increment a;
-      period = (period, writes_is (whole 0 SPAN_MAX) (Some index) Period ms period b, refl);
-      max_ttl = (max_ttl, writes_is (whole 0 SPAN_MAX) (Some index) MaxTtl ms max_ttl d, refl);
-      explicit_max = (explicit_max, writes_is (whole 0 SPAN_MAX) (Some index) ExplicitMaxTtl ms explicit_max f, refl);
-    }))))))
+      increment = increment;
+      written = writes_is (span full 0 SPAN_MAX) (Some index) Increment ms increment a;
+      increment_is = refl;
+      period = (period, writes_is (span full 0 SPAN_MAX) (Some index) Period ms period b, refl);
+      max_ttl = (max_ttl, writes_is (span full 0 SPAN_MAX) (Some index) MaxTtl ms max_ttl d, refl);
+      explicit_max = (explicit_max, writes_is (span full 0 SPAN_MAX) (Some index) ExplicitMaxTtl ms explicit_max f, refl);
+    })))))
 
 record LeaseTerms (system_max from : ℕ) (ms : Members) (t : Terms) : Type 0 where
   issued : t.issued ≡ from
-  increment : ℕ
-  written : Writes (whole 0 SPAN_MAX) Increment ms (Some increment)
-  increment_is : t.increment ≡ Some increment
+  increment : Option ℕ
+  written : Writes (span full 0 SPAN_MAX) Increment ms increment
+  increment_is : t.increment ≡ Some (unwrap_or increment STEP_ABSENT)
   period : t.period ≡ 0
   max_ttl : WritesMost system_max ms t.max_ttl
   explicit_max : t.explicit_max ≡ 0
 
-lease_termed : (system_max index issued : ℕ) (ms : Members) (t : Terms) → lease_terms system_max index issued ms ≡ Ok t → LeaseTerms system_max issued ms t
+lease_termed : (system_max index issued : ℕ) (ms : Members) (t : Terms) → lease_terms full system_max index issued ms ≡ Ok t → LeaseTerms system_max issued ms t
 unfolding lease_terms
 lease_termed system_max index issued ms t e =
-    bind_ok (value_at (whole 0 SPAN_MAX) (Some index) Increment ms) _ t e (λ increment_if a e1.
-    bind_ok (needed index Increment increment_if) _ t e1 (λ increment b e2.
-    bind_ok (value_at (whole 0 SPAN_MAX) (Some index) MaxTtl ms) _ t e2 (λ max_ttl d e3.
-    let made : Terms = record { issued = issued; increment = Some increment; period = 0; max_ttl = max_ttl_of system_max max_ttl; explicit_max = 0 } in
+    bind_ok (value_at (span full 0 SPAN_MAX) (Some index) Increment ms) _ t e (λ increment a e1.
+    bind_ok (value_at (span full 0 SPAN_MAX) (Some index) MaxTtl ms) _ t e1 (λ max_ttl d e3.
+    let made : Terms = record { issued = issued; increment = Some (unwrap_or increment STEP_ABSENT); period = 0; max_ttl = max_ttl_of system_max max_ttl; explicit_max = 0 } in
     let same : made ≡ t = cc in
     subst (LeaseTerms system_max issued ms) same (record {
       issued = refl;
       increment = increment;
-      written = needed_writes (whole 0 SPAN_MAX) (Some index) index Increment ms increment_if increment a b;
+      written = writes_is (span full 0 SPAN_MAX) (Some index) Increment ms increment a;
       increment_is = refl;
       period = refl;
-      max_ttl = (max_ttl, writes_is (whole 0 SPAN_MAX) (Some index) MaxTtl ms max_ttl d, refl);
+      max_ttl = (max_ttl, writes_is (span full 0 SPAN_MAX) (Some index) MaxTtl ms max_ttl d, refl);
       explicit_max = refl;
-    }))))
+    })))
+
+-- ---- the credential, or its file
+
+secret_is : (index : ℕ) (key file_key : Key) (ms : Members) (name : List ℕ) (secret file : Option (List ℕ)) → value_at credential (Some index) key ms ≡ Ok secret →
+    file_at index file_key (is_some secret) ms ≡ Ok file → IsSecret key file_key ms name (unwrap_or secret name) file
+secret_is index key file_key ms name secret file a b =
+    bind_ok (value_at path (Some index) file_key ms) _ file b (λ o c e1.
+    bind_ok (alone_if (is_some secret) index file_key (is_some o)) _ file e1 (λ u d e2.
+    let same : o ≡ file = cc in
+    record {
+      secret = secret;
+      written = writes_is credential (Some index) key ms secret a;
+      sent_is = refl;
+      file_written = subst (λ (x : Option (List ℕ)). Writes path file_key ms x) same (writes_is path (Some index) file_key ms o c);
+      alone = subst (λ (x : Option (List ℕ)). is_some secret && is_some x ≡ false) same (test_passed (is_some secret && is_some o) (BadValue (Some index) file_key) u d);
+    }))
 
 -- ---- the parent
 
@@ -161,25 +189,25 @@ parent_is g (Some name) there = named_is g name (parent_below g.entries (Some (i
 
 -- ---- a row
 
-token_keys_only : (system_max : ℕ) (g : Forest) (ms : Members) (row : Row) → token_row system_max g ms ≡ Ok row → all_keys (is_one_of token_keys) ms ≡ true
+token_keys_only : (system_max : ℕ) (g : Forest) (ms : Members) (row : Row) → token_row full system_max g ms ≡ Ok row → all_keys (is_one_of (token_keys full)) ms ≡ true
 unfolding token_row
-token_keys_only system_max g ms row e = bind_ok (only token_keys (Some (length g.entries)) ms) _ row e (λ u known e1. only_is token_keys (Some (length g.entries)) ms u known)
+token_keys_only system_max g ms row e = bind_ok (only (token_keys full) (Some (length g.entries)) ms) _ row e (λ u known e1. only_is (token_keys full) (Some (length g.entries)) ms u known)
 
-lease_keys_only : (system_max : ℕ) (g : Forest) (ms : Members) (row : Row) → lease_row system_max g ms ≡ Ok row → all_keys (is_one_of lease_keys) ms ≡ true
+lease_keys_only : (system_max : ℕ) (g : Forest) (ms : Members) (row : Row) → lease_row full system_max g ms ≡ Ok row → all_keys (is_one_of (lease_keys full)) ms ≡ true
 unfolding lease_row
-lease_keys_only system_max g ms row e = bind_ok (only lease_keys (Some (length g.entries)) ms) _ row e (λ u known e1. only_is lease_keys (Some (length g.entries)) ms u known)
+lease_keys_only system_max g ms row e = bind_ok (only (lease_keys full) (Some (length g.entries)) ms) _ row e (λ u known e1. only_is (lease_keys full) (Some (length g.entries)) ms u known)
 
 abbrev IsTokenRow : ℕ → Forest → Members → Row → Type 0
-IsTokenRow system_max g ms row = IsToken system_max g.entries (length g.entries) ms row.entry row.credential row.terms
+IsTokenRow system_max g ms row = IsToken system_max g.entries (length g.entries) ms row.entry row.credential row.terms row.note
 
 abbrev IsLeaseRow : ℕ → Forest → Members → Row → Type 0
-IsLeaseRow system_max g ms row = IsLease system_max g.entries (length g.entries) ms row.entry row.credential row.terms
+IsLeaseRow system_max g ms row = IsLease system_max g.entries (length g.entries) ms row.entry row.credential row.terms row.note
 
-pub token_row_is : (system_max : ℕ) (g : Forest) (ms : Members) (row : Row) → token_row system_max g ms ≡ Ok row → refusal g row.entry ≡ None → IsTokenRow system_max g ms row
+pub token_row_is : (system_max : ℕ) (g : Forest) (ms : Members) (row : Row) → token_row full system_max g ms ≡ Ok row → refusal g row.entry ≡ None → IsTokenRow system_max g ms row
 token_row_is system_max g ms row read fits =
-    let parts = token_parts system_max g ms row read in
+    let parts = token_parts full system_max g ms row read in
     let place = Some (length g.entries) in
-    let life = lived (length g.entries) ms parts.life parts.life_read in
+    let life = lived (length g.entries) ms parts.life (made_token g parts.name parts.parent parts.life parts.terms parts.need_if parts.secret parts.file).entry parts.terms parts.life_read in
     let terms = token_termed system_max (length g.entries) parts.life.issued ms parts.terms parts.terms_read in
     let there : lacks_parent g.entries row.entry.parent ≡ false = (taken_from_refusal g row.entry fits).parent_there in
     subst (λ (r : Row). IsTokenRow system_max g ms r) parts.made (record {
@@ -187,10 +215,12 @@ token_row_is system_max g ms row read fits =
       kind = refl;
       life = record {
         name = needed_writes text place (length g.entries) Name ms parts.name_if parts.name parts.name_read parts.name_there;
-        issued = subst (λ n. Writes moment Issued ms (Some n)) (sym terms.issued) life.issued;
-        end = life.end;
+        told = life.told terms.issued refl;
         renewable = life.renewable;
-        need = (parts.need, writes_is moment place Need ms parts.need parts.need_read, refl);
+        until = parts.need_if;
+        need = writes_is (need full) place Need ms parts.need_if parts.need_read;
+        need_is = refl;
+        always_is = refl;
         step = refl;
         ceiling = refl;
       };
@@ -198,17 +228,19 @@ token_row_is system_max g ms row read fits =
       parent = writes_is text place Parent ms parts.parent parts.parent_read;
       parent_is = parent_is g parts.parent (subst (λ (r : Row). lacks_parent g.entries r.entry.parent ≡ false) (sym parts.made) there);
       increment = terms.increment;
+      increment_written = terms.written;
+      increment_is = terms.increment_is;
       period = terms.period;
       max_ttl = terms.max_ttl;
       explicit_max = terms.explicit_max;
-      secret = (parts.secret, writes_is credential place Secret ms parts.secret parts.secret_read, refl);
+      secret = secret_is (length g.entries) Secret SecretFile ms parts.name parts.secret parts.file parts.secret_read parts.file_read;
     })
 
-pub lease_row_is : (system_max : ℕ) (g : Forest) (ms : Members) (row : Row) → lease_row system_max g ms ≡ Ok row → refusal g row.entry ≡ None → IsLeaseRow system_max g ms row
+pub lease_row_is : (system_max : ℕ) (g : Forest) (ms : Members) (row : Row) → lease_row full system_max g ms ≡ Ok row → refusal g row.entry ≡ None → IsLeaseRow system_max g ms row
 lease_row_is system_max g ms row read fits =
-    let parts = lease_parts system_max g ms row read in
+    let parts = lease_parts full system_max g ms row read in
     let place = Some (length g.entries) in
-    let life = lived (length g.entries) ms parts.life parts.life_read in
+    let life = lived (length g.entries) ms parts.life (made_lease g parts.name parts.token parts.life parts.terms parts.need_if parts.lease_id parts.file).entry parts.terms parts.life_read in
     let terms = lease_termed system_max (length g.entries) parts.life.issued ms parts.terms parts.terms_read in
     let there : lacks_parent g.entries row.entry.parent ≡ false = (taken_from_refusal g row.entry fits).parent_there in
     subst (λ (r : Row). IsLeaseRow system_max g ms r) parts.made (record {
@@ -216,10 +248,12 @@ lease_row_is system_max g ms row read fits =
       kind = refl;
       life = record {
         name = needed_writes text place (length g.entries) Name ms parts.name_if parts.name parts.name_read parts.name_there;
-        issued = subst (λ n. Writes moment Issued ms (Some n)) (sym terms.issued) life.issued;
-        end = life.end;
+        told = life.told terms.issued refl;
         renewable = life.renewable;
-        need = (parts.need, writes_is moment place Need ms parts.need parts.need_read, refl);
+        until = parts.need_if;
+        need = writes_is (need full) place Need ms parts.need_if parts.need_read;
+        need_is = refl;
+        always_is = refl;
         step = refl;
         ceiling = refl;
       };
@@ -232,5 +266,5 @@ lease_row_is system_max g ms row read fits =
       period = terms.period;
       max_ttl = terms.max_ttl;
       explicit_max = terms.explicit_max;
-      lease_id = (parts.lease_id, writes_is credential place LeaseId ms parts.lease_id parts.lease_id_read, refl);
+      lease_id = secret_is (length g.entries) LeaseId LeaseIdFile ms parts.name parts.lease_id parts.file parts.lease_id_read parts.file_read;
     })

@@ -10,6 +10,7 @@ use Rattle.keep_inventory.specs.declared.fault.InvFault.TheVariants.{BadValue}
 use Rattle.keep_inventory.specs.declared.key.Key.{Key}
 use Rattle.keep_inventory.specs.declared.key.Key.TheVariants.{Secret, LeaseId}
 use Rattle.keep_inventory.specs.declared.row.Row.{Row}
+use Rattle.keep_inventory.specs.Languages.{Language}
 use Rattle.keep_inventory.specs.Intake.{Intake, appended, pushed, holds, distinct, with_token, with_lease}
 use Rattle.keep_inventory.specs.Rows.{token_row, lease_row}
 use Rattle.keep_inventory.specs.Inventory.{token_entered, lease_entered, entered_by}
@@ -21,11 +22,11 @@ grown g e = record { entries = g.entries ++ e ∷ []; margin = g.margin }
 
 -- with the row of one token more
 abbrev pub took_token : Intake → Row → Intake
-took_token s row = record { forest = grown s.forest row.entry; secrets = s.secrets ++ row.credential ∷ []; lease_ids = s.lease_ids; terms = s.terms ++ row.terms ∷ [] }
+took_token s row = record { forest = grown s.forest row.entry; secrets = s.secrets ++ row.credential ∷ []; lease_ids = s.lease_ids; terms = s.terms ++ row.terms ∷ []; notes = s.notes ++ row.note ∷ [] }
 
 -- with the row of one lease more
 abbrev pub took_lease : Intake → Row → Intake
-took_lease s row = record { forest = grown s.forest row.entry; secrets = s.secrets; lease_ids = s.lease_ids ++ row.credential ∷ []; terms = s.terms ++ row.terms ∷ [] }
+took_lease s row = record { forest = grown s.forest row.entry; secrets = s.secrets; lease_ids = s.lease_ids ++ row.credential ∷ []; terms = s.terms ++ row.terms ∷ []; notes = s.notes ++ row.note ∷ [] }
 
 -- the forest takes the entry of a row, and none of these texts is its credential
 pub record Fits (g : Forest) (texts : List (List ℕ)) (row : Row) : Type 0 where
@@ -55,11 +56,11 @@ token_taken s t row e =
     bind_ok (distinct Secret (length s.forest.entries) s.secrets row.credential) _ t e1 (λ secrets d e2.
     let grows = pushed_ok s.forest g row.entry p in
     let adds = distinct_ok Secret (length s.forest.entries) s.secrets secrets row.credential d in
-    let made : record { forest = g; secrets = secrets; lease_ids = s.lease_ids; terms = s.terms ++ row.terms ∷ [] } ≡ t = cc in
-    let one : took_token s row ≡ record { forest = g; secrets = s.secrets ++ row.credential ∷ []; lease_ids = s.lease_ids; terms = s.terms ++ row.terms ∷ [] } =
-    ap (λ (h : Forest). record { forest = h; secrets = s.secrets ++ row.credential ∷ []; lease_ids = s.lease_ids; terms = s.terms ++ row.terms ∷ [] }) grows.1 in
-    let two : record { forest = g; secrets = s.secrets ++ row.credential ∷ []; lease_ids = s.lease_ids; terms = s.terms ++ row.terms ∷ [] } ≡ record { forest = g; secrets = secrets; lease_ids = s.lease_ids; terms = s.terms ++ row.terms ∷ [] } =
-    ap (λ (xs : List (List ℕ)). record { forest = g; secrets = xs; lease_ids = s.lease_ids; terms = s.terms ++ row.terms ∷ [] }) adds.1 in
+    let made : record { forest = g; secrets = secrets; lease_ids = s.lease_ids; terms = s.terms ++ row.terms ∷ []; notes = s.notes ++ row.note ∷ [] } ≡ t = cc in
+    let one : took_token s row ≡ record { forest = g; secrets = s.secrets ++ row.credential ∷ []; lease_ids = s.lease_ids; terms = s.terms ++ row.terms ∷ []; notes = s.notes ++ row.note ∷ [] } =
+    ap (λ (h : Forest). record { forest = h; secrets = s.secrets ++ row.credential ∷ []; lease_ids = s.lease_ids; terms = s.terms ++ row.terms ∷ []; notes = s.notes ++ row.note ∷ [] }) grows.1 in
+    let two : record { forest = g; secrets = s.secrets ++ row.credential ∷ []; lease_ids = s.lease_ids; terms = s.terms ++ row.terms ∷ []; notes = s.notes ++ row.note ∷ [] } ≡ record { forest = g; secrets = secrets; lease_ids = s.lease_ids; terms = s.terms ++ row.terms ∷ []; notes = s.notes ++ row.note ∷ [] } =
+    ap (λ (xs : List (List ℕ)). record { forest = g; secrets = xs; lease_ids = s.lease_ids; terms = s.terms ++ row.terms ∷ []; notes = s.notes ++ row.note ∷ [] }) adds.1 in
     (record { entry = grows.0; fresh = adds.0 }, one ∙ two ∙ made)))
 
 pub lease_taken : (s t : Intake) (row : Row) → with_lease s row ≡ Ok t → Fits s.forest s.lease_ids row × (took_lease s row ≡ t)
@@ -69,11 +70,11 @@ lease_taken s t row e =
     bind_ok (distinct LeaseId (length s.forest.entries) s.lease_ids row.credential) _ t e1 (λ lease_ids d e2.
     let grows = pushed_ok s.forest g row.entry p in
     let adds = distinct_ok LeaseId (length s.forest.entries) s.lease_ids lease_ids row.credential d in
-    let made : record { forest = g; secrets = s.secrets; lease_ids = lease_ids; terms = s.terms ++ row.terms ∷ [] } ≡ t = cc in
-    let one : took_lease s row ≡ record { forest = g; secrets = s.secrets; lease_ids = s.lease_ids ++ row.credential ∷ []; terms = s.terms ++ row.terms ∷ [] } =
-    ap (λ (h : Forest). record { forest = h; secrets = s.secrets; lease_ids = s.lease_ids ++ row.credential ∷ []; terms = s.terms ++ row.terms ∷ [] }) grows.1 in
-    let two : record { forest = g; secrets = s.secrets; lease_ids = s.lease_ids ++ row.credential ∷ []; terms = s.terms ++ row.terms ∷ [] } ≡ record { forest = g; secrets = s.secrets; lease_ids = lease_ids; terms = s.terms ++ row.terms ∷ [] } =
-    ap (λ (xs : List (List ℕ)). record { forest = g; secrets = s.secrets; lease_ids = xs; terms = s.terms ++ row.terms ∷ [] }) adds.1 in
+    let made : record { forest = g; secrets = s.secrets; lease_ids = lease_ids; terms = s.terms ++ row.terms ∷ []; notes = s.notes ++ row.note ∷ [] } ≡ t = cc in
+    let one : took_lease s row ≡ record { forest = g; secrets = s.secrets; lease_ids = s.lease_ids ++ row.credential ∷ []; terms = s.terms ++ row.terms ∷ []; notes = s.notes ++ row.note ∷ [] } =
+    ap (λ (h : Forest). record { forest = h; secrets = s.secrets; lease_ids = s.lease_ids ++ row.credential ∷ []; terms = s.terms ++ row.terms ∷ []; notes = s.notes ++ row.note ∷ [] }) grows.1 in
+    let two : record { forest = g; secrets = s.secrets; lease_ids = s.lease_ids ++ row.credential ∷ []; terms = s.terms ++ row.terms ∷ []; notes = s.notes ++ row.note ∷ [] } ≡ record { forest = g; secrets = s.secrets; lease_ids = lease_ids; terms = s.terms ++ row.terms ∷ []; notes = s.notes ++ row.note ∷ [] } =
+    ap (λ (xs : List (List ℕ)). record { forest = g; secrets = s.secrets; lease_ids = xs; terms = s.terms ++ row.terms ∷ []; notes = s.notes ++ row.note ∷ [] }) adds.1 in
     (record { entry = grows.0; fresh = adds.0 }, one ∙ two ∙ made)))
 
 -- ---- the tables of one kind, one after another
@@ -94,11 +95,11 @@ all_keep P step keeps key s t (item (datetime x) ds) m e = absurd (cc)
 all_keep P step keeps key s t (item (array x) ds) m e = absurd (cc)
 
 -- an entered token is that of its row
-pub token_entered_ok : (system_max : ℕ) (s t : Intake) (ms : Members) → token_entered system_max s ms ≡ Ok t → (row : Row) × (token_row system_max s.forest ms ≡ Ok row) × Fits s.forest s.secrets row × (took_token s row ≡ t)
+pub token_entered_ok : (l : Language) (system_max : ℕ) (s t : Intake) (ms : Members) → token_entered l system_max s ms ≡ Ok t → (row : Row) × (token_row l system_max s.forest ms ≡ Ok row) × Fits s.forest s.secrets row × (took_token s row ≡ t)
 unfolding token_entered
-token_entered_ok system_max s t ms e = bind_ok (token_row system_max s.forest ms) _ t e (λ row r e1. let taken = token_taken s t row e1 in (row, r, taken.0, taken.1))
+token_entered_ok l system_max s t ms e = bind_ok (token_row l system_max s.forest ms) _ t e (λ row r e1. let taken = token_taken s t row e1 in (row, r, taken.0, taken.1))
 
 -- and an entered lease
-pub lease_entered_ok : (system_max : ℕ) (s t : Intake) (ms : Members) → lease_entered system_max s ms ≡ Ok t → (row : Row) × (lease_row system_max s.forest ms ≡ Ok row) × Fits s.forest s.lease_ids row × (took_lease s row ≡ t)
+pub lease_entered_ok : (l : Language) (system_max : ℕ) (s t : Intake) (ms : Members) → lease_entered l system_max s ms ≡ Ok t → (row : Row) × (lease_row l system_max s.forest ms ≡ Ok row) × Fits s.forest s.lease_ids row × (took_lease s row ≡ t)
 unfolding lease_entered
-lease_entered_ok system_max s t ms e = bind_ok (lease_row system_max s.forest ms) _ t e (λ row r e1. let taken = lease_taken s t row e1 in (row, r, taken.0, taken.1))
+lease_entered_ok l system_max s t ms e = bind_ok (lease_row l system_max s.forest ms) _ t e (λ row r e1. let taken = lease_taken s t row e1 in (row, r, taken.0, taken.1))

@@ -1,11 +1,18 @@
 -- The tree of a document from the answers of the two readers below: UTF-8, then TOML.
-use Rattle.std.proofs.Common.{◌≡◌, ℕ, List, Some, Ok, Err, sym, ap, ◌∙◌}
+use Rattle.std.proofs.Common.{◌≡◌, ◌⊎◌, inl, inr, ℕ, List, Option, Some, None, Result, Ok, Err, IfOk, IfErr, sym, ap, subst, ◌∙◌, String, Global}
+use Rattle.std.specs.BTreeMap.{BTreeMap}
 use Rattle.std.specs.Str.{is_utf8, IsUtf8}
 use Rattle.std.proofs.lemmas.Bool.{cond-true, cond-false, false_from_ne_true}
 use Rattle.std.proofs.lemmas.Str.{IsUtf8-from_is_utf8, is_utf8-from_IsUtf8}
 use Rattle.toml.specs.Data.{Members}
+use Rattle.toml.specs.Errors.{IsMemory}
 use Rattle.toml.specs.Parse.{parse_document}
-use Rattle.keep_inventory.specs.declared.fault.InvFault.TheVariants.{NotToml}
+use Rattle.toml.specs.View.{table_view}
+use Rattle.toml.specs.declared.de.error.Error.{Error}
+use Rattle.toml.specs.declared.value.Value.{Value}
+use Rattle.keep_inventory.specs.Answers.{Gives}
+use Rattle.keep_inventory.specs.declared.fault.InvFault.{InvFault}
+use Rattle.keep_inventory.specs.declared.fault.InvFault.TheVariants.{NotToml, OutOfMemory}
 use Rattle.keep_inventory.specs.Inventory.{or_not_toml, tree_of}
 
 pub tree_of_bytes : (bytes : List ℕ) → ¬ (IsUtf8 bytes) → tree_of bytes ≡ Err NotToml
@@ -13,7 +20,17 @@ unfolding tree_of
 tree_of_bytes bytes h =
     cond-false (is_utf8 bytes) (or_not_toml (parse_document bytes)) (Err NotToml) (false_from_ne_true _ (λ t. h (IsUtf8-from_is_utf8 bytes t)))
 
-pub tree_of_text : (bytes text : List ℕ) (ms : Members) → text ≡ bytes → IsUtf8 bytes → parse_document text ≡ Some ms → tree_of bytes ≡ Ok ms
+pub tree_of_text : (bytes text : List ℕ) → text ≡ bytes → IsUtf8 bytes → tree_of bytes ≡ or_not_toml (parse_document text)
 unfolding tree_of
-tree_of_text bytes text ms same utf8 e =
-    cond-true (is_utf8 bytes) (or_not_toml (parse_document bytes)) (Err NotToml) (is_utf8-from_IsUtf8 bytes utf8) ∙ ap or_not_toml (ap parse_document (sym same) ∙ e)
+tree_of_text bytes text same utf8 =
+    cond-true (is_utf8 bytes) (or_not_toml (parse_document bytes)) (Err NotToml) (is_utf8-from_IsUtf8 bytes utf8) ∙ ap or_not_toml (ap parse_document (sym same))
+
+abbrev Tree : Type 0
+Tree = BTreeMap (String Global) Value
+
+-- the tree that was read, or no TOML, or want of memory where the reader says so
+pub as_read : (answer : Result Tree InvFault) (tree : Option Members) (r : Result Tree Error) → IfOk r (λ t. tree ≡ Some (table_view t)) → IfErr r (λ e. ¬ IsMemory e → tree ≡ None) →
+    IfOk r (λ t. answer ≡ Ok t) → IfErr r (λ e. (IsMemory e × (answer ≡ Err OutOfMemory)) ⊎ ((¬ IsMemory e) × (answer ≡ Err NotToml))) → Gives table_view answer (or_not_toml tree)
+as_read answer tree (Ok t) read none given said = subst (λ (a : Result Tree InvFault). Gives table_view a (or_not_toml tree)) (sym given) (ap or_not_toml read)
+as_read answer tree (Err e) read none given (inl memory) = subst (λ (a : Result Tree InvFault). Gives table_view a (or_not_toml tree)) (sym memory.1) tt
+as_read answer tree (Err e) read none given (inr malformed) = subst (λ (a : Result Tree InvFault). Gives table_view a (or_not_toml tree)) (sym malformed.1) (ap or_not_toml (none malformed.0))

@@ -9,20 +9,22 @@ use Rattle.keep_inventory.specs.declared.fault.InvFault.{InvFault}
 use Rattle.keep_inventory.specs.declared.fault.InvFault.TheVariants.{Tree, BadValue}
 use Rattle.keep_inventory.specs.declared.key.Key.{Key}
 use Rattle.keep_inventory.specs.declared.key.Key.TheVariants.{Secret, LeaseId}
+use Rattle.keep_inventory.specs.declared.note.Note.{Note}
 use Rattle.keep_inventory.specs.declared.row.Row.{Row}
 use Rattle.keep_inventory.specs.declared.terms.Terms.{Terms}
 use Rattle.keep_inventory.specs.Answers.{◌>>=◌, Fails}
 use Rattle.keep_inventory.specs.Inventories.{Inventory}
 
--- the forest so far, the secrets of its tokens, the ids of its leases, and the terms of both
+-- the forest so far, the secrets of its tokens, the ids of its leases, and the terms and the notes of both
 pub record Intake : Type 0 where
   pub forest : Forest
   pub secrets : List (List ℕ)
   pub lease_ids : List (List ℕ)
   pub terms : List Terms
+  pub notes : List Note
 
 abbrev pub nothing : ℕ → Intake
-nothing margin = record { forest = record { entries = []; margin = margin }; secrets = []; lease_ids = []; terms = [] }
+nothing margin = record { forest = record { entries = []; margin = margin }; secrets = []; lease_ids = []; terms = []; notes = [] }
 
 -- all tokens stand before all leases, and so do their credentials
 abbrev pub inventory_with : Intake → Inventory
@@ -49,14 +51,14 @@ unfoldable pub with_token : Intake → Row → Result Intake InvFault
 with_token s row = do
   forest ← pushed s.forest row.entry
   secrets ← distinct Secret (length s.forest.entries) s.secrets row.credential
-  Ok (record { forest = forest; secrets = secrets; lease_ids = s.lease_ids; terms = s.terms ++ row.terms ∷ [] })
+  Ok (record { forest = forest; secrets = secrets; lease_ids = s.lease_ids; terms = s.terms ++ row.terms ∷ []; notes = s.notes ++ row.note ∷ [] })
 
 -- one lease more
 unfoldable pub with_lease : Intake → Row → Result Intake InvFault
 with_lease s row = do
   forest ← pushed s.forest row.entry
   lease_ids ← distinct LeaseId (length s.forest.entries) s.lease_ids row.credential
-  Ok (record { forest = forest; secrets = s.secrets; lease_ids = lease_ids; terms = s.terms ++ row.terms ∷ [] })
+  Ok (record { forest = forest; secrets = s.secrets; lease_ids = lease_ids; terms = s.terms ++ row.terms ∷ []; notes = s.notes ++ row.note ∷ [] })
 
 -- a step that changes a value, against the definition of the step
 abbrev pub Changes : {X : Type 0} → Result X InvFault → X → Result (Unit {0}) InvFault → Type 0

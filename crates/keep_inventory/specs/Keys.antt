@@ -4,7 +4,8 @@ use Rattle.std.specs.Prelude.{ℕ, Bool, true, ◌&&◌, List, [], ◌∷◌, co
 use Rattle.std.specs.List.{list_any}
 use Rattle.toml.specs.Data.{Members, no_members, member}
 use Rattle.keep_inventory.specs.declared.key.Key.{Key}
-use Rattle.keep_inventory.specs.declared.key.Key.TheVariants.{SystemMax, Margin, Token, Lease, Name, Parent, Issued, End, Renewable, Increment, Period, MaxTtl, ExplicitMaxTtl, Need, Secret, LeaseId}
+use Rattle.keep_inventory.specs.declared.key.Key.TheVariants.{SystemMax, Margin, Token, Lease, Name, Parent, Issued, End, Renewable, Increment, Period, MaxTtl, ExplicitMaxTtl, Need, Secret, SecretFile, LeaseId, LeaseIdFile}
+use Rattle.keep_inventory.specs.Languages.{Language, strict, full}
 
 -- the bytes of a key
 abbrev pub key_text : Key → List ℕ
@@ -23,7 +24,9 @@ key_text MaxTtl = codes "max_ttl"
 key_text ExplicitMaxTtl = codes "explicit_max_ttl"
 key_text Need = codes "need"
 key_text Secret = codes "secret"
+key_text SecretFile = codes "secret_file"
 key_text LeaseId = codes "lease_id"
+key_text LeaseIdFile = codes "lease_id_file"
 
 -- the text of one of these keys
 abbrev pub is_one_of : List Key → List ℕ → Bool
@@ -33,13 +36,18 @@ is_one_of keys text = list_any (λ key. bytes_eq (key_text key) text) keys
 abbrev pub top_keys : List Key
 top_keys = SystemMax ∷ Margin ∷ Token ∷ Lease ∷ []
 
+-- a key that names a file: the strict language has none
+abbrev pub file_keys : Language → Key → List Key
+file_keys strict key = []
+file_keys full key = key ∷ []
+
 -- the keys of a table `[[token]]`
-abbrev pub token_keys : List Key
-token_keys = Name ∷ Parent ∷ Issued ∷ End ∷ Renewable ∷ Increment ∷ Period ∷ MaxTtl ∷ ExplicitMaxTtl ∷ Need ∷ Secret ∷ []
+abbrev pub token_keys : Language → List Key
+token_keys l = Name ∷ Parent ∷ Issued ∷ End ∷ Renewable ∷ Increment ∷ Period ∷ MaxTtl ∷ ExplicitMaxTtl ∷ Need ∷ Secret ∷ file_keys l SecretFile
 
 -- the keys of a table `[[lease]]`
-abbrev pub lease_keys : List Key
-lease_keys = Name ∷ Token ∷ Issued ∷ End ∷ Renewable ∷ Increment ∷ MaxTtl ∷ Need ∷ LeaseId ∷ []
+abbrev pub lease_keys : Language → List Key
+lease_keys l = Name ∷ Token ∷ Issued ∷ End ∷ Renewable ∷ Increment ∷ MaxTtl ∷ Need ∷ LeaseId ∷ file_keys l LeaseIdFile
 
 -- each key passes the test
 abbrev pub all_keys : (List ℕ → Bool) → Members → Bool

@@ -1,8 +1,12 @@
+pub mod Languages
 pub mod Keys
 pub mod Answers
+pub mod Durations
+pub mod Needs
 pub mod Values
 pub mod Terms
 pub mod Inventories
+pub mod Served
 pub mod Found
 pub mod Intake
 pub mod Rows

@@ -1,6 +1,10 @@
+ghost use Rattle.std.specs.Prelude.{◌≡◌, ◌⊎◌, Err, IfErr, IfOk, Ok};
+ghost use Rattle.toml.specs.Errors.{IsMemory};
 ghost use Rattle.toml.specs.View.{table_view};
 ghost use Rattle.keep_inventory.specs.Answers.{Gives};
-ghost use Rattle.keep_inventory.specs.Inventory.{intake_of, inventory_of, tree_of, read_inventory};
+ghost use Rattle.keep_inventory.specs.declared.fault.InvFault.TheVariants.{NotToml, OutOfMemory};
+ghost use Rattle.keep_inventory.specs.Inventory.{intake_of, served_of, tree_of, read_inventory, read_served};
+ghost use Rattle.keep_inventory.specs.Languages.{full};
 
 use crate::draft::Draft;
 use crate::fault::InvFault;
@@ -8,22 +12,36 @@ use crate::inventory::Inventory;
 use crate::key::Key;
 use crate::known::only_top_keys;
 use crate::limits::{SPAN_MAX, SYSTEM_MAX};
-use crate::value::{span_at, tables_at};
+use crate::served::Served;
+use crate::value::{is_there, span_at, tables_at};
 use keep_tree::MARGIN_MAX;
 use std::alloc::Global;
 use toml::Table;
 
-/// The inventory that these bytes write: a document of TOML 1.1 in UTF-8, with the tables `[[token]]` and `[[lease]]`.
+/// What these bytes write: a document of TOML 1.1 in UTF-8, with the tables `[[token]]` and `[[lease]]`, in the full language.
 ///
 /// # Errors
 ///
 /// The first fault in the order of [`InvFault`], or want of memory.
+#[tactic(auto, unfolding(crate::specs::Inventory::read_served))]
+pub fn read_served(alloc: Global, bytes: &[u8]) -> Result<Served, InvFault>
+    ensures { Gives (λ served. served) result (read_served bytes.now) }
+{
+    let table = read_tree(alloc, bytes)?;
+    served_in(alloc, &table)
+}
+
+/// The inventory that these bytes write, where no table leaves anything open.
+///
+/// # Errors
+///
+/// Those of [`read_served`]; then, of the first table that leaves something open, `MissingKey` with `issued` where a lookup is to
+/// tell its end, and `BadValue` with `need` where that is `always`.
 #[tactic(auto, unfolding(crate::specs::Inventory::read_inventory))]
 pub fn read(alloc: Global, bytes: &[u8]) -> Result<Inventory, InvFault>
     ensures { Gives (λ inventory. inventory) result (read_inventory bytes.now) }
 {
-    let table = read_tree(alloc, bytes)?;
-    inventory_in(alloc, &table)
+    read_served(alloc, bytes)?.into_whole()
 }
 
 // The tree of a document.
@@ -34,26 +52,34 @@ fn read_tree(alloc: Global, bytes: &[u8]) -> Result<Table, InvFault>
     let Ok(text) = std::str::from_utf8(bytes) else {
         return Err(InvFault::NotToml);
     };
-    match toml::table_from_str(alloc, text) {
+    judged(toml::table_from_str(alloc, text))
+}
+
+// The tree that was read; and why there is none: memory ran out only where the reader says so.
+fn judged(read: Result<Table, toml::de::Error>) -> Result<Table, InvFault>
+    ensures tree { IfOk read (λ table. result ≡ Ok table) }
+    ensures none { IfErr read (λ error. (IsMemory error × (result ≡ Err OutOfMemory)) ⊎ ((¬ IsMemory error) × (result ≡ Err NotToml))) }
+{
+    match read {
         Ok(table) => Ok(table),
         Err(error) if error.is_memory() => Err(InvFault::OutOfMemory),
         Err(_) => Err(InvFault::NotToml),
     }
 }
 
-// The inventory of a document's tree.
-#[tactic(auto, unfolding(crate::specs::Inventory::inventory_of))]
-fn inventory_in(alloc: Global, table: &Table) -> Result<Inventory, InvFault>
-    ensures { Gives (λ inventory. inventory) result (inventory_of (table_view table.now)) }
+// What is served by a document's tree.
+#[tactic(auto, unfolding(crate::specs::Inventory::served_of))]
+fn served_in(alloc: Global, table: &Table) -> Result<Served, InvFault>
+    ensures { Gives (λ served. served) result (served_of full (table_view table.now)) }
 {
     let draft = read_draft(alloc, table)?;
-    Ok(Inventory::of(draft))
+    Ok(Served::of(draft, is_there(table, Key::Margin)))
 }
 
 // The entries of a document's tree.
 #[tactic(auto, unfolding(crate::specs::Inventory::intake_of))]
 fn read_draft(alloc: Global, table: &Table) -> Result<Draft, InvFault>
-    ensures { Gives (λ intake. intake) result (intake_of (table_view table.now)) }
+    ensures { Gives (λ intake. intake) result (intake_of full (table_view table.now)) }
 {
     only_top_keys(table)?;
     let system_max = span_at(table, None, Key::SystemMax, 1, SPAN_MAX)?.unwrap_or(SYSTEM_MAX);

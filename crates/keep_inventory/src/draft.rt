@@ -1,10 +1,12 @@
 ghost use Rattle.std.specs.Prelude.{◌≡◌, ◌<◌};
 ghost use Rattle.toml.specs.View.{items_view, table_view};
 ghost use Rattle.keep_inventory.specs.Intake.{Changes, nothing, pushed, distinct, with_token, with_lease};
+ghost use Rattle.keep_inventory.specs.Languages.{full};
 ghost use Rattle.keep_inventory.specs.Inventory.{token_entered, lease_entered, entered_by};
 
 use crate::fault::InvFault;
 use crate::key::Key;
+use crate::note::Note;
 use crate::register::Register;
 use crate::row::{Row, lease_row, token_row};
 use crate::terms::Terms;
@@ -21,6 +23,7 @@ pub struct Draft {
     pub secrets: Register,
     pub lease_ids: Register,
     pub terms: Vec<Terms>,
+    pub notes: Vec<Note>,
 }
 
 impl Model for Draft {
@@ -28,7 +31,7 @@ impl Model for Draft {
 
     ghost Value = { Intake };
 
-    ghost view = { λ d. record { forest = d.forest; secrets = d.secrets; lease_ids = d.lease_ids; terms = d.terms.items } };
+    ghost view = { λ d. record { forest = d.forest; secrets = d.secrets; lease_ids = d.lease_ids; terms = d.terms.items; notes = d.notes.items } };
 }
 
 impl Draft {
@@ -43,6 +46,7 @@ impl Draft {
             secrets: Register::new(alloc),
             lease_ids: Register::new(alloc),
             terms: Vec::new(alloc),
+            notes: Vec::new(alloc),
         }
     }
 
@@ -53,7 +57,7 @@ impl Draft {
         system_max: Span,
         tokens: &[Value],
     ) -> Result<(), InvFault>
-        ensures { Changes (entered_by (token_entered system_max) Key.Token self.old (items_view tokens.now)) self.new result }
+        ensures { Changes (entered_by (token_entered full system_max) Key.Token self.old (items_view tokens.now)) self.new result }
     {
         for token in tokens {
             let Some(table) = token.as_table() else {
@@ -71,7 +75,7 @@ impl Draft {
         system_max: Span,
         leases: &[Value],
     ) -> Result<(), InvFault>
-        ensures { Changes (entered_by (lease_entered system_max) Key.Lease self.old (items_view leases.now)) self.new result }
+        ensures { Changes (entered_by (lease_entered full system_max) Key.Lease self.old (items_view leases.now)) self.new result }
     {
         for lease in leases {
             let Some(table) = lease.as_table() else {
@@ -90,7 +94,7 @@ impl Draft {
         system_max: Span,
         table: &Table,
     ) -> Result<(), InvFault>
-        ensures { Changes (token_entered system_max self.old (table_view table.now)) self.new result }
+        ensures { Changes (token_entered full system_max self.old (table_view table.now)) self.new result }
     {
         let row = token_row(alloc, system_max, &self.forest, table)?;
         self.add_token(alloc, row)
@@ -104,7 +108,7 @@ impl Draft {
         system_max: Span,
         table: &Table,
     ) -> Result<(), InvFault>
-        ensures { Changes (lease_entered system_max self.old (table_view table.now)) self.new result }
+        ensures { Changes (lease_entered full system_max self.old (table_view table.now)) self.new result }
     {
         let row = lease_row(alloc, system_max, &self.forest, table)?;
         self.add_lease(alloc, row)
@@ -119,6 +123,7 @@ impl Draft {
         push(&mut self.forest, row.entry)?;
         keep(alloc, &mut self.secrets, Key::Secret, index, row.credential)?;
         self.terms.push(row.terms)?;
+        self.notes.push(row.note)?;
         Ok(())
     }
 
@@ -137,6 +142,7 @@ impl Draft {
             row.credential,
         )?;
         self.terms.push(row.terms)?;
+        self.notes.push(row.note)?;
         Ok(())
     }
 }

@@ -5,6 +5,7 @@ ghost use Rattle.keep_inventory.specs.Lookup.{lookup_fault, told};
 
 use crate::draft::Draft;
 use crate::lookup::{LookupFault, is_lease, tell, told_terms, write_terms};
+use crate::note::Note;
 use crate::register::Register;
 use crate::terms::Terms;
 use keep_moment::Moment;
@@ -169,18 +170,20 @@ impl Inventory {
         (self.forest, self.credentials)
     }
 
-    /// The inventory of a draft whose tables are all read.
-    pub(crate) fn of(draft: Draft) -> Inventory
+    /// The inventory of a draft whose tables are all read, and what they leave open.
+    pub(crate) fn of(draft: Draft) -> (Inventory, Vec<Note>)
         requires { IsInventory (inventory_with draft) }
-        ensures { result ≡ inventory_with draft }
+        ensures inventory { result.0 ≡ inventory_with draft }
+        ensures notes { result.1.items ≡ draft.notes }
     {
-        Inventory {
+        let inventory = Inventory {
             forest: draft.forest,
             credentials: Credentials {
                 secrets: draft.secrets,
                 lease_ids: draft.lease_ids,
             },
             terms: draft.terms,
-        }
+        };
+        (inventory, draft.notes)
     }
 }

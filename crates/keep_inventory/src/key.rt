@@ -19,7 +19,9 @@ pub enum Key {
     ExplicitMaxTtl,
     Need,
     Secret,
+    SecretFile,
     LeaseId,
+    LeaseIdFile,
 }
 
 impl Key {
@@ -43,7 +45,9 @@ impl Key {
             Key::ExplicitMaxTtl => "explicit_max_ttl",
             Key::Need => "need",
             Key::Secret => "secret",
+            Key::SecretFile => "secret_file",
             Key::LeaseId => "lease_id",
+            Key::LeaseIdFile => "lease_id_file",
         }
     }
 }

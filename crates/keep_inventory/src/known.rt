@@ -3,6 +3,7 @@ ghost use Rattle.std.specs.List.{list_all};
 ghost use Rattle.std.specs.BTreeMap.{keys as map_keys};
 ghost use Rattle.toml.specs.View.{table_view};
 ghost use Rattle.keep_inventory.specs.Keys.{all_keys, is_one_of, lease_keys, token_keys, top_keys};
+ghost use Rattle.keep_inventory.specs.Languages.{full};
 ghost use Rattle.keep_inventory.specs.Values.{only};
 
 use crate::fault::InvFault;
@@ -22,7 +23,7 @@ pub fn only_top_keys(table: &Table) -> Result<(), InvFault>
 
 /// Refuses a token that has another key than those of a token.
 pub fn only_token_keys(table: &Table, index: u32) -> Result<(), InvFault>
-    ensures { result ≡ only token_keys (Some index) (table_view table.now) }
+    ensures { result ≡ only (token_keys full) (Some index) (table_view table.now) }
 {
     only(
         table,
@@ -38,6 +39,7 @@ pub fn only_token_keys(table: &Table, index: u32) -> Result<(), InvFault>
             Key::ExplicitMaxTtl,
             Key::Need,
             Key::Secret,
+            Key::SecretFile,
         ],
         Some(index),
     )
@@ -45,7 +47,7 @@ pub fn only_token_keys(table: &Table, index: u32) -> Result<(), InvFault>
 
 /// Refuses a lease that has another key than those of a lease.
 pub fn only_lease_keys(table: &Table, index: u32) -> Result<(), InvFault>
-    ensures { result ≡ only lease_keys (Some index) (table_view table.now) }
+    ensures { result ≡ only (lease_keys full) (Some index) (table_view table.now) }
 {
     only(
         table,
@@ -59,6 +61,7 @@ pub fn only_lease_keys(table: &Table, index: u32) -> Result<(), InvFault>
             Key::MaxTtl,
             Key::Need,
             Key::LeaseId,
+            Key::LeaseIdFile,
         ],
         Some(index),
     )

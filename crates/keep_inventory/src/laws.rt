@@ -1,8 +1,8 @@
 ghost use Rattle.std.specs.Prelude.{◌≡◌, ◌+◌};
 ghost use Rattle.keep_moment.specs.declared.moment.TheConstants.{LAST};
 ghost use Rattle.keep_tree.specs.declared.forest.TheConstants.{END_MAX, MARGIN_MAX};
-ghost use Rattle.keep_inventory.specs.declared.limits.TheConstants.{CREDENTIAL_MAX, MOST_INVENTORY, SPAN_MAX, SYSTEM_MAX};
-ghost use Rattle.keep_inventory.specs.Laws.{InventoryLaw, SecrecyLaw, SendableLaw, TextLaw, WrittenLaw};
+ghost use Rattle.keep_inventory.specs.declared.limits.TheConstants.{CREDENTIAL_MAX, MOST_INVENTORY, PATH_MAX, SPAN_MAX, STEP_ABSENT, SYSTEM_MAX};
+ghost use Rattle.keep_inventory.specs.Laws.{InventoryLaw, SecrecyLaw, SendableLaw, ServedLaw, ServedSecrecyLaw, StrictLaw, TextLaw, WrittenLaw};
 
 /// The limits of inventories, each by its number; those of moments and margins are cited from the crates below.
 pub fn limits_of_inventories()
@@ -10,23 +10,33 @@ pub fn limits_of_inventories()
     ensures span { SPAN_MAX ≡ 4294967295 }
     ensures system { SYSTEM_MAX ≡ 2764800 }
     ensures credential { CREDENTIAL_MAX ≡ 256 }
+    ensures path { PATH_MAX ≡ 4096 }
+    ensures step { STEP_ABSENT ≡ 3600 }
     ensures margin { MARGIN_MAX ≡ 3600 }
     ensures last { LAST ≡ 253402300799 }
     ensures end { END_MAX ≡ LAST + SPAN_MAX }
 {}
 
-/// The law that the inventory of a text is a forest, as one that grew entry by entry, with one credential and one set of
-/// terms for each of its entries, with no credential twice for tokens or for leases; that each credential can be sent, that
+/// The law that what is read of a text is a forest, as one that grew entry by entry, with one credential, one set of terms and one
+/// note for each of its entries, with no credential twice for tokens or for leases; that each credential can be sent, that
 /// each step is a duration, and that the step of a periodic token is its period.
 pub fn inventories_are_forests()
-    ensures { InventoryLaw }
+    ensures served { ServedLaw }
+    ensures inventory { InventoryLaw }
 {}
 
-/// The law that the inventory of a text is what its document writes: the margin, and one entry for each table and no other, tokens
-/// before leases and each in the order of the text, with the name, the parent, the issue, the end, the terms, the need and the
-/// credential that its table writes, or what stands for each of them where the key is absent; and no table has another key.
+/// The law that what is read of a text is what its document writes: the margin, and one entry for each table and no other, tokens
+/// before leases and each in the order of the text, with the name, the parent, the issue, the end, the terms, the need, the
+/// credential and the file that its table writes, or what stands for each of them where the key is absent; and no table has another
+/// key.
 pub fn inventories_are_written()
     ensures { WrittenLaw }
+{}
+
+/// The law that the strict language is a part of the full one: a text that is read with durations as numbers, with each issue, end
+/// and increment written, with needs that are moments and without files, is read as the same.
+pub fn strict_inventories_mean_the_same()
+    ensures { StrictLaw }
 {}
 
 /// The law that each credential of the inventory of a text can be sent: it has 1 to 256 bytes, each from 0x21 to 0x7E. So
@@ -37,7 +47,8 @@ pub fn credentials_are_sendable()
 {}
 
 /// The law that nothing but the credentials of an inventory comes from the keys `secret` and `lease_id`: two documents that
-/// differ in these keys and their values alone have the same forest and the same terms.
+/// differ in these keys and their values alone have the same forest, the same terms and the same notes.
 pub fn secrets_stay_in_credentials()
-    ensures { SecrecyLaw }
+    ensures served { ServedSecrecyLaw }
+    ensures inventory { SecrecyLaw }
 {}

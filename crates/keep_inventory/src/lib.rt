@@ -8,6 +8,7 @@
 
 mod document;
 mod draft;
+mod duration;
 mod fault;
 mod inventory;
 mod key;
@@ -15,19 +16,25 @@ mod known;
 mod laws;
 mod limits;
 mod lookup;
+mod need;
+mod note;
 mod register;
 mod row;
+mod served;
 mod terms;
 mod value;
 
-pub use document::read;
+pub use document::{read, read_served};
 pub use fault::InvFault;
 pub use inventory::{Credentials, Inventory};
 pub use key::Key;
 pub use laws::{
     credentials_are_sendable, inventories_are_forests, limits_of_inventories,
-    secrets_stay_in_credentials,
+    secrets_stay_in_credentials, strict_inventories_mean_the_same,
 };
-pub use limits::{CREDENTIAL_MAX, MOST_INVENTORY, SPAN_MAX, SYSTEM_MAX};
+pub use limits::{CREDENTIAL_MAX, MOST_INVENTORY, PATH_MAX, SPAN_MAX, STEP_ABSENT, SYSTEM_MAX};
 pub use lookup::{LookupFault, told_terms};
+pub use need::Need;
+pub use note::Note;
+pub use served::Served;
 pub use terms::Terms;

@@ -13,3 +13,9 @@ pub const SYSTEM_MAX: Span = 2764800;
 
 /// The most bytes of a credential.
 pub const CREDENTIAL_MAX: usize = 256;
+
+/// The most bytes of a path.
+pub const PATH_MAX: usize = 4096;
+
+/// What is asked for where neither an increment nor a period is written, in seconds: an hour.
+pub const STEP_ABSENT: Span = 3600;

@@ -1,26 +1,34 @@
-ghost use Rattle.std.specs.Prelude.{◌≡◌, option_map, option_copied, unwrap_or};
+ghost use Rattle.std.specs.Prelude.{◌≡◌, IfOk, option_map, option_copied, unwrap_or};
 ghost use Rattle.toml.specs.View.{table_view};
 ghost use Rattle.keep_inventory.specs.Answers.{Gives};
-ghost use Rattle.keep_inventory.specs.Rows.{index_or_none, life_of, has_step, token_terms, lease_terms, token_row, lease_row};
+ghost use Rattle.keep_inventory.specs.Languages.{full};
+ghost use Rattle.keep_inventory.specs.Needs.{is_for_good, until_of};
+ghost use Rattle.keep_inventory.specs.Rows.{file_at, index_or_none, life_of, step_or, token_terms, lease_terms, token_row, lease_row};
+ghost use Rattle.keep_inventory.specs.Values.{alone_if, has_if};
 
 use crate::fault::InvFault;
 use crate::key::Key;
 use crate::known::{only_lease_keys, only_token_keys};
-use crate::limits::SPAN_MAX;
+use crate::limits::{SPAN_MAX, STEP_ABSENT};
+use crate::need::Need;
+use crate::note::Note;
 use crate::terms::{Terms, max_ttl};
-use crate::value::{credential_at, end_at, flag_at, moment_at, span_at, text_at};
+use crate::value::{
+    credential_at, end_at, flag_at, is_there, moment_at, need_at, path_at, span_at, text_at,
+};
 use keep_moment::{Moment, Name, Span, Text};
 use keep_tree::{Entry, Forest, Kind};
-use std::alloc::Global;
+use std::alloc::{AllocError, Global};
 use std::fmt;
 use toml::Table;
 
-/// What one table of an inventory writes: an entry, the credential that is sent for it, and its terms.
+/// What one table of an inventory writes: an entry, the credential that is sent for it, its terms, and what it leaves open.
 #[derive(Drop)]
 pub struct Row {
     pub entry: Entry,
     pub credential: Text,
     pub terms: Terms,
+    pub note: Note,
 }
 
 impl fmt::Debug for Row {
@@ -29,16 +37,18 @@ impl fmt::Debug for Row {
         f.debug_struct("Row")
             .field("entry", &self.entry)
             .field("terms", &self.terms)
+            .field("note", &self.note)
             .finish_non_exhaustive()
     }
 }
 
-/// The issue and the end of an entry, and whether it can be renewed.
+/// The issue and the end of an entry, and whether it can be renewed. Where issue and end are left open, both are 0.
 #[derive(Clone, Copy, Debug)]
 pub struct Life {
     pub issued: Moment,
     pub end: u64,
     pub renewable: bool,
+    pub is_told: bool,
 }
 
 /// The row that the table of the next token writes, whose index is the number of entries so far.
@@ -49,7 +59,7 @@ pub fn token_row(
     forest: &Forest,
     table: &Table,
 ) -> Result<Row, InvFault>
-    ensures { Gives (λ row. row) result (token_row system_max forest.now (table_view table.now)) }
+    ensures { Gives (λ row. row) result (token_row full system_max forest.now (table_view table.now)) }
 {
     let index = forest.len();
     only_token_keys(table, index)?;
@@ -60,8 +70,9 @@ pub fn token_row(
     let parent = text_at(table, Some(index), Key::Parent)?;
     let life = read_life(table, index)?;
     let terms = token_terms(table, system_max, index, life.issued)?;
-    let need = moment_at(table, Some(index), Key::Need)?;
+    let need = need_at(table, Some(index), Key::Need)?;
     let secret = credential_at(table, Some(index), Key::Secret)?;
+    let file = file_at(table, index, Key::SecretFile, secret.is_some())?;
     Ok(Row {
         entry: Entry {
             name: Name::of(alloc, name.as_bytes())?,
@@ -71,10 +82,15 @@ pub fn token_row(
             renewable: life.renewable,
             step: terms.step(),
             ceiling: terms.ceiling(),
-            need: need.map_or(0, |need| need.get()),
+            need: until_of(need),
         },
         credential: Text::of(alloc, text_or(secret, name).as_bytes())?,
         terms,
+        note: Note {
+            is_told: life.is_told,
+            is_always: is_for_good(need),
+            file: owned(alloc, file)?,
+        },
     })
 }
 
@@ -86,7 +102,7 @@ pub fn lease_row(
     forest: &Forest,
     table: &Table,
 ) -> Result<Row, InvFault>
-    ensures { Gives (λ row. row) result (lease_row system_max forest.now (table_view table.now)) }
+    ensures { Gives (λ row. row) result (lease_row full system_max forest.now (table_view table.now)) }
 {
     let index = forest.len();
     only_lease_keys(table, index)?;
@@ -100,8 +116,9 @@ pub fn lease_row(
     ))?;
     let life = read_life(table, index)?;
     let terms = lease_terms(table, system_max, index, life.issued)?;
-    let need = moment_at(table, Some(index), Key::Need)?;
+    let need = need_at(table, Some(index), Key::Need)?;
     let lease_id = credential_at(table, Some(index), Key::LeaseId)?;
+    let file = file_at(table, index, Key::LeaseIdFile, lease_id.is_some())?;
     Ok(Row {
         entry: Entry {
             name: Name::of(alloc, name.as_bytes())?,
@@ -111,11 +128,81 @@ pub fn lease_row(
             renewable: life.renewable,
             step: terms.step(),
             ceiling: terms.ceiling(),
-            need: need.map_or(0, |need| need.get()),
+            need: until_of(need),
         },
         credential: Text::of(alloc, text_or(lease_id, name).as_bytes())?,
         terms,
+        note: Note {
+            is_told: life.is_told,
+            is_always: is_for_good(need),
+            file: owned(alloc, file)?,
+        },
     })
+}
+
+// The moment of a need, 0 where it has none of its own.
+fn until_of(need: Option<Need>) -> u64
+    ensures { result ≡ until_of need }
+{
+    match need {
+        None => 0,
+        Some(need) => need.until(),
+    }
+}
+
+fn is_for_good(need: Option<Need>) -> bool
+    ensures { result ≡ is_for_good need }
+{
+    match need {
+        None => false,
+        Some(need) => need.is_always(),
+    }
+}
+
+// The path of the file that holds a credential, which may not be written beside the credential itself.
+fn file_at(
+    table: &Table,
+    index: u32,
+    key: Key,
+    has_credential: bool,
+) -> Result<Option<&str>, InvFault>
+    ensures { Gives option_copied result (file_at index key has_credential (table_view table.now)) }
+{
+    let file = path_at(table, Some(index), key)?;
+    alone_if(has_credential, index, key, file.is_some())?;
+    Ok(file)
+}
+
+// Refuses a key that stands beside another and may not.
+fn alone_if(beside: bool, index: u32, key: Key, here: bool) -> Result<(), InvFault>
+    ensures { result ≡ alone_if beside index key here }
+{
+    if beside && here {
+        Err(InvFault::BadValue(Some(index), key))
+    } else {
+        Ok(())
+    }
+}
+
+// Refuses a table without a key that has to be there.
+fn has_if(must: bool, index: u32, key: Key, here: bool) -> Result<(), InvFault>
+    ensures { result ≡ has_if must index key here }
+{
+    if must && !here {
+        Err(InvFault::MissingKey(index, key))
+    } else {
+        Ok(())
+    }
+}
+
+// A text of its own.
+fn owned(alloc: Global, text: Option<&str>) -> Result<Option<Text>, AllocError>
+    ensures { IfOk result (λ owned. owned ≡ option_copied text.entry) }
+{
+    match text {
+        None => Ok(None),
+        Some(text) => Ok(Some(Text::of(alloc, text.as_bytes())?)),
+    }
 }
 
 // The index of the entry of that name, or one that no entry has.
@@ -146,32 +233,43 @@ fn text_or<'a>(written: Option<&'a str>, name: &'a str) -> &'a str
     }
 }
 
-// Issue, end, and whether it can be renewed.
+// Issue, end, and whether it can be renewed. Issue and end may both be left out.
 #[tactic(auto, unfolding(crate::specs::Rows::life_of))]
 fn read_life(table: &Table, index: u32) -> Result<Life, InvFault>
-    ensures { result ≡ life_of index (table_view table.now) }
+    ensures { result ≡ life_of full index (table_view table.now) }
 {
-    let issued = moment_at(table, Some(index), Key::Issued)?.ok_or(InvFault::MissingKey(
-        index,
-        Key::Issued,
-    ))?;
-    let end = end_at(table, Some(index), Key::End)?.ok_or(InvFault::MissingKey(index, Key::End))?;
+    let issued = moment_at(table, Some(index), Key::Issued)?;
+    let has_end = is_there(table, Key::End);
+    has_if(has_end, index, Key::Issued, issued.is_some())?;
+    let end = end_at(table, Some(index), Key::End)?;
+    has_if(issued.is_some(), index, Key::End, end.is_some())?;
     let renewable = flag_at(table, Some(index), Key::Renewable)?;
     Ok(Life {
-        issued,
-        end,
+        issued: or_first(issued),
+        end: end.unwrap_or(0),
         renewable: renewable.unwrap_or(true),
+        is_told: issued.is_some(),
     })
 }
 
-// Refuses a token that has neither an increment nor a period.
-fn has_step(index: u32, increment: Option<Span>, period: Span) -> Result<(), InvFault>
-    ensures { result ≡ has_step index increment period }
+// The moment, or the first one, 0, where there is none.
+fn or_first(moment: Option<Moment>) -> Moment
+    ensures { result ≡ unwrap_or moment 0 }
 {
-    if period == 0 && increment.is_none() {
-        Err(InvFault::MissingKey(index, Key::Increment))
+    match moment {
+        None => Moment::new(0).unwrap(),
+        Some(moment) => moment,
+    }
+}
+
+// What is asked for where there is no period.
+fn step_or(increment: Option<Span>, period: Span) -> Option<Span>
+    ensures { result ≡ step_or increment period }
+{
+    if period == 0 {
+        Some(increment.unwrap_or(STEP_ABSENT))
     } else {
-        Ok(())
+        increment
     }
 }
 
@@ -183,16 +281,15 @@ fn token_terms(
     index: u32,
     issued: Moment,
 ) -> Result<Terms, InvFault>
-    ensures { result ≡ token_terms system_max index issued (table_view table.now) }
+    ensures { result ≡ token_terms full system_max index issued (table_view table.now) }
 {
     let increment = span_at(table, Some(index), Key::Increment, 0, SPAN_MAX)?;
     let period = span_at(table, Some(index), Key::Period, 0, SPAN_MAX)?.unwrap_or(0);
-    has_step(index, increment, period)?;
     let longest = span_at(table, Some(index), Key::MaxTtl, 0, SPAN_MAX)?;
     let explicit_max = span_at(table, Some(index), Key::ExplicitMaxTtl, 0, SPAN_MAX)?;
     Ok(Terms {
         issued,
-        increment,
+        increment: step_or(increment, period),
         period,
         max_ttl: max_ttl(system_max, longest),
         explicit_max: explicit_max.unwrap_or(0),
@@ -207,15 +304,13 @@ fn lease_terms(
     index: u32,
     issued: Moment,
 ) -> Result<Terms, InvFault>
-    ensures { result ≡ lease_terms system_max index issued (table_view table.now) }
+    ensures { result ≡ lease_terms full system_max index issued (table_view table.now) }
 {
-    let increment = span_at(table, Some(index), Key::Increment, 0, SPAN_MAX)?.ok_or(
-        InvFault::MissingKey(index, Key::Increment),
-    )?;
+    let increment = span_at(table, Some(index), Key::Increment, 0, SPAN_MAX)?;
     let longest = span_at(table, Some(index), Key::MaxTtl, 0, SPAN_MAX)?;
     Ok(Terms {
         issued,
-        increment: Some(increment),
+        increment: Some(increment.unwrap_or(STEP_ABSENT)),
         period: 0,
         max_ttl: max_ttl(system_max, longest),
         explicit_max: 0,

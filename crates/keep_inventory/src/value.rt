@@ -1,4 +1,4 @@
-ghost use Rattle.std.specs.Prelude.{◌≡◌, option_map, option_copied, None, is_some};
+ghost use Rattle.std.specs.Prelude.{◌≡◌, ◌&&◌, ◌==◌, option_map, option_copied, None, is_some, nat_le, not};
 ghost use Rattle.std.specs.List.{list_all};
 ghost use Rattle.std.specs.Int.{is_in_range};
 ghost use Rattle.toml.specs.View.{view, table_view, items_view};
@@ -6,11 +6,14 @@ ghost use Rattle.toml.specs.Data.{get_member, as_table};
 ghost use Rattle.toml.specs.Text.{are_tables};
 ghost use Rattle.keep_inventory.specs.Keys.{key_text};
 ghost use Rattle.keep_inventory.specs.Answers.{Gives};
-ghost use Rattle.keep_inventory.specs.Values.{whole, moment, ending, flag, text, credential, is_credential, tables, value_at};
+ghost use Rattle.keep_inventory.specs.Languages.{full};
+ghost use Rattle.keep_inventory.specs.Values.{whole, if_within, span, moment, ending, is_always, need, flag, text, credential, is_credential, is_path, path, tables, there, value_at};
 
+use crate::duration::read_duration;
 use crate::fault::InvFault;
 use crate::key::Key;
-use crate::limits::CREDENTIAL_MAX;
+use crate::limits::{CREDENTIAL_MAX, PATH_MAX};
+use crate::need::Need;
 use keep_moment::{LAST, Moment, Span, read_rfc3339};
 use keep_tree::END_MAX;
 use toml::{Table, Value};
@@ -30,6 +33,43 @@ fn whole(value: &Value, low: u64, high: u64) -> Option<u64>
         Value::Integer(n) if *n >= 0 && low <= *n as u64 && *n as u64 <= high => Some(*n as u64),
         _ => None,
     }
+}
+
+// The number, where it is of this range.
+fn if_within(number: Option<u64>, low: u64, high: u64) -> Option<u64>
+    ensures { result ≡ if_within low high number }
+{
+    match number {
+        Some(n) if low <= n && n <= high => Some(n),
+        _ => None,
+    }
+}
+
+// A duration of this range: a whole number of seconds, or a text with units.
+fn as_span(value: &Value, low: u64, high: u64) -> Option<u64>
+    ensures { result ≡ span full low high (view value.now) }
+{
+    match value {
+        Value::String(text) => if_within(read_duration(text.as_bytes()), low, high),
+        _ => whole(value, low, high),
+    }
+}
+
+// A need: a moment, or `always`.
+fn as_need(value: &Value) -> Option<Need>
+    ensures { result ≡ need full (view value.now) }
+{
+    match value {
+        Value::String(text) if is_always(text.as_str()) => Some(Need::Always),
+        _ => Some(Need::Until(as_moment(value)?)),
+    }
+}
+
+#[tactic(auto, unfolding(crate::specs::Values::is_always))]
+fn is_always(text: &str) -> bool
+    ensures { result ≡ is_always text.now }
+{
+    text == "always"
 }
 
 // A moment: a whole number of seconds, or a date and time by RFC 3339.
@@ -78,7 +118,20 @@ pub fn end_at(table: &Table, place: Option<u32>, key: Key) -> Result<Option<u64>
     }
 }
 
-/// The duration at a key, in whole seconds of this range, if the key is there.
+/// The need at a key, if the key is there.
+pub fn need_at(table: &Table, place: Option<u32>, key: Key) -> Result<Option<Need>, InvFault>
+    ensures { result ≡ value_at (need full) place key (table_view table.now) }
+{
+    let Some(value) = at(table, key) else {
+        return Ok(None);
+    };
+    match as_need(value) {
+        Some(need) => Ok(Some(need)),
+        None => Err(InvFault::BadValue(place, key)),
+    }
+}
+
+/// The duration at a key, in seconds of this range, if the key is there.
 pub fn span_at(
     table: &Table,
     place: Option<u32>,
@@ -86,12 +139,12 @@ pub fn span_at(
     low: Span,
     high: Span,
 ) -> Result<Option<Span>, InvFault>
-    ensures { result ≡ value_at (whole low high) place key (table_view table.now) }
+    ensures { result ≡ value_at (span full low high) place key (table_view table.now) }
 {
     let Some(value) = at(table, key) else {
         return Ok(None);
     };
-    match whole(value, low as u64, high as u64) {
+    match as_span(value, low as u64, high as u64) {
         Some(seconds) => Ok(Some(seconds as u32)),
         None => Err(InvFault::BadValue(place, key)),
     }
@@ -147,6 +200,40 @@ pub fn credential_at(table: &Table, place: Option<u32>, key: Key) -> Result<Opti
         Value::String(text) if is_credential(text.as_bytes()) => Ok(Some(text.as_str())),
         _ => Err(InvFault::BadValue(place, key)),
     }
+}
+
+// Whether these bytes are the path of a file: 1 to 4,096 bytes, none of them a control character.
+#[tactic(auto, unfolding(crate::specs::Values::is_path))]
+fn is_path(text: &[u8]) -> bool
+    ensures { result ≡ is_path text.now }
+{
+    !text.is_empty() && text.len() <= PATH_MAX && has_no_control(text)
+}
+
+fn has_no_control(text: &[u8]) -> bool
+    ensures { result ≡ list_all (λ b. nat_le 0x20 b && not (b == 0x7F)) text.now }
+{
+    text.iter().all(|b| *b >= 0x20 && *b != 0x7f)
+}
+
+/// The path of a file at a key, if the key is there.
+pub fn path_at(table: &Table, place: Option<u32>, key: Key) -> Result<Option<&str>, InvFault>
+    ensures { Gives option_copied result (value_at path place key (table_view table.now)) }
+{
+    let Some(value) = at(table, key) else {
+        return Ok(None);
+    };
+    match value {
+        Value::String(text) if is_path(text.as_bytes()) => Ok(Some(text.as_str())),
+        _ => Err(InvFault::BadValue(place, key)),
+    }
+}
+
+/// Whether a key is there.
+pub fn is_there(table: &Table, key: Key) -> bool
+    ensures { result ≡ there key (table_view table.now) }
+{
+    at(table, key).is_some()
 }
 
 // Whether each of these values is a table.

@@ -27,8 +27,8 @@ const FAULTY: [(&str, &str); 15] = [
         "missing-key 0 name",
     ),
     (
-        "[[token]]\nname = \"web\"\nissued = 1000\nend = 1060\n",
-        "missing-key 0 increment",
+        "[[token]]\nname = \"web\"\nincrement = 60\n",
+        "missing-key 0 issued",
     ),
     (
         "[[token]]\nname = \"web\"\nissued = 1000\nend = 257697268095\nincrement = 60\n",

@@ -2,7 +2,7 @@ use keep_inventory::{InvFault, Key};
 use keep_tree::TreeFault;
 
 /// Each text with its first fault.
-pub const FAULTY: [(&str, InvFault); 49] = [
+pub const FAULTY: [(&str, InvFault); 87] = [
     // what is no document, a whole number past 64 bits among it
     ("token", InvFault::NotToml),
     ("end = 9223372036854775808", InvFault::NotToml),
@@ -91,7 +91,7 @@ pub const FAULTY: [(&str, InvFault); 49] = [
     ),
     (
         "[[token]]\nname = \"web\"\nissued = 1000\nend = 1060\nperiod = 0\nmax_ttl = -1",
-        InvFault::MissingKey(0, Key::Increment),
+        InvFault::BadValue(Some(0), Key::MaxTtl),
     ),
     (
         "[[token]]\nname = \"web\"\nissued = 1000\nend = 1060\nperiod = 60\nmax_ttl = -1\nexplicit_max_ttl = -1",
@@ -124,7 +124,7 @@ pub const FAULTY: [(&str, InvFault); 49] = [
     ),
     (
         "[[lease]]\nname = \"L\"\ntoken = \"T\"\nissued = 1000\nend = 1060\nmax_ttl = -1",
-        InvFault::MissingKey(0, Key::Increment),
+        InvFault::BadValue(Some(0), Key::MaxTtl),
     ),
     (
         "[[lease]]\n[[token]]\nname = \"T\"\nissued = 1000\nend = 1060\nincrement = 60",
@@ -184,5 +184,143 @@ pub const FAULTY: [(&str, InvFault); 49] = [
     (
         "[[token]]\n[[token]]\nnam = 3",
         InvFault::MissingKey(0, Key::Name),
+    ),
+    // durations with units: of their range, each unit once and in order, each with a number
+    ("margin = \"3600\"", InvFault::BadValue(None, Key::Margin)),
+    ("margin = \"1h1s\"", InvFault::BadValue(None, Key::Margin)),
+    ("margin = \"0s\"", InvFault::BadValue(None, Key::Margin)),
+    ("margin = \"1 hour\"", InvFault::BadValue(None, Key::Margin)),
+    ("margin = \"1H\"", InvFault::BadValue(None, Key::Margin)),
+    ("margin = \"60 s\"", InvFault::BadValue(None, Key::Margin)),
+    (
+        "[[token]]\nname = \"web\"\nissued = 1000\nend = 1060\nincrement = \"60\"",
+        InvFault::BadValue(Some(0), Key::Increment),
+    ),
+    (
+        "[[token]]\nname = \"web\"\nissued = 1000\nend = 1060\nincrement = \"1m60\"",
+        InvFault::BadValue(Some(0), Key::Increment),
+    ),
+    (
+        "[[token]]\nname = \"web\"\nissued = 1000\nend = 1060\nincrement = \"60sec\"",
+        InvFault::BadValue(Some(0), Key::Increment),
+    ),
+    (
+        "[[token]]\nname = \"web\"\nissued = 1000\nend = 1060\nincrement = \"m\"",
+        InvFault::BadValue(Some(0), Key::Increment),
+    ),
+    (
+        "[[token]]\nname = \"web\"\nissued = 1000\nend = 1060\nincrement = \"\"",
+        InvFault::BadValue(Some(0), Key::Increment),
+    ),
+    (
+        "[[token]]\nname = \"web\"\nissued = 1000\nend = 1060\nincrement = \"1s1m\"",
+        InvFault::BadValue(Some(0), Key::Increment),
+    ),
+    (
+        "[[token]]\nname = \"web\"\nissued = 1000\nend = 1060\nincrement = \"1m1m\"",
+        InvFault::BadValue(Some(0), Key::Increment),
+    ),
+    (
+        "[[token]]\nname = \"web\"\nissued = 1000\nend = 1060\nincrement = \"1.5h\"",
+        InvFault::BadValue(Some(0), Key::Increment),
+    ),
+    (
+        "[[token]]\nname = \"web\"\nissued = 1000\nend = 1060\nincrement = \"-1m\"",
+        InvFault::BadValue(Some(0), Key::Increment),
+    ),
+    (
+        "[[token]]\nname = \"web\"\nissued = 1000\nend = 1060\nincrement = \"00000000001s\"",
+        InvFault::BadValue(Some(0), Key::Increment),
+    ),
+    (
+        "[[token]]\nname = \"web\"\nissued = 1000\nend = 1060\nincrement = \"4294967296s\"",
+        InvFault::BadValue(Some(0), Key::Increment),
+    ),
+    (
+        "[[token]]\nname = \"web\"\nissued = 1000\nend = 1060\nincrement = \"1d \"",
+        InvFault::BadValue(Some(0), Key::Increment),
+    ),
+    (
+        "[[token]]\nname = \"web\"\nissued = 1000\nend = 1060\nincrement = \"m\"\nperiod = \"m\"",
+        InvFault::BadValue(Some(0), Key::Increment),
+    ),
+    (
+        "[[token]]\nname = \"web\"\nissued = 1000\nend = 1060\nperiod = \"m\"\nmax_ttl = \"m\"",
+        InvFault::BadValue(Some(0), Key::Period),
+    ),
+    (
+        "[[token]]\nname = \"web\"\nissued = 1000\nend = 1060\nmax_ttl = \"m\"\nexplicit_max_ttl = \"m\"",
+        InvFault::BadValue(Some(0), Key::MaxTtl),
+    ),
+    (
+        "[[token]]\nname = \"web\"\nissued = 1000\nend = 1060\nexplicit_max_ttl = \"m\"\nneed = \"m\"",
+        InvFault::BadValue(Some(0), Key::ExplicitMaxTtl),
+    ),
+    // needs: `always` is one word
+    (
+        "[[token]]\nname = \"web\"\nissued = 1000\nend = 1060\nneed = \"Always\"",
+        InvFault::BadValue(Some(0), Key::Need),
+    ),
+    (
+        "[[token]]\nname = \"web\"\nissued = 1000\nend = 1060\nneed = \"always \"",
+        InvFault::BadValue(Some(0), Key::Need),
+    ),
+    (
+        "[[token]]\nname = \"web\"\nissued = 1000\nend = 1060\nneed = \"forever\"",
+        InvFault::BadValue(Some(0), Key::Need),
+    ),
+    (
+        "[[token]]\nname = \"web\"\nissued = 1000\nend = 1060\nneed = \"90m\"",
+        InvFault::BadValue(Some(0), Key::Need),
+    ),
+    // files: a path, and no credential beside it
+    (
+        "[[token]]\nname = \"web\"\nissued = 1000\nend = 1060\nsecret_file = \"\"",
+        InvFault::BadValue(Some(0), Key::SecretFile),
+    ),
+    (
+        "[[token]]\nname = \"web\"\nissued = 1000\nend = 1060\nsecret_file = 3",
+        InvFault::BadValue(Some(0), Key::SecretFile),
+    ),
+    (
+        "[[token]]\nname = \"web\"\nissued = 1000\nend = 1060\nsecret_file = \"a\\u007F\"",
+        InvFault::BadValue(Some(0), Key::SecretFile),
+    ),
+    (
+        "[[token]]\nname = \"web\"\nissued = 1000\nend = 1060\nsecret_file = \"a\\n\"",
+        InvFault::BadValue(Some(0), Key::SecretFile),
+    ),
+    (
+        "[[token]]\nname = \"web\"\nissued = 1000\nend = 1060\nsecret_file = \"a\"\nsecret = \"b\"",
+        InvFault::BadValue(Some(0), Key::SecretFile),
+    ),
+    (
+        "[[token]]\nname = \"web\"\nissued = 1000\nend = 1060\nsecret_file = \"\"\nsecret = \"\"",
+        InvFault::BadValue(Some(0), Key::Secret),
+    ),
+    (
+        "[[token]]\nname = \"web\"\nissued = 1000\nend = 1060\nlease_id_file = \"a\"",
+        InvFault::UnknownKey(Some(0)),
+    ),
+    (
+        "[[token]]\nname = \"T\"\nissued = 1000\nend = 1060\n[[lease]]\nname = \"L\"\ntoken = \"T\"\nissued = 1000\nend = 1060\nlease_id_file = \"a\"\nlease_id = \"b\"",
+        InvFault::BadValue(Some(1), Key::LeaseIdFile),
+    ),
+    (
+        "[[token]]\nname = \"T\"\nissued = 1000\nend = 1060\n[[lease]]\nname = \"L\"\ntoken = \"T\"\nissued = 1000\nend = 1060\nsecret_file = \"a\"",
+        InvFault::UnknownKey(Some(1)),
+    ),
+    (
+        "[[token]]\nname = \"web\"\n[[token]]\nname = \"app\"\nneed = \"m\"",
+        InvFault::BadValue(Some(1), Key::Need),
+    ),
+    // what is left open, once the whole text is read: the first such entry
+    (
+        "[[token]]\nname = \"web\"",
+        InvFault::MissingKey(0, Key::Issued),
+    ),
+    (
+        "[[token]]\nname = \"web\"\nissued = 1000\nend = 1060\n[[token]]\nname = \"app\"\nneed = \"always\"",
+        InvFault::MissingKey(1, Key::Issued),
     ),
 ];

@@ -2,9 +2,10 @@
 use Rattle.std.proofs.Common.{◌≡◌, drop}
 use Rattle.toml.specs.View.{items_view}
 use Rattle.keep_inventory.specs.declared.key.Key.TheVariants.{Token}
+use Rattle.keep_inventory.specs.Languages.{full}
 use Rattle.keep_inventory.specs.Inventory.{token_entered, entered_by}
 use Rattle.keep_inventory.proofs.draft.Draft.enter_tokens.Given as goal
 
 abbrev pub invariant-loop-token : goal.invariant-loop-token
 invariant-loop-token l =
-    entered_by (token_entered l.fn.system_max) Token l.self (items_view (drop l.token-index l.tokens)) ≡ entered_by (token_entered l.fn.system_max) Token l.initial.self (items_view l.tokens)
+    entered_by (token_entered full l.fn.system_max) Token l.self (items_view (drop l.token-index l.tokens)) ≡ entered_by (token_entered full l.fn.system_max) Token l.initial.self (items_view l.tokens)

@@ -1,0 +1,40 @@
+-- Durations: a text of numbers with units, as "90m", "1h30m" or "30d", in seconds.
+-- Source: this project's own. A day has 86,400 seconds.
+use Rattle.std.specs.Prelude.{ℕ, ◌+◌, ◌*◌, Bool, ◌&&◌, ◌==◌, if◌then◌else◌, List, [], ◌∷◌, Option, Some, None, length, take, drop, slice_index, nat_lt, nat_le}
+use Rattle.std.specs.Char.{is_ascii_digit}
+use Rattle.std.specs.Str.Parse.{digits_value}
+
+-- how many digits stand at the front
+unfoldable pub digits_before : List ℕ → ℕ
+digits_before [] = 0
+digits_before (b ∷ bs) = if is_ascii_digit b then 1 + digits_before bs else 0
+
+-- a number of 1 to 10 digits and this letter stand at the front
+unfoldable pub has_part : ℕ → List ℕ → Bool
+has_part letter text =
+    nat_lt 0 (digits_before text) && (nat_le (digits_before text) 10 && (nat_lt (digits_before text) (length text) && (slice_index text (digits_before text) == letter)))
+
+-- what they are worth, where each one is worth so many seconds
+unfoldable pub part_seconds : ℕ → ℕ → List ℕ → ℕ
+part_seconds letter size text = if has_part letter text then digits_value 10 (take (digits_before text) text) * size else 0
+
+-- what follows them
+unfoldable pub after_part : ℕ → List ℕ → List ℕ
+after_part letter text = if has_part letter text then drop (digits_before text + 1) text else text
+
+-- days, hours, minutes and seconds, each once at most and in this order
+abbrev pub hours_on : List ℕ → List ℕ
+hours_on text = after_part 100 text
+
+abbrev pub minutes_on : List ℕ → List ℕ
+minutes_on text = after_part 104 (hours_on text)
+
+abbrev pub seconds_on : List ℕ → List ℕ
+seconds_on text = after_part 109 (minutes_on text)
+
+-- one of them at least, and nothing else
+unfoldable pub duration_of : List ℕ → Option ℕ
+duration_of text =
+    if nat_lt 0 (length text) && (length (after_part 115 (seconds_on text)) == 0)
+    then Some (part_seconds 100 86400 text + (part_seconds 104 3600 (hours_on text) + (part_seconds 109 60 (minutes_on text) + part_seconds 115 1 (seconds_on text))))
+    else None
