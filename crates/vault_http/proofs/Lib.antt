@@ -19,3 +19,4 @@ pub mod DatedRoundTrip
 pub mod RequestLaws
 pub mod Sends
 pub mod Writable
+pub mod Arrived

@@ -17,3 +17,4 @@ pub mod Reading
 pub mod RoundTrip
 pub mod Dates
 pub mod RoundTripRequest
+pub mod Arriving

@@ -6,6 +6,7 @@
 //! then `message` has what a kind of message is, `known` how its bytes are judged, and `receive` how it is read.
 #![tactic(auto)]
 
+mod arriving;
 mod body;
 mod chunk;
 mod date;
@@ -28,6 +29,7 @@ mod round_trip;
 mod verdict;
 mod writing;
 
+pub use arriving::Arriving;
 pub use dated_reply::DatedReply;
 pub use found_head::MOST_FIELDS;
 pub use http_fault::HttpFault;
@@ -43,4 +45,4 @@ pub use room::Room;
 pub use round_trip::{
     held_is_read, http_limits_law, reply_reads_back, request_reads_back, undated_reply_reads_back,
 };
-pub use writing::{SendFault, write_reply, write_request};
+pub use writing::{SendFault, text_of_request, write_reply, write_request};

@@ -98,8 +98,9 @@ fn send<W: Sink>(sink: &mut W, text: &[u8]) -> Result<(), SendFault>
     Ok(())
 }
 
+/// The text of a request, as [`write_request`] writes it.
 #[tactic(auto, unfolding(crate::specs::Written::request_text))]
-fn text_of_request(alloc: Global, request: &Request) -> Result<Vec<u8>, AllocError>
+pub fn text_of_request(alloc: Global, request: &Request) -> Result<Vec<u8>, AllocError>
     ensures { IfOk result (λ text. text.items ≡ request_text request.now) }
 {
     let host = text_of_host(alloc, request.port)?;
