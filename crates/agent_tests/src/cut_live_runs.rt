@@ -42,7 +42,7 @@ fn is_cut_off<R: AllocGlobal + Abort>(
     Ok(())
 }
 
-// A request goes out behind its flushed `wake`, and behind a write or a flush that failed none does.
+// A request goes out after its flushed `wake`, and after a write or a flush that failed none does.
 #[test]
 fn live_runs_ask_nobody_behind_a_failed_write(rt: HostRuntime) -> Result<(), Fail> {
     for (calls, end, text) in &CUT_OFF {

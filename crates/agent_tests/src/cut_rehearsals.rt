@@ -10,7 +10,7 @@ use std::alloc::Global;
 use std::process::Abort;
 use std::test::Fail;
 
-// What `out` holds of the web example, where the call fails or wants memory that comes behind so many: three wake-ups, the
+// What `out` holds of the web example, where the call fails or wants memory that comes after so many: three wake-ups, the
 // last line and the flush.
 const HELD: [(u64, usize); 5] = [(0, 0), (1, 26), (2, 52), (3, 78), (4, 87)];
 

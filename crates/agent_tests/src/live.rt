@@ -89,7 +89,7 @@ const HEARD: [Heard; 11] = [
         ONCE_RENEWED,
         "leasekeep: line 2\n",
     ),
-    // a read that fails, behind all lines, before any, and behind a part of one
+    // a read that fails, after all lines, before any, and after a part of one
     (
         WEB,
         TWO_TICKS,
@@ -226,7 +226,7 @@ fn needs_of(alloc: Global, lines: usize, name: usize) -> Result<Vec<u8>, Fail> {
     Ok(events)
 }
 
-// How many lines, of which name's length, what comes behind them, how many pieces of one byte; and how much is written, with
+// How many lines, of which name's length, what comes after them, how many pieces of one byte; and how much is written, with
 // which fault line. The longest line has 256 bytes, the events 1 MiB, and 65,536 reads are the most; and one more of each.
 type Limit = (usize, usize, &'static str, usize, usize, &'static str);
 

@@ -5,7 +5,7 @@ ghost use Rattle.keep_device.specs.Seen.{no_input};
 use keep_device::{Device, MemorySink, Sink, SinkFault};
 use std::alloc::Global;
 
-/// A sink for which no memory is left behind so many calls.
+/// A sink for which no memory is left after so many calls.
 #[derive(Drop)]
 pub(crate) struct Wanting {
     sink: MemorySink,

@@ -147,7 +147,7 @@ fn lines_in_pieces_are_answered_alike(rt: HostRuntime) -> Result<(), Fail> {
     Ok(())
 }
 
-// What is no line, behind one that is.
+// What is no line, after one that is.
 const NO_LINES: [&str; 14] = [
     "\n",
     "tick 1000\n",
@@ -208,7 +208,7 @@ fn no_inventory_is_named(rt: HostRuntime) -> Result<(), Fail> {
 }
 
 // Two lines that are answered by 14 bytes each, in one write and one flush; and what is held where the call fails, or wants
-// memory, that comes behind so many.
+// memory, that comes after so many.
 const TWO_NEEDS: &str = "need web 1150\nneed web 1100\n";
 
 const HELD: [(u64, usize); 4] = [(0, 0), (1, 14), (2, 14), (3, 28)];

@@ -34,7 +34,7 @@ fn source(
     ))
 }
 
-// What stands behind a line is left for the next; where one moment is for all, nothing is read.
+// What stands after a line is left for the next; where one moment is for all, nothing is read.
 fn are_read(alloc: Global, text: &[u8], moments: &[u64]) -> Result<bool, Fail> {
     let mut source = source(alloc, text, 3, None)?;
     for seconds in moments {

@@ -35,7 +35,7 @@ fn stream(
     Ok(MemoryPair::new(source, MemorySink::new(alloc, write)))
 }
 
-// What a stream says, what it is answered, and the end of `web` behind it.
+// What a stream says, what it is answered, and the end of `web` after it.
 const SERVED: [(&[u8], &[u8], u64); 5] = [
     (RENEWAL, RENEWED, 1119),
     (b"hello\r\n\r\n", BAD_REQUEST, 1060),

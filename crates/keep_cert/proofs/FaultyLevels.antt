@@ -113,7 +113,7 @@ body_faulty v es (line ∷ next ∷ more) e some h =
 
 -- ---- the line `start`
 
--- what the lines behind the header say
+-- what the lines after the header say
 pub rest_of : List Entry → Version → List (List ℕ) → Result Cert CertFault
 rest_of es v ls = do
   second ← line_at 2 ls

@@ -23,7 +23,7 @@ use Rattle.keep_cert.proofs.ReadingLevels.{Faulty, HasText, cut_here, one_line_m
 pub no_line_is_none : (ls : List (List ℕ)) (l : List ℕ) → l ∷ ls ≢ []
 no_line_is_none ls l = λ no. cc
 
--- runs behind those that were found, and the line `end`
+-- runs after those that were found, and the line `end`
 abbrev pub RunsText : Version → List Entry → List Run → List ℕ → Type 0
 RunsText v es found text =
     (new : List Run) × AreRunsOf v es new × (length (found ++ new) ≤ MAX_LINES) × AreFew v (found ++ new) × (text ≡ flat_map (run_text v es) new ++ end_text (counted (found ++ new)))

@@ -101,7 +101,7 @@ unfolding run_line
 run_line_found One n es before line r key e = wake_found n es before line r key e
 run_line_found Two n es before line r key e = run_found n es before line r key e
 
--- the last line, behind which nothing stands
+-- the last line, after which nothing stands
 pub nothing_found : (ls : List (List ℕ)) (u : Unit {0}) → nothing_behind ls ≡ Ok u → ls ≡ [] ∷ []
 unfolding nothing_behind
 nothing_found [] u e = cc

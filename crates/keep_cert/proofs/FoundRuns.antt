@@ -49,7 +49,7 @@ pub few_at_last : (v : Version) (rs : List Run) → AreFew v rs → length rs �
 few_at_last One rs few lines = omega (arith, few, lines)
 few_at_last Two rs few lines = few
 
--- the lines write the runs that stand behind those which were found before
+-- the lines write the runs that stand after those which were found before
 record AreRunLines (v : Version) (es : List Entry) (found : List Run) (ls : List (List ℕ)) (rs : List Run) : Type 0 where
   new : List Run
   is : rs ≡ found ++ new

@@ -56,7 +56,7 @@ force_within g forest s prev x force =
     let needed = needed_within g.entries x.needed (omega arith) in
     (over_within g forest x.entry x.needed force.from.over needed, needed)
 
--- the forces behind the first wake-ups of a list
+-- the forces after the first wake-ups of a list
 forces_behind : (es : List Entry) (margin s : ℕ) (ends : ℕ → ℕ) (prev : Option ℕ) (xs ys : List Force) → AreForces es margin s ends prev (xs ++ ys) → (later : Option ℕ) × AreForces es margin s ends later ys
 forces_behind es margin s ends prev [] ys forces = (prev, forces)
 forces_behind es margin s ends prev (x ∷ xs) ys forces = forces_behind es margin s ends (Some x.at) xs ys forces.1

@@ -23,7 +23,7 @@ with_feed Truncated behind some = tt
 with_feed Trailing behind some = tt
 with_feed OutOfMemory behind some = tt
 
--- reading stops at the line behind these, the nth, whatever follows it
+-- reading stops at the line after these, the nth, whatever follows it
 pub record StopsAt {A : Type 0} (read : List (List ℕ) → Result A CertFault) (n : ℕ) (front ls : List (List ℕ)) (e : CertFault) : Type 0 where
   pub line : List ℕ
   pub behind : List (List ℕ)

@@ -56,7 +56,7 @@ pub counted_push : (rs : List Run) (r : Run) → counted (rs ++ r ∷ []) ≡ co
 counted_push [] r = omega arith
 counted_push (x ∷ xs) r = omega (arith, counted_push xs r)
 
--- what the lines say, behind so many runs, where this is the first of them
+-- what the lines say, after so many runs, where this is the first of them
 abbrev pub turn : Version → List Entry → List Run → List ℕ → List (List ℕ) → Result (List Run) CertFault
 turn v es found line rest =
     if bytes_eq (keyword line) (run_keyword v) && nat_lt (length found) MAX_LINES
@@ -89,7 +89,7 @@ pub value_on : {A B : Type 0} (r : Result A CertFault) (f : A → Result B CertF
 value_on (Ok y) f x h = ap f (ok_same y x h)
 value_on (Err y) f x h = cc
 
--- behind these runs, which have so many wake-ups, these lines say what all of them say
+-- after these runs, which have so many wake-ups, these lines say what all of them say
 pub record Behind (v : Version) (es : List Entry) (found : List Run) (n total : ℕ) (ls : List (List ℕ)) (all : Result (List Run) CertFault) : Type 0 where
   pub place : length found + 3 ≡ n
   pub counts : total ≡ counted found

@@ -36,7 +36,7 @@ pub record IsFirstAtFault (es : List Entry) (text : List ℕ) (n : ℕ) : Type 0
   pub stops : HasFeed text n → Begins es (whole (before ++ line ∷ [])) → ⊥
 
 -- what a fault says of a text. A line without its line feed is a bad header or a bad line; a text is truncated where some
--- certificate's begins with it and goes on, and has something behind it where it begins with some certificate's and goes on
+-- certificate's begins with it and goes on, and has something after it where it begins with some certificate's and goes on
 abbrev pub Says : List Entry → List ℕ → CertFault → Type 0
 Says es text BadHeader = IsFirstAtFault es text 1
 Says es text (BadLine n) = IsFirstAtFault es text n

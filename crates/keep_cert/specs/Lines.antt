@@ -8,11 +8,11 @@ use Rattle.keep_words.specs.Pieces.{four, pieces, six, three, two, words}
 use Rattle.keep_cert.specs.declared.fault.CertFault.{CertFault}
 use Rattle.keep_cert.specs.declared.fault.CertFault.TheVariants.{BadLine, BadNumber, Truncated}
 
--- the lines of a text, and behind the last line feed what is no whole line
+-- the lines of a text, and after the last line feed what is no whole line
 abbrev pub lines : List ℕ → List (List ℕ)
 lines text = pieces 10 text
 
--- what stands behind the last line feed is nothing, or a line that is cut off
+-- what stands after the last line feed is nothing, or a line that is cut off
 abbrev pub cut_off : ℕ → List ℕ → CertFault
 cut_off n [] = Truncated
 cut_off n (b ∷ bs) = BadLine n

@@ -49,7 +49,7 @@ wake_of n es line = do
   needed ← entry_named n es w.3
   Ok (record { first = at_moment; step = 0; count = 1; entry = entry; needed = needed })
 
--- numbers that a run can have behind so many wake-ups: with these they are at most LIMIT, it has a wake-up, a step only
+-- numbers that a run can have after so many wake-ups: with these they are at most LIMIT, it has a wake-up, a step only
 -- where it has more than one, and its last moment is at most LAST
 unfoldable pub is_run : ℕ → ℕ → ℕ → ℕ → Bool
 is_run before at_first step count =
@@ -60,7 +60,7 @@ abbrev pub right : ℕ → Bool → Result (Unit {0}) CertFault
 right n true = Ok tt
 right n false = Err (BadNumber n)
 
--- the line `run FIRST STEP COUNT ENTRY NEEDED`, behind so many wake-ups
+-- the line `run FIRST STEP COUNT ENTRY NEEDED`, after so many wake-ups
 unfoldable pub run_of : ℕ → List Entry → ℕ → List ℕ → Result Run CertFault
 run_of n es before line = do
   w ← six_words n line
@@ -81,7 +81,7 @@ unfoldable pub run_line : Version → ℕ → List Entry → ℕ → List ℕ �
 run_line One n es before line = wake_of n es line
 run_line Two n es before line = run_of n es before line
 
--- nothing stands behind the last line
+-- nothing stands after the last line
 unfoldable pub nothing_behind : List (List ℕ) → Result (Unit {0}) CertFault
 nothing_behind ([] ∷ []) = Ok tt
 nothing_behind ls = Err Trailing
@@ -97,7 +97,7 @@ end_of_runs n count line =
 unfoldable pub ending : ℕ → ℕ → List ℕ → List (List ℕ) → Result (Unit {0}) CertFault
 ending n count line rest = end_of_runs n count line >>= λ u. nothing_behind rest
 
--- the runs of the lines behind `start`, of which so many were found in the lines before these
+-- the runs of the lines after `start`, of which so many were found in the lines before these
 unfoldable pub runs_of : Version → List Entry → List Run → List (List ℕ) → Result (List Run) CertFault
 runs_of v es found [] = Err Truncated
 runs_of v es found (rest ∷ []) = Err (cut_off (length found + 3) rest)
@@ -114,7 +114,7 @@ unkeepable_of es line = do
   needed ← entry_named 3 es w.2
   Ok (Unkeepable entry needed)
 
--- what the lines behind `start` say
+-- what the lines after `start` say
 unfoldable pub body_of : Version → List Entry → List (List ℕ) → Result Body CertFault
 body_of v es ls = do
   head ← line_at 3 ls

@@ -22,10 +22,10 @@ pub enum CertFault {
     /// may be, or the count of `end` is not that of the wake-ups.
     #[error("bad-number {0}")]
     BadNumber(u64),
-    /// The text ends behind a line feed where one more line has to follow.
+    /// The text ends after a line feed where one more line has to follow.
     #[error("truncated")]
     Truncated,
-    /// Something stands behind the last line.
+    /// Something stands after the last line.
     #[error("trailing")]
     Trailing,
     /// Memory was refused.

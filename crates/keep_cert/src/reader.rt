@@ -81,7 +81,7 @@ fn start_of(line: &[u8]) -> Result<Moment, CertFault>
     Moment::new(seconds).ok_or(CertFault::BadNumber(2))
 }
 
-/// What the lines behind `start` say.
+/// What the lines after `start` say.
 #[tactic(auto, unfolding(crate::specs::Reading::body_of))]
 fn body_of(alloc: Global, forest: &Forest, version: Version, text: &[u8]) -> Result<Body, CertFault>
     ensures { Gives (λ body. body) result (body_of version forest.now.entries (lines text.now)) }

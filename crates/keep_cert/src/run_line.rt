@@ -31,7 +31,7 @@ pub(crate) fn run_keyword(version: Version) -> &'static [u8]
     }
 }
 
-/// What such a line says, behind so many wake-ups.
+/// What such a line says, after so many wake-ups.
 #[tactic(auto, unfolding(crate::specs::Reading::run_line))]
 pub(crate) fn run_line(
     forest: &Forest,
@@ -69,7 +69,7 @@ fn wake_of(forest: &Forest, n: u64, line: &[u8]) -> Result<Run, CertFault>
     })
 }
 
-/// The line `run FIRST STEP COUNT ENTRY NEEDED`, behind so many wake-ups.
+/// The line `run FIRST STEP COUNT ENTRY NEEDED`, after so many wake-ups.
 #[tactic(auto, unfolding(crate::specs::Reading::run_of, crate::specs::Lines::six_words))]
 fn run_of(forest: &Forest, n: u64, before: u64, line: &[u8]) -> Result<Run, CertFault>
     requires { before ≤ MAX_LINES * LIMIT }
@@ -94,7 +94,7 @@ fn run_of(forest: &Forest, n: u64, before: u64, line: &[u8]) -> Result<Run, Cert
     })
 }
 
-/// Whether a run can have these numbers behind so many wake-ups.
+/// Whether a run can have these numbers after so many wake-ups.
 #[tactic(auto, unfolding(crate::specs::Reading::is_run))]
 fn is_run(before: u64, first: u64, step: u64, count: u64) -> bool
     requires before { before ≤ MAX_LINES * LIMIT }
@@ -133,7 +133,7 @@ fn end_of_runs(n: u64, count: u64, line: &[u8]) -> Result<(), CertFault>
     }
 }
 
-/// Nothing stands behind the last line.
+/// Nothing stands after the last line.
 pub(crate) fn nothing_behind(rest: &[u8]) -> Result<(), CertFault>
     ensures { result ≡ nothing_behind (lines rest.now) }
 {

@@ -12,7 +12,7 @@ use keep_tree::Forest;
 use keep_words::begins;
 use std::alloc::Global;
 
-/// The runs of the lines behind `start`, the third line first.
+/// The runs of the lines after `start`, the third line first.
 pub(crate) fn runs_of(
     alloc: Global,
     forest: &Forest,

@@ -58,7 +58,7 @@ unfolding own_end
 own_all_fixed e margin end [] fixed = refl
 own_all_fixed e margin end (t ∷ ts) fixed = ap (λ n. own_end e margin n ts) (own_fixed e margin end t fixed) ∙ own_all_fixed e margin end ts fixed
 
--- moments behind prev: they rise from it
+-- moments after prev: they rise from it
 abbrev pub RisingBehind : Option ℕ → List ℕ → Type 0
 RisingBehind None ts = (low : ℕ) × IsRising low ts
 RisingBehind (Some t) ts = IsRising t ts

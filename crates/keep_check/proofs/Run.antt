@@ -1,4 +1,4 @@
--- A walk over the wake-ups of one run, behind its first: how far it goes, and where it stops.
+-- A walk over the wake-ups of one run, after its first: how far it goes, and where it stops.
 use Rattle.std.proofs.Common.{◌≡◌, ℕ, suc, zero, ◌+◌, ◌-◌, ◌*◌, ◌<◌, ◌≤◌, ◌⊎◌, ◌++◌, Bool, true, false, cond, List, [], ◌∷◌, Option, Some, None, max, nat_le, nat_lt, refl, sym, ap, ◌∙◌, subst, arith, inl, inr}
 use Rattle.std.proofs.lemmas.Bool.{and_from, and_right, false_from_ne_true}
 use Rattle.std.proofs.lemmas.Bool.Decides.{nat_tests}
@@ -164,7 +164,7 @@ walks_into es margin s ends entry needed gap top going q n t k rest start due lo
     walks es margin s ends entry needed gap top going q n (n - q) t (t + q * gap) k (k + q) rest (omega arith) refl refl start due low
     ∙ is_long es margin s ends entry needed gap (t + q * gap) (k + q) (n - q) rest (omega arith) going.apart (omega arith) long
 
--- what a walk finds behind a first wake-up that rises and is forced, it finds
+-- what a walk finds after a first wake-up that rises and is forced, it finds
 pub found_behind :
     (g : Forest) (s : ℕ) (prev : Option ℕ) (k : ℕ) (w : Force) (us : List Force) (last k' : ℕ) (found : Option Cause) → rises s prev w.at ≡ true →
     is_forced g.entries g.margin s (end_of g.entries) prev w.at w.entry w.needed ≡ true → Finds g s (Some w.at) (k + 1) us last k' found → Finds g s prev k (w ∷ us) last k' found

@@ -14,13 +14,13 @@ unfoldable pub rises : ℕ → Option ℕ → ℕ → Bool
 rises s None t = nat_le s t
 rises s (Some u) t = nat_le s t && nat_lt u t
 
--- whether entry and needed force a wake-up at t behind one at prev: the question of the code, which Forced asks
+-- whether entry and needed force a wake-up at t after one at prev: the question of the code, which Forced asks
 unfoldable pub is_forced : List Entry → ℕ → ℕ → (ℕ → ℕ) → Option ℕ → ℕ → ℕ → ℕ → Bool
 is_forced es margin s ends prev t entry needed =
     is_over es entry needed
     && (nat_lt s (entry_at es needed).need && (nat_lt (bound es ends prev entry) (entry_at es needed).need && nat_le (bound es ends prev entry) (t + margin)))
 
--- of wake-ups behind one at prev, of which the next is the k-th, what is wrong with the first that does not rise, or rises
+-- of wake-ups after one at prev, of which the next is the k-th, what is wrong with the first that does not rise, or rises
 -- and is not forced by the pair that it names
 unfoldable pub fault : List Entry → ℕ → ℕ → (ℕ → ℕ) → Option ℕ → ℕ → List Force → Option Cause
 fault es margin s ends prev k [] = None

@@ -36,7 +36,7 @@ impl GapTree {
         tree_of(alloc, &gaps)
     }
 
-    /// The first place, `from` or behind it, of a gap that is at least `least`.
+    /// The first place, `from` or after it, of a gap that is at least `least`.
     pub(crate) fn first_from(&self, from: usize, least: u64) -> Option<usize>
         requires marks { HasMarks self.now }
         requires few { length (gaps_in self.now) < 2 ^ 64 }

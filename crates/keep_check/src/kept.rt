@@ -67,7 +67,7 @@ fn own_end(forest: &Forest, index: u32, rising: &RisingRuns) -> u64
 /// The last end of a renewable entry that is asked by itself at each moment of the runs. From the first moment that gains on
 /// the end is at most a step after the last one that came in time, so the first gap that the step does not bridge ends it.
 /// So the loop turns four times at most: it may take the run in which the first moment gains, passes at once all runs whose
-/// gaps are bridged, takes the one behind them, and finds the next too late.
+/// gaps are bridged, takes the one after them, and finds the next too late.
 fn renewed_end(entry: &Entry, margin: u32, rising: &RisingRuns) -> u64
     requires { entry.now.renewable ≡ true }
     ensures { result ≡ own_end entry.now margin entry.now.end (moments_of (all_wakes rising.now.runs)) }

@@ -64,7 +64,7 @@ impl<'a> RisingRuns<'a> {
         self.runs
     }
 
-    /// The place of the first run, `at` or behind it, whose gap is at least `too_wide`; the number of runs where there is
+    /// The place of the first run, `at` or after it, whose gap is at least `too_wide`; the number of runs where there is
     /// none.
     pub(crate) fn wide_from(&self, at: usize, too_wide: u64) -> usize
         ensures within { result ≤ length self.now.runs }

@@ -44,7 +44,7 @@ pub(crate) fn last_of(run: &Run) -> u64
     run.first + (run.count - 1) * run.step
 }
 
-/// The first fault of a run behind a wake-up at `previous`; its first wake-up is the one number `count`.
+/// The first fault of a run after a wake-up at `previous`; its first wake-up is the one number `count`.
 fn fault_of_run(
     forest: &Forest,
     start: u64,
@@ -95,7 +95,7 @@ fn is_forced(forest: &Forest, start: u64, previous: Option<u64>, run: &Run) -> b
     start < need && bound < need && bound <= run.first + forest.margin() as u64
 }
 
-/// The first fault of a run behind its first wake-up, which is forced; the second is the one number `count`. Once a bound
+/// The first fault of a run after its first wake-up, which is forced; the second is the one number `count`. Once a bound
 /// is no later than the margin after the next wake-up, those of all that follow are so; and bounds only grow, so the first
 /// that reaches the need is found by a division.
 fn fault_after_first(forest: &Forest, start: u64, count: u64, run: &Run) -> Option<Cause>

@@ -63,7 +63,7 @@ never_long old (Refused i) answer long = absurd long
 never_long old (Lost i) answer long = absurd long
 never_long old (Need i until) answer long = absurd answer
 
--- behind the last answer there is no other
+-- after the last answer there is no other
 none_behind :
     (mid new : State) (round : Round) (events : List Event) (results : List (Result Output StepFault)) → round.unanswered ≡ [] → AnswerEach round events → mid.round ≡ None → History mid events results new →
     AllTaken results × (new.round ≡ None)

@@ -99,7 +99,7 @@ bound_behind g h forest t next answered i u later =
       by_test true x y new l = omega arith
       by_test false x y new l = l
 
--- the same pairs force behind such a round, as long as the bounds are no greater
+-- the same pairs force after such a round, as long as the bounds are no greater
 forced_behind :
     (g h : Forest) → IsForest g → (s t : ℕ) (ts : List ℕ) → IsPlanOf g s (t ∷ ts) → IsAnsweredByRule g h t (first_of ts) → (xs : List Force) (before : Option ℕ) (prev : ℕ) → t ≤ prev →
     All (λ u. t ≤ u) (moments_of xs) → ((i : ℕ) → bound h.entries (end_of h.entries) before i ≤ bound g.entries (end_of g.entries) (Some prev) i) →

@@ -51,9 +51,9 @@ order_rises : (s : ℕ) (ts : List ℕ) → InOrder s ts → IsRising s ts
 order_rises s [] order = tt
 order_rises s (t ∷ ts) order = (order.0, order_rises t ts order.1.1)
 
--- One step: what the bounds behind a moment cover, other bounds cover too.
+-- One step: what the bounds after a moment cover, other bounds cover too.
 
--- each entry of fs lasts, by its end, until what it carries from t on; or it carries no more than in es from s on, and behind
+-- each entry of fs lasts, by its end, until what it carries from t on; or it carries no more than in es from s on, and after
 -- each moment from t on its bound is no lower
 abbrev Serves : List Entry → List Entry → ℕ → ℕ → Type 0
 Serves es fs s t = (i p : ℕ) → t ≤ p → (carried fs t i ≤ end_of fs i) ⊎ ((carried fs t i ≤ carried es s i) × (bound es (end_of es) (Some p) i ≤ bound fs (end_of fs) (Some p) i))
@@ -90,7 +90,7 @@ safe_now h t keepable i =
       | inr lasts ↦ inl lasts
     ]
 
--- so where moments behind t come in time, a least plan has no more than one more
+-- so where moments after t come in time, a least plan has no more than one more
 at_most_one_more :
     (h : Forest) → IsForest h → (t : ℕ) (ts us : List ℕ) → AllKeepable h t (end_of h.entries) → t ≤ LAST → InOrder t ts → AllTimely h.entries h.margin t (end_of h.entries) (Some t) ts →
     IsPlanOf h t us → length us ≤ length (t ∷ ts)
@@ -188,7 +188,7 @@ answered_serves g h s t next answered later keepable i p from =
       )
     ]
 
--- so planning anew at t has at most the moments of g that come behind t, and one more
+-- so planning anew at t has at most the moments of g that come after t, and one more
 no_longer_behind :
     (g h : Forest) (s t : ℕ) (next : Option ℕ) (ts us : List ℕ) → IsForest h → IsAnswered g h t next → s ≤ t → t ≤ LAST → InOrder t ts →
     AllTimely g.entries g.margin s (end_of g.entries) (Some t) ts → IsPlanOf (shorten h t) t us → length us ≤ length (t ∷ ts)
@@ -216,7 +216,7 @@ safe_later es margin s ends u t next h safe i =
       by_test true x y z h = omega arith
       by_test false x y z h = omega arith
 
--- moments behind t, no more than these
+-- moments after t, no more than these
 record Behind (es : List Entry) (margin s : ℕ) (ends : ℕ → ℕ) (t : ℕ) (ts : List ℕ) : Type 0 where
   rest : List ℕ
   timely : AllTimely es margin s ends (Some t) rest

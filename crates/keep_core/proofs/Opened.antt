@@ -46,7 +46,7 @@ answered_only at (Refused i) e = refl
 answered_only at (Lost i) e = refl
 answered_only at (Need i until) e = refl
 
--- who is waited for behind an answer, was before it
+-- who is waited for after an answer, was before it
 still_waits : (round : Round) (i j : ℕ) → waits_for (Some (left round i)) j ≡ true → waits_for (Some round) j ≡ true
 unfolding without
 still_waits round i j waits =

@@ -17,7 +17,7 @@ InForce s = IsPlanOf s.forest s.last s.to_come × (length s.to_come ≤ LIMIT)
 abbrev pub IsSound : State → Type 0
 IsSound s = s.round ≡ None → InForce s
 
--- each wake-up is Forced as it is named, behind one at prev
+-- each wake-up is Forced as it is named, after one at prev
 abbrev pub AllForcedAs : List Entry → ℕ → ℕ → (ℕ → ℕ) → Option ℕ → List Force → Type 0
 AllForcedAs es margin s ends prev [] = Unit {0}
 AllForcedAs es margin s ends prev (x ∷ xs) = Forced es margin s ends prev x.at x.entry x.needed × AllForcedAs es margin s ends (Some x.at) xs

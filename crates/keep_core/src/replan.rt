@@ -17,7 +17,7 @@ use keep_plan::{Decision, Plan, plan};
 use keep_tree::Forest;
 use std::alloc::{AllocError, Global};
 
-/// Shortens, in the forest, the needs that no plan from `at` can keep, notes them behind those of before, and plans anew from
+/// Shortens, in the forest, the needs that no plan from `at` can keep, notes them after those of before, and plans anew from
 /// there. Refused, the forest and the list are as they were.
 pub(crate) fn replan(
     alloc: Global,
@@ -42,7 +42,7 @@ pub(crate) fn replan(
     }
 }
 
-/// Shortens, in the forest, the needs that no plan from `at` can keep, notes them behind those of before, and gives the needs
+/// Shortens, in the forest, the needs that no plan from `at` can keep, notes them after those of before, and gives the needs
 /// as they were. Refused, which is for want of memory alone, the forest and the list are as they were.
 pub(crate) fn shorten(
     alloc: Global,

@@ -45,7 +45,7 @@ next_piece (piece ∷ pieces) left = max piece 1
 abbrev pub handed : Supply → ℕ → ℕ
 handed s room = min (min (length s.bytes) room) (next_piece s.pieces (length s.bytes))
 
--- how many reads hand out so many bytes, where each offers the most room: a piece each, and full rooms behind the last
+-- how many reads hand out so many bytes, where each offers the most room: a piece each, and full rooms after the last
 unfoldable pub reads_of : List ℕ → ℕ → ℕ
 reads_of [] left = (left + (MOST_ROOM - 1)) / MOST_ROOM
 reads_of (piece ∷ pieces) zero = 0

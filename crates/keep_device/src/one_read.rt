@@ -40,7 +40,7 @@ pub fn zeros(alloc: Global, n: usize) -> Result<Vec<u8>, AllocError>
     vec![in alloc; 0u8; n]
 }
 
-/// Makes one read, puts what it gives behind `bytes`, and says whether it gave something: else the input is at its end.
+/// Makes one read, puts what it gives after `bytes`, and says whether it gave something: else the input is at its end.
 ///
 /// The read offers all of `room`, or what is left up to one byte past `max` where that is less.
 pub fn read_more<R: Source>(

@@ -31,7 +31,7 @@ pub fn read_all<R: Source>(alloc: Global, source: &mut R, max: usize) -> Result<
     Ok(Text::from_vec(bytes))
 }
 
-/// Reads the rest of the input behind `bytes`, which are empty.
+/// Reads the rest of the input after `bytes`, which are empty.
 fn read_to_end<R: Source>(
     source: &mut R,
     room: &mut [u8],

@@ -20,7 +20,7 @@ use Rattle.keep_cert.specs.Printing.{certified}
 use Rattle.keep_cert.specs.declared.cert.TheConstants.{MOST_CERTIFICATE}
 use Rattle.keep_inventory.proofs.Entered.{within_test}
 
--- the sizes of words, each with the byte behind it
+-- the sizes of words, each with the byte after it
 abbrev sizes : List (List ℕ) → ℕ
 sizes [] = 0
 sizes (w ∷ ws) = length w + 1 + sizes ws

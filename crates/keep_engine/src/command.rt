@@ -76,7 +76,7 @@ impl Command {
 
 /// Does what a command asks: [`run_ends`], [`run_plan`], [`run_margin`], [`run_reach`], [`run_rehearse`](keep_run::run_rehearse) or [`run_check`] over the bytes of its files.
 ///
-/// The inventory is read first, at most [`MOST_INVENTORY`] bytes, and for `check` the certificate behind it, at most
+/// The inventory is read first, at most [`MOST_INVENTORY`] bytes, and for `check` the certificate after it, at most
 /// [`MOST_CERTIFICATE`]. Exit 6, with the line of a read: a file was not read to its end, or is longer. Exit 7: memory for
 /// it was refused. Then `out` is untouched.
 pub fn obey<I: Inputs, W: Sink, E: Sink>(

@@ -72,7 +72,7 @@ exchanged old table t r heard sent wire result is says after gives carried =
     behind : {a b : Table} {v w : List ℕ} → a ≡ b → v ≡ w → ◌≡◌ {A = Option Behind} (Some (record { table = a; wire = v })) (Some (record { table = b; wire = w }))
     behind {a} {b} {v} {w} e f = ap (λ l. Some (record { table = l; wire = v })) e ∙ ap (λ bs. Some (record { table = b; wire = bs })) f
 
--- memory was wanting behind the step
+-- memory was wanting after the step
 pub given_up :
     (old table : Table) (t : ℕ) (r heard : Request) (wire : List ℕ) (result : Result Reply ExchangeFault) →
     heard ≡ without_port r → table ≡ (step old t heard).table → wire ≡ [] → result ≡ Err OutOfMemory →

@@ -57,7 +57,7 @@ failed (Err e) P Q is q = q
 pub cut_at_once : (old : Table) (t : ℕ) (rs : List Request) → IsCutShort old t rs (Some old)
 cut_at_once old t rs = record { done = 0; answers = []; mid = old; are = refl; table = old; left = inl refl; is = refl }
 
--- the count behind one answer more
+-- the count after one answer more
 pub count_more : (xs : List Answer) (a : Answer) (n : ℕ) → after_answers (xs ++ a ∷ []) n ≡ after_answer a (after_answers xs n)
 count_more [] a n = refl
 count_more (b ∷ xs) a n = count_more xs a (after_answer b n)

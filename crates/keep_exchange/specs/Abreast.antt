@@ -47,7 +47,7 @@ AreAnswered old t rs later new = ⊥
 abbrev pub IsSliceServed : Table → ℕ → List Request → List Answer → Option Table → Type 0
 IsSliceServed old t rs answers new = (after : Table) × ((new ≡ Some after) × AreAnswered old t rs answers after)
 
--- out of memory: the first requests were answered, and the table is as they left it, or as serving the one behind them has
+-- out of memory: the first requests were answered, and the table is as they left it, or as serving the one after them has
 -- left it, whole or in part
 pub record IsCutShort (old : Table) (t : ℕ) (rs : List Request) (new : Option Table) : Type 0 where
   pub done : ℕ
@@ -58,7 +58,7 @@ pub record IsCutShort (old : Table) (t : ℕ) (rs : List Request) (new : Option 
   pub left : (table ≡ mid) ⊎ ((r : Request) × (rest : List Request) × ((drop done rs ≡ r ∷ rest) × ((table ≡ after_sweep mid t) ⊎ (table ≡ (step mid t r).table))))
   pub is : new ≡ Some table
 
--- the count of failures behind an answer: one more where a connect, a write or a read failed
+-- the count of failures after an answer: one more where a connect, a write or a read failed
 abbrev pub after_answer : Answer → ℕ → ℕ
 after_answer (Ok reply) n = n
 after_answer (Err ConnectFailed) n = one_more n
@@ -66,7 +66,7 @@ after_answer (Err WriteFailed) n = one_more n
 after_answer (Err (Http https.ReadFailed)) n = one_more n
 after_answer (Err fault) n = n
 
--- behind all answers of a slice
+-- after all answers of a slice
 abbrev pub after_answers : List Answer → ℕ → ℕ
 after_answers [] n = n
 after_answers (a ∷ later) n = after_answers later (after_answer a n)

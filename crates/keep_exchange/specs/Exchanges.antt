@@ -17,7 +17,7 @@ use Rattle.vault_http.specs.declared.writing.SendFault.TheVariants as sends
 use Rattle.keep_device.specs.Failures.{one_more}
 use Rattle.vault_http.specs.Written.{reply_text, request_text}
 
--- what stands behind an exchange in memory: the broker's table, and the bytes of the last request and its reply, if one came
+-- what stands after an exchange in memory: the broker's table, and the bytes of the last request and its reply, if one came
 pub record Behind : Type 0 where
   pub table : Table
   pub wire : List ℕ

@@ -18,12 +18,12 @@ Hears before now (Ok dated) = SettlesDated MOST_MESSAGE before now (Ok dated)
 Hears before now (Err (Http fault)) = SettlesDated MOST_MESSAGE before now (Err fault)
 Hears before now (Err fault) = ⊥
 
--- the request is written whole, once, and this is what is read behind it
+-- the request is written whole, once, and this is what is read after it
 abbrev pub Reads : Request → Change → Result Reply HttpFault → Type 0
 Reads r line read = Receives (request_text r) line × SettlesReply MOST_MESSAGE line.old.input line.new.input read
 
 -- one exchange over a line: the request is written and the reply read; or no more than a front of the request is written, and
--- nothing is read. Memory may be wanting before, between and behind
+-- nothing is read. Memory may be wanting before, between and after
 abbrev pub Carries : Request → Change → Result Reply ExchangeFault → Type 0
 Carries r line (Ok reply) = Reads r line (Ok reply)
 Carries r line (Err (Http fault)) = Reads r line (Err fault)

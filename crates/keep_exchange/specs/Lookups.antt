@@ -32,7 +32,7 @@ abbrev pub looked : Inventory → ℕ → ℕ → Result Reply ExchangeFault →
 looked s i t (Ok r) = if r.status == 200 then applied s i t (lookup_in (entry_at s.forest.entries i).kind r.body) else None
 looked s i t (Err fault) = None
 
--- the inventory behind it, where there is one
+-- the inventory after it, where there is one
 abbrev pub behind_if : Bool → Inventory → Option Inventory
 behind_if is s = if is then Some s else None
 

@@ -39,27 +39,27 @@ quarter_of longest = min longest 250_000_000
 abbrev pub limit_of : ℕ → Bool → ℕ
 limit_of longest is_short = if is_short then quarter_of longest else longest
 
--- whether the next ones may take a quarter of a second at most, behind an exchange: not once there is a reply; else where a call
+-- whether the next ones may take a quarter of a second at most, after an exchange: not once there is a reply; else where a call
 -- of it took too long, or where it was so before
 abbrev pub learned : Bool → Bool → Bool → Bool
 learned has_reply is_late is_short = if has_reply then false else (is_late || is_short)
 
--- behind an exchange without a reply: what it was, or a quarter of a second
+-- after an exchange without a reply: what it was, or a quarter of a second
 abbrev pub Slows : ℕ → ℕ → ℕ → Type 0
 Slows longest old new = (new ≡ old) ⊎ (new ≡ quarter_of longest)
 
--- behind an exchange: the longest time again once there is a reply
+-- after an exchange: the longest time again once there is a reply
 abbrev pub Paces : Result Reply ExchangeFault → ℕ → ℕ → ℕ → Type 0
 Paces (Ok reply) longest old new = new ≡ longest
 Paces (Err fault) longest old new = Slows longest old new
 
--- behind a renewal
+-- after a renewal
 abbrev pub PacesAsked : {E : Type 0} → Result (Option Reply) E → ℕ → ℕ → ℕ → Type 0
 PacesAsked (Ok (Some reply)) longest old new = new ≡ longest
 PacesAsked (Ok None) longest old new = Slows longest old new
 PacesAsked (Err fault) longest old new = Slows longest old new
 
--- behind a lookup, which may have a reply that is not applied
+-- after a lookup, which may have a reply that is not applied
 abbrev pub PacesLooked : {E : Type 0} → Result Bool E → ℕ → ℕ → ℕ → Type 0
 PacesLooked (Ok true) longest old new = new ≡ longest
 PacesLooked result longest old new = (new ≡ longest) ⊎ Slows longest old new

@@ -9,6 +9,6 @@ abbrev pub longest_first : ℕ → Waiting → ℕ
 longest_first longest Full = longest
 longest_first longest Hurried = min longest 250
 
--- the step behind a step: twice as long, up to 20
+-- the step after a step: twice as long, up to 20
 abbrev pub next_step : ℕ → ℕ
 next_step step = min (step * 2) 20

@@ -64,7 +64,7 @@ pub trait Abreast: Device {
         ensures port { Self.host_port self.new ≡ Self.host_port self.old };
 }
 
-/// The count of failures behind one more answer: one more where a connect, a write or a read failed.
+/// The count of failures after one more answer: one more where a connect, a write or a read failed.
 pub(crate) fn count_answer(failures: u64, answer: &Result<DatedReply, ExchangeFault>) -> u64
     ensures { result ≡ after_answer answer.now failures }
 {

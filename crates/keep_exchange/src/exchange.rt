@@ -25,7 +25,7 @@ pub trait Exchange: Device {
     /// How long each connect, read or write may take at first, in nanoseconds; 0 where nothing is waited for.
     ghost longest: { Self → ℕ } = { λ _. 0 };
 
-    /// How long the next one may take: as long as at first, or a quarter of a second behind one that took longer.
+    /// How long the next one may take: as long as at first, or a quarter of a second after one that took longer.
     ghost limit: { Self → ℕ } = { λ _. 0 };
 
     /// The port that requests to its broker name in `Host`: the broker's own, and 8200 where it has none.

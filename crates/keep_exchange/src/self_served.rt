@@ -81,7 +81,7 @@ impl<'a, R: Net> SelfServed<'a, R> {
         Ok(self.room.read_reply(alloc, &mut client, MOST_MESSAGE)?)
     }
 
-    /// Accepts one connection and serves its request; the connection is closed behind it.
+    /// Accepts one connection and serves its request; the connection is closed after it.
     fn serve(&mut self, t: Moment) -> Result<(), ExchangeFault>
         ensures served { OnOk result (IsServedOnce self.old.table t self.new.table) }
         ensures same { self.new ≡ record self.old { table = self.new.table } }

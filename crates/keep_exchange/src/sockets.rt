@@ -175,7 +175,7 @@ impl<'a, R: Net> Abreast for SocketSlices<'a, R> {
     }
 }
 
-/// The count of failures behind all answers of a slice.
+/// The count of failures after all answers of a slice.
 fn count_answers(failures: u64, answers: &[Result<DatedReply, ExchangeFault>]) -> u64
     ensures { result ≡ after_answers answers.now failures }
 {

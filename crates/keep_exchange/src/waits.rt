@@ -9,7 +9,7 @@ use std::time::Duration;
 /// The longest step of a wait, in milliseconds; and all that an entry has once the others have used up the slice's time.
 pub(crate) const LONGEST_STEP: u64 = 20;
 
-/// The longest wait behind the first bytes of a reply, in milliseconds, and the longest first wait of a hurried slice.
+/// The longest wait after the first bytes of a reply, in milliseconds, and the longest first wait of a hurried slice.
 pub(crate) const QUARTER: u64 = 250;
 
 /// What a line waits for.
@@ -90,7 +90,7 @@ fn longest_first(longest: u64, waiting: Waiting) -> u64
     }
 }
 
-/// The step behind one of so many milliseconds: twice as long, up to the longest. So a short wait costs little, and one that
+/// The step after one of so many milliseconds: twice as long, up to the longest. So a short wait costs little, and one that
 /// ends early is paid at most twice, or one longest step too much.
 pub(crate) fn next_step(step: u64) -> u64
     ensures { result ≡ next_step step }

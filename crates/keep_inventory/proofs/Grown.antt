@@ -179,7 +179,7 @@ pub record Took (R : Relation) (s t : Served) (ds : Items) : Type 0 where
 took_none : (R : Relation) (s : Served) → Took R s s no_items
 took_none R s = record { grown = grown_not s; count = omega arith; each = λ i ms there. absurd cc }
 
--- the table in front, and those behind it
+-- the table in front, and those after it
 each_more : (R : Relation) (t : Served) (n : ℕ) (ms : Members) (ds : Items) → At R t n ms → ((i : ℕ) (ns : Members) → get_item i ds ≡ Some (table ns) → At R t ((n + 1) + i) ns) →
     (i : ℕ) (ns : Members) → get_item i (item (table ms) ds) ≡ Some (table ns) → At R t (n + i) ns
 each_more R t n ms ds here later zero ns there =

@@ -26,7 +26,7 @@ pub record IsPlanned (p : Planned) : Type 0 where
 abbrev pub behind_first : Run → Option Run
 behind_first r = if r.count == 1 then None else Some (record r { first = r.first + r.step; step = if r.count == 2 then 0 else r.step; count = r.count - 1 })
 
--- a run, where there is one, and others behind it
+-- a run, where there is one, and others after it
 abbrev pub in_front : Option Run → List Run → List Run
 in_front None rs = rs
 in_front (Some r) rs = r ∷ rs

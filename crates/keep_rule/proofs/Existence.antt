@@ -43,7 +43,7 @@ find_earliest need end (suc n) =
       keeps : (found : Earliest need end n) → (end n < need n → end found.entry ≤ end n) → Earliest need end (suc n)
       keeps found here = record { entry = found.entry; short = found.short; first = one_more (λ i. end i < need i → end found.entry ≤ end i) n found.first here }
 
--- behind a wake-up there is a next moment, or no bound falls short
+-- after a wake-up there is a next moment, or no bound falls short
 next_or_done :
     (g : Forest) (s : ℕ) (ends : ℕ → ℕ) → AllKeepable g s ends → (prev : Option ℕ) →
     IsSchedule g.entries g.margin s ends prev [] ⊎ ((t : ℕ) × IsNext g.entries g.margin s ends prev t)
@@ -60,7 +60,7 @@ next_or_done g s ends keepable prev =
       )
     ]
 
--- no more than n moments can still come behind prev
+-- no more than n moments can still come after prev
 abbrev Left : ℕ → Option ℕ → Type 0
 Left n None = LAST + 1 < n
 Left n (Some t) = LAST < t + n

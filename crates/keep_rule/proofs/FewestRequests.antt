@@ -74,7 +74,7 @@ asked_at_most a n (x ∷ xs) =
       added : (a b p q n : ℕ) → a ≤ b → b ≡ p + q → p ≤ 1 → q ≤ n → a ≤ suc n
       added a b p q n h e k l = omega arith
 
--- the entries of a wake-up and those of the wake-ups behind it
+-- the entries of a wake-up and those of the wake-ups after it
 times_split : (w : Wake) (ws : List Wake) (xs : List ℕ) → sum_by (times_asked (w ∷ ws)) xs ≡ sum_by (λ i. cond (is_asked w i) 1 0) xs + sum_by (times_asked ws) xs
 times_split w ws xs =
     let f : ℕ → ℕ = λ i. cond (is_asked w i) 1 0 in

@@ -31,7 +31,7 @@ times_cons w ws i = sum_by-cons (λ v. cond (is_asked v i) 1 0) w ws
 abbrev Fewer : ℕ → ℕ → ℕ → ℕ → Type 0
 Fewer x y m n = (y ≤ x → m ≤ n) × (m ≤ 1 + n)
 
--- one wake-up more, at which a renewal gives `new`: whether the Asks and the plan ask the entry, and its ends behind it
+-- one wake-up more, at which a renewal gives `new`: whether the Asks and the plan ask the entry, and its ends after it
 compared :
     (asks plan : Bool) (x y x' y' new m n m' n' : ℕ) → m ≡ cond asks 1 0 + m' → n ≡ cond plan 1 0 + n' →
     (asks ≡ true → (x' ≡ new) × (x < new)) → (asks ≡ false → x' ≡ x) → (plan ≡ false → y' ≡ y) → (y' ≡ new) ⊎ (y' ≡ y) → y ≤ max x new →

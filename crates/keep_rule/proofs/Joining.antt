@@ -1,5 +1,5 @@
 -- A plan and what comes before it: a plan keeps from an earlier start on where its entries live until it begins, and so
--- does a wake-up with a plan behind it. For laws over plans, which may ask any index.
+-- does a wake-up with a plan after it. For laws over plans, which may ask any index.
 use Rattle.std.proofs.Common.{◌≡◌, ℕ, ◌<◌, ◌≤◌, ◌↔◌, cond, false, List, [], ◌∷◌, filter, nat_le, refl, sym, ap, ◌∙◌, subst, arith, inl, inr}
 use Rattle.std.proofs.lemmas.Bool.{cases_lt}
 use Rattle.std.proofs.lemmas.Bool.Decides.{nat_tests}

@@ -124,7 +124,7 @@ done_more prev u [] w by le h = (h, tt)
 done_more None u (v ∷ done) w by le h = absurd by
 done_more (Some t) u (v ∷ done) w by le h = let l : t ≤ u = le t refl in let k : v.at ≤ t = by.0 in (omega arith, done_more (Some t) u done w by.1 le h)
 
--- a plan behind u, where its first wake-up is
+-- a plan after u, where its first wake-up is
 later_plan : (s u : ℕ) (w : Wake) (ws : List Wake) → IsPlan s (w ∷ ws) → u < w.at → IsPlan (u + 1) (w ∷ ws)
 later_plan s u w ws plan h = (omega arith, plan.1)
 

@@ -1,4 +1,4 @@
--- The next moment behind a wake-up, where no pair is Unkeepable: it comes late enough, lies before LAST, comes in time for
+-- The next moment after a wake-up, where no pair is Unkeepable: it comes late enough, lies before LAST, comes in time for
 -- every entry, and is forced.
 use Rattle.std.proofs.Common.{◌≡◌, ℕ, ◌+◌, ◌-◌, ◌<◌, ◌≤◌, ◌⊎◌, ◌&&◌, true, false, List, Option, Some, None, length, max, min, nat_le, option_map, refl, sym, ap, ◌∙◌, subst, arith, inl, inr}
 use Rattle.std.proofs.lemmas.Bool.{cases_Bool, cases_lt, cond-true, cond-false}
@@ -74,7 +74,7 @@ renewable_within es i renewable =
       | inr past ↦ absurd (let none : (entry_at es i).renewable ≡ false = ap (λ (e : Entry). e.renewable) (entry_at_past es i past) in cc)
     ]
 
--- a bound that falls short lies a step behind the moment before it, and a step is greater than the margin
+-- a bound that falls short lies a step after the moment before it, and a step is greater than the margin
 bound_behind : (g : Forest) → IsForest g → (s : ℕ) (ends : ℕ → ℕ) (t i : ℕ) → CanBeLed g s ends i → bound g.entries ends (Some t) i < carried g.entries s i → t + g.margin < bound g.entries ends (Some t) i
 unfolding bound latest_end renewal
 bound_behind g forest s ends t i led short =
@@ -84,7 +84,7 @@ bound_behind g forest s ends t i led short =
     let step : g.margin < e.step = (forest.placed i (renewable_within g.entries i led.renewable)).step_past_margin in
     omega (arith, is)
 
--- what the next moment behind prev is
+-- what the next moment after prev is
 pub record Comes (g : Forest) (s : ℕ) (ends : ℕ → ℕ) (prev : Option ℕ) (t : ℕ) : Type 0 where
   pub late : s ≤ t
   pub behind : (u : ℕ) → prev ≡ Some u → u < t

@@ -26,7 +26,7 @@ pub asks_rise :
 asks_rise es margin s e t ts rising =
     subst (λ us. IsRising t (t ∷ us)) (sym (moments_with_asks es margin s (after es margin e (asking es margin s e t (first_of ts))) ts)) (omega arith, rising)
 
--- for one entry: at each of these moments, and behind the last, the bound that the moment before it leaves covers it until n
+-- for one entry: at each of these moments, and after the last, the bound that the moment before it leaves covers it until n
 abbrev pub IsTimely : Entry → ℕ → ℕ → ℕ → Option ℕ → List ℕ → Type 0
 IsTimely e margin end n prev [] = Covers margin None n (latest_end e end prev)
 IsTimely e margin end n prev (t ∷ ts) = Covers margin (Some t) n (latest_end e end prev) × IsTimely e margin end n (Some t) ts
@@ -71,7 +71,7 @@ module _ (es : List Entry) (margin s : ℕ) (above : 0 < margin) (P : ℕ → Ty
 
 -- ---- all entries, each with the need that it carries
 
--- each moment comes in time: at it, and behind the last, the bounds that the moment before it leaves cover what is carried
+-- each moment comes in time: at it, and after the last, the bounds that the moment before it leaves cover what is carried
 abbrev pub AllTimely : List Entry → ℕ → ℕ → (ℕ → ℕ) → Option ℕ → List ℕ → Type 0
 AllTimely es margin s ends prev [] = IsSafe es margin s (bound es ends prev) None
 AllTimely es margin s ends prev (t ∷ ts) = IsSafe es margin s (bound es ends prev) (Some t) × AllTimely es margin s ends (Some t) ts

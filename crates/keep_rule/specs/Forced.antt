@@ -15,7 +15,7 @@ latest_end e end (Some t) = if e.renewable then max end (renewal e t) else end
 unfoldable pub bound : List Entry → (ℕ → ℕ) → Option ℕ → ℕ → ℕ
 bound es ends prev i = latest_end (entry_at es i) (ends i) prev
 
--- a wake-up at `moment`, behind one at prev: entry is over needed, whose need comes after s; the bound of entry is less
+-- a wake-up at `moment`, after one at prev: entry is over needed, whose need comes after s; the bound of entry is less
 -- than that need, and at most the margin after the wake-up
 pub record Forced (es : List Entry) (margin s : ℕ) (ends : ℕ → ℕ) (prev : Option ℕ) (moment entry needed : ℕ) : Type 0 where
   pub over : Over es entry needed

@@ -20,7 +20,7 @@ IsPlan s (w ∷ ws) = (s ≤ w.at) × ((w.at ≤ LAST) × IsPlan w.at ws)
 unfoldable pub asks_past : ℕ → List ℕ → Bool
 asks_past n asked = list_any (λ i. nat_le n i) asked
 
--- what is wrong with the k-th wake-up, behind one at prev, in a plan from s over n entries
+-- what is wrong with the k-th wake-up, after one at prev, in a plan from s over n entries
 unfoldable pub fault_at : ℕ → ℕ → ℕ → ℕ → Wake → Option WakeFault
 fault_at n s prev k w =
     if nat_lt w.at s then Some (BeforeStart k) else (if nat_lt w.at prev then Some (Unordered k) else (if asks_past n w.asked then Some (BadIndex k) else None))
@@ -30,7 +30,7 @@ abbrev pub first_some : Option WakeFault → Option WakeFault → Option WakeFau
 first_some (Some fault) later = Some fault
 first_some None later = later
 
--- the fault of the first wake-up at fault, of which the first is the k-th and behind one at prev
+-- the fault of the first wake-up at fault, of which the first is the k-th and after one at prev
 unfoldable pub fault_from : ℕ → ℕ → ℕ → ℕ → List Wake → Option WakeFault
 fault_from n s prev k [] = None
 fault_from n s prev k (w ∷ ws) = first_some (fault_at n s prev k w) (fault_from n s w.at (k + 1) ws)

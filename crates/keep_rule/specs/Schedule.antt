@@ -5,7 +5,7 @@ use Rattle.keep_tree.specs.declared.entry.Entry.{Entry}
 use Rattle.keep_tree.specs.Carried.{carried}
 use Rattle.keep_rule.specs.Forced.{bound}
 
--- behind a wake-up at prev, t is the next moment: some entry's bound falls short of its carried need, none that does has
+-- after a wake-up at prev, t is the next moment: some entry's bound falls short of its carried need, none that does has
 -- an earlier bound, and t comes the margin before that bound
 pub record IsNext (es : List Entry) (margin s : ℕ) (ends : ℕ → ℕ) (prev : Option ℕ) (t : ℕ) : Type 0 where
   pub entry : ℕ
@@ -13,7 +13,7 @@ pub record IsNext (es : List Entry) (margin s : ℕ) (ends : ℕ → ℕ) (prev 
   pub earliest : (i : ℕ) → bound es ends prev i < carried es s i → bound es ends prev entry ≤ bound es ends prev i
   pub moment : t ≡ bound es ends prev entry - margin
 
--- each moment is the next behind the one before it, and behind the last no entry's bound falls short
+-- each moment is the next after the one before it, and after the last no entry's bound falls short
 abbrev pub IsSchedule : List Entry → ℕ → ℕ → (ℕ → ℕ) → Option ℕ → List ℕ → Type 0
 IsSchedule es margin s ends prev [] = (i : ℕ) → carried es s i ≤ bound es ends prev i
 IsSchedule es margin s ends prev (t ∷ ts) = IsNext es margin s ends prev t × IsSchedule es margin s ends (Some t) ts

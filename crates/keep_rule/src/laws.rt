@@ -24,7 +24,7 @@ pub fn enough_law()
 {}
 
 /// The law of existence: where no pair of entries is unkeepable, there is a schedule. The next moment always comes a step
-/// less the margin behind the one before, or later, and before some need; so the moments come to an end.
+/// less the margin after the one before, or later, and before some need; so the moments come to an end.
 pub fn existence_law()
     ensures { ExistenceLaw }
 {}

@@ -64,7 +64,7 @@ pub(crate) fn wake_fault(forest: &Forest, start: Moment, wakes: &[Wake]) -> Opti
     None
 }
 
-/// What is wrong with the wake-up number `count`, behind one at `before`, where there are so many entries.
+/// What is wrong with the wake-up number `count`, after one at `before`, where there are so many entries.
 #[tactic(auto, unfolding(crate::specs::Plans::fault_at))]
 fn fault_at(
     entries: u32,

@@ -11,6 +11,6 @@ use Rattle.keep_run.specs.Agent.{Agent, IsFit}
 pub fit_turned : (a : Agent) (event : Event) (result : Result Output StepFault) (new : State) → IsFit a → Turn a.keeper event result new → IsFit (record a { keeper = new })
 fit_turned a event result new fit turn = fit ∙ sym (shape a.keeper new event result turn).count
 
--- what is so of the port and the credentials behind some requests is so of those in front of them
+-- what is so of the port and the credentials after some requests is so of those in front of them
 pub as_begun : {port now : ℕ} {cs ds : List (List ℕ)} → now ≡ port → ds ≡ cs → (P : ℕ → List (List ℕ) → Type 0) → P now ds → P port cs
 as_begun {port} {now} {cs} {ds} ports credentials P h = subst (λ p. P p cs) ports (subst (λ ks. P now ks) credentials h)

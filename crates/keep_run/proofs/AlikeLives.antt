@@ -1,5 +1,5 @@
 -- Alike lives: two live runs of inventories that differ in credentials alone, over brokers whose tables do, have one text: from the
--- lookups on, and behind them line by line, as far as both go.
+-- lookups on, and after them line by line, as far as both go.
 use Rattle.std.proofs.Common.{◌≡◌, ◌∙◌, ℕ, List, [], ◌∷◌, ◌++◌, refl, sym, ap, ap₂, subst}
 use Rattle.std.proofs.lemmas.List.{append_assoc}
 use Rattle.keep_core.specs.State.{State, unplanned}

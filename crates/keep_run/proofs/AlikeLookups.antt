@@ -288,7 +288,7 @@ module _ (g : Forest) (cs ds : List (List ℕ)) (ts : List Terms) (one : IsInven
   exchanged_known : (o : Option Behind) (b : Behind) (t : ℕ) (r : Request) (came : Result Reply ExchangeFault) (new : Option Behind) → o ≡ Some b → IfSome o (λ a. IsExchanged a.table t r came new) → IsExchanged b.table t r came new
   exchanged_known o b t r came new known is = subst (λ (a : Option Behind). IfSome a (λ z. IsExchanged z.table t r came new)) known is
 
-  -- where the table is known, so it is behind a lookup
+  -- where the table is known, so it is after a lookup
   table_behind : (old : Table) (t : ℕ) (r : Request) (came : Result Reply ExchangeFault) (new : Option Behind) → IsExchanged old t r came new → (b : Behind) × ((new ≡ Some b) × (b.table ≡ (step old t r).table))
   table_behind old t r came new is = (record { table = (step old t r).table; wire = wire_of r (reply_of came) }, (is.is, refl))
 

@@ -59,7 +59,7 @@ with_asks_twins es fs t margin s ends (u ∷ ts) =
     ∙ ap (go (asks es margin s ends u next)) (after_alike es fs t.alike margin ends (asking es margin s ends u next))
     ∙ ap (λ ws. asking es margin s ends u next ∷ ws) (with_asks_twins es fs t margin s (after es margin ends (asking es margin s ends u next)) ts)
 
--- behind a round that was answered by the rule, the plan asks what it asked
+-- after a round that was answered by the rule, the plan asks what it asked
 pub asks_on :
     (g h : Forest) → IsForest g → (t : ℕ) (ts : List ℕ) → IsAnsweredByRule g h t (first_of ts) →
     with_asks g.entries g.margin t (end_of g.entries) (t ∷ ts) ≡ asking g.entries g.margin t (end_of g.entries) t (first_of ts) ∷ with_asks h.entries h.margin t (end_of h.entries) ts

@@ -50,7 +50,7 @@ module _ (p : ℕ → Bool) where
   glued_last [] r ys = refl
   glued_last (l ∷ ls) r ys = glued_cons l (ls ++ (r ∷ [])) ys (some_behind ls r) ∙ ap (λ t. l ∷ t) (glued_last ls r ys)
 
--- what stands behind the last such byte goes on with what follows
+-- what stands after the last such byte goes on with what follows
 pub pieces_more : (b : ℕ) (xs ys : List ℕ) (ls : List (List ℕ)) (r : List ℕ) → pieces b xs ≡ ls ++ (r ∷ []) → pieces b (xs ++ ys) ≡ ls ++ pieces b (r ++ ys)
 unfolding pieces
 pieces_more b xs ys ls r e = split_more (λ c. c == b) xs ys ∙ ap (λ l. glued (λ c. c == b) l ys) e ∙ glued_last (λ c. c == b) ls r ys

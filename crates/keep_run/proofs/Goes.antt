@@ -15,7 +15,7 @@ use Rattle.keep_run.specs.Stops.{IsDue, both}
 use Rattle.keep_run.specs.Text.{answer_text, beat_text, inventory_with, short_lines, wake_line}
 use Rattle.keep_run.proofs.Texts.{same_answer_texts, same_beat_texts, same_shorts, same_wake}
 
--- ---- one run behind another
+-- ---- one run after another
 
 pub joins :
     (port : ℕ) (cs : List (List ℕ)) (old mid new : World) (due then' next : Option ℕ) (bs more : List Beat) → Played port cs old due bs mid then' → Played port cs mid then' more new next →

@@ -1,4 +1,4 @@
--- LineByLine: lines behind lines, and a stop behind lines.
+-- LineByLine: lines after lines, and a stop after lines.
 use Rattle.std.proofs.Common.{◌≡◌, ℕ, ◌+◌, ◌<◌, ◌≤◌, ◌-◌, inl, inr, IsTrue, List, [], ◌∷◌, ◌++◌, Some, OnOk, Result, Ok, Err, drop, length, length-append, take, refl, sym, ap, ◌∙◌, subst, arith}
 use Rattle.std.proofs.KnownBytes.{Appends-trans}
 use Rattle.std.specs.Result.{IsErr, IsErrAnd}
@@ -66,7 +66,7 @@ module _ (a b : Change) (same : a.new ≡ b.old) where
       (port : ℕ) (cs : List (List ℕ)) (old new : World) (line t u : List ℕ) → IsSent t a → IsCutShort port cs old line new u b → IsCutShort port cs old line new (t ++ u) (joined a b)
   short_then port cs old new line t u first second = (second.0, (second.1.0, cut_then port cs old new second.0 t u first second.1.1))
 
-  -- a stop behind a text that was sent before
+  -- a stop after a text that was sent before
   pub halts_then :
       (port : ℕ) (cs : List (List ℕ)) (number : ℕ) (old : World) (behind : List (List ℕ)) (t u : List ℕ) (stop : Stop) (new : World) (P : Type 0) → IsSent t a → Halts port cs number old behind u stop new P b →
       Halts port cs number old behind (t ++ u) stop new P (joined a b)
@@ -160,7 +160,7 @@ heard_one port cs old new line text h = (new, (text, ([], (h, ((refl, refl), sym
 
 -- ---- bytes
 
--- what stands behind the first line of what stands behind others
+-- what stands after the first line of what stands after others
 pub behind_line :
     (bytes rest line behind : List ℕ) → pieces 10 rest ≡ line ∷ pieces 10 behind → drop (length bytes - length rest) bytes ≡ rest → length rest ≤ length bytes →
     (drop (length bytes - length behind) bytes ≡ behind) × (length behind < length rest)
@@ -203,7 +203,7 @@ module _ (port : ℕ) (cs : List (List ℕ)) where
         sent = sent_then a b same h.text text h.sent sent;
       }
 
-  -- those of what stands behind
+  -- those of what stands after
   abbrev pub up_to_then :
       (first : ℕ) (old : World) (bytes rest : List ℕ) (behind : List (List ℕ)) (mid : World) (middle : ℕ) (a b : Change) (new : World) (last : ℕ) → a.new ≡ b.old →
       HearsUpTo port cs first old bytes (pieces 10 rest) mid middle a → HearsUpTo port cs middle mid rest behind new last b → HearsUpTo port cs first old bytes behind new last (joined a b)
@@ -238,7 +238,7 @@ module _ (port : ℕ) (cs : List (List ℕ)) where
         (halts_then a b same port cs (last + 1) mid behind h.text [] stop new ⊥ h.sent halts));
   }
 
-  -- a stop within what stands behind
+  -- a stop within what stands after
   abbrev pub halts_behind :
       (first : ℕ) (old : World) (bytes rest : List ℕ) (mid : World) (middle : ℕ) (a b : Change) (stop : Stop) (new : World) → a.new ≡ b.old →
       HearsUpTo port cs first old bytes (pieces 10 rest) mid middle a → HaltsWithin port cs middle mid rest stop new b → HaltsWithin port cs first old bytes stop new (joined a b)
@@ -277,7 +277,7 @@ module _ (port : ℕ) (cs : List (List ℕ)) where
       let all : pieces 10 rest ≡ line ∷ f.0 ∷ f.1.0 = e ∙ ap (λ ps. line ∷ ps) f.1.1 in
       halts_at first old bytes (line ∷ f.0 ∷ f.1.0) mid last a b stop new same (subst (λ ps. HearsUpTo port cs first old bytes ps mid last a) all h) (one f.0 f.1.0)
 
-  -- what stands behind the last line is as long as an event line may be
+  -- what stands after the last line is as long as an event line may be
   pub long_rest :
       (first : ℕ) (old : World) (bytes rest : List ℕ) (mid : World) (last : ℕ) (a : Change) → HearsUpTo port cs first old bytes (rest ∷ []) mid last a → MOST_LINE ≤ length rest →
       HaltsWithin port cs first old bytes (stops.Line (last + 1)) mid a

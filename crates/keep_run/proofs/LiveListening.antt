@@ -27,7 +27,7 @@ use Rattle.keep_run.specs.Closed.{World}
 use Rattle.keep_run.proofs.Agents.{as_begun}
 use Rattle.keep_run.proofs.Written.{appends_then}
 
--- ---- what listening comes to, behind the lines of the opening
+-- ---- what listening comes to, after the lines of the opening
 
 module _ (port : ℕ) (cs : List (List ℕ)) (read : List ℕ) (number : ℕ) (mid : World) (behind : List (List ℕ)) (before text : List ℕ) (new : World) (fed : Change) (a b c : Seen) (k : Bool)
     (first : Appends a.output.written b.output.written before) (kept : b.failed_calls ≡ a.failed_calls) where

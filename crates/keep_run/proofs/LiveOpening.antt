@@ -37,7 +37,7 @@ looking_early port t old (stops.Moments fault) out inventory new h = absurd h
 looking_early port t old (stops.FaultWord n) out inventory new h = absurd h
 looking_early port t old (stops.Line n) out inventory new h = absurd h
 
--- ---- behind all lookups
+-- ---- after all lookups
 
 module _ (port t : ℕ) (old : Looked) (inventory : Inventory) (middle : Option Behind) (a b c : Seen) (k : Bool) (all : LooksAll port t old (change k a b) inventory middle) where
   abbrev lines : List ℕ

@@ -69,7 +69,7 @@ module _ (port : ℕ) (cs : List (List ℕ)) (t : ℕ) (old : State) where
         (beat, ([], (refl, (under, inl (refl, (refl, text ∙ sym (ap (λ q. cond q (beat_text s beat) (tick_text s beat)) nobody))))))),
       )
 
-  -- that asks these, behind its lines before the first request
+  -- that asks these, after its lines before the first request
   module _ (k : State) (asked mid : List ℕ) (ticks : Ticks t old (out.Ask asked) k [] mid) where
     abbrev u : Inventory
     u = inventory_with cs k.forest

@@ -54,7 +54,7 @@ told_one s i t lookup = record {
   others = λ j apart. entry_at_set_other s.forest.entries i j _ apart;
 }
 
--- what holds of every inventory that a lookup makes holds of what is behind a reply
+-- what holds of every inventory that a lookup makes holds of what is after a reply
 of_told : (s : Inventory) (i t : ℕ) (P : Inventory → Type 0) → ((lookup : Lookup) → P (told s i lookup t)) → (answer : Result Lookup ReplyFault) (new : Inventory) → applied s i t answer ≡ Some new → P new
 of_told s i t P holds (Err fault) new e = absurd (let bad : None ≡ Some new = e in cc)
 of_told s i t P holds (Ok lookup) new e = by_flag (is_none (lookup_fault s i lookup)) e where

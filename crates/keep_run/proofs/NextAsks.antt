@@ -1,4 +1,4 @@
--- Next asks: in a run, behind its first tick, each tick asks.
+-- Next asks: in a run, after its first tick, each tick asks.
 use Rattle.std.proofs.Common.{◌≡◌, ◌∙◌, ℕ, suc, ◌<◌, cond, List, [], ◌∷◌, ◌++◌, Option, Some, None, Ok, length, map, refl, sym, ap, subst, arith}
 use Rattle.keep_rule.specs.Asks.{first_of}
 use Rattle.keep_inventory.specs.Inventories.{credential_at}
@@ -113,7 +113,7 @@ round_more asked b bs is = ap (λ (o : Output). length (cond (asks_some o) (b �
 next_round : (port : ℕ) (cs : List (List ℕ)) (old new : World) (b : Beat) → AtNext old.keeper (Some b.at) → IsBeat port cs old b new → (asked : List ℕ) × (b.output ≡ out.Ask asked)
 next_round port cs old new b at beat = next_asks old.keeper beat.keeper b.at b.output at.0 at.1 beat.turn
 
--- behind a first tick, a run that goes on makes a round more
+-- after a first tick, a run that goes on makes a round more
 pub no_more :
     (port : ℕ) (cs : List (List ℕ)) (front more : List Beat) (old mid new : World) (due at next : Option ℕ) → 0 < length (rounds front) → Played port cs old due front mid at → Played port cs mid at more new next →
     length (rounds (front ++ more)) ≡ length (rounds front) → more ≡ []

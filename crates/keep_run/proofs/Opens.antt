@@ -103,7 +103,7 @@ ends cs behind due old new out.Planned before after ticks not_sleep not_ask = at
 ends cs behind due old new (out.Sleep w) before after ticks not_sleep not_ask = absurd (not_sleep w refl)
 ends cs behind due old new (out.Ask asked) before after ticks not_sleep not_ask = absurd (not_ask asked refl)
 
--- the tick behind a sleep asks
+-- the tick after a sleep asks
 pub then_asks :
     (due w : ℕ) (old mid new : State) (output : Output) (before middle after : List ℕ) → Ticks due old (out.Sleep w) mid before middle → Ticks w mid output new middle after →
     (asked : List ℕ) × (output ≡ out.Ask asked)

@@ -93,7 +93,7 @@ pub record BeatDone (inventory : Inventory) (g : Forest) (ts : List ℕ) (b : Be
   pub requests : requests_from g b.at ts ≡ length b.answers + requests_from rests.g b.at rest
   pub quiet : IsQuiet inventory b
 
--- the same side by side, behind an equation
+-- the same side by side, after an equation
 moved : (inventory : Inventory) (w v : World) (t : ℕ) (ts : List ℕ) → AtRest inventory w t ts → v ≡ w → AtRest inventory v t ts
 moved inventory w v t ts r same = record {
   g = r.g;

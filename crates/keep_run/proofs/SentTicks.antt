@@ -29,7 +29,7 @@ use Rattle.keep_run.proofs.LiveTicks.{last_under_way, none_asked, one_more, quie
 -- ---- what is sent of an event
 
 module _ (port : ℕ) (cs : List (List ℕ)) where
-  -- a write that is cut short, behind what was told
+  -- a write that is cut short, after what was told
   pub stops_short :
       (old new : World) (heard : Heard) (told own : List ℕ) (stop : Stop) (a b : Change) → a.new ≡ b.old → IsSent told a →
       IsHeardUpTo port cs old heard new told own → Sends (Err stop) own b → HearsTo port cs old heard (Err stop) new (joined a b)
@@ -64,7 +64,7 @@ module _ (port : ℕ) (cs : List (List ℕ)) where
   sent_at_once o old new heard text (Err stop) a is sent flushed =
       stops_at_once (both old o) (both new o) heard text stop a flushed is.1 sent
 
-  -- the last line of a tick, behind those before
+  -- the last line of a tick, after those before
   pub sent_last :
       (old new : World) (heard : Heard) (told own : List ℕ) (result : Result (Unit {0}) Stop) (a b : Change) → a.new ≡ b.old → IsSent told a →
       IsHeard port cs old heard new (told ++ own) → IsHeardUpTo port cs old heard new told own →
@@ -80,7 +80,7 @@ module _ (port : ℕ) (cs : List (List ℕ)) where
       stops_at_once (both old o) (both k o) (heards.Tick t) mid stop a flushed
       (inr (none_asked port cs t old k asked mid ticks o)) sent
 
-  -- a round behind the lines before its first request
+  -- a round after the lines before its first request
   module _ (t : ℕ) (o new : Option Behind) (old k final : State) (asked mid : List ℕ) (ticks : Ticks t old (out.Ask asked) k [] mid) (a b : Change) (same : a.new ≡ b.old) (before : IsSent mid a) where
     round_cut : IsRoundCut port cs t (both k o) asked (both final new) b → IsCutOff port cs (both old o) (heards.Tick t) (both final new) [] (joined a b)
     round_cut cut =
@@ -117,7 +117,7 @@ module _ (port : ℕ) (cs : List (List ℕ)) where
     round_stops stops.Memory (inl h) = inr (inl (round_broken h))
     round_stops stops.Memory (inr h) = inr (inr (h.0, round_cut h.1))
 
-    -- memory was wanting behind the round
+    -- memory was wanting after the round
     pub round_memory : (next : Option ℕ) → TellsRound port cs t (both k o) asked (Ok next) (both final new) b → HearsTo port cs (both old o) (heards.Tick t) (Err stops.Memory) (both final new) (joined a b)
     round_memory next h = inr (inl (round_broken (record {
       told = h.0;

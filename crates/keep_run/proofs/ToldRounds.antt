@@ -1,4 +1,4 @@
--- ToldRounds: answers behind answers, each told before the next is asked; and where that stops short.
+-- ToldRounds: answers after answers, each told before the next is asked; and where that stops short.
 use Rattle.std.proofs.Common.{◌≡◌, ℕ, ◌+◌, ◌<◌, inl, inr, List, [], ◌∷◌, ◌++◌, Option, Ok, Err, drop, get_or, length, take, take-append-drop, refl, sym, ap, ◌∙◌, subst}
 use Rattle.std.proofs.KnownBytes.{Appends-kept, Appends-trans}
 use Rattle.std.proofs.lemmas.List.{append_assoc, map-append, take_more}
@@ -25,7 +25,7 @@ use Rattle.keep_run.proofs.Texts.{same_answer_text}
 
 -- ---- a round so far
 
--- these were asked, and those behind them were not
+-- these were asked, and those after them were not
 abbrev pub so_far :
     (port : ℕ) (cs : List (List ℕ)) (t : ℕ) (old new : World) (asked done others : List ℕ) (next : Option ℕ) (text : List ℕ) → done ++ others ≡ asked → AnswersAll port cs t old done next new [] text →
     IsRoundSoFar port cs t old asked new text
@@ -57,7 +57,7 @@ up_to port cs t old mid new asked done i others next output told own parts like 
       own_is = one.text_is ∙ same_answer_text s (inventory_with cs mid.keeper.forest) like refl one.x;
     }
 
--- an answer behind those before, whose text is told on its own
+-- an answer after those before, whose text is told on its own
 answers_told :
     (port : ℕ) (cs : List (List ℕ)) (t : ℕ) (old : World) (i : ℕ) (output : Output) (new : World) (before text : List ℕ) → Answers port cs t old i output new [] text → Answers port cs t old i output new before (before ++ text)
 answers_told port cs t old i output new before text a = record {

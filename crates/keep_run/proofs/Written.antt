@@ -27,7 +27,7 @@ use Rattle.keep_run.specs.Stops.{both}
 use Rattle.keep_run.specs.Text.{done_text, inventory_with}
 use Rattle.keep_run.proofs.Goes.{ends_go, goes_as, goes_nowhere, goes_on}
 
--- ---- one text behind another
+-- ---- one text after another
 
 pub appends_then : (a b c : Option (List ℕ)) (x y : List ℕ) → Appends a b x → Appends b c y → Appends a c (x ++ y)
 appends_then None b c x y first second = tt
@@ -50,7 +50,7 @@ with_done s old new start w a lines goes = record { new = new; next = None; wake
 
 -- ---- the loop
 
--- a run that has come so far: its lines were written behind those before it, and no write has failed
+-- a run that has come so far: its lines were written after those before it, and no write has failed
 pub record Going (cs : List (List ℕ)) (old : World) (start : ℕ) (before : List ℕ) (first : Option (List ℕ)) (failed : ℕ) (now : World) (due wakes asked : ℕ) (written : Option (List ℕ)) (failed_now : ℕ) : Type 0 where
   pub lines : List ℕ
   pub goes : Goes (inventory_with cs old.keeper.forest) old (Some start) now (Some due) wakes asked lines
@@ -200,7 +200,7 @@ last_cut cs old start before first failed now due asked written failed_now last 
     (goes_as (inventory_with cs old.keeper.forest) (inventory_with cs now.keeper.forest) now part.0 (Some due) None 0 0 part.1 g.like refl part.2)))
     (subst (λ o. Appends o written (before ++ g.lines)) (sym old_is) g.all) part.3 last_old_is new_is
 
--- behind the last wake-up that a run may have
+-- after the last wake-up that a run may have
 pub last_played :
     (cs : List (List ℕ)) (old : World) (start : ℕ) (before : List ℕ) (first : Option (List ℕ)) (failed : ℕ) (now : World) (due asked : ℕ) (written : Option (List ℕ)) (failed_now : ℕ) (result : Result (Unit {0}) Stop)
     (keeper : State) (last out : Change) → Going cs old start before first failed now due 100000 asked written failed_now → LastPlays cs now.behind now.keeper due asked result keeper last → out.old.output.written ≡ first → last.old.output.written ≡ written →
@@ -296,7 +296,7 @@ pub piece_goes : (cs : List (List ℕ)) (now new : World) (due : ℕ) (next : Op
 piece_goes cs now new due next w a before after none piece =
     subst (Goes (inventory_with cs now.keeper.forest) now (Some due) new next w a) (sym (piece.1.1 ∙ ap (λ l. l ++ piece.0) none)) piece.1.0
 
--- no wake-up was left, and the lines behind the last one are sent with the last line
+-- no wake-up was left, and the lines after the last one are sent with the last line
 pub going_to_end :
     (cs : List (List ℕ)) (old : World) (start : ℕ) (before : List ℕ) (first : Option (List ℕ)) (failed : ℕ) (now : World) (due wakes asked : ℕ) (written : Option (List ℕ)) (failed_now : ℕ) (new : World) (text : List ℕ)
     (result : Result (Unit {0}) Stop) (last out : Change) → Going cs old start before first failed now due wakes asked written failed_now → Goes (inventory_with cs now.keeper.forest) now (Some due) new None 0 0 text → wakes ≤ 100000 →

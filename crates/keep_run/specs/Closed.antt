@@ -20,7 +20,7 @@ use Rattle.keep_core.specs.State.{State, unplanned}
 use Rattle.keep_run.specs.declared.rehearse.playing.TheConstants.{MOST_WAKES}
 use Rattle.keep_run.specs.Replies.{event_for}
 
--- both sides: the keeper, whose shortened needs were taken, and what stands behind the exchange, where it is known: the broker's
+-- both sides: the keeper, whose shortened needs were taken, and what stands after the exchange, where it is known: the broker's
 -- table, and the bytes of the last request and its reply
 pub record World : Type 0 where
   pub keeper : State

@@ -38,7 +38,7 @@ fault_of (Some cut) = numbered (number_up_to MOST_NUMBER cut.0) (kind_of cut.1)
 unfoldable pub fault_word : List ℕ → Option NumberedFault
 fault_word word = fault_of (two (pieces 61 word))
 
--- a word behind those that write these faults: it writes one, and the broker's table takes it, since no earlier one has its number
+-- a word after those that write these faults: it writes one, and the broker's table takes it, since no earlier one has its number
 abbrev pub is_taken : List NumberedFault → Option NumberedFault → Bool
 is_taken before None = false
 is_taken before (Some f) = is_none (fault_refusal before 0 f.number)
@@ -47,7 +47,7 @@ abbrev pub listed : Option NumberedFault → List NumberedFault
 listed None = []
 listed (Some f) = f ∷ []
 
--- the faults of the words from number n on, behind these faults; or the number of the first word that is at fault
+-- the faults of the words from number n on, after these faults; or the number of the first word that is at fault
 unfoldable pub faults_from : List NumberedFault → ℕ → List (List ℕ) → Result (List NumberedFault) ℕ
 faults_from before n [] = Ok before
 faults_from before n (w ∷ ws) = if is_taken before (fault_word w) then faults_from (before ++ listed (fault_word w)) (n + 1) ws else Err n

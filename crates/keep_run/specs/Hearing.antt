@@ -91,7 +91,7 @@ abbrev pub opening_text : Inventory → Beat → List ℕ
 opening_text s b = if asks_some b.output then beat_text s b else tick_text s b
 
 -- the lines that a tick under way had told, and those of the write under way: the lines before the first request; those of the
--- last answer so far; or the last line, behind the answers of all
+-- last answer so far; or the last line, after the answers of all
 abbrev pub IsWriting : Inventory → Beat → List ℕ → List ℕ → List ℕ → Type 0
 IsWriting s b others told own =
     ((b.answers ≡ []) × ((told ≡ []) × (own ≡ opening_text s b)))
@@ -113,7 +113,7 @@ abbrev pub IsHeardUpTo : ℕ → List (List ℕ) → World → Heard → World �
 IsHeardUpTo port cs old (Tick t) new told own = ((told ≡ []) × IsClockBack t old new own) ⊎ TicksUpTo port cs t old new told own
 IsHeardUpTo port cs old heard new told own = (told ≡ []) × IsHeard port cs old heard new own
 
--- an event is heard up to a write: behind this text what it had told before is written, and no more than a front of the lines of
+-- an event is heard up to a write: after this text what it had told before is written, and no more than a front of the lines of
 -- that write
 pub record IsCutOff (port : ℕ) (cs : List (List ℕ)) (old : World) (heard : Heard) (new : World) (text : List ℕ) (out : Change) : Type 0 where
   pub told : List ℕ
@@ -128,7 +128,7 @@ IsAskLeft port cs t old [] new = new ≡ old.behind
 IsAskLeft port cs t old (i ∷ others) new =
     (new ≡ old.behind) ⊎ IfSome old.behind (λ b. (came : Result (Option Reply) AllocError) × Asks b t (request_of port cs old.keeper.forest i) came new)
 
--- a tick is heard up to some answer: behind this text its lines so far are written, and nobody was asked behind it, or the next was
+-- a tick is heard up to some answer: after this text its lines so far are written, and nobody was asked after it, or the next was
 pub record IsBrokenOff (port : ℕ) (cs : List (List ℕ)) (old : World) (heard : Heard) (new : World) (text : List ℕ) (out : Change) : Type 0 where
   pub t : ℕ
   pub is : heard ≡ Tick t
@@ -155,7 +155,7 @@ IsOverlong old (Need i until) new = Turn old.keeper (events.Need i until) (Err s
 IsOverlong old heard new = ⊥
 
 -- what hearing an event comes to: its lines were written and flushed; the plan would be too long, and nothing is written; a write
--- failed, and nobody was asked behind it; or memory was wanting
+-- failed, and nobody was asked after it; or memory was wanting
 abbrev pub HearsTo : ℕ → List (List ℕ) → World → Heard → Result (Unit {0}) Stop → World → Change → Type 0
 HearsTo port cs old heard (Ok u) new out = (text : List ℕ) × (IsHeard port cs old heard new text × IsAll text out)
 HearsTo port cs old heard (Err stops.TooLong) new out = IsOverlong old heard new × IsUntouched out

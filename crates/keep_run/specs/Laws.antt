@@ -49,7 +49,7 @@ pub record IsQuiet (inventory : Inventory) (b : Beat) : Type 0 where
 
 -- the ticks so far of a run by a plan at these moments: its rounds are at the first of them, all are where no tick is next;
 -- who was asked was told by the rule, and nothing was shortened; the next tick is not refused; and at a moment from the
--- start that comes before the next tick and behind none of these, each entry that is needed longer has its row in the table,
+-- start that comes before the next tick and after none of these, each entry that is needed longer has its row in the table,
 -- after a sweep at that moment
 pub record GoesAsPlanned (inventory : Inventory) (start : ℕ) (ts : List ℕ) (beats : List Beat) (final : World) (next : Option ℕ) : Type 0 where
   pub rest : List ℕ

@@ -25,7 +25,7 @@ pub record IsLineHeard (port : ℕ) (cs : List (List ℕ)) (old : World) (line :
   pub is : heard_in old.keeper.forest line ≡ Some says
   pub heard : IsHeard port cs old says new text
 
--- lines are heard, one after another, and their texts stand one behind another
+-- lines are heard, one after another, and their texts stand one after another
 abbrev pub AreHeard : ℕ → List (List ℕ) → World → List (List ℕ) → World → List ℕ → Type 0
 AreHeard port cs old [] new text = (new ≡ old) × (text ≡ [])
 AreHeard port cs old (line ∷ lines) new text =
@@ -62,7 +62,7 @@ IsCutShort port cs old line new text out = (says : Heard) × ((heard_in old.keep
 abbrev pub IsBrokenShort : ℕ → List (List ℕ) → World → List ℕ → World → List ℕ → Change → Type 0
 IsBrokenShort port cs old line new text out = (says : Heard) × ((heard_in old.keeper.forest line ≡ Some says) × IsBrokenOff port cs old says new text out)
 
--- why a run stops behind the lines of this text, at the piece that stands first, which would be the line of that number
+-- why a run stops after the lines of this text, at the piece that stands first, which would be the line of that number
 abbrev pub Halts : ℕ → List (List ℕ) → ℕ → World → List (List ℕ) → List ℕ → Stop → World → Type 0 → Change → Type 0
 Halts port cs number old behind text (stops.Line n) new HasEnded out = (n ≡ number) × (IsNoEvent old.keeper.forest behind HasEnded × ((new ≡ old) × IsAll text out))
 Halts port cs number old behind text stops.TooLong new HasEnded out = (line : List ℕ) × ((whole_line behind ≡ Some line) × (IsTooLong old line new × IsAll text out))
@@ -92,7 +92,7 @@ AreCutOff read fed =
     ⊎ ((fed.new.failed_calls ≡ fed.old.failed_calls) × ((MOST_EVENTS < length read) ⊎ MakesAtLeast MOST_EVENT_READS fed.old.input fed.new.input))
 
 -- of what was read before the last read, which handed out at most 4,096 bytes, the whole lines are among these that were heard,
--- and less than a line stands behind them
+-- and less than a line stands after them
 pub record IsPrompt (read : List ℕ) (lines : List (List ℕ)) : Type 0 where
   pub before : List ℕ
   pub last : List ℕ
@@ -106,7 +106,7 @@ pub record IsPrompt (read : List ℕ) (lines : List (List ℕ)) : Type 0 where
   pub cut : pieces 10 before ≡ first ++ (rest ∷ [])
   pub short : length rest < MOST_LINE
 
--- how listening ends behind the lines of this text, before these pieces: the events have ended in a line feed, or are cut off;
+-- how listening ends after the lines of this text, before these pieces: the events have ended in a line feed, or are cut off;
 -- or a line stops it
 abbrev pub ListensTo : ℕ → List (List ℕ) → List ℕ → ℕ → World → List (List ℕ) → List ℕ → Result (Unit {0}) Stop → World → Change → Change → Type 0
 ListensTo port cs read number old behind text (Ok u) new fed out =
@@ -116,7 +116,7 @@ ListensTo port cs read number old behind text (Err stops.Read) new fed out =
 ListensTo port cs read number old behind text (Err stop) new fed out = (fed.new.failed_calls ≡ fed.old.failed_calls) × Halts port cs number old behind text stop new (HaveEnded read fed) out
 
 -- listening to the events: what was read of them, by at most 65,536 reads; the lines of its first 1 MiB that were heard, and
--- what that came to; and how it ended behind them
+-- what that came to; and how it ended after them
 pub record Listens (port : ℕ) (cs : List (List ℕ)) (old : World) (result : Result (Unit {0}) Stop) (new : World) (fed : Change) (out : Change) : Type 0 where
   pub read : List ℕ
   pub consumed : Consumes fed.old.input.remaining fed.new.input.remaining read

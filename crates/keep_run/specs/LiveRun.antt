@@ -59,7 +59,7 @@ pub record IsUnplanned (port start : ℕ) (old : Looked) (out : Change) (new : O
 abbrev pub WritesOpening : ℕ → ℕ → Looked → Change → Option Behind → Type 0
 WritesOpening port start old out new = (opening : World) × (text : List ℕ) × IsLiveOpening port start old opening text × ReceivesFront text out × (new ≡ opening.behind)
 
--- why a run ends before it listens: a lookup is not applied; the plan is too long; or, behind some lookups or at the opening,
+-- why a run ends before it listens: a lookup is not applied; the plan is too long; or, after some lookups or at the opening,
 -- the writer failed or memory was wanting
 abbrev pub EndsEarly : ℕ → ℕ → Looked → Stop → Change → Option Behind → Type 0
 EndsEarly port start old (stops.Broker name) out new = IsUnlooked port start old name out new
@@ -83,7 +83,7 @@ pub record IsLiveRun (port start : ℕ) (old : Looked) (lines : List (List ℕ))
   pub text_is : text ≡ before ++ spoken
 
 -- a run that listened: what was read of the events, by at most 65,536 reads; the lines of its first 1 MiB that were heard, with the
--- text of the run so far; and how it ended behind them
+-- text of the run so far; and how it ended after them
 pub record HasListened (port start : ℕ) (old : Looked) (result : Result (Unit {0}) Stop) (new : World) (fed : Change) (out : Change) : Type 0 where
   pub read : List ℕ
   pub consumed : Consumes fed.old.input.remaining fed.new.input.remaining read
@@ -99,7 +99,7 @@ pub record HasListened (port start : ℕ) (old : Looked) (result : Result (Unit 
 
 -- ---- how it ends
 
--- how the run of an inventory ends: before it listens, or behind some lines
+-- how the run of an inventory ends: before it listens, or after some lines
 abbrev pub RunsTo : ℕ → ℕ → Looked → Result (Unit {0}) Stop → Change → Change → Option Behind → Type 0
 RunsTo port start old (Ok u) fed out new = (final : World) × HasListened port start old (Ok u) final fed out × (new ≡ final.behind)
 RunsTo port start old (Err stop) fed out new =

@@ -14,7 +14,7 @@ use Rattle.keep_run.specs.Hearing.{entry_line}
 use Rattle.keep_run.specs.Text.{name_of}
 use Rattle.keep_tree.specs.Forest.{entry_at}
 
--- an inventory, and what stands behind the exchange over which it is looked up, where that is known
+-- an inventory, and what stands after the exchange over which it is looked up, where that is known
 pub record Looked : Type 0 where
   pub inventory : Inventory
   pub behind : Option Behind
@@ -67,7 +67,7 @@ pub record IsCut (port t : ℕ) (old now : Looked) (n : ℕ) (out : Change) : Ty
 abbrev pub IsLeft : ℕ → ℕ → Looked → ℕ → Option Behind → Type 0
 IsLeft port t now n new = IsLookupLeft port now.behind t now.inventory n new
 
--- what looking all entries up comes to: with the inventory as it then is, and what then stands behind the exchange
+-- what looking all entries up comes to: with the inventory as it then is, and what then stands after the exchange
 abbrev pub LooksAllUp : ℕ → ℕ → Looked → Result (Unit {0}) Stop → Change → Inventory → Option Behind → Type 0
 LooksAllUp port t old (Ok u) out inventory new = LooksAll port t old out inventory new
 LooksAllUp port t old (Err (stops.Broker name)) out inventory new = IsUnlooked port t old name out new

@@ -36,7 +36,7 @@ pub record AreLookedAlike (g : Forest) (cs ds : List (List ℕ)) (old other : Lo
   pub brokers : AreBrokersAlike g cs ds old.behind other.behind
   pub dated : AreDated brokers.behind.table
 
--- behind the same lookups they are alike again, and the next is applied to both, or to neither
+-- after the same lookups they are alike again, and the next is applied to both, or to neither
 abbrev pub AlikeLookupsLaw : Type 0
 AlikeLookupsLaw =
     (g : Forest) (cs ds : List (List ℕ)) (ts : List Terms) → IsInventory (record { forest = g; credentials = cs; terms = ts }) → IsInventory (record { forest = g; credentials = ds; terms = ts }) →

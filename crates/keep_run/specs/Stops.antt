@@ -36,7 +36,7 @@ pub record SoFar (inventory : Inventory) (faults : List NumberedFault) (start : 
 
 -- ---- runs without an end: exit 5
 
--- a wake-up is due: behind ticks that ask nobody, the first of them, if any, at t, there is one that asks
+-- a wake-up is due: after ticks that ask nobody, the first of them, if any, at t, there is one that asks
 pub record IsDue (cs : List (List ℕ)) (old : World) (t : ℕ) : Type 0 where
   pub beats : List Beat
   pub mid : World
@@ -95,7 +95,7 @@ NeverRefusedLaw =
 
 -- ---- the code of one answer
 
--- a keeper, and what stands behind the exchange that it asks over, where that is known
+-- a keeper, and what stands after the exchange that it asks over, where that is known
 abbrev pub both : State → Option Behind → World
 both keeper behind = record { keeper = keeper; behind = behind }
 

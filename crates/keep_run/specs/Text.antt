@@ -16,7 +16,7 @@ use Rattle.keep_run.specs.Closed.{Beat, Course, Exchanged, event_in, requests_of
 abbrev pub inventory_with : List (List ℕ) → Forest → Inventory
 inventory_with cs g = record { forest = g; credentials = cs; terms = [] }
 
--- words parted by one space, and a line feed behind the last
+-- words parted by one space, and a line feed after the last
 abbrev pub line : List (List ℕ) → List ℕ
 line [] = 10 ∷ []
 line (w ∷ []) = w ++ 10 ∷ []

@@ -1,5 +1,5 @@
 //! Runs of the executor: the keeper against a broker that renews what it asks for. Here is the rehearsal, in which the broker
-//! is a table in memory behind an exchange that passes real messages, and the live run, in which event lines hand in the time.
+//! is a table in memory after an exchange that passes real messages, and the live run, in which event lines hand in the time.
 //!
 //! The contracts for the program above are those of [`run_rehearse`], over a table in memory, and [`run_live`], over any
 //! exchange; both are made of one definition of an answer. The laws say what a rehearsal is where the broker has no faults,

@@ -11,7 +11,7 @@ pub record Course : Type 0 where
   pub prospect : Prospect
   pub last : Option ℕ
 
--- the list of the wake-ups to come: those that lead, behind the last one
+-- the list of the wake-ups to come: those that lead, after the last one
 unfoldable pub IsToCome : Course → List Force → Type 0
 IsToCome c xs = AreLed (terms_of c.prospect) c.last xs
 

@@ -6,7 +6,7 @@ use Rattle.keep_tree.specs.Carried.{IsFrom, carried}
 use Rattle.keep_rule.specs.Forced.{Forced, bound}
 use Rattle.keep_rule.specs.declared.force.Force.{Force}
 
--- behind a wake-up at prev, x is the next: of all entries whose bound falls short of their carried need, its entry has the
+-- after a wake-up at prev, x is the next: of all entries whose bound falls short of their carried need, its entry has the
 -- least bound, of several the lowest index; it comes the margin before that bound, for the entry that has the need
 pub record IsForce (es : List Entry) (margin s : ℕ) (ends : ℕ → ℕ) (prev : Option ℕ) (x : Force) : Type 0 where
   pub short : bound es ends prev x.entry < carried es s x.entry
@@ -15,7 +15,7 @@ pub record IsForce (es : List Entry) (margin s : ℕ) (ends : ℕ → ℕ) (prev
   pub lowest : (i : ℕ) → bound es ends prev i < carried es s i → bound es ends prev i ≡ bound es ends prev x.entry → x.entry ≤ i
   pub from : IsFrom es s x.entry x.needed
 
--- each is the next behind the one before it, and behind the last no entry's bound falls short
+-- each is the next after the one before it, and after the last no entry's bound falls short
 abbrev pub AreForces : List Entry → ℕ → ℕ → (ℕ → ℕ) → Option ℕ → List Force → Type 0
 AreForces es margin s ends prev [] = (i : ℕ) → carried es s i ≤ bound es ends prev i
 AreForces es margin s ends prev (x ∷ xs) = IsForce es margin s ends prev x × AreForces es margin s ends (Some x.at) xs

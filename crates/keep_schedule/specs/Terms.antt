@@ -25,7 +25,7 @@ pub record Leads (t : Terms) (prev : Option ℕ) (f : ℕ) : Type 0 where
   pub short : deadline t prev f < t.need f
   pub first : (i : ℕ) → deadline t prev i < t.need i → Ahead (deadline t prev f) f (deadline t prev i) i
 
--- the wake-ups behind the one at prev, each by the entry that leads
+-- the wake-ups after the one at prev, each by the entry that leads
 abbrev pub AreLed : Terms → Option ℕ → List Force → Type 0
 AreLed t prev [] = (i : ℕ) → t.need i ≤ deadline t prev i
 AreLed t prev (x ∷ xs) =

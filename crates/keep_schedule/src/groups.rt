@@ -93,7 +93,7 @@ fn is_ahead(end: u64, index: u32, other_end: u64, other: u32) -> bool
     end < other_end || (end == other_end && index <= other)
 }
 
-/// Moves entries between the groups until it shows what forces the wake-up behind the one at `at`.
+/// Moves entries between the groups until it shows what forces the wake-up after the one at `at`.
 pub(crate) fn settle(outlook: &Outlook, groups: &mut Groups, at: u64) -> Next
     requires grouped { IsGrouped outlook.now (Some at) groups.old }
     requires within { at ≤ LAST }

@@ -132,7 +132,7 @@ struct Begun {
     entry: u32,
 }
 
-/// Takes the next wake-up, behind the one at `last`. Where an entry that waits forces it, that has now joined.
+/// Takes the next wake-up, after the one at `last`. Where an entry that waits forces it, that has now joined.
 fn begin(outlook: &Outlook, groups: &mut Groups, last: Option<u64>, next: Next) -> Option<Begun>
     requires ready { IsReady outlook.now last groups.old next }
     requires last { IsWithin last }

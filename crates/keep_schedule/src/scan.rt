@@ -70,7 +70,7 @@ impl<'a> Schedule for ScanSchedule<'a> {
     }
 }
 
-/// The entry that forces the next wake-up behind the one at `last`: of those that end before the need that they carry, the
+/// The entry that forces the next wake-up after the one at `last`: of those that end before the need that they carry, the
 /// first to end, of several the lowest index.
 fn leader(outlook: &Outlook, last: Option<u64>) -> Option<u32>
     requires { IsWithin last }

@@ -9,7 +9,7 @@ ghost use Rattle.keep_schedule.specs.Terms.{Leads};
 use crate::groups::{Groups, Next, settle};
 use crate::outlook::Outlook;
 
-/// Wake-ups of one entry behind a first one: how many, the moment of the last, and what forces the next.
+/// Wake-ups of one entry after a first one: how many, the moment of the last, and what forces the next.
 #[derive(Clone, Copy)]
 pub(crate) struct Stretch {
     pub(crate) more: u64,
@@ -17,7 +17,7 @@ pub(crate) struct Stretch {
     pub(crate) next: Next,
 }
 
-/// Takes the wake-ups of `entry` behind one at `first`, as long as it forces them, and together with that at most `most`.
+/// Takes the wake-ups of `entry` after one at `first`, as long as it forces them, and together with that at most `most`.
 pub(crate) fn extend(
     outlook: &Outlook,
     groups: &mut Groups,
@@ -59,7 +59,7 @@ fn is_head(next: Next, entry: u32) -> bool
     }
 }
 
-/// Before when `entry`, which forces the wake-up behind the one at `last`, goes on to do so, as far as the groups tell.
+/// Before when `entry`, which forces the wake-up after the one at `last`, goes on to do so, as far as the groups tell.
 fn until(outlook: &Outlook, groups: &Groups, entry: u32, last: u64) -> u64
     requires grouped { IsGrouped outlook.now (Some last) groups.now }
     requires head { IsHead (terms_of outlook.now) last (Waits (terms_of outlook.now) groups.now) (Joins (terms_of outlook.now) groups.now) entry }

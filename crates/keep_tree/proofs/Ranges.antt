@@ -1,4 +1,4 @@
--- One number more behind those of a range: for the loops that go over entries, here and in the crates above.
+-- One number more after those of a range: for the loops that go over entries, here and in the crates above.
 use Rattle.std.proofs.Common.{◌≡◌, ◌∙◌, ℕ, ◌+◌, List, [], ◌∷◌, ◌++◌, sym, ap}
 use Rattle.std.proofs.lemmas.List.{map-id}
 use Rattle.std.proofs.lemmas.List.FromFn.{map-range_with_len_more}

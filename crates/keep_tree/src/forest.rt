@@ -27,7 +27,7 @@ pub const MAX_DEPTH: usize = 64;
 /// The most bytes of a name.
 pub const NAME_MAX: usize = 64;
 
-/// Tokens and leases in one list, each behind the one that it belongs to, with a look-up by name; and the margin, in
+/// Tokens and leases in one list, each after the one that it belongs to, with a look-up by name; and the margin, in
 /// seconds, that an agent leaves before an end.
 ///
 /// Source: Vault, "Tokens"; Vault, "Lease, renew, and revoke". The margin is this project's own.

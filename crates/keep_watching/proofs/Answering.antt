@@ -216,7 +216,7 @@ waits_from i (q ∷ rs) r h =
 
 -- ---- taking answers by their indices
 
--- the answers of the entries below i are taken, behind a text, and the requests of the others wait for theirs
+-- the answers of the entries below i are taken, after a text, and the requests of the others wait for theirs
 pub record IsTaking (old : Watching) (requests : List Request) (later : List Answer) (before : List ℕ) (i : ℕ) (now : Watching) (text : List ℕ) : Type 0 where
   pub told : List ℕ
   pub taken : AreTaken old.inventory (by_index i (answers.answered requests later)) old.machine now.machine told

@@ -1,4 +1,4 @@
--- LineByLine: lines behind lines, and a stop behind lines: for `answer_line`, `answer_whole` and `answer_pending`.
+-- LineByLine: lines after lines, and a stop after lines: for `answer_line`, `answer_whole` and `answer_pending`.
 use Rattle.std.proofs.Common.{◌≡◌, ℕ, ◌+◌, ◌≤◌, OnOk, min, inl, inr, IsTrue, List, [], ◌∷◌, ◌++◌, None, Some, Result, Ok, Err, length, length-append, take, refl, sym, ap, ◌∙◌, subst, arith}
 use Rattle.std.proofs.lemmas.List.{append-nil, append_assoc}
 use Rattle.std.specs.Io.KnownBytes.{Appends}
@@ -55,7 +55,7 @@ module _ (a b : Change) (same : a.new ≡ b.old) where
     front = subst (Appends a.old.output.written b.new.output.written) (sym (append_assoc t u (take second.n second.own))) (behind_said t (u ++ take second.n second.own) first second.front);
   }
 
-  -- a stop behind a text that was sent before
+  -- a stop after a text that was sent before
   pub halts_then :
       (port number : ℕ) (old : Side) (behind : List (List ℕ)) (t u : List ℕ) (stop : Stop) (new : Side) (P : Type 0) → IsSent t a → Halts port number old behind u stop new P b →
       Halts port number old behind (t ++ u) stop new P (joined a b)
@@ -161,7 +161,7 @@ module _ (port : ℕ) where
         sent = sent_then a b same h.text text h.sent sent;
       }
 
-  -- those of what stands behind
+  -- those of what stands after
   pub up_to_then :
       (first : ℕ) (old : Side) (bytes rest : List ℕ) (behind : List (List ℕ)) (mid : Side) (middle : ℕ) (a b : Change) (new : Side) (last : ℕ) → a.new ≡ b.old →
       HearsUpTo port first old bytes (pieces 10 rest) mid middle a → HearsUpTo port middle mid rest behind new last b → HearsUpTo port first old bytes behind new last (joined a b)
@@ -199,7 +199,7 @@ module _ (port : ℕ) where
             (halts_then a b same port (cut (last + 1)) mid behind h.text [] stop new ⊥ h.sent halts));
       }
 
-  -- a stop within what stands behind
+  -- a stop within what stands after
   abbrev pub halts_behind :
       (first : ℕ) (old : Side) (bytes rest : List ℕ) (mid : Side) (middle : ℕ) (a b : Change) (stop : Stop) (new : Side) → a.new ≡ b.old →
       HearsUpTo port first old bytes (pieces 10 rest) mid middle a → HaltsWithin port middle mid rest stop new b → HaltsWithin port first old bytes stop new (joined a b)
@@ -238,7 +238,7 @@ module _ (port : ℕ) where
       let all : pieces 10 rest ≡ line ∷ f.0 ∷ f.1.0 = e ∙ ap (λ ps. line ∷ ps) f.1.1 in
       halts_at first old bytes (line ∷ f.0 ∷ f.1.0) mid last a b stop new same (subst (λ ps. HearsUpTo port first old bytes ps mid last a) all h) (one f.0 f.1.0)
 
-  -- what stands behind the last line is as long as a line may be
+  -- what stands after the last line is as long as a line may be
   pub long_rest :
       (first : ℕ) (old : Side) (bytes rest : List ℕ) (mid : Side) (last : ℕ) (a : Change) → HearsUpTo port first old bytes (rest ∷ []) mid last a → MOST_LINE ≤ length rest →
       HaltsWithin port first old bytes (stops.Line (cut (last + 1))) mid a

@@ -46,7 +46,7 @@ pub four_say :
     (g : Forest) (a b c d : List ℕ) (ws : List (List ℕ)) → Some (a, b, c, d) ≡ four ws → words_in g ws ≡ (if bytes_eq a (codes "known") then known_in g b c d else None)
 four_say g a b c d ws h = ap (words_in g) (four_are a b c d ws (sym h))
 
--- one word and more behind it, but neither three nor four in all
+-- one word and more after it, but neither three nor four in all
 pub more_say : (g : Forest) (a : List ℕ) (ws : List (List ℕ)) → ws ≢ [] → None ≡ three (a ∷ ws) → None ≡ four (a ∷ ws) → words_in g (a ∷ ws) ≡ None
 more_say g a [] some h k = absurd (some refl)
 more_say g a (w ∷ []) some h k = refl

@@ -33,12 +33,12 @@ told_at m date = unwrap_or date (broker_now m)
 abbrev pub end_here : State → ℕ → ℕ → ℕ
 end_here m i seconds = cut (unwrap_or (track_at m i).end (cut (second m + seconds)) * 1000) - m.clocks.phase
 
--- what was told, in the state behind it
+-- what was told, in the state after it
 abbrev pub told_as : Operation → List ℕ → State → ℕ → Option ℕ → List ℕ
 told_as Look name m seconds date = entry_line name (cut (told_at m date + seconds))
 told_as Renew name m seconds date = told_line name seconds
 
--- what came of a request of that name, in the state behind it
+-- what came of a request of that name, in the state after it
 unfoldable pub reply_lines : List ℕ → State → Request → Reply → List ℕ
 reply_lines name m r (Told seconds renewable date) = told_as r.operation name m seconds date ++ end_line name (end_here m r.entry seconds) renewable
 reply_lines name m r (Refused status date) = refused_line name status
@@ -53,7 +53,7 @@ if_some text (Some x) = text x
 abbrev pub if_so : Bool → List ℕ → List ℕ
 if_so is text = if is then text else []
 
--- what is to be noted of it, in the state behind it
+-- what is to be noted of it, in the state after it
 unfoldable pub noted_lines : List ℕ → State → Bool → Notes → List ℕ
 noted_lines name m never notes =
     if_some (gone_line name) notes.gone ++ (if_some (λ end. top_line name (broker_moment m end)) notes.top
@@ -99,6 +99,6 @@ by_index n xs = flat_map (λ i. option_to_list (find (is_of i) xs)) (range_with_
 abbrev pub AreTakenByIndex : Inventory → List Request → List Answer → State → State → List ℕ → Type 0
 AreTakenByIndex s requests answers old new text = AreTaken s (by_index (length s.forest.entries) (answered requests answers)) old new text
 
--- behind a text stands one of which this holds, and nothing else
+-- after a text stands one of which this holds, and nothing else
 abbrev pub Appended : List ℕ → List ℕ → (List ℕ → Type 0) → Type 0
 Appended old new P = (more : List ℕ) × (P more × (new ≡ old ++ more))

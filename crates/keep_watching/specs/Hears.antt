@@ -42,7 +42,7 @@ pub record IsLineHeard (port : ℕ) (old : Side) (line : List ℕ) (new : Side) 
   pub is : line_in old.watching.inventory.forest line ≡ Some says
   pub heard : IsHeard port old says new text
 
--- lines are heard, one after another, and their texts stand one behind another
+-- lines are heard, one after another, and their texts stand one after another
 abbrev pub AreHeard : ℕ → Side → List (List ℕ) → Side → List ℕ → Type 0
 AreHeard port old [] new text = (new ≡ old) × (text ≡ [])
 AreHeard port old (line ∷ lines) new text =

@@ -9,7 +9,7 @@ use Rattle.keep_watching.specs.Hears.{AreHeard}
 use Rattle.keep_watching.specs.Watching.{fresh}
 use Rattle.mini_broker.specs.Table.{Table}
 
--- the state behind these turns
+-- the state after these turns
 abbrev pub behind : State → List Turned → State
 behind old [] = old
 behind old (turn ∷ turns) = behind turn.state turns

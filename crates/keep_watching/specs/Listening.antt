@@ -31,7 +31,7 @@ IsNoLine g [] HasEnded = ⊥
 IsNoLine g (rest ∷ []) HasEnded = (MOST_LINE ≤ length rest) ⊎ (HasEnded × (0 < length rest))
 IsNoLine g (line ∷ next ∷ more) HasEnded = line_in g line ≡ None
 
--- the first of these pieces is a line that is heard; behind this text no more than a front of what answers it is written
+-- the first of these pieces is a line that is heard; after this text no more than a front of what answers it is written
 pub record IsCutOff (port : ℕ) (old : Side) (behind : List (List ℕ)) (text : List ℕ) (new : Side) (out : Change) : Type 0 where
   pub line : List ℕ
   pub is : whole_line behind ≡ Some line
@@ -40,7 +40,7 @@ pub record IsCutOff (port : ℕ) (old : Side) (behind : List (List ℕ)) (text :
   pub n : ℕ
   pub front : Receives (text ++ take n own) out
 
--- why a watch stops behind the lines of this text, at the piece that stands first, which would be the line of that number: it is
+-- why a watch stops after the lines of this text, at the piece that stands first, which would be the line of that number: it is
 -- no line; or its answer was not written whole; or memory was wanting
 abbrev pub Halts : ℕ → ℕ → Side → List (List ℕ) → List ℕ → Stop → Side → Type 0 → Change → Type 0
 Halts port number old behind text (stops.Line n) new HasEnded out =
@@ -56,7 +56,7 @@ abbrev pub IsBrokenOff : List ℕ → Change → Type 0
 IsBrokenOff read fed = (fed.new.failed_calls ≡ one_more fed.old.failed_calls) ⊎ ((fed.new.failed_calls ≡ fed.old.failed_calls) × (2 ^ 64 - 1 ≤ length read))
 
 -- of what was read before the last read, which handed out at most 4,096 bytes, the whole lines are among these that were heard,
--- and less than a line stands behind them
+-- and less than a line stands after them
 pub record IsPrompt (read : List ℕ) (lines : List (List ℕ)) : Type 0 where
   pub before : List ℕ
   pub last : List ℕ
@@ -69,7 +69,7 @@ pub record IsPrompt (read : List ℕ) (lines : List (List ℕ)) : Type 0 where
   pub whole : pieces 10 before ≡ first ++ (rest ∷ [])
   pub short : length rest < MOST_LINE
 
--- how listening ends behind the lines of this text, before these pieces: the input has ended in a line feed, or with no line at
+-- how listening ends after the lines of this text, before these pieces: the input has ended in a line feed, or with no line at
 -- all; or it is broken off; or a line stops it
 abbrev pub ListensTo : ℕ → List ℕ → ℕ → Side → List (List ℕ) → List ℕ → Result (Unit {0}) Stop → Side → Change → Change → Type 0
 ListensTo port read number old behind text (Ok u) new fed out =
@@ -79,7 +79,7 @@ ListensTo port read number old behind text (Err stops.Read) new fed out =
 ListensTo port read number old behind text (Err stop) new fed out =
     (fed.new.failed_calls ≡ fed.old.failed_calls) × Halts port number old behind text stop new (IsAtEnd fed.new.input.remaining) out
 
--- listening to an input: what was read of it, the lines of that which were heard, and what that came to; and how it ended behind
+-- listening to an input: what was read of it, the lines of that which were heard, and what that came to; and how it ended after
 -- them. A line's number counts from 1, and no further than a number is written
 pub record Listens (port : ℕ) (old : Side) (result : Result (Unit {0}) Stop) (new : Side) (fed : Change) (out : Change) : Type 0 where
   pub read : List ℕ

@@ -65,7 +65,7 @@ impl Watching {
         }
     }
 
-    /// Appends what came of a request, and behind an end that was told the line that keeps it.
+    /// Appends what came of a request, and after an end that was told the line that keeps it.
     #[tactic(auto, unfolding(crate::specs::Answers::reply_lines))]
     fn push_reply(
         &self,

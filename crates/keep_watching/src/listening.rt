@@ -22,7 +22,7 @@ use std::alloc::Global;
 
 /// Answers lines until they end. Each is answered, and its lines written and flushed, before `lines` is read again.
 ///
-/// `Ok`: the lines have ended, behind a line feed if there are any. `Line`: the line of that number is none, or is longer than
+/// `Ok`: the lines have ended, after a line feed if there are any. `Line`: the line of that number is none, or is longer than
 /// 256 bytes with its line feed, or has none; those before it were answered. `Read`: a read failed. `Write`: `out` failed.
 /// `Memory`.
 pub(crate) fn listen<R: Source, E: Abreast, W: Sink>(
@@ -68,7 +68,7 @@ fn listen_to<R: Source, E: Abreast, W: Sink>(
     Err(Stop::Read)
 }
 
-/// What the end of the lines comes to behind so many: a line without its line feed is none.
+/// What the end of the lines comes to after so many: a line without its line feed is none.
 fn at_end(pending: &[u8], count: u64) -> Result<(), Stop>
     ensures none { OnOk result (pending.now ≡ []) }
     ensures some { IfErr result (λ stop. (stop ≡ stops.Line (cut (count + 1))) × (0 < length pending.now)) }
@@ -80,7 +80,7 @@ fn at_end(pending: &[u8], count: u64) -> Result<(), Stop>
     }
 }
 
-/// Answers the lines that are whole, counts them, and leaves what stands behind the last. What is as long as a line and has no
+/// Answers the lines that are whole, counts them, and leaves what stands after the last. What is as long as a line and has no
 /// line feed is none.
 fn answer_pending<E: Abreast, W: Sink>(
     alloc: Global,

@@ -2,7 +2,7 @@
 //!
 //! The contract for the layers above: [`cut`] parts a text at the first of a byte, [`two_pieces`] where it has just one, and [`two_words`] and its like give the
 //! words of a line where they are just so many. Words are the pieces between single spaces, empty ones included: a line
-//! that ends in a space has an empty word behind it. [`number_up_to`] takes a number up to a limit in its one spelling,
+//! that ends in a space has an empty word after it. [`number_up_to`] takes a number up to a limit in its one spelling,
 //! which is what [`push_number`] writes. [`words_are_cut_back`] says that what is joined by a byte is cut into the same
 //! pieces. Begin with `specs/`.
 #![tactic(auto)]

@@ -80,7 +80,7 @@ pub fn read_command<'a, R: AllocGlobal + Print, E: Sink>(
     }
 }
 
-/// Shows the text of a command line that asks nothing, and tells behind a mistake of a moment what a moment is.
+/// Shows the text of a command line that asks nothing, and tells after a mistake of a moment what a moment is.
 fn show_with_tip<R: AllocGlobal + Print, E: Sink>(rt: &R, error: &Error, errors: &mut E) -> Exit {
     let exit = show(
         rt.alloc(),

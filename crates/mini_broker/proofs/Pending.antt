@@ -153,7 +153,7 @@ filter_both : {X : Type 0} (p q : X → Bool) (xs : List X) → filter p (filter
 filter_both p q [] = refl
 filter_both p q (x ∷ xs) = filtered p x (filter q xs) (filter (λ y. q y && p y) xs) (q x) (filter_both p q xs)
 
--- the numbers behind the next, also where the count stays
+-- the numbers after the next, also where the count stays
 behind_next : (b : Bool) (count n : ℕ) → (nat_lt count n && not (n == cond b (count + 1) count)) ≡ nat_lt (cond b (count + 1) count) n
 behind_next true count n = grind (arith, nat_tests)
 behind_next false count n = grind (arith, nat_tests)

@@ -24,7 +24,7 @@ pub filter_all : (xs : List ℕ) → filter (λ i. true) xs ≡ xs
 filter_all [] = refl
 filter_all (x ∷ xs) = ap (λ ys. x ∷ ys) (filter_all xs)
 
--- two functions that agree within a range, behind a test
+-- two functions that agree within a range, after a test
 pub map_range : {X : Type 0} (f g : ℕ → X) (p : ℕ → Bool) (n a : ℕ) → ((i : ℕ) → a ≤ i → i < a + n → p i ≡ true → f i ≡ g i) → map f (filter p (range_with_len a n)) ≡ map g (filter p (range_with_len a n))
 map_range f g p zero a same = refl
 map_range f g p (suc n) a same =

@@ -1,4 +1,4 @@
--- What was sent behind what was read: for `serve_stream`.
+-- What was sent after what was read: for `serve_stream`.
 use Rattle.std.proofs.Common.{◌≡◌, ℕ, IsTrue, refl, sym, subst, Result, Ok, Err, IfErr, OnOk, OnErr, inl, inr}
 use Rattle.std.specs.Io.KnownBytes.{Keeps}
 use Rattle.keep_device.specs.Front.{AppendsFront}

@@ -33,8 +33,8 @@ IsOneLine text = list_all (λ b. not (b == 10)) text ≡ true
 abbrev pub HasNoLine : List ℕ → Type 0
 HasNoLine bytes = (text rest : List ℕ) → IsOneLine text → length text < MOST_LINE → bytes ≡ text ++ (10 ∷ rest) → ⊥
 
--- of an input whose next line tells no moment, what stands behind the line is left; or the end, where the line has no line
--- feed; or what stands behind as many bytes as a line may have
+-- of an input whose next line tells no moment, what stands after the line is left; or the end, where the line has no line
+-- feed; or what stands after as many bytes as a line may have
 abbrev pub PassesLine : Option (List ℕ) → Option (List ℕ) → Type 0
 PassesLine before now =
     (text : List ℕ) × IsOneLine text
@@ -51,7 +51,7 @@ CountsLine (Err lines.ReadFailed) before now = now ≡ one_more before
 CountsLine (Err lines.NoMoment) before now = now ≡ before
 CountsLine (Err lines.OutOfMemory) before now = now ≡ before
 
--- the moment of a line that was read, and no byte behind it; or that none stands in front; and what is left
+-- the moment of a line that was read, and no byte after it; or that none stands in front; and what is left
 abbrev pub TellsLine : Result ℕ LineFault → Input → Input → Type 0
 TellsLine (Ok m) before now = Consumes before.remaining now.remaining (moment_line m)
 TellsLine (Err lines.NoMoment) before now = IfSome before.remaining HasNoMoment × PassesLine before.remaining now.remaining

@@ -64,10 +64,10 @@ pub enum Moments {
 
 /// The moment at which the next connection is served. Where all have one, nothing is read. Else it is that of the next line:
 /// whole seconds since 1970-01-01T00:00:00Z in decimal digits without zeros in front, at most 253402300799, and a line feed.
-/// It is read byte by byte, by at most 256 reads, and no byte behind it is taken.
+/// It is read byte by byte, by at most 256 reads, and no byte after it is taken.
 ///
 /// `ReadFailed`: a read failed. `NoMoment`: the input has ended before a line feed, or the line has more than 256 bytes, or
-/// spells no moment; what stands behind it, or behind its first 256 bytes, is left. `OutOfMemory`: a growth was refused. After
+/// spells no moment; what stands after it, or after its first 256 bytes, is left. `OutOfMemory`: a growth was refused. After
 /// the first and the last of the three a front of the line is lost.
 pub fn next_moment<S: Source>(
     alloc: Global,
@@ -85,7 +85,7 @@ pub fn next_moment<S: Source>(
     }
 }
 
-/// Reads one line and no byte behind it, and gives the moment that it spells.
+/// Reads one line and no byte after it, and gives the moment that it spells.
 fn read_moment<S: Source>(alloc: Global, source: &mut S) -> Result<Moment, LineFault>
     ensures line { IfOk result (λ m. Consumes (S.seen source.old).input.remaining (S.seen source.new).input.remaining (moment_line m)) }
     ensures none { IsErrOf result lines.NoMoment → IfSome (S.seen source.old).input.remaining HasNoMoment }
@@ -105,7 +105,7 @@ fn read_moment<S: Source>(alloc: Global, source: &mut S) -> Result<Moment, LineF
     Moment::new(seconds).ok_or(LineFault::NoMoment)
 }
 
-/// Reads one line and no byte behind it, and gives it without its line feed; `None` where the input ends before that, or the
+/// Reads one line and no byte after it, and gives it without its line feed; `None` where the input ends before that, or the
 /// line has more than 256 bytes.
 fn read_line<S: Source>(alloc: Global, source: &mut S) -> Result<Option<Vec<u8>>, LineFault>
     ensures line { IfOk result (λ line. IfSome line (λ text. Consumes (S.seen source.old).input.remaining (S.seen source.new).input.remaining (text.items ++ 10 ∷ []))) }

@@ -93,7 +93,7 @@ pub(crate) fn sweep(slots: &mut [Slot], soonest: &mut u64, t: Moment)
     }
 }
 
-/// Judges each slot in one pass, since a row stands behind the one over it. Gives the least end of those that stay listed,
+/// Judges each slot in one pass, since a row stands after the one over it. Gives the least end of those that stay listed,
 /// the greatest `u64` where none does.
 fn sweep_all(slots: &mut [Slot], t: Moment) -> u64
     requires { AreSlots slots.old }

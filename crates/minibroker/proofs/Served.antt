@@ -1,4 +1,4 @@
--- Connections are served one after another: one more behind those that were, or one that stops the broker.
+-- Connections are served one after another: one more after those that were, or one that stops the broker.
 use Rattle.std.proofs.Common.{◌≡◌, ℕ, ◌+◌, ◌<◌, ◌++◌, ◌∷◌, [], List, Option, Some, None, Err, IsErr, IsErrAnd, Ok, Result, ap, arith, inl, inr, length, map, refl, subst, sym, ◌∙◌}
 use Rattle.std.proofs.lemmas.List.{append-nil, append_assoc, length-append, map-append}
 use Rattle.keep_report.specs.declared.stop.Stop.{Stop}

@@ -76,13 +76,13 @@ abbrev pub AreServed : Moments → Broker → List Visit → Broker → Type 0
 AreServed moments b [] after = after ≡ b
 AreServed moments b (v ∷ later) after = (mid : Broker) × (Visits moments b v (Ok tt) mid × AreServed moments mid later after)
 
--- behind these no other connection is handed out, or one that stops the broker
+-- after these no other connection is handed out, or one that stops the broker
 abbrev pub StopsBehind : Moments → Broker → List Visit → Stop → Broker → Option (List Connection) → Option (List Connection) → Type 0
 StopsBehind moments b visits stop after old new =
     (IsNoneHanded stop × (AreServed moments b visits after × HandsOut old new (map visited visits)))
     ⊎ ((mid : Broker) × (last : Visit) × (AreServed moments b visits mid × (Visits moments mid last (Err stop) after × HandsOut old new (map visited (visits ++ last ∷ [])))))
 
--- so many connections are handed out and served, each once, in the order in which they come; or the broker stops behind fewer
+-- so many connections are handed out and served, each once, in the order in which they come; or the broker stops after fewer
 abbrev pub ServesAll : ℕ → Moments → Broker → Result (Unit {0}) Stop → Broker → Option (List Connection) → Option (List Connection) → Type 0
 ServesAll count moments b (Ok u) after old new =
     (visits : List Visit) × ((length visits ≡ count) × (AreServed moments b visits after × HandsOut old new (map visited visits)))

@@ -7,7 +7,7 @@ use keep_report::{Stop, send};
 use mini_broker::{LineFault, Moments, StreamFault, Table, next_moment};
 use std::alloc::Global;
 
-/// Serves so many connections, one after another as they come, each as [`serve_one`] does. An error ends it, behind those that
+/// Serves so many connections, one after another as they come, each as [`serve_one`] does. An error ends it, after those that
 /// were served before.
 pub fn serve_all<C: Connections, S: Source>(
     alloc: Global,

@@ -16,7 +16,7 @@ pub const IN_RUNS: &str = "leasekeep-plan 2\nstart 1000\nrun 1059 59 3 web web\n
 pub const IN_WAKES: &str =
     "leasekeep-plan 1\nstart 1000\nwake 1059 web web\nwake 1118 web web\nwake 1177 web web\nend 3\n";
 
-/// `check`, to an output that fails behind so many calls.
+/// `check`, to an output that fails after so many calls.
 pub(crate) fn checks(
     alloc: Global,
     inventory: &str,
@@ -107,7 +107,7 @@ fn ten_million_wake_ups_are_judged(rt: HostRuntime) -> Result<(), Fail> {
     Ok(())
 }
 
-// Certificates behind their first line, whichever version it names: the inventory that each is judged by, and the line about it.
+// Certificates after their first line, whichever version it names: the inventory that each is judged by, and the line about it.
 const OF_EITHER: [(&str, &str, &str); 3] = [
     (WEB, "start 1200\nend 0\n", "yes\n"),
     (
@@ -261,7 +261,7 @@ fn altered_runs_are_judged(rt: HostRuntime) -> Result<(), Fail> {
     judges_altered(&rt, "leasekeep-plan 2\n", &ALTERED_RUNS)
 }
 
-// A certificate of the web example behind its first line, the start that is asked for, and the line about it: what cannot be
+// A certificate of the web example after its first line, the start that is asked for, and the line about it: what cannot be
 // read is told before the start, and the start before what is claimed.
 const FROM_A_START: [(&str, u64, &str); 7] = [
     ("start 1000\nrun 1059 59 3 web web\nend 3\n", 1000, "yes\n"),

@@ -75,7 +75,7 @@ fn moments_of(alloc: Global, seconds: &[u64]) -> Result<Vec<Moment>, Fail> {
     Ok(moments)
 }
 
-/// `ends` from 1000 on, to an output that fails behind so many calls.
+/// `ends` from 1000 on, to an output that fails after so many calls.
 pub(crate) fn ends(
     alloc: Global,
     inventory: &str,

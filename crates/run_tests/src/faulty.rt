@@ -6,7 +6,7 @@ use keep_engine::Exit;
 use std::process::Abort;
 use std::test::Fail;
 
-// Texts that are no inventories, with what stands behind `leasekeep: inventory: ` in the fault line.
+// Texts that are no inventories, with what stands after `leasekeep: inventory: ` in the fault line.
 const FAULTY: [(&str, &str); 15] = [
     ("x", "not-toml"),
     (

@@ -99,7 +99,7 @@ const STOPPED: [(Web, Exit, &str); 2] = [
     ),
 ];
 
-/// `margin` from 1000 on, to an output that fails behind so many calls.
+/// `margin` from 1000 on, to an output that fails after so many calls.
 pub(crate) fn margins(
     alloc: Global,
     inventory: &str,

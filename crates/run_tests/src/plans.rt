@@ -9,7 +9,7 @@ use keep_engine::{Exit, run_plan};
 use std::alloc::Global;
 use std::test::Fail;
 
-/// Inventories, the exits of their plans from 1000 on, and the lines behind the first two.
+/// Inventories, the exits of their plans from 1000 on, and the lines after the first two.
 pub const PLANNED: [(&str, Exit, &str); 12] = [
     (WEB, Exit::Done, "run 1059 59 3 web web\nend 3\n"),
     (WEB_BY_DATE, Exit::Done, "run 1059 59 3 web web\nend 3\n"),
@@ -98,7 +98,7 @@ const STOPPED: [(Web, Exit, &str); 3] = [
     ),
 ];
 
-/// `plan` from 1000 on, to an output that fails behind so many calls.
+/// `plan` from 1000 on, to an output that fails after so many calls.
 pub(crate) fn plans(alloc: Global, inventory: &str, failing: Option<u64>) -> Result<Outcome, Fail> {
     let mut out = MemorySink::new(alloc, failing);
     let mut errors = MemorySink::new(alloc, None);

@@ -1,4 +1,4 @@
--- What stands behind the line of a size: for `sized_step` and `next_step`.
+-- What stands after the line of a size: for `sized_step` and `next_step`.
 use Rattle.std.proofs.Common.{◌≡◌, ℕ, ◌+◌, ◌-◌, ◌<◌, ◌≤◌, ◌⊎◌, inl, inr, List, [], ◌∷◌, ◌++◌, length, take, drop, replicate, refl, sym, ap, ◌∙◌, arith, append_assoc, subst, append-nil, length-append, length-drop, take-append-drop, Ok, Err}
 use Rattle.std.proofs.lemmas.List.{drop_at, drop-drop, take_all, length-take-le, take-append-le, nil_from_length, length-replicate}
 use Rattle.std.proofs.Math.Seq.{take-append-add}

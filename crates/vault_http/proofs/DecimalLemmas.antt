@@ -26,7 +26,7 @@ value_byte b h = grind (arith, nat_tests)
 not_blank : (b : ℕ) → IsDigitByte b → is_ows b ≡ false
 not_blank b h = grind (arith, nat_tests)
 
--- digits behind a space are bytes of a value
+-- digits after a space are bytes of a value
 pub digits_pass : (ds : List ℕ) → All IsDigitByte ds → AllPass is_value_byte (32 ∷ ds)
 digits_pass ds all = All-cons (λ b. IsTrue (is_value_byte b)) 32 ds refl (All-weaker IsDigitByte (λ b. IsTrue (is_value_byte b)) value_byte ds all)
 

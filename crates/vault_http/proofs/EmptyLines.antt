@@ -49,7 +49,7 @@ section_ends end (f ∷ fields) last =
     (ends_as tail (print_section (f ∷ fields) last) (f.name ++ (58 ∷ (f.raw ++ behind))) line
     (ends_more tail f.name (58 ∷ (f.raw ++ behind)) (ends_more tail (58 ∷ []) (f.raw ++ behind) (ends_more tail f.raw behind (section_ends f.end fields last)))))
 
--- the same, with nothing behind
+-- the same, with nothing after
 last_ends : (end : LineEnd) (fields : List Field) (last : LineEnd) → EndsWith (empty_line last) (print_end end ++ (print_section fields last ++ []))
 last_ends end fields last =
     ends_as (empty_line last) (print_end end ++ (print_section fields last ++ [])) (print_end end ++ print_section fields last)
@@ -110,7 +110,7 @@ meets_line last (b ∷ front) end rest =
 pub none_met : (bytes : List ℕ) → meets 0 bytes ≡ false → HasLineBehind 0 bytes → ⊥
 none_met bytes e h = let met = sym e ∙ ap (meets 0) h.bytes_are ∙ meets_line 0 h.front h.end h.rest in cc
 
--- an empty line that ends behind the first n bytes begins at most two before
+-- an empty line that ends after the first n bytes begins at most two before
 pub line_after : (bytes : List ℕ) (n from : ℕ) → from ≤ n - 2 → HasLineBehind n bytes → HasLineBehind 0 (drop from bytes)
 line_after bytes n from low h =
     let short : length (print_end h.end) ≤ 2 = end_short h.end in
@@ -138,7 +138,7 @@ not_blank [] [] t e = cc
 not_blank [] (x ∷ b) t e = not_blank [] b t (and_right (is_blank x) (list_all is_blank (b ++ (32 ∷ t))) e)
 not_blank (x ∷ a) b t e = not_blank a b t (and_right (is_blank x) (list_all is_blank (a ++ (b ++ (32 ∷ t)))) e)
 
--- more of them behind others
+-- more of them after others
 pub blank_more : (bytes : List ℕ) (blank more : ℕ) → blank ≤ length bytes → IsTrue (list_all is_blank (take blank bytes)) → more ≡ length (take_while is_blank (drop blank bytes))
     → (blank + more ≤ length bytes) × IsTrue (list_all is_blank (take (blank + more) bytes))
 blank_more bytes blank more within e m =

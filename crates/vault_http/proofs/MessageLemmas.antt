@@ -57,7 +57,7 @@ headed_reply max bytes more len status framed a f behind =
     let by_len = subst (λ k. IsBehind (is_informational (status_code f.head)) (status_code f.head) (framing_of_response f.head) (max - k) rest a) f.len_is by_framing in
     inr (record { head = f.head; rest = rest; reads = (f.reads.0, on.0); few = f.few; within = on.1; behind = by_len })
 
--- a body behind the head, where the head says how long it is
+-- a body after the head, where the head says how long it is
 abbrev pub HasBodyOf : Result Framing LengthFault → ℕ → List ℕ → Type 0
 HasBodyOf (Ok framed) room rest = HasBody framed room rest
 HasBodyOf (Err fault) room rest = ⊥

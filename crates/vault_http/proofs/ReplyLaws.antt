@@ -37,7 +37,7 @@ line_ends_head bytes more none quiet h rest reads = elim (cases_lt (length bytes
   | inr within ↦ none h (drop (length (print_response h)) bytes) (reads.0, front_split bytes more (print_response h) rest reads.1 within)
 ]
 
--- ---- behind a head
+-- ---- after a head
 
 informational : (status : ℕ) (framed : Result Framing LengthFault) (room : ℕ) (rest : List ℕ) → 100 ≤ status → status < 200 → IsBehind (is_informational status) status framed room rest (Err BadHead)
 informational status framed room rest least most =

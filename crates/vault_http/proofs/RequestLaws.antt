@@ -50,7 +50,7 @@ open_request max bytes short o =
     let all : IsOpenRequest bytes = subst IsOpenRequest (take_all max bytes (omega (arith, short))) o in
     (inl (Truncated, (short, all), refl), all.0)
 
--- ---- behind a head
+-- ---- after a head
 
 request_body : (method path : List ℕ) (token : Option (List ℕ)) (framed : Result Framing LengthFault) (room : ℕ) (rest : List ℕ) (message : Request)
     → IsFramed (request_of method path token) framed room rest (Ok message) → HasBodyOf framed room rest

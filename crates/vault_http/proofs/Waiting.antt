@@ -117,7 +117,7 @@ module _ {A : Type 0} (HasNoHead : List ℕ → Type 0) (IsAnswer : List ℕ →
       let gone = by_line front (drop seen bytes) none (λ line. quiet (subst (λ n. HasLineBehind n bytes) long (subst (λ t. HasLineBehind (length front) t) whole line))) in
       (omega (arith, less, there), omega arith, here, cut, subst HasNoHead (whole ∙ sym (take_all (length bytes) bytes (omega arith))) gone, blanks)
 
-  -- behind a head
+  -- after a head
   body_none : (max : ℕ) (bytes : List ℕ) (len : ℕ) (message : A) (framed : Framing) → IsHeaded IsAnswer with_body max bytes len message framed → IsCutOff framed (max - len) (drop len bytes)
       → (m : A) → Holds IsAnswer bytes m → ⊥
   body_none max bytes len message framed h cut m holds = waits_none framed (max - len) (drop len bytes) cut (λ after. h.has_body after m (holds after))

@@ -1,4 +1,4 @@
--- A body behind its head, where only so many bytes may be read (RFC 9112, section 6.3).
+-- A body after its head, where only so many bytes may be read (RFC 9112, section 6.3).
 use Rattle.std.specs.Prelude.{◌≡◌, ℕ, ◌≤◌, List, [], length, take, nat_lt, if◌then◌else◌, Result, Ok, Err}
 use Rattle.vault_http.specs.declared.body.BodyFault.{BodyFault}
 use Rattle.vault_http.specs.declared.body.BodyFault.TheVariants.{TooLong, Truncated}
@@ -16,14 +16,14 @@ counted_body n room rest = if nat_lt room n then Err TooLong else (if nat_lt (le
 abbrev pub open_body : ℕ → List ℕ → Result (List ℕ) BodyFault
 open_body room rest = if nat_lt room (length rest) then Err TooLong else Ok rest
 
--- what the bytes behind the head are as a body
+-- what the bytes after the head are as a body
 abbrev pub IsBody : Framing → ℕ → List ℕ → Result (List ℕ) BodyFault → Type 0
 IsBody Empty room rest body = body ≡ Ok []
 IsBody (Counted n) room rest body = body ≡ counted_body n room rest
 IsBody Chunked room rest body = IsChunked room rest body
 IsBody ToEnd room rest body = body ≡ open_body room rest
 
--- a whole body stands behind the head
+-- a whole body stands after the head
 abbrev pub HasBody : Framing → ℕ → List ℕ → Type 0
 HasBody framed room rest = (body : List ℕ) × IsBody framed room rest (Ok body)
 

@@ -2,7 +2,7 @@
 use Rattle.std.specs.Prelude.{◌≡◌, ℕ, ◌+◌, ◌<◌, Bool, ◌||◌, ◌==◌, List, ◌∷◌, ◌++◌, length}
 use Rattle.httparse.specs.Grammar.{LineEnd, print_end}
 
--- an empty line that ends behind the first n bytes: a line feed and a line end
+-- an empty line that ends after the first n bytes: a line feed and a line end
 pub record HasLineBehind (n : ℕ) (bytes : List ℕ) : Type 0 where
   pub front : List ℕ
   pub end : LineEnd

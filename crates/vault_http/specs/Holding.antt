@@ -31,7 +31,7 @@ pub record IsWaitedFor {A : Type 0} (HasNoHead : List ℕ → Type 0) (IsAnswer 
   pub none : (message : A) → Holds IsAnswer bytes message → ⊥
   pub pending : IsPending IsAnswer bytes ⊎ IsLongHead HasNoHead IsAnswer bytes
 
--- where the input is known, more was rightly waited for behind what was handed out of it between the two
+-- where the input is known, more was rightly waited for after what was handed out of it between the two
 abbrev pub HandedNone : {A : Type 0} → (List ℕ → Type 0) → (List ℕ → Result A HttpFault → Type 0) → Option (List ℕ) → Option (List ℕ) → Type 0
 HandedNone HasNoHead IsAnswer before now =
     IfSome before (λ _. (taken : List ℕ) × Consumes before now taken × IsWaitedFor HasNoHead IsAnswer taken)

@@ -20,7 +20,7 @@ abbrev pub whole_of : {A : Type 0} → (A → List ℕ → A) → A → Result (
 whole_of with_body message (Ok body) = Ok (with_body message body)
 whole_of with_body message (Err fault) = Err (body_fault fault)
 
--- the first bytes are a head, so that the answer is that of the body behind it
+-- the first bytes are a head, so that the answer is that of the body after it
 pub record IsHeaded {A : Type 0} (IsAnswer : List ℕ → Result A HttpFault → Type 0) (with_body : A → List ℕ → A) (max : ℕ) (bytes : List ℕ) (len : ℕ) (message : A) (framed : Framing) : Type 0 where
   pub within : len ≤ max
   pub there : len ≤ length bytes

@@ -1,5 +1,5 @@
 -- A message: the relation between all the bytes of an input, the most that may be read of it, and the answer
--- (RFC 9112, sections 2 to 6). Bytes behind the message do not count.
+-- (RFC 9112, sections 2 to 6). Bytes after the message do not count.
 use Rattle.std.specs.Prelude.{◌≡◌, ℕ, ◌-◌, ◌<◌, ◌≤◌, ◌⊎◌, Bool, true, false, ◌&&◌, nat_le, nat_lt, List, length, take, map, Option, Result, Ok, Err}
 use Rattle.httparse.specs.Grammar.{RequestHead, print_request, ReadsRequest, HasNoRequest, MayBecomeRequest, ResponseHead, print_response, ReadsResponse, HasNoResponse, MayBecomeResponse, status_code}
 use Rattle.httparse.specs.Spans.{name_and_value, RequestOverflows, ResponseOverflows}
@@ -58,7 +58,7 @@ reply_with m body = record { status = m.status; body = body }
 abbrev pub request_with : Request → List ℕ → Request
 request_with m body = record { method = m.method; path = m.path; token = m.token; body = body; port = m.port }
 
--- what stands behind a head with that framing, of which so many bytes may be read
+-- what stands after a head with that framing, of which so many bytes may be read
 abbrev pub IsFramed : {A : Type 0} → (Result (List ℕ) BodyFault → Result A HttpFault) → Result Framing LengthFault → ℕ → List ℕ → Result A HttpFault → Type 0
 IsFramed whole (Err fault) room rest answer = answer ≡ Err (length_fault fault)
 IsFramed whole (Ok framed) room rest answer = (body : Result (List ℕ) BodyFault) × IsBody framed room rest body × (answer ≡ whole body)
@@ -67,7 +67,7 @@ IsFramed whole (Ok framed) room rest answer = (body : Result (List ℕ) BodyFaul
 abbrev pub is_informational : ℕ → Bool
 is_informational status = nat_le 100 status && nat_lt status 200
 
--- the answer behind the head of a reply
+-- the answer after the head of a reply
 abbrev pub IsBehind : Bool → ℕ → Result Framing LengthFault → ℕ → List ℕ → Result Reply HttpFault → Type 0
 IsBehind true status framed room rest answer = answer ≡ Err BadHead
 IsBehind false status framed room rest answer = IsFramed (reply_of status) framed room rest answer

@@ -22,7 +22,7 @@ abbrev pub more_fault : MoreFault → HttpFault
 more_fault more.ReadFailed = ReadFailed
 more_fault more.OutOfMemory = OutOfMemory
 
--- as many reads were made as are allowed, and more are needed: more was rightly waited for behind what they handed out, and
+-- as many reads were made as are allowed, and more are needed: more was rightly waited for after what they handed out, and
 -- where one read more is needed at most, that is for the end alone
 pub record IsLate {A : Type 0} (HasNoHead : List ℕ → Type 0) (IsAnswer : List ℕ → Result A HttpFault → Type 0) (bytes : List ℕ) (left : Option (List ℕ)) (before now : ℕ) : Type 0 where
   pub passes : PassesReads before now

@@ -19,7 +19,7 @@ token_line (Some token) = codes "X-Vault-Token: " ++ token ++ codes "\r\n"
 unfoldable pub length_lines : ℕ → List ℕ
 length_lines n = codes "Content-Type: application/json\r\nContent-Length: " ++ (decimal n ++ codes "\r\n")
 
--- the last field, and the empty line behind it
+-- the last field, and the empty line after it
 unfoldable pub last_lines : List ℕ
 last_lines = codes "Connection: close\r\n\r\n"
 

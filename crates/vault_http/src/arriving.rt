@@ -55,7 +55,7 @@ impl Arriving {
     }
 
     #[tactic(auto, using(crate::proofs::Arrived::known_of_front))]
-    /// Takes a piece that has come, and `ended` says that the input ends behind it. It gives the answer as soon as the bytes
+    /// Takes a piece that has come, and `ended` says that the input ends after it. It gives the answer as soon as the bytes
     /// settle it, whatever follows, as [`crate::read_dated_reply`] does, be it the reply with its date or a fault of the bytes;
     /// and begins anew then. `None`: more is rightly waited for. Out of memory is a fault too.
     pub fn take(

@@ -56,7 +56,7 @@ impl Partial {
     }
 }
 
-/// Judges the bytes behind a head, of which `room` may be read; `ended` says that the input ends behind them. More bytes
+/// Judges the bytes after a head, of which `room` may be read; `ended` says that the input ends after them. More bytes
 /// are waited for only where the body is not all there.
 pub(crate) fn judge_body(
     alloc: Global,

@@ -52,7 +52,7 @@ pub(crate) enum Step {
     Fault(BodyFault),
 }
 
-/// Judges a body in chunks, of which `room` bytes may be read; `ended` says that the input ends behind them. The first `at`
+/// Judges a body in chunks, of which `room` bytes may be read; `ended` says that the input ends after them. The first `at`
 /// bytes are whole chunks, which hold `body`: where more is waited for, the answer is how far the whole chunks now go.
 pub(crate) fn judge_chunks(
     at: usize,
@@ -96,7 +96,7 @@ pub(crate) fn judge_chunks(
     }
 }
 
-/// Puts a piece behind the body, and says whether there was memory for it.
+/// Puts a piece after the body, and says whether there was memory for it.
 fn grow(body: &mut Vec<u8>, piece: &[u8]) -> bool
     ensures { IsTrue result → body.new.items ≡ body.old.items ++ piece.now }
 {
@@ -115,7 +115,7 @@ pub(crate) fn next_step(text: &[u8], room: usize) -> Step
     }
 }
 
-/// Reads what stands behind the line of a size.
+/// Reads what stands after the line of a size.
 fn sized_step(text: &[u8], room: usize, digits: usize, size: u64) -> Step
     requires line { IsLine (take room text.now) (Line.Size digits size) }
     requires room { digits + 2 ≤ room }

@@ -2,7 +2,7 @@ ghost use Rattle.std.specs.Prelude.{◌≡◌, ◌+◌, ◌≤◌, length, take,
 ghost use Rattle.std.specs.List.{list_all};
 ghost use Rattle.vault_http.specs.EmptyLine.{HasLineBehind, is_blank};
 
-/// Whether an empty line may end behind the first `n` bytes.
+/// Whether an empty line may end after the first `n` bytes.
 #[tactic(auto, using(crate::proofs::EmptyLines::line_after))]
 pub(crate) fn brings_empty_line(bytes: &[u8], n: usize) -> bool
     requires { n ≤ length bytes.now }

@@ -42,7 +42,7 @@ pub(crate) struct Headed<M> {
     partial: Partial,
 }
 
-/// Judges the bytes of a message that were read so far, of which `max` may be read; `ended` says that the input ends behind
+/// Judges the bytes of a message that were read so far, of which `max` may be read; `ended` says that the input ends after
 /// them. What was known of the first of them is `known`.
 pub(crate) fn go_on<M: Message>(
     alloc: Global,
@@ -72,7 +72,7 @@ pub(crate) fn go_on<M: Message>(
 }
 
 /// Whether the bytes are to be looked at for a head: they are few, or as many as may be read, or have doubled; or an empty
-/// line came behind the first `seen`, which may end one.
+/// line came after the first `seen`, which may end one.
 fn is_due(bytes: &[u8], max: usize, looked: usize, seen: usize, blank: usize) -> bool
     requires seen { seen ≤ length bytes.now }
     requires blank { blank ≤ length bytes.now }
@@ -86,7 +86,7 @@ fn is_due(bytes: &[u8], max: usize, looked: usize, seen: usize, blank: usize) ->
         || (blank < bytes.len() && brings_empty_line(bytes, seen))
 }
 
-/// Looks at the bytes for a head, and for what stands behind it. The first `blank` are carriage returns and line feeds.
+/// Looks at the bytes for a head, and for what stands after it. The first `blank` are carriage returns and line feeds.
 pub(crate) fn look<M: Message>(
     alloc: Global,
     bytes: &[u8],
@@ -117,7 +117,7 @@ pub(crate) fn look<M: Message>(
     }
 }
 
-/// Judges what stands behind a head.
+/// Judges what stands after a head.
 fn behind<M: Message>(
     alloc: Global,
     headed: Headed<M>,

@@ -15,7 +15,7 @@ use crate::{DatedReply, HttpFault, Reply, Request, Source};
 use keep_device::{MOST_READS, read_more};
 use std::alloc::Global;
 
-/// Reads one reply of at most `max` bytes, its head included. What stands behind it is not looked at. It makes at most 4,096
+/// Reads one reply of at most `max` bytes, its head included. What stands after it is not looked at. It makes at most 4,096
 /// reads, each with room for 65,536 bytes, or for what is left up to one byte past `max` where that is less.
 ///
 /// The answer is given as soon as the bytes settle it, be it the reply or a fault, so a peer that keeps its side open is
@@ -147,7 +147,7 @@ fn read_message<M: Message, R: Source>(
     }
 }
 
-/// Reads a message behind `bytes`, which are empty.
+/// Reads a message after `bytes`, which are empty.
 fn message_from<M: Message, R: Source>(
     alloc: Global,
     reader: &mut R,

@@ -113,7 +113,7 @@ pub const FAULTY: [(&str, InvFault); 87] = [
         "[[token]]\nname = \"a b\"\nissued = 1000\nend = 1060\nincrement = 60\nsecret = \"a b\"",
         InvFault::BadValue(Some(0), Key::Secret),
     ),
-    // the keys of a lease, whose index is behind all tokens
+    // the keys of a lease, whose index is after all tokens
     (
         "[[lease]]\nname = \"L\"\nperiod = 60",
         InvFault::UnknownKey(Some(0)),

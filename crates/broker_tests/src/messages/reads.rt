@@ -114,7 +114,7 @@ fn body_in(alloc: Global, room: &mut Room, bytes: &[u8]) -> Result<Result<Text, 
     )
 }
 
-// A short reply, and one that is cut off, behind a longer one: nothing of the longer one is read again.
+// A short reply, and one that is cut off, after a longer one: nothing of the longer one is read again.
 #[test]
 fn one_room_serves_one_message_after_another(rt: HostRuntime) -> Result<(), Fail> {
     let alloc = rt.alloc();

@@ -175,7 +175,7 @@ fn reads_other_replies(rt: HostRuntime) -> Result<(), Fail> {
     Ok(())
 }
 
-// A reply that is sent to the end of the connection is read where it is cut behind its head.
+// A reply that is sent to the end of the connection is read where it is cut after its head.
 fn reads_fronts_to_the_end<R: AllocGlobal + Abort>(rt: &R, head: usize) -> Result<(), Fail> {
     for len in head..TO_END.len() {
         let reply = reply_of(rt.alloc(), &TO_END[..len], &[], 1048576)??;

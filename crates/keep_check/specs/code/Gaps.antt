@@ -14,7 +14,7 @@ last_moment r = r.first + (r.count - 1) * r.step
 abbrev pub gap_within : Run → ℕ
 gap_within r = if nat_eq r.count 1 then 0 else r.step
 
--- the greatest distance between neighbouring moments, of those of a run and the first behind it
+-- the greatest distance between neighbouring moments, of those of a run and the first after it
 abbrev pub gap_of : Run → List Run → ℕ
 gap_of r [] = gap_within r
 gap_of r (next ∷ rs) = max (gap_within r) (next.first - last_moment r)

@@ -12,7 +12,7 @@ use Rattle.keep_check.specs.Fit.{IsFit}
 use Rattle.keep_check.specs.Walk.{fault}
 
 -- what a walk over the wake-ups us finds, by the present ends, whatever follows them: with no fault in them it goes on
--- behind one at last with the k'-th
+-- after one at last with the k'-th
 abbrev pub Finds : Forest → ℕ → Option ℕ → ℕ → List Force → ℕ → ℕ → Option Cause → Type 0
 Finds g s prev k us last k' None =
     (rest : List Force) → fault g.entries g.margin s (end_of g.entries) prev k (us ++ rest) ≡ fault g.entries g.margin s (end_of g.entries) (Some last) k' rest

@@ -20,7 +20,7 @@ abbrev pub HearsLine : ℕ → List (List ℕ) → ℕ → World → List ℕ �
 HearsLine port cs number old line (Ok u) new out = (text : List ℕ) × (IsLineHeard port cs old line new text × IsSent text out)
 HearsLine port cs number old line (Err stop) new out = (next : List ℕ) (more : List (List ℕ)) → Halts port cs number old (line ∷ next ∷ more) [] stop new ⊥ out
 
--- behind so many lines, those of these bytes are heard up to these pieces, and their text is written and flushed
+-- after so many lines, those of these bytes are heard up to these pieces, and their text is written and flushed
 pub record HearsUpTo (port : ℕ) (cs : List (List ℕ)) (first : ℕ) (old : World) (bytes : List ℕ) (behind : List (List ℕ)) (new : World) (last : ℕ) (out : Change) : Type 0 where
   pub lines : List (List ℕ)
   pub text : List ℕ
@@ -28,7 +28,7 @@ pub record HearsUpTo (port : ℕ) (cs : List (List ℕ)) (first : ℕ) (old : Wo
   pub count : last ≡ first + length lines
   pub sent : IsSent text out
 
--- behind so many lines, one of these bytes stops the run
+-- after so many lines, one of these bytes stops the run
 pub record HaltsWithin (port : ℕ) (cs : List (List ℕ)) (first : ℕ) (old : World) (bytes : List ℕ) (stop : Stop) (new : World) (out : Change) : Type 0 where
   pub lines : List (List ℕ)
   pub behind : List (List ℕ)
@@ -37,7 +37,7 @@ pub record HaltsWithin (port : ℕ) (cs : List (List ℕ)) (first : ℕ) (old : 
   pub heard : IsHeardFirst port cs old bytes lines behind mid text
   pub halts : Halts port cs (first + length lines + 1) mid behind text stop new ⊥ out
 
--- listening under way: by so many reads, less than what may be read was, of which these bytes are behind the last line, and so
+-- listening under way: by so many reads, less than what may be read was, of which these bytes are after the last line, and so
 -- many more may be read
 pub record IsListening (port : ℕ) (cs : List (List ℕ)) (old : World) (reads : ℕ) (pending : List ℕ) (left : ℕ) (now : World) (last : ℕ) (fed : Change) (out : Change) : Type 0 where
   pub read : List ℕ

@@ -157,7 +157,7 @@ Finishes text (Err stops.Write) out = HasFailed out.old.failed_calls out.new.fai
 Finishes text (Err stops.Memory) out = ReceivesFront text out
 Finishes text (Err stop) out = ⊥
 
--- behind 100,000 wake-ups: no more than a front of the last lines was written
+-- after 100,000 wake-ups: no more than a front of the last lines was written
 abbrev pub LastFront : List (List ℕ) → Option Behind → State → ℕ → ℕ → Change → Type 0
 LastFront cs behind old due asked out =
     Keeps out.old.output.written out.new.output.written ⊎ ((new : World) × (text : List ℕ) × Goes (inventory_with cs old.forest) (both old behind) (Some due) new None 0 0 text × ReceivesFront (text ++ done_text MOST_WAKES asked) out)

@@ -48,7 +48,7 @@ pub record IsRoundUpTo (port : ℕ) (cs : List (List ℕ)) (t : ℕ) (old : Worl
   pub told_is : told ≡ flat_map (answer_text (inventory_with cs old.keeper.forest)) before
   pub own_is : own ≡ answer_text (inventory_with cs old.keeper.forest) x
 
--- no more than a front of the lines of an answer was written, behind those of the answers before
+-- no more than a front of the lines of an answer was written, after those of the answers before
 pub record IsRoundCut (port : ℕ) (cs : List (List ℕ)) (t : ℕ) (old : World) (asked : List ℕ) (new : World) (out : Change) : Type 0 where
   pub told : List ℕ
   pub own : List ℕ
@@ -56,7 +56,7 @@ pub record IsRoundCut (port : ℕ) (cs : List (List ℕ)) (t : ℕ) (old : World
   pub n : ℕ
   pub front : Receives (told ++ take n own) out
 
--- the lines of some answers were written, and nobody was asked behind them, or the next was
+-- the lines of some answers were written, and nobody was asked after them, or the next was
 pub record IsRoundBroken (port : ℕ) (cs : List (List ℕ)) (t : ℕ) (old : World) (asked : List ℕ) (new : World) (out : Change) : Type 0 where
   pub told : List ℕ
   pub mid : World

@@ -59,7 +59,7 @@ pub fn hear<E: Exchange, W: Sink>(
     }
 }
 
-/// A new need: its line, behind those of the needs that it shortens.
+/// A new need: its line, after those of the needs that it shortens.
 fn hear_need(
     alloc: Global,
     agent: &mut Agent,
@@ -88,7 +88,7 @@ fn hear_need(
     Ok(())
 }
 
-/// It is `t`: whom the keeper then asks, by index, is asked behind the lines that say so.
+/// It is `t`: whom the keeper then asks, by index, is asked after the lines that say so.
 fn hear_tick<E: Exchange, W: Sink>(
     alloc: Global,
     agent: &mut Agent,

@@ -31,7 +31,7 @@ pub const EVENT_ROOM: usize = 4096;
 /// Hears event lines until they end, in at most 65,536 reads: each line is answered, and its lines written and flushed, before
 /// `events` is read again.
 ///
-/// `Ok`: the events have ended, behind a line feed if there are any. `Line`: the line of that number is no event line, or is
+/// `Ok`: the events have ended, after a line feed if there are any. `Line`: the line of that number is no event line, or is
 /// longer than 256 bytes with its line feed, or has none; the lines before it were heard. `Read`: a read failed, or there are
 /// more than 1 MiB of events, or 65,536 reads did not come to their end; the whole lines before were heard. `TooLong`: the plan
 /// with the new need of a line would be too long. `Write`: `out` failed. `Memory`.
@@ -87,7 +87,7 @@ fn listen_to<R: Source, E: Exchange, W: Sink>(
     Err(Stop::Read)
 }
 
-/// What the end of the events comes to behind so many lines: a line without its line feed is none.
+/// What the end of the events comes to after so many lines: a line without its line feed is none.
 fn at_end(pending: &[u8], lines: u64) -> Result<(), Stop>
     requires few { lines ≤ MOST_EVENTS }
     ensures none { OnOk result (pending.now ≡ []) }
@@ -100,7 +100,7 @@ fn at_end(pending: &[u8], lines: u64) -> Result<(), Stop>
     }
 }
 
-/// Hears the lines that are whole, counts them, and leaves what stands behind the last. What is as long as an event line and
+/// Hears the lines that are whole, counts them, and leaves what stands after the last. What is as long as an event line and
 /// has no line feed is none.
 fn hear_pending<E: Exchange, W: Sink>(
     alloc: Global,

@@ -70,7 +70,7 @@ IsTurn o v g (Leaves f) = IsFirst g.joined.spots (spot ((terms_of o).step f) f) 
 IsTurn o v g (Comes h) = IsFirst g.waits.spots (spot ((terms_of o).end h) h) × ((h < length o.loads) × ((i : ℕ) → Joins (terms_of o) g i → Ahead ((terms_of o).end h) h (v + (terms_of o).step i) i))
 IsTurn o v g (Steady f) = (f < length o.loads) × IsHead (terms_of o) v (Waits (terms_of o) g) (Joins (terms_of o) g) f
 
--- what forces the wake-up behind the one at v
+-- what forces the wake-up after the one at v
 abbrev pub IsSettled : Prospect → ℕ → Groups → Next → Type 0
 IsSettled o v g Done = (g.waits.spots ≡ []) × (g.joined.spots ≡ [])
 IsSettled o v g (Waiting h) = (h < length o.loads) × (IsFirst g.waits.spots (spot ((terms_of o).end h) h) × IsFront (terms_of o) v (Waits (terms_of o) g) (Joins (terms_of o) g) h)

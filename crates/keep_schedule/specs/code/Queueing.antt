@@ -16,7 +16,7 @@ runs_left g Done = 0
 runs_left g (Waiting h) = size g - 1
 runs_left g (Joined f) = size g
 
--- h, which waits, forces the wake-up behind the one at prev
+-- h, which waits, forces the wake-up after the one at prev
 pub record IsDue (o : Prospect) (prev : Option ℕ) (g : Groups) (h : ℕ) : Type 0 where
   pub grouped : IsGrouped o prev g
   pub leads : Leads (terms_of o) prev h
@@ -25,7 +25,7 @@ pub record IsDue (o : Prospect) (prev : Option ℕ) (g : Groups) (h : ℕ) : Typ
   pub least : (i : ℕ) → Joins (terms_of o) g i → (terms_of o).step h < (terms_of o).step i
   pub unjoined : (v : ℕ) → prev ≡ Some v → v + (terms_of o).step h < (terms_of o).end h
 
--- f, which has joined, forces the wake-up behind the one at prev
+-- f, which has joined, forces the wake-up after the one at prev
 pub record IsLasting (o : Prospect) (prev : Option ℕ) (g : Groups) (f : ℕ) : Type 0 where
   pub at : ℕ
   pub is : prev ≡ Some at
@@ -33,7 +33,7 @@ pub record IsLasting (o : Prospect) (prev : Option ℕ) (g : Groups) (f : ℕ) :
   pub within : f < length o.loads
   pub head : IsHead (terms_of o) at (Waits (terms_of o) g) (Joins (terms_of o) g) f
 
--- the groups and what forces the wake-up behind the one at prev
+-- the groups and what forces the wake-up after the one at prev
 abbrev pub IsReady : Prospect → Option ℕ → Groups → Next → Type 0
 IsReady o prev g Done = (i : ℕ) → (terms_of o).need i ≤ deadline (terms_of o) prev i
 IsReady o prev g (Waiting h) = IsDue o prev g h

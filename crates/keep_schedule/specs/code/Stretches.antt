@@ -13,7 +13,7 @@ use Rattle.keep_schedule.specs.Terms.{Leads, Terms}
 abbrev pub LeadsAll : Terms → ℕ → ℕ → ℕ → ℕ → Type 0
 LeadsAll t w d f n = (k : ℕ) → k < n → Leads t (Some (w + k * d)) f
 
--- behind a wake-up at first come `more` by f, of fewer than `most`, the last at `last`, after which the groups are settled
+-- after a wake-up at first come `more` by f, of fewer than `most`, the last at `last`, after which the groups are settled
 pub record Stretches (o : Prospect) (f first most : ℕ) (old new : Groups) (more last : ℕ) (next : Next) : Type 0 where
   pub within : more < most
   pub ends : last ≡ first + more * ((terms_of o).step f - (terms_of o).margin)

@@ -21,7 +21,7 @@ abbrev pub HearsLine : ℕ → ℕ → Side → List ℕ → Result (Unit {0}) S
 HearsLine port number old line (Ok u) new out = (text : List ℕ) × (IsLineHeard port old line new text × (IsAll text out × (out.new.failed_calls ≡ out.old.failed_calls)))
 HearsLine port number old line (Err stop) new out = (next : List ℕ) (more : List (List ℕ)) → Halts port number old (line ∷ next ∷ more) [] stop new ⊥ out
 
--- behind so many lines, those of these bytes are heard up to these pieces, and their text is written and flushed
+-- after so many lines, those of these bytes are heard up to these pieces, and their text is written and flushed
 pub record HearsUpTo (port first : ℕ) (old : Side) (bytes : List ℕ) (behind : List (List ℕ)) (new : Side) (last : ℕ) (out : Change) : Type 0 where
   pub lines : List (List ℕ)
   pub text : List ℕ
@@ -29,7 +29,7 @@ pub record HearsUpTo (port first : ℕ) (old : Side) (bytes : List ℕ) (behind 
   pub count : last ≡ cut (first + length lines)
   pub sent : IsSent text out
 
--- behind so many lines, one of these bytes stops a watch
+-- after so many lines, one of these bytes stops a watch
 pub record HaltsWithin (port first : ℕ) (old : Side) (bytes : List ℕ) (stop : Stop) (new : Side) (out : Change) : Type 0 where
   pub lines : List (List ℕ)
   pub behind : List (List ℕ)
@@ -38,7 +38,7 @@ pub record HaltsWithin (port first : ℕ) (old : Side) (bytes : List ℕ) (stop 
   pub heard : IsHeardFirst port old bytes lines behind mid text
   pub halts : Halts port (cut (first + length lines + 1)) mid behind text stop new ⊥ out
 
--- listening under way, behind so many reads of a byte each at least: of what was read these bytes are behind the last line
+-- listening under way, after so many reads of a byte each at least: of what was read these bytes are after the last line
 pub record IsListening (port : ℕ) (old : Side) (reads : ℕ) (pending : List ℕ) (now : Side) (last : ℕ) (fed : Change) (out : Change) : Type 0 where
   pub read : List ℕ
   pub consumed : Consumes fed.old.input.remaining fed.new.input.remaining read

@@ -3,7 +3,7 @@ use keep_cert::CertFault;
 use std::process::Abort;
 use std::test::Fail;
 
-// Certificates of version 1, altered behind the second line.
+// Certificates of version 1, altered after the second line.
 const BAD_WAKES: [(&str, CertFault); 17] = [
     (
         "wake 1059 web web\nwake 1118 web web\nwake 1177 web web\nend 3\nx",
@@ -45,7 +45,7 @@ const BAD_WAKES: [(&str, CertFault); 17] = [
     ),
 ];
 
-// Certificates of version 2, altered behind the second line.
+// Certificates of version 2, altered after the second line.
 const BAD_RUNS: [(&str, CertFault); 14] = [
     ("run 1059 59 3 web web\nend 3\nx", CertFault::Trailing),
     ("run 1059 59 3 web web\nend 4\n", CertFault::BadNumber(4)),
@@ -75,7 +75,7 @@ const BAD_RUNS: [(&str, CertFault); 14] = [
     ("end 00\n", CertFault::BadNumber(3)),
 ];
 
-// A certificate of this version with these lines behind the second is refused.
+// A certificate of this version with these lines after the second is refused.
 fn refuses_lines<R: AllocGlobal + Abort>(
     rt: &R,
     version: u32,

@@ -116,7 +116,7 @@ fn printed(alloc: Global, forest: &Forest) -> Result<Result<Text, PrintFault>, F
     Ok(print(alloc, forest, start, &decision))
 }
 
-// What is printed for these rows behind the first two lines.
+// What is printed for these rows after the first two lines.
 fn prints<R: AllocGlobal + Abort>(
     rt: &R,
     margin: u32,
@@ -131,7 +131,7 @@ fn prints<R: AllocGlobal + Abort>(
     Ok(())
 }
 
-// One token: its margin, end, step, ceiling and need, and the lines behind the first two.
+// One token: its margin, end, step, ceiling and need, and the lines after the first two.
 const OF_ONE_TOKEN: [(u32, u64, u32, u64, u64, &str); 11] = [
     (1, 1060, 60, 10000, 1200, "run 1059 59 3 web web\nend 3\n"),
     (1, 1060, 60, 10000, 1060, "end 0\n"),

@@ -4,7 +4,7 @@ use keep_rule::Run;
 use std::process::Abort;
 use std::test::Fail;
 
-// What stands behind the first two lines is read as these runs, and the certificate is written as it stood.
+// What stands after the first two lines is read as these runs, and the certificate is written as it stood.
 fn reads_runs<R: AllocGlobal + Abort>(
     rt: &R,
     names: &[&str],

@@ -1,4 +1,4 @@
--- Nothing stands behind the last line exactly where no bytes are left.
+-- Nothing stands after the last line exactly where no bytes are left.
 use Rattle.std.proofs.Common.{sym, eqb-true}
 use Rattle.std.proofs.lemmas.Bool.{eqb-false}
 use Rattle.keep_cert.proofs.Turns.{behind_nothing, behind_something}

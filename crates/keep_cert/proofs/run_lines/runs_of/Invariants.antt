@@ -1,4 +1,4 @@
--- The lines from here on, behind the runs that were found, are the whole from the start.
+-- The lines from here on, after the runs that were found, are the whole from the start.
 use Rattle.std.proofs.Common.{◌≡◌, ◌≤◌, ◌*◌, [], length}
 use Rattle.keep_rule.specs.declared.limit.TheConstants.{LIMIT}
 use Rattle.keep_rule.specs.Runs.{counted}

@@ -1,4 +1,4 @@
--- The text has the lines of the runs that were passed, behind what it had before.
+-- The text has the lines of the runs that were passed, after what it had before.
 use Rattle.std.proofs.Common.{◌≡◌, ◌++◌, flat_map, take}
 use Rattle.keep_cert.specs.declared.cert.Version.TheVariants.{Two}
 use Rattle.keep_cert.specs.CertificateText.{run_text}

@@ -1,4 +1,4 @@
--- A run fails at its first wake-up if that does not rise or is not forced, and else where those behind it fail.
+-- A run fails at its first wake-up if that does not rise or is not forced, and else where those after it fail.
 use Rattle.std.proofs.Common.{◌≡◌, ◌∙◌, ◌+◌, ◌-◌, ◌*◌, ◌<◌, ◌∷◌, ◌++◌, sym, ap, subst, arith}
 use Rattle.keep_tree.specs.Forest.{end_of}
 use Rattle.keep_rule.proofs.Keeping.{end_below_bound}

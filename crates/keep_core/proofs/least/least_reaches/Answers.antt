@@ -1,4 +1,4 @@
--- One least reach more is listed, and behind the last entry the list has all of them.
+-- One least reach more is listed, and after the last entry the list has all of them.
 use Rattle.std.proofs.Common.{◌≡◌, ◌+◌, arith, length, subst, sym}
 use Rattle.keep_core.specs.code.Passes.{AreLeast}
 use Rattle.keep_core.proofs.Passing.{least_more}

@@ -1,4 +1,4 @@
--- The needs that are set are those that shortening leaves, and its pairs are noted behind those of before.
+-- The needs that are set are those that shortening leaves, and its pairs are noted after those of before.
 use Rattle.std.proofs.Common.{◌∙◌, ◌++◌, ap, subst, sym}
 use Rattle.keep_core.specs.code.Passes.{AreNeeds}
 use Rattle.keep_core.specs.Shorten.{need_left}

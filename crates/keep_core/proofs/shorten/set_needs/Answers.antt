@@ -1,4 +1,4 @@
--- One need more is set, and behind the last each entry has the one at its index.
+-- One need more is set, and after the last each entry has the one at its index.
 use Rattle.std.proofs.Common.{◌≡◌, ◌∙◌, ap, arith, get_or, length, set}
 use Rattle.std.proofs.lemmas.List.{get_or_read}
 use Rattle.keep_tree.specs.Forest.{Forest, entry_at}

@@ -1,4 +1,4 @@
--- One index more is listed behind those before it.
+-- One index more is listed after those before it.
 use Rattle.std.proofs.Common.{◌∙◌, ◌++◌, ◌∷◌, [], ap, sym, arith}
 use Rattle.keep_tree.proofs.Ranges.{range_more}
 use Rattle.keep_engine.proofs.ends_text.every_index.Goals as goal

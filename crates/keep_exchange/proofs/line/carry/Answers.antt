@@ -1,4 +1,4 @@
--- What is read behind the request is read of the bytes that were there, and a read that failed is counted.
+-- What is read after the request is read of the bytes that were there, and a read that failed is counted.
 use Rattle.std.proofs.Common.{Err, subst, sym}
 use Rattle.std.specs.Io.KnownBytes.{Appends}
 use Rattle.vault_http.specs.declared.known.TheConstants.{MOST_MESSAGE}

@@ -1,4 +1,4 @@
--- One wake-up more leads from the ends before it to those after it, and those behind it rise from there.
+-- One wake-up more leads from the ends before it to those after it, and those after it rise from there.
 use Rattle.std.proofs.Common.{◌≡◌, ◌∙◌, ◌+◌, ◌∷◌, ap, arith, drop, length, subst, sym}
 use Rattle.std.proofs.lemmas.List.{drop_all}
 use Rattle.keep_tree.specs.Forest.{end_of}

@@ -1,4 +1,4 @@
--- The lines before `rest` are heard, and `rest` is what stands behind them.
+-- The lines before `rest` are heard, and `rest` is what stands after them.
 use Rattle.std.proofs.Common.{◌≡◌, ◌-◌, ◌≤◌, drop, length}
 use Rattle.keep_device.specs.Seen.{change}
 use Rattle.keep_words.specs.Pieces.{pieces}

@@ -1,4 +1,4 @@
--- A text with the byte is the piece before it and the pieces behind; a text without it is one piece.
+-- A text with the byte is the piece before it and the pieces after; a text without it is one piece.
 use Rattle.std.proofs.Common.{◌∷◌, ◌∙◌, ap, sym, take}
 use Rattle.keep_words.specs.Pieces.{pieces}
 use Rattle.keep_words.proofs.Cutting.{cut_at, not_cut}

@@ -1,4 +1,4 @@
--- One slot more is entered under a credential that is new, and behind the last all slots are.
+-- One slot more is entered under a credential that is new, and after the last all slots are.
 use Rattle.std.proofs.Common.{◌≡◌, ap, arith, length, subst, sym}
 use Rattle.mini_broker.specs.declared.slot.Slot.{Slot}
 use Rattle.mini_broker.specs.declared.row.Row.{Row}

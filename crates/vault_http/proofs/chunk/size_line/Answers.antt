@@ -1,4 +1,4 @@
--- How many digits there are and what stands behind them settle what the line of a size is; and digits always give a number.
+-- How many digits there are and what stands after them settle what the line of a size is; and digits always give a number.
 use Rattle.std.proofs.Common.{◌<◌, length, arith, sym, ap, subst}
 use Rattle.std.proofs.lemmas.Bool.{eqb-true, eqb-false}
 use Rattle.std.proofs.lemmas.List.{take_rest, nil_from_length}

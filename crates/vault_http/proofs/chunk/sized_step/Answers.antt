@@ -1,4 +1,4 @@
--- The cases behind the line of a size.
+-- The cases after the line of a size.
 use Rattle.std.proofs.Common.{◌+◌, ◌<◌, arith, subst}
 use Rattle.std.proofs.lemmas.List.{take_rest}
 use Rattle.vault_http.specs.declared.chunk.Ending.TheVariants as ending

@@ -1,4 +1,4 @@
--- The bytes of line ends that were known, and those behind them.
+-- The bytes of line ends that were known, and those after them.
 use Rattle.std.proofs.Common.{◌∙◌, length, take_while, ap}
 use Rattle.std.proofs.lemmas.List.{take_rest}
 use Rattle.vault_http.specs.EmptyLine.{is_blank}

@@ -1,4 +1,4 @@
--- Each request is served behind those before it; where memory ran out, those before it were.
+-- Each request is served after those before it; where memory ran out, those before it were.
 use Rattle.std.proofs.Common.{◌≡◌, ◌+◌, ◌<◌, ◌++◌, List, [], ◌∷◌, Some, arith, drop, length, sym, subst, take, ap, ◌∙◌}
 use Rattle.std.proofs.lemmas.List.{drop_more, take_more}
 use Rattle.keep_exchange.specs.Abreast.{Answer, AreAnswered, IsCutShort, IsSliceServed, after_answer}

@@ -1,4 +1,4 @@
--- What a tick comes to: a line that tells it late; a round, behind the lines that say so; or lines that ask nobody.
+-- What a tick comes to: a line that tells it late; a round, after the lines that say so; or lines that ask nobody.
 use Rattle.std.proofs.Common.{◌<◌, ◌≡◌, ◌++◌, ◌∙◌, Ok, Err, ap, arith, subst, refl}
 use Rattle.keep_device.specs.Seen.{Change, change}
 use Rattle.keep_core.specs.declared.event.Output.TheVariants as out

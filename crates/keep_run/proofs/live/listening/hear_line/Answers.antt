@@ -1,4 +1,4 @@
--- What the line says is heard. That the line begins leaves what stands behind the exchange.
+-- What the line says is heard. That the line begins leaves what stands after the exchange.
 use Rattle.std.proofs.Common.{ap, sym, subst, ◌∙◌}
 use Rattle.keep_device.specs.Seen.{Change, change}
 use Rattle.keep_tree.specs.Forest.{Forest}

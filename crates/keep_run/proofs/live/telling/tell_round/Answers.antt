@@ -1,4 +1,4 @@
--- Each answer is told behind those before it.
+-- Each answer is told after those before it.
 use Rattle.std.proofs.Common.{[], Err, Ok, ◌+◌, ◌∙◌, ap, drop, get_or, refl, sym, subst}
 use Rattle.std.proofs.KnownBytes.{Appends-nil}
 use Rattle.keep_device.specs.Seen.{Change, change}

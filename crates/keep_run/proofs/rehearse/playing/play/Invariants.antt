@@ -1,4 +1,4 @@
--- The wake-ups so far are those of the run, and their lines are written behind those that came before.
+-- The wake-ups so far are those of the run, and their lines are written after those that came before.
 use Rattle.std.proofs.Common.{◌≡◌, Some}
 use Rattle.keep_run.specs.Stops.{both}
 use Rattle.keep_run.proofs.Written.{Going}

@@ -1,4 +1,4 @@
--- A fault that is given is found at its number, and stands behind those that were given before.
+-- A fault that is given is found at its number, and stands after those that were given before.
 use Rattle.std.proofs.Common.{◌≡◌, ◌∙◌, ◌++◌, ◌∷◌, [], ◌+◌, ◌≤◌, List, ap, arith, is_ok, sym, true, vec_capacity, vec_len}
 use Rattle.std.proofs.lemmas.Bool.{cond-true}
 use Rattle.mini_broker.specs.declared.fault.NumberedFault.{NumberedFault}
