@@ -55,6 +55,10 @@ class Reading:
         row = self._by_name.get(name) if name else None
         return self.lines.of_key(row.head, row.place, key) if row else self.lines.of_key("", 0, key)
 
+    def row(self, name: str) -> Row | None:
+        """The first table of that name."""
+        return self._by_name.get(name)
+
     def lacks(self, name: str, key: str) -> bool:
         """Whether the table of the entry of that name, with a head of its own, has no such key."""
         row = self._by_name.get(name)

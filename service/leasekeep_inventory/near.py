@@ -44,7 +44,7 @@ class Near:
         if key in _FILES and not any(file in known for file in _FILES):
             meant = "lease_id" if kind is Kind.LEASE else "secret"
             return Slip(meant, "is a key for leasekeepd alone",
-                        f"write {meant}, or make the inventory with `leasekeepd inventory`", has_its_value=False)
+                        f"write {meant}: leasekeep opens no file of secrets", has_its_value=False)
         free = [word for word in known if word not in table]
         guess = self._guess(key, free)
         if guess is None:

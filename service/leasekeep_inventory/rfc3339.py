@@ -31,6 +31,12 @@ def read_rfc3339(text: str) -> int | None:
     return seconds if 0 <= seconds <= LAST else None
 
 
+def with_fraction(text: str) -> float | None:
+    """The moment that the text writes, with its fraction to the microsecond; None where `read_rfc3339` reads none."""
+    match, whole = _FORM.fullmatch(text), read_rfc3339(text)
+    return None if match is None or whole is None else whole + float((match[7] or ".0")[:7])
+
+
 def date_mend(text: str) -> str:
     """What to write in the place of a text that `read_rfc3339` does not read."""
     match = _FORM.fullmatch(text)

@@ -15,7 +15,7 @@ from typing import Sequence
 
 from leasekeep_inventory.broker import Broker
 from leasekeep_inventory.dialect import SERVED, STRICT
-from leasekeep_inventory.discover import DiscoverFault, discover, read_short_list
+from leasekeep_inventory.discover import DiscoverFault, Filled, discover, read_list
 from leasekeep_inventory.http_client import Address, HttpTransport
 from leasekeep_inventory.inventory import MARGIN_MAX
 from leasekeep_inventory.inventory_file import LIMIT
@@ -144,10 +144,18 @@ def _parser() -> argparse.ArgumentParser:
                         help="judge FILE as `leasekeep` reads it: whole seconds, moments, and no key left to a lookup")
     linted.add_argument("--names-are-secrets", action="store_true",
                         help="accept entries without a secret or lease_id, as serve does with this option")
-    found = commands.add_parser("inventory", help="make an inventory from a short list and lookups at the broker")
-    found.add_argument("file", type=Path, metavar="LIST")
-    found.add_argument("address", type=_address, metavar="PORT|SOCKET")
-    found.add_argument("--timeout", type=_timeout, default=5, metavar="SECONDS")
+    found = commands.add_parser(
+        "inventory", help="print an inventory with what lookups at the broker tell",
+        description="Looks up each entry of LIST, and prints LIST with what the broker tells of it: issued, end, renewable, period and"
+        " explicit_max_ttl, and an increment where none is written. Everything else stays as it is written: secret_file, always,"
+        " durations, comments.",
+        epilog="Faults and doubts go to standard error, each with its line. Exit status: 0 done, 1 a faulty LIST, one that others may"
+        " read, or a lookup that failed, 2 the command line.")
+    found.add_argument("file", type=Path, metavar="LIST", help="an inventory, without what a lookup tells or with it")
+    found.add_argument("address", type=_address, metavar="PORT|SOCKET",
+                       help="the broker: a port of 127.0.0.1, or the path of a UNIX socket")
+    found.add_argument("--timeout", type=_timeout, default=5, metavar="SECONDS",
+                       help="the longest that a lookup may take (1 to 60, default: 5)")
     return parser
 
 
@@ -200,13 +208,21 @@ def main(words: Sequence[str] | None = None) -> int:
     return _client(arguments)
 
 
-def _lint(arguments: argparse.Namespace) -> int:
+def _bytes_of(arguments: argparse.Namespace) -> tuple[bytes, int] | None:
+    """The file's bytes, as far as one may have, and its mode; None where it cannot be read, which is said."""
     try:
         with open(arguments.file, "rb") as file:
-            data, mode = file.read(LIMIT + 1), stat.S_IMODE(os.fstat(file.fileno()).st_mode)
+            return file.read(LIMIT + 1), stat.S_IMODE(os.fstat(file.fileno()).st_mode)
     except OSError as error:
-        print(f"leasekeepd: lint: {arguments.file}: {error.strerror}", file=sys.stderr)
+        print(f"leasekeepd: {arguments.command}: {arguments.file}: {error.strerror}", file=sys.stderr)
+        return None
+
+
+def _lint(arguments: argparse.Namespace) -> int:
+    read = _bytes_of(arguments)
+    if read is None:
         return EXIT_COMMAND_LINE
+    data, mode = read
     now = SystemClock().wall()
     found = lint(data, mode, arguments.timeout, now, arguments.names_are_secrets, STRICT if arguments.strict else SERVED,
                  arguments.file.parent)
@@ -226,17 +242,24 @@ def _count(number: int, word: str) -> str:
 
 
 def _inventory(arguments: argparse.Namespace) -> int:
-    clock = SystemClock()
+    read = _bytes_of(arguments)
+    if read is None:
+        return EXIT_COMMAND_LINE
+    data, mode = read
 
-    async def discovered() -> str:
+    async def discovered() -> Filled:
         broker = Broker(HttpTransport(arguments.address), arguments.timeout)
-        return await discover(broker, clock.wall, read_short_list(arguments.file))
+        return await discover(broker, SystemClock().wall, read_list(data, mode, arguments.file.parent))
     try:
-        sys.stdout.write(asyncio.run(discovered()))
+        filled = asyncio.run(discovered())
     except DiscoverFault as fault:
-        for line in str(fault).splitlines():
-            print(f"leasekeepd: inventory: {line}", file=sys.stderr)
+        for finding in fault.findings:
+            print(finding.text(str(arguments.file)), file=sys.stderr)
         return EXIT_FAULT
+    for finding in filled.doubts:
+        print(finding.text(str(arguments.file)), file=sys.stderr)
+    sys.stdout.buffer.write(filled.data)
+    sys.stdout.flush()
     return 0
 
 

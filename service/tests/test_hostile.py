@@ -11,7 +11,7 @@ from pathlib import Path
 from typing import Callable, Iterator
 
 from leasekeep_inventory.broker import read_lease_lookup, read_token_lookup
-from leasekeep_inventory.discover import DiscoverFault, read_short_list
+from leasekeep_inventory.discover import DiscoverFault, read_list
 from leasekeep_inventory.http_client import MOST, Response, read_response
 from leasekeep_inventory.inventory_file import read_inventory
 from leasekeep_inventory.lint import lint
@@ -138,12 +138,10 @@ class Hostile(unittest.TestCase):
 
     def test_short_lists(self) -> None:
         with tempfile.TemporaryDirectory() as folder:
-            file = Path(folder) / "list"
             (Path(folder) / "id").write_text("db/1\n")
             for text in cases((SHORT, SHORT.partition(b"[[")[0]), 4):
-                file.write_bytes(text)
                 try:
-                    read_short_list(file)
+                    read_list(text, 0o600, Path(folder))
                 except DiscoverFault as fault:
                     self.assertNotIn("s.app", str(fault))
 

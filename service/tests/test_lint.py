@@ -1,4 +1,4 @@
-"""`lint` and `inventory`."""
+"""`lint`."""
 
 from __future__ import annotations
 
@@ -12,9 +12,8 @@ import time
 import unittest
 from pathlib import Path
 
-from leasekeep_inventory.broker import Broker
 from leasekeep_inventory.dialect import SERVED, STRICT, Dialect
-from leasekeep_inventory.discover import DiscoverFault, discover, read_short_list
+from leasekeep_inventory.discover import read_list
 from leasekeep_inventory.inventory import Entry, Inventory, Kind, inventory_text
 from leasekeep_inventory.inventory_file import read_inventory
 from leasekeep_inventory.lint import lint
@@ -25,8 +24,6 @@ from leasekeepd_lib.widest import widest_margin
 from trial.programs import find_program
 
 from .model.stage import fleet
-from .model.vault import Vault, VaultTransport
-from .model.world import World, simulate
 
 LEASEKEEPD = Path(__file__).resolve().parents[1] / "leasekeepd"
 NOW = 1_000_000.0
@@ -249,8 +246,8 @@ class Slips(unittest.TestCase):
             ("margin = 20\n" + good.replace("= 1050000", '= "2026-13-01T00:00:00Z"'), "months are 01 to 12, and this one is 13"),
             ("margin = 20\n" + good.replace("= 1050000", '= "2026-02-29T00:00:00Z"'), "days of 2026-02 are 01 to 28, and this one is 29"),
             ("margin = 20\n" + good.replace("= 1050000", '= "2026-02-28T24:00:00Z"'), "hours are 00 to 23, and this one is 24"),
-            ("margin = 20\n" + good + 'secret_file = "f"\n', "f:9: fault: a secret_file: is a key for leasekeepd alone; write secret, or make"
-             " the inventory with `leasekeepd inventory`"),
+            ("margin = 20\n" + good + 'secret_file = "f"\n', "f:9: fault: a secret_file: is a key for leasekeepd alone; write secret: leasekeep"
+             " opens no file of secrets"),
             ("margin = 20\n" + good.replace('"a"', '"a b"'), "f:3: fault: token 1 name: is not 1 to 64 letters, digits, '-', '_', '.',"
              " '/'; its character 2 is a space"),
         ):
@@ -336,9 +333,8 @@ class ByteOrderMark(unittest.TestCase):
         self.assertEqual(only_entry("\ufeff" + table("token", "a")).name, "a")
 
     def test_a_short_list(self) -> None:
-        file = self.folder / "short.toml"
-        file.write_text("\ufeff" + '[[token]]\nname = "a"\nsecret = "s.a"\n', "utf-8")
-        self.assertEqual([entry.name for entry in read_short_list(file).entries], ["a"])
+        data = ("\ufeff" + '[[token]]\nname = "a"\nsecret = "s.a"\n').encode()
+        self.assertEqual([entry.name for entry in read_list(data, 0o600, self.folder).inventory.entries], ["a"])
 
     def test_draw(self) -> None:
         file = self.folder / "inventory.toml"
@@ -360,74 +356,6 @@ class Words(unittest.TestCase):
             for words, status, said in (((), 1, "1 fault, 0 doubts"), (("--names-are-secrets",), 0, "0 faults, 0 doubts")):
                 ran = subprocess.run([sys.executable, program, "lint", file, *words], capture_output=True, text=True, timeout=60)
                 self.assertEqual((ran.returncode, ran.stderr), (status, f"{file}: {said}\n"), ran.stdout)
-
-
-SHORT = """margin = 30
-[[token]]
-name = "app"
-secret_file = "app.secret"
-need = "1970-01-13T00:00:00Z"
-
-[[token]]
-name = "job"
-parent = "app"
-secret = "s.job"
-
-[[lease]]
-name = "db"
-token = "app"
-lease_id = "db/creds/1"
-increment = 600
-max_ttl = 86400
-need = 1050000
-"""
-
-
-class Discovered(unittest.TestCase):
-    def setUp(self) -> None:
-        self.folder = Path(tempfile.mkdtemp())
-        self.addCleanup(shutil.rmtree, self.folder, True)
-        (self.folder / "app.secret").write_text("hvs.app-secret\n")
-        self.list = self.folder / "short.toml"
-
-    def discovered(self, text: str, **real: dict[str, object]) -> str:
-        self.list.write_text(text)
-
-        async def go() -> str:
-            world = World()
-            vault = Vault(world)
-            whole = GOOD + '[[token]]\nname = "job"\nissued = 999000\nend = 1000900\nincrement = 9\nsecret = "s.job"\n'
-            inventory = read_inventory(whole.replace("margin = 20", "margin = 1").encode()).inventory
-            assert inventory is not None
-            vault.load(inventory, **real)
-            return await discover(Broker(VaultTransport(vault), 5.0), world.wall, read_short_list(self.list))
-        return simulate(go())
-
-    def test_a_short_list_becomes_an_inventory(self) -> None:
-        text = self.discovered(SHORT, app={"period": 1200, "explicit_max": 99_000})
-        inventory = read_inventory(text.encode()).inventory or Inventory()
-        app, job, db = inventory.entries
-        self.assertEqual((app.issued, app.end, app.period, app.explicit_max_ttl, app.secret, app.need),
-                         (999_000, 1_000_900, 1200, 99_000, "hvs.app-secret", 1_036_800))
-        self.assertEqual((job.parent, job.increment), (None, 900))
-        self.assertEqual((db.parent, db.increment, db.max_ttl, db.secret), ("app", 600, 86400, "db/creds/1"))
-        self.assertIn("# the broker says orphan: its parent app is left out", text)
-        self.assertIn("# max_ttl: no lookup tells it", text)
-
-    def test_faults(self) -> None:
-        for text, expected in (
-            (SHORT.replace("s.job", "s.nobody"), "job: its lookup: status 403"),
-            (SHORT.replace("app.secret", "none"), "token 1: secret_file: "),
-            (SHORT.replace('secret = "s.job"', ""), "token 2: a secret or secret_file is missing"),
-            (SHORT.replace("max_ttl", "max_tll"), "lease 1: max_tll is not a key of this table"),
-            (SHORT.replace("margin", "magrin"), "magrin is no key of a short list"),
-            ("=", "is not a TOML document"),
-        ):
-            with self.subTest(expected=expected):
-                with self.assertRaises(DiscoverFault) as caught:
-                    self.discovered(text)
-                self.assertIn(expected, str(caught.exception))
-                self.assertNotIn("hvs.app-secret", str(caught.exception))
 
 
 class Widest(unittest.TestCase):
