@@ -100,6 +100,10 @@ class _Table:
             lines = self.reading.lines
             lines.keys.setdefault((self.head, self.place, slip.meant), lines.of_key(self.head, self.place, key))
 
+    def has(self, key: str) -> bool:
+        """Whether the key is there, or a slip that was meant to be it."""
+        return key in self.values or key in self.slips
+
     def take(self, key: str, form: Form, absent: Any = None, must: bool = False) -> Any:
         """The key's value as the form reads it; a fault, and `absent`, where it is missing or no such value."""
         written = key if key in self.values else self.slips.get(key)
@@ -207,28 +211,27 @@ def _tables_of(table: _Table, head: str, kind: Kind) -> list[dict[str, Any]]:
 
 def _row(table: _Table, kind: Kind) -> Row:
     before, dialect = len(table.reading.findings), table.reading.dialect
-    is_whole = dialect.absent_increment is None
     is_token = kind is Kind.TOKEN
     key = "secret" if is_token else "lease_id"
     file_key = f"{key}_file"
     table.unknown((*KEYS[kind], file_key) if dialect.has_files else KEYS[kind])
     name = table.take("name", NAME_FORM, must=True)
     above = table.take("parent" if is_token else "token", ABOVE, must=not is_token)
-    issued = table.take("issued", moment(LAST), 0, must=is_whole)
-    end = table.take("end", moment(END_MAX), 0, must=is_whole)
+    issued = table.take("issued", moment(LAST), 0, must=dialect.has_terms or table.has("end"))
+    end = table.take("end", moment(END_MAX), 0, must=dialect.has_terms or table.has("issued"))
     renewable = table.take("renewable", FLAG, True)
     period = table.take("period", dialect.duration, 0) if is_token else 0
     wants_increment = not is_token or (table.values.get("period", 0) == 0 and "period" not in table.slips)
-    increment = table.take("increment", dialect.increment, must=is_whole and wants_increment)
-    if not period and "increment" not in table.values and "increment" not in table.slips:
+    increment = table.take("increment", dialect.increment, must=dialect.absent_increment is None and wants_increment)
+    if not period and not table.has("increment"):
         increment = dialect.absent_increment
     max_ttl = table.take("max_ttl", dialect.duration)
     explicit = table.take("explicit_max_ttl", dialect.duration, 0) if is_token else 0
     need = table.take("need", dialect.need, 0)
     credential = table.take(key, CREDENTIAL_FORM)
-    has_credential = key in table.values or key in table.slips
+    has_credential = table.has(key)
     file = None
-    if dialect.has_files and (file_key in table.values or file_key in table.slips):
+    if dialect.has_files and table.has(file_key):
         file = table.take(file_key, FILE_FORM)
         if has_credential:
             table.fault(file_key, f"stands beside {key}", "write one of the two")

@@ -110,6 +110,13 @@ class Read(unittest.TestCase):
         self.assertEqual(inventory_of(SHORT.replace('margin = "1m"\n', "")).margin, 60)
         self.assertEqual(read_inventory(b"").margin, 1)
 
+    def test_issue_and_end_are_both_written_or_neither(self) -> None:
+        for written, missing in (("issued = 1000", "end"), ("end = 2000", "issued"), ('end = "x"', "issued")):
+            faults = read_inventory(SHORT.replace('max_ttl = "30d"', written).encode(), SERVED).faults
+            self.assertEqual([fault.key for fault in faults if fault.problem == "is missing"], [missing])
+            self.assertEqual({fault.line for fault in faults}, {2, 4} if '"x"' in written else {2})
+        self.assertEqual(inventory_of(SHORT.replace('max_ttl = "30d"', "issued = 1000\nend = 2000")).entries[0].end, 2000)
+
     def test_leasekeep_reads_none_of_it(self) -> None:
         keys = [fault.key for fault in read_inventory(SHORT.encode()).faults]
         self.assertEqual(keys, ["margin", "issued", "end", "increment", "max_ttl", "need", "issued", "end", "increment", "max_ttl"])
