@@ -13,8 +13,6 @@ from .rfc3339 import LAST, date_mend, read_rfc3339
 NAME = re.compile(r"[A-Za-z0-9\-_./]{1,64}", re.ASCII)
 CREDENTIAL = re.compile(r"[!-~]{1,256}", re.ASCII)
 PATH_MAX = 4096
-_UNITS = {"ms": 0.001, "s": 1, "m": 60, "min": 60, "h": 3600, "d": 86400}
-_DURATION_WORD = re.compile(r"(\d{1,12})(ms|s|min|m|h|d)", re.ASCII)
 
 
 @dataclass(frozen=True)
@@ -49,17 +47,13 @@ def moment(most: int) -> Form:
     def mend(value: Any) -> str:
         if isinstance(value, date):
             return "a date has to be in quotes"
-        if isinstance(value, str) and not value.isdigit() and not _DURATION_WORD.fullmatch(value):
+        if isinstance(value, str) and not value.isdigit():
             return date_mend(value)
         return _number_mend(value, 0, most)
     return Form('a whole number of seconds since 1970, or a date such as "2026-11-22T09:00:00Z"', read, mend)
 
 
 def _number_mend(value: Any, least: int, most: int) -> str:
-    if isinstance(value, str) and (word := _DURATION_WORD.fullmatch(value)):
-        seconds = int(int(word[1]) * _UNITS[word[2]])
-        allowed = f"write {seconds}" if least <= seconds <= most else f"that is {seconds}, and {least} to {most} are allowed"
-        return f"durations are whole seconds without quotes: {allowed}"
     if isinstance(value, str) and value.isascii() and value.isdigit():
         return "write it without quotes"
     if isinstance(value, float) and value.is_integer() and least <= value <= most:

@@ -141,7 +141,8 @@ def _parser() -> argparse.ArgumentParser:
     linted.add_argument("file", type=Path, metavar="FILE")
     linted.add_argument("--timeout", type=_timeout, default=5, metavar="SECONDS", help="the time-out of serve")
     linted.add_argument("--strict", action="store_true",
-                        help="judge FILE as `leasekeep` reads it: whole seconds, moments, and no key left to a lookup")
+                        help="judge FILE as the commands of `leasekeep` do, which take no need that is always, and no end that is"
+                        " left to a lookup")
     linted.add_argument("--names-are-secrets", action="store_true",
                         help="accept entries without a secret or lease_id, as serve does with this option")
     found = commands.add_parser(

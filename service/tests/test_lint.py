@@ -71,16 +71,17 @@ class Lint(unittest.TestCase):
             (old("1050000", "1764000000000", 1), 0o600, "are these milliseconds? write 1764000000"),
             (old("1050000", "33000000000", 1), 0o600, "f:7: doubt: app need: is past the year 3000; are these mill"),
             (old("increment = 900", "increment = 9000000", 1), 0o600, "f:6: doubt: app increment: is 9000000 s, over"),
-            (old("increment = 900", 'increment = "1h"', 1), 0o600,
-             "f:6: fault: app increment: is not a whole number of seconds, 0 to 4294967295; durations are whole seconds"
-             " without quotes: write 3600"),
+            (old("increment = 900", 'increment = "1 hour"', 1), 0o600,
+             'f:6: fault: app increment: is not a whole number of seconds, 0 to 4294967295, or a text such as "90m", "1h", "30d";'
+             ' did you mean "1h"?'),
+            (old("end = 1000900", 'end = "1h"', 1), 0o600, "write day, T, hours:minutes:seconds, and Z or an offset"),
             (old("increment = 900", 'increment = "900"', 1), 0o600, "write it without quotes"),
             (old("increment = 900", "increment = 900.0", 1), 0o600, "write 900"),
             (old("1050000", "1970-01-13T00:00:00Z", 1), 0o600, "a date has to be in quotes"),
             (old("1050000", '"1970-01-13 00:00:00Z"', 1), 0o600, "write day, T, hours:minutes:seconds, and Z or an offset"),
             (old('1050000\nlease_id', '0\nlease_id'), 0o600,
              "f:16: doubt: db need: is not set, here or under it; it is not renewed: add the moment until which"),
-            (old("increment = 900\n", "", 1), 0o600, "f:2: fault: app increment: is missing; add increment:"),
+            (old("increment = 900\n", "", 1), 0o600, "f:2: doubt: app increment: is not written: 3600 s are asked for"),
             (old('name = "app"', 'nam = "app"'), 0o600, "f:3: fault: token 1 nam: is not a key of this table"),
             (old('token = "app"', 'token = "nobody"'), 0o600, "f:12: fault: db token: names no token of this inventory"),
             (old('secret = "hvs.app-secret"\n', ""), 0o600, "f:2: fault: app secret: is missing; the entry's name would be sent to Vault as the credential"),
@@ -144,7 +145,7 @@ class Slips(unittest.TestCase):
             self.assertTrue(line.startswith(start), f"{line!r} does not begin with {start!r}")
 
     def test_a_bad_table_is_no_fault_of_those_under_it(self) -> None:
-        self.told(table("token", "top").replace("900\nneed", '"1h"\nneed') + table("token", "mid", 'parent = "top"')
+        self.told(table("token", "top").replace("900\nneed", '"1 h"\nneed') + table("token", "mid", 'parent = "top"')
                   + table("lease", "low", 'token = "mid"'), "f:6: fault: top increment: ")
 
     def test_entries_that_stand_under_each_other(self) -> None:
@@ -236,18 +237,18 @@ class Slips(unittest.TestCase):
     def test_what_is_allowed_is_said(self) -> None:
         good = table("token", "a")
         for text, expected in (
-            ("margin = 7200\n" + good, "f:1: fault: margin: is not 1 to 3600 seconds; write 3600 or less"),
-            ('margin = "2h"\n' + good, "durations are whole seconds without quotes: that is 7200, and 1 to 3600 are allowed"),
+            ("margin = 7200\n" + good, "f:1: fault: margin: is not 1 to 3600 seconds, or a text such as"
+             ' "90m", "1h", "30d"; write 3600 or less'),
+            ('margin = "2h"\n' + good, "that is 7200 s: write 3600 or less"),
             ("margin = 20\n" + good + 'renewable = "false"\n', "f:9: fault: a renewable: is not true or false; write false without"),
             ("margin = 20\n" + good.replace("= 1050000", "= -1"), "f:7: fault: a need: is not a whole number of seconds since 1970, or"
              ' a date such as "2026-11-22T09:00:00Z"; write 0 or more'),
             ("margin = 20\n" + good + "max_ttl = 5000000000\n", "f:9: fault: a max_ttl: is not a whole number of seconds, 0 to"
-             " 4294967295; write 4294967295 or less"),
+             ' 4294967295, or a text such as "90m", "1h", "30d"; write 4294967295 or less'),
             ("margin = 20\n" + good.replace("= 1050000", '= "2026-13-01T00:00:00Z"'), "months are 01 to 12, and this one is 13"),
             ("margin = 20\n" + good.replace("= 1050000", '= "2026-02-29T00:00:00Z"'), "days of 2026-02 are 01 to 28, and this one is 29"),
             ("margin = 20\n" + good.replace("= 1050000", '= "2026-02-28T24:00:00Z"'), "hours are 00 to 23, and this one is 24"),
-            ("margin = 20\n" + good + 'secret_file = "f"\n', "f:9: fault: a secret_file: is a key for leasekeepd alone; write secret: leasekeep"
-             " opens no file of secrets"),
+            ("margin = 20\n" + good + 'secret_file = "f"\n', "f:9: fault: a secret_file: stands beside secret; write one of the two"),
             ("margin = 20\n" + good.replace('"a"', '"a b"'), "f:3: fault: token 1 name: is not 1 to 64 letters, digits, '-', '_', '.',"
              " '/'; its character 2 is a space"),
         ):

@@ -117,9 +117,13 @@ class Read(unittest.TestCase):
             self.assertEqual({fault.line for fault in faults}, {2, 4} if '"x"' in written else {2})
         self.assertEqual(inventory_of(SHORT.replace('max_ttl = "30d"', "issued = 1000\nend = 2000")).entries[0].end, 2000)
 
-    def test_leasekeep_reads_none_of_it(self) -> None:
+    def test_leasekeep_plans_for_nothing_that_is_left_open(self) -> None:
         keys = [fault.key for fault in read_inventory(SHORT.encode()).faults]
-        self.assertEqual(keys, ["margin", "issued", "end", "increment", "max_ttl", "need", "issued", "end", "increment", "max_ttl"])
+        self.assertEqual(keys, ["issued", "end", "need", "issued", "end"])
+        text = SHORT.replace("[[token]]", "[[token]]\nissued = 1\nend = 2").replace("[[lease]]", "[[lease]]\nissued = 1\nend = 2")
+        reading = read_inventory(text.replace('"always"', "3").replace('secret = "', 'secret_file = "').encode())
+        assert reading.inventory is not None
+        self.assertEqual([(entry.increment, entry.max_ttl) for entry in reading.inventory.entries], [(3600, 2592000), (5400, 86400)])
 
     def test_what_leasekeep_is_handed_is_strict(self) -> None:
         reading = read_inventory(inventory_text(inventory_of(SHORT)).encode(), STRICT)
@@ -185,10 +189,10 @@ class Lint(unittest.TestCase):
 
     def test_strictly(self) -> None:
         faults = [line for line in linted(SHORT, STRICT) if ": fault: " in line]
-        self.assertIn("f:4: fault: app max_ttl: is not a whole number of seconds, 0 to 4294967295; durations are whole seconds without"
-                      " quotes: write 2592000", faults)
+        self.assertNotIn("max_ttl", "\n".join(faults))
         self.assertIn('f:5: fault: app need: is not a whole number of seconds since 1970, or a date such as "2026-11-22T09:00:00Z";'
-                      " leasekeepd alone knows that word: write a moment", faults)
+                      " leasekeepd alone knows such a need: write a moment", faults)
+        self.assertIn('; a need is a moment: write a date', "\n".join(linted(SHORT.replace("always", "30d"), STRICT)))
         self.assertIn("f:2: fault: app issued: is missing; add issued: a whole number of seconds since 1970, or a date such as"
                       ' "2026-11-22T09:00:00Z"', faults)
 
