@@ -220,8 +220,8 @@ def _row(table: _Table, kind: Kind) -> Row:
     table.unknown(KEYS[kind])
     name = table.take("name", NAME_FORM, must=True)
     above = table.take("parent" if is_token else "token", ABOVE, must=not is_token)
-    issued = table.take("issued", moment(LAST), 0, must=dialect.has_terms or table.has("end"))
-    end = table.take("end", moment(END_MAX), 0, must=dialect.has_terms or table.has("issued"))
+    issued = table.take("issued", moment(LAST), 0, must=dialect.has_terms or "end" in table.values)
+    end = table.take("end", moment(END_MAX), 0, must=dialect.has_terms or "issued" in table.values)
     renewable = table.take("renewable", FLAG, True)
     period = table.take("period", DURATION_TEXT, 0) if is_token else 0
     increment = table.take("increment", INCREMENT_TEXT)

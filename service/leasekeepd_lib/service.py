@@ -63,7 +63,7 @@ class Service:
     def _hear(self, line: WatchLine) -> None:
         level = self.standings.level_of(line)
         if level is not None:
-            self._log.say(level, line.said.word, *line.words)
+            self._log.say(level, line.said.word, *line.logged)
         self.standings.hear(line)
 
     def load(self) -> None:

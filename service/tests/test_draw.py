@@ -229,6 +229,14 @@ class Lanes(unittest.TestCase):
         self.assertEqual(marks, [(1099, Sign.RENEWED), (1010, Sign.RENEWED), (1110, Sign.SHORT), (1099, Sign.LOST)])
         self.assertEqual((chart.requests, chart.is_over, chart.stop), (3, False, 1199))
 
+    def test_the_moments_of_a_log_are_dates(self) -> None:
+        """(They were seconds once.)"""
+        log = ("1970-01-01T00:16:49Z entry T {}\n1970-01-01T00:17:30Z wake {} T\n1970-01-01T00:17:30Z renew T\n"
+               "1970-01-01T00:17:31Z told T 100\n1970-01-01T00:17:40Z warning: short L {}\n")
+        dated = family(log.format("1970-01-01T00:18:20Z", "1970-01-01T00:17:30Z", "1970-01-01T00:17:51Z"))
+        self.assertEqual(dated, family(log.format(1100, 1050, 1071)))
+        self.assertEqual((dated.wakes, [mark.number for lane in dated.lanes for mark in lane.marks]), ((1050,), [1150, 1071]))
+
     def test_what_says_that_a_run_is_over(self) -> None:
         for line in ("next none", "idle", "done 1 1"):
             self.assertTrue(family(f"{line}\n").is_over)
