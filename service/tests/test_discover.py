@@ -14,6 +14,7 @@ from leasekeep_inventory.dialect import SERVED
 from leasekeep_inventory.discover import DiscoverFault, Filled, discover, read_list
 from leasekeep_inventory.inventory import ALWAYS, Entry, Inventory, Kind
 from leasekeep_inventory.inventory_file import read_inventory
+from trial.programs import SLOWER
 
 from .model.vault import Act, Fault, Vault, VaultTransport
 from .model.world import World, simulate
@@ -239,7 +240,7 @@ class Command(Discovered):
         file.write_text(text)
         file.chmod(mode)
         return subprocess.run([str(LEASEKEEPD), "inventory", str(file), str(self.folder / "nobody.sock")], capture_output=True, text=True,
-                              timeout=60)
+                              timeout=60 * SLOWER)
 
     def test_where_nobody_answers(self) -> None:
         ran = self.run_on(0o600)

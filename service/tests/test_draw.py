@@ -19,6 +19,7 @@ from leasekeep_draw import entries, history, picture, table, terminal  # noqa: E
 from leasekeep_draw.axis import Axis  # noqa: E402
 from leasekeep_draw.chart import Chart, chart_of, start_of  # noqa: E402
 from leasekeep_draw.history import Sign  # noqa: E402
+from trial.programs import SLOWER  # noqa: E402
 
 SPACED = "{http://www.w3.org/2000/svg}"
 FAMILY = """
@@ -177,7 +178,7 @@ class Open(unittest.TestCase):
             file.write_text('[[token]]\nname = "app"\nsecret = "s"\nneed = "always"\n')
             lines.write_text("wake 5000 app\ntold app 60\nnext 5059\n")
             ran = subprocess.run([sys.executable, str(SERVICE / "leasekeep-draw"), str(file), str(lines), "--ascii", "--width", "60"],
-                                 capture_output=True, text=True, timeout=60)
+                                 capture_output=True, text=True, timeout=60 * SLOWER)
             self.assertEqual((ran.returncode, ran.stderr), (0, ""))
             self.assertEqual(ran.stdout.splitlines()[1].split()[0], "5000")
 
@@ -422,7 +423,7 @@ class Command(unittest.TestCase):
             file.flush()
             return subprocess.run(
                 [sys.executable, str(SERVICE / "leasekeep-draw"), file.name, *words],
-                input=given, capture_output=True, text=True, timeout=30, check=False,
+                input=given, capture_output=True, text=True, timeout=30 * SLOWER, check=False,
             )
 
     def test_exits(self) -> None:
@@ -434,7 +435,7 @@ class Command(unittest.TestCase):
     def test_its_man_page_begins_with_what_it_is_for(self) -> None:
         ran = subprocess.run(
             [sys.executable, str(SERVICE.parent / "tools" / "man"), str(SERVICE / "leasekeep-draw"), "leasekeep-draw"],
-            capture_output=True, text=True, timeout=30, check=True,
+            capture_output=True, text=True, timeout=30 * SLOWER, check=True,
         )
         self.assertIn("\n.SH NAME\nleasekeep-draw \\- Draws the lives and renewals", ran.stdout)
 
@@ -444,7 +445,7 @@ class Command(unittest.TestCase):
             file.flush()
             ran = subprocess.run(
                 [sys.executable, str(SERVICE / "leasekeep-draw"), file.name], input=LINES, stdout=full,
-                stderr=subprocess.PIPE, text=True, timeout=30, check=False,
+                stderr=subprocess.PIPE, text=True, timeout=30 * SLOWER, check=False,
             )
         self.assertEqual((ran.returncode, ran.stderr.count("\n")), (6, 1))
 
@@ -453,7 +454,7 @@ class Words(unittest.TestCase):
     """The command line."""
 
     def ran(self, *words: str) -> subprocess.CompletedProcess[str]:
-        return subprocess.run([sys.executable, str(SERVICE / "leasekeep-draw"), *words], capture_output=True, text=True, timeout=60)
+        return subprocess.run([sys.executable, str(SERVICE / "leasekeep-draw"), *words], capture_output=True, text=True, timeout=60 * SLOWER)
 
     def test_a_start_is_whole_seconds(self) -> None:
         for word in ("2026-11-22T09:00:00Z", "1000.5", "-1", "253402300800", "9" * 40, "now"):

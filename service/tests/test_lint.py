@@ -21,7 +21,7 @@ from leasekeepd_journal.changes import only_entry
 from leasekeepd_journal.storage import Storage
 from leasekeepd_lib.source import Source
 from leasekeepd_lib.widest import widest_margin
-from trial.programs import find_program
+from trial.programs import SLOWER, find_program
 
 from .model.stage import fleet
 
@@ -309,7 +309,7 @@ class Slips(unittest.TestCase):
         linted("".join(f"key{number} = 1\n" for number in range(60000)))
         linted("".join(table("token", f"t{number}", f'parent = "t{number + 1}"')[:-1] + "\n" for number in range(4000)))
         linted("".join(table("token", f"t{number}", f'parent = "nobody{number}"') for number in range(4000)))
-        self.assertLess(time.monotonic() - begun, 25)
+        self.assertLess(time.monotonic() - begun, 25 * SLOWER)
 
 
 class ByteOrderMark(unittest.TestCase):
@@ -368,7 +368,7 @@ class Widest(unittest.TestCase):
             file = Path(folder) / "inventory.toml"
             file.touch(0o600)
             file.write_text(inventory_text(Inventory(tuple(entries), margin)))
-            ran = subprocess.run([str(LEASEKEEPD), "lint", str(file)], capture_output=True, text=True, timeout=60,
+            ran = subprocess.run([str(LEASEKEEPD), "lint", str(file)], capture_output=True, text=True, timeout=60 * SLOWER,
                                  env={**os.environ, "PATH": f"{Path(program).parent}:{os.environ['PATH']}"})
             self.assertEqual((ran.returncode, ran.stderr), (0, f"{file}: 0 faults, 0 doubts\n"))
             return ran.stdout.replace(str(file), "f")

@@ -13,7 +13,7 @@ from pathlib import Path
 from leasekeep_inventory.dialect import STRICT
 from leasekeep_inventory.findings import Finding, Severity
 from leasekeep_inventory.lint import lint
-from trial.programs import find_program
+from trial.programs import SLOWER, find_program
 
 CASES = int(os.environ.get("CASES", "100"))
 SEED = int(os.environ.get("SEED", "1"))
@@ -94,7 +94,7 @@ class Agreement(unittest.TestCase):
             for case in range(CASES):
                 text = rare[case] if case < len(rare) else an_inventory(chance)
                 file.write_text(text, "utf-8")
-                ran = subprocess.run([program, "ends", str(file), "0"], capture_output=True, text=True, timeout=120)
+                ran = subprocess.run([program, "ends", str(file), "0"], capture_output=True, text=True, timeout=120 * SLOWER)
                 found = [one for one in lint(text.encode(), 0o600, 1, NOW, True, STRICT)
                          if one.severity is Severity.FAULT and "under four times the time-out" not in one.problem]
                 said = [one.text("f") for one in found]
