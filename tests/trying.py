@@ -149,7 +149,7 @@ class Agent:
 # ---- a broker by hand
 
 Behave = Callable[[int, socket.socket, bytes], None]
-"""What a broker does with its connection of that number, from 1, behind the request that it has read."""
+"""What a broker does with its connection of that number, from 1, after the request that it has read."""
 
 
 class Peer:

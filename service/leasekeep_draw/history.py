@@ -57,7 +57,7 @@ class LineFault(Exception):
     """A line that none of them prints."""
 
     def __init__(self, number: int) -> None:
-        super().__init__(f"line {number} is none that rehearse, run or leasekeepd prints of this inventory")
+        super().__init__(f"line {number} is not one that rehearse, run or leasekeepd prints for this inventory")
         self.number = number
 
 
@@ -88,7 +88,7 @@ def read(lines: Iterable[str], indices: Mapping[str, int], start: int) -> Histor
 
 
 def _take(history: History, words: list[str], indices: Mapping[str, int], round_at: int, is_logged: bool) -> int:
-    """Takes one line. `round_at` is the moment of the round of which answers speak; gives that of the lines behind it."""
+    """Takes one line. `round_at` is the moment of the round of which answers speak; gives that of the lines after it."""
     match words:
         case ["wake", moment, *names]:
             round_at = _moment(moment)

@@ -1,4 +1,4 @@
-"""The chart as rows of text: what a picture shows, for who reads instead of looking."""
+"""The chart as rows of text: what a picture shows, for readers who cannot see it."""
 
 from __future__ import annotations
 

@@ -37,10 +37,11 @@ class Facts:
     granted: int | None = None
     never_ends: bool = False
 
-    def whole_ttl(self, now: float) -> int:
-        """The TTL that it began with, `now` being the moment of the answer. (The TTL that is told is rounded down.)"""
+    def whole_ttl(self, now: float, most: int) -> int:
+        """The TTL that it began with, `now` being the moment of the answer. Where it is not told, the time from then to its end, at
+        most `most`. (The TTL that is told is rounded down.)"""
         since = math.ceil(now + self.ttl - self.since)
-        return min(max(since, self.ttl), DURATION_MAX) if self.granted is None else self.granted
+        return min(max(since, self.ttl), most) if self.granted is None else self.granted
 
 
 @dataclass(frozen=True)

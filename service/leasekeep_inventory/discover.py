@@ -10,7 +10,7 @@ import codecs
 import math
 from dataclasses import dataclass, replace
 from pathlib import Path
-from typing import Callable
+from typing import Any, Callable
 
 from .broker import Broker, Facts, Verdict
 from .dialect import SERVED
@@ -87,7 +87,7 @@ async def discover(broker: Broker, wall: Callable[[], float], listed: Listed) ->
             faults.append(listed.finding(Severity.FAULT, entry.name, key, "never ends (ttl 0) and needs no keeping",
                                          "take it out, and write its children without a parent"))
         else:
-            told[entry.name] = _told(listed.reading, entry, heard.facts, wall())
+            told[entry.name] = _told(listed, entry, heard.facts, wall())
             doubts += _doubts(listed, entry, heard.facts)
     if faults:
         raise DiscoverFault(faults)
@@ -99,7 +99,7 @@ async def discover(broker: Broker, wall: Callable[[], float], listed: Listed) ->
     return Filled(_written(listed, told, expected), doubts)
 
 
-def _told(reading: Reading, entry: Entry, facts: Facts, now: float) -> dict[str, Value]:
+def _told(listed: Listed, entry: Entry, facts: Facts, now: float) -> dict[str, Value]:
     """What is to be written anew: each key whose value is another one, or which is not written."""
     end = math.floor(now) + facts.ttl
     told: dict[str, Value] = {}
@@ -109,8 +109,8 @@ def _told(reading: Reading, entry: Entry, facts: Facts, now: float) -> dict[str,
         told["end"] = Moment(end)
     if entry.renewable != facts.renewable:
         told["renewable"] = facts.renewable
-    if not facts.period and reading.lacks(entry.name, "increment"):
-        told["increment"] = facts.whole_ttl(now)
+    if not facts.period and listed.reading.lacks(entry.name, "increment"):
+        told["increment"] = facts.whole_ttl(now, listed.inventory.max_ttl_of(entry))
     if entry.period != facts.period:
         told["period"] = facts.period
     if entry.explicit_max_ttl != facts.explicit_max:
@@ -122,10 +122,10 @@ def _told(reading: Reading, entry: Entry, facts: Facts, now: float) -> dict[str,
 
 def _with(entry: Entry, told: dict[str, Value], reading: Reading) -> Entry:
     """The entry as it has to be read once that is written."""
-    changes = {key: value.seconds if isinstance(value, Moment) else value for key, value in told.items()}
+    changes: dict[str, Any] = {key: value.seconds if isinstance(value, Moment) else value for key, value in told.items()}
     if "increment" not in changes and reading.lacks(entry.name, "increment"):
         changes["increment"] = None
-    return replace(entry, **changes)  # type: ignore[arg-type]
+    return replace(entry, **changes)
 
 
 def _doubts(listed: Listed, entry: Entry, facts: Facts) -> list[Finding]:

@@ -90,7 +90,7 @@ def _doubt_margin(reading: Reading, doubts: _Doubts, timeout: int, now: float) -
 
 def _fullest_round(inventory: Inventory, now: float) -> int:
     """How many entries may be renewed in one wake-up: those that are needed, since any of them may fall due at once
-    behind an outage."""
+    after an outage."""
     return sum(inventory.carried[entry.name] > now and entry.renewable for entry in inventory.entries)
 
 
@@ -131,7 +131,7 @@ def _doubt_file(entry: Entry, file: Path, doubts: _Doubts) -> None:
     try:
         read_secret(file)
     except SecretFault as fault:
-        doubts.doubt(entry.name, key, str(fault), "it is not kept, nor what is under it, until the file holds its secret")
+        doubts.doubt(entry.name, key, str(fault), "neither it nor what is under it is kept until the file holds its secret")
     if is_open_to_others(file):
         doubts.doubt(entry.name, key, "may be read or written by others", "chmod o-rwx the file: it holds a secret")
 

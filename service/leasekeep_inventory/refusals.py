@@ -30,7 +30,7 @@ def open_to_others(mode: int) -> list[Finding]:
 
 
 def without_credential(reading: Reading, unless: str = "") -> list[Finding]:
-    """The faults of tables without a credential; `unless` is said behind what to do."""
+    """The faults of tables without a credential; `unless` is said after what to do."""
     found = []
     for row in reading.rows:
         if not row.has_credential:

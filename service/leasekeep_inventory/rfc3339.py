@@ -39,7 +39,7 @@ def with_fraction(text: str) -> float | None:
 
 
 def date_mend(text: str) -> str:
-    """What to write in the place of a text that `read_rfc3339` does not read."""
+    """What to write instead of a text that `read_rfc3339` does not read."""
     match = _FORM.fullmatch(text)
     if match is None:
         return "write day, T, hours:minutes:seconds, and Z or an offset such as +01:00"

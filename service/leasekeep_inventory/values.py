@@ -17,7 +17,7 @@ PATH_MAX = 4096
 
 @dataclass(frozen=True)
 class Form:
-    """What a key's value has to be: in words, as `read` takes it (None: it is none), and what to write in the place of
+    """What a key's value has to be: in words, as `read` takes it (None: it is none), and what to write instead of
     a value that is none. The words of `mend` never hold the value of a text."""
 
     expected: str

@@ -68,7 +68,7 @@ def _program() -> str:
 def _number(word: str, least: int, most: int, what: str) -> int:
     """The whole number that the word writes, between these two."""
     if not (word.isascii() and word.isdigit() and len(word) < 10 and least <= int(word) <= most):
-        raise argparse.ArgumentTypeError(f"that is no number of {what} from {least} to {most}, such as {max(least, 5)}: {word}")
+        raise argparse.ArgumentTypeError(f"that is not a number of {what} from {least} to {most}, such as {max(least, 5)}: {word}")
     return int(word)
 
 
@@ -94,7 +94,7 @@ def _standby(word: str) -> EtcdAddress:
 def _alert(word: str) -> str:
     program = shutil.which(word)
     if program is None:
-        raise argparse.ArgumentTypeError(f"no program can be run there: {word}")
+        raise argparse.ArgumentTypeError(f"that is not a program that can be run: {word}")
     return program
 
 
@@ -163,9 +163,9 @@ def _parser() -> argparse.ArgumentParser:
 def _add_serve(commands: "argparse._SubParsersAction[argparse.ArgumentParser]", runtime: argparse.ArgumentParser,
                ) -> None:
     serving = commands.add_parser(
-        "serve", parents=[runtime], help="keep what FILE says alive",
-        description="Keeps what FILE says alive: starts `leasekeep watch`, hands in the time, sleeps until it is told, and"
-        " logs what it prints. SIGTERM ends it, SIGHUP reads FILE again.",
+        "serve", parents=[runtime], help="keep the entries of FILE alive",
+        description="Keeps the entries of FILE alive: runs `leasekeep watch`, tells it the time, sleeps as long as it says, and"
+        " logs what it prints. SIGTERM ends it, SIGHUP makes it read FILE again.",
         epilog="It refuses a FILE that is faulty or that others may read, a token without secret, a lease without lease_id,"
         " and a margin of less than four times the time-out: exit 1. `leasekeepd lint FILE` shows all of these beforehand.")
     serving.add_argument("file", type=Path, metavar="FILE", help="the inventory")
@@ -187,8 +187,8 @@ def _add_serve(commands: "argparse._SubParsersAction[argparse.ArgumentParser]", 
     serving.add_argument("--name", default="", metavar="NAME",
                        help="this agent's name, for --spread and --standby (default: the machine's name and the state folder)")
     serving.add_argument("--spread", type=_spread, default=0, metavar="SECONDS",
-                       help="wake up earlier, and start later where nothing is due, by a fixed part of so many seconds, which"
-                       " follows from the name: so that many agents of one broker form no herd (default: 0, at most the margin)")
+                       help="wake up earlier, and start later if nothing is due, by a share of SECONDS that depends on the name,"
+                       " so that many agents of one broker do not wake up together (default: 0, at most the margin)")
     serving.add_argument("--standby", type=_standby, metavar="ETCD",
                        help="serve only while no other leasekeepd of this fleet does: etcd:http://[USER@]HOST:PORT/PREFIX")
     serving.add_argument("--standby-password", type=Path, metavar="FILE", help="the file of USER's password at etcd")

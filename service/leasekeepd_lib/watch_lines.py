@@ -50,7 +50,7 @@ _BY_WORD = {said.word: said for said in Said}
 
 @dataclass(frozen=True)
 class WatchLine:
-    """A line: its kind, and the words behind the first."""
+    """A line: its kind, and the words after the first."""
 
     said: Said
     words: tuple[str, ...] = ()
@@ -60,7 +60,7 @@ class WatchLine:
 
     @property
     def logged(self) -> list[object]:
-        """The words behind the first for the log, which shows moments as dates."""
+        """The words after the first for the log, which shows moments as dates."""
         return [At(int(word)) if place == self.said.moment and word != "none" else word for place, word in enumerate(self.words)]
 
 
@@ -73,5 +73,5 @@ def read_watch_line(text: str) -> WatchLine:
     word, blank, rest = text.partition(" ")
     said = _BY_WORD.get(word)
     if said is None or not said.form.fullmatch(blank + rest):
-        raise WatchLineFault("leasekeep watch printed a line that is none of its own")
+        raise WatchLineFault("leasekeep watch printed an unknown line")
     return WatchLine(said, tuple(rest.split(" ")) if rest else ())

@@ -158,14 +158,17 @@ class Increments(Discovered):
 
     def test_they_are_what_was_issued_and_never_what_is_left(self) -> None:
         """A token of 62 s with 18 left; one of ten days with 40 minutes left; a lease of an hour with half of it left."""
-        left = {"issued": BEGAN - 44.0, "end": BEGAN + 18.0, "lasts": 62}
+        left: dict[str, object] = {"issued": BEGAN - 44.0, "end": BEGAN + 18.0, "lasts": 62}
         self.assertEqual(self.increments(20, app=left), [62, 3600, 3600])
-        long = {"issued": BEGAN + 2400.0 - 864_000, "end": BEGAN + 2400.0, "lasts": 864_000}
+        long: dict[str, object] = {"issued": BEGAN + 2400.0 - 864_000, "end": BEGAN + 2400.0, "lasts": 864_000}
         self.assertEqual(self.increments(20, app=long), [864_000, 3600, 3600])
 
     def test_where_it_is_not_told_it_is_the_time_from_the_issue_to_the_end(self) -> None:
         rows: dict[str, dict[str, object]] = {name: {"lasts": None, "issued": BEGAN - 44.0, "end": BEGAN + 18.0} for name in ("app", "job", "db")}
         self.assertEqual(self.increments(20, **rows), [62, 62, 62])
+        rows["app"]["issued"] = BEGAN - 800_000.0  # (Of a clock that was set, or long renewed.)
+        rows["db"]["issued"] = BEGAN - 100_000.0
+        self.assertEqual(self.increments(20, **rows), [800_018, 62, 86_400])
 
     def test_a_lease_that_was_renewed(self) -> None:
         self.assertEqual(self.increments(20, db={"issued": BEGAN - 90_000.0, "lasts": 900})[2], 900)
@@ -179,13 +182,13 @@ class Increments(Discovered):
         for more, seconds in ((b"", 3600), (b'"last_renewal":null,', 3600), (b'"last_renewal":"2017-04-30T11:08:12Z",', 15_000),
                               (b'"last_renewal":"2017-04-30T11:08:12.0001-04:00",', 600)):
             facts = read_lease_lookup(lease % more, "l")
-            self.assertEqual(facts and facts.whole_ttl(0.0), seconds)
+            self.assertEqual(facts and facts.whole_ttl(0.0, 99_999), seconds)
         token = b'{"data":{"creation_time":1000,"ttl":18%s}}'
         for more, seconds in ((b"", 62), (b',"creation_ttl":90', 90), (b',"creation_ttl":0', 62), (b',"last_renewal_time":1020', 42),
                               (b',"last_renewal_time":"x"', 62)):
             facts = read_token_lookup(token % more, "")
-            self.assertEqual(facts and facts.whole_ttl(1043.5), seconds)
-            self.assertEqual(facts and facts.whole_ttl(5.0), 90 if b":90" in more else 18)  # (A clock that is behind the broker's.)
+            self.assertEqual(facts and facts.whole_ttl(1043.5, 99_999), seconds)
+            self.assertEqual(facts and facts.whole_ttl(5.0, 99_999), 90 if b":90" in more else 18)  # (A clock that is behind the broker's.)
 
 
 class Faults(Discovered):

@@ -92,7 +92,7 @@ class Large(InRoom):
     def test_no_more_entries_and_bytes_than_a_program_reads(self) -> None:
         full = estate(4096)
         add = Change(What.ADD, "fresh", table=TABLE.replace('"app"', '"e5"'))
-        with self.assertRaisesRegex(ChangeFault, "there are 4096 entries, and there may be no more"):
+        with self.assertRaisesRegex(ChangeFault, "there are 4096 entries already, and no more are allowed"):
             changed(full, add, False)
         self.assertEqual(len(changed(estate(4095), add, False).entries), 4096)
         long = replace(full.entries[0], credential="x" * 256)

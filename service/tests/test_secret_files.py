@@ -80,7 +80,7 @@ class Read(InFolder):
                 read_secret(self.folder / "app.token")
             self.assertEqual(str(caught.exception), "holds no secret of 1 to 256 printable ASCII characters")
         os.mkfifo(self.folder / "pipe")
-        for name, why in (("none", "cannot be read: No such file or directory"), ("pipe", "is no file"), (".", "is no file"),
+        for name, why in (("none", "cannot be read: No such file or directory"), ("pipe", "is not a regular file"), (".", "is not a regular file"),
                           ("a\0b", "cannot be read: no such name")):
             with self.subTest(name), self.assertRaisesRegex(SecretFault, why):
                 read_secret(self.folder / name)

@@ -56,7 +56,7 @@ secret = "s.web"
 
 
 class Talking:
-    """In the place of `leasekeep watch`: waits by ten seconds, and says what the test wants said."""
+    """Stands for `leasekeep watch`: waits by ten seconds, and says what the test wants said."""
 
     def __init__(self, says: list[str]) -> None:
         self._says = says
@@ -194,7 +194,7 @@ class Served(unittest.TestCase):
                 self.assertEqual(len(room.launcher.inventories) - begun, 1)
                 serving.cancel()
                 await asyncio.gather(serving, return_exceptions=True)
-            self.assertEqual(room.said("start"), ["start waits for 17 s: nothing comes to its time by then"])
+            self.assertEqual(room.said("start"), ["start waits for 17 s: no entry is due before then"])
         self.play(scene, part=17)
 
     def test_the_day_s_lookups_come_by_its_part_earlier_where_nothing_is_due(self) -> None:

@@ -212,8 +212,8 @@ class Missing(Started):
         return text
 
     def test_what_the_command_line_names_must_be_there(self) -> None:
-        for words, said in ((("--alert", "/nowhere/alert"), "argument --alert: no program can be run there: /nowhere/alert"),
-                            (("--alert", str(self.folder)), "argument --alert: no program can be run there"),
+        for words, said in ((("--alert", "/nowhere/alert"), "argument --alert: that is not a program that can be run: /nowhere/alert"),
+                            (("--alert", str(self.folder)), "argument --alert: that is not a program that can be run"),
                             (("--group", "no such group"), "argument --group: no group is named no such group")):
             refused = subprocess.run(self.words(*words), capture_output=True, text=True, timeout=20 * SLOWER)
             self.assertEqual(refused.returncode, 2)

@@ -13,6 +13,12 @@ TOP = Path(__file__).resolve().parents[2]
 YARDSTICK = TOP / "tools" / "yardstick"
 
 
+def with_slower(word: str) -> dict[str, str]:
+    """The environment with SLOWER as that word; without it where the word is empty."""
+    others = {name: value for name, value in os.environ.items() if name != "SLOWER"}
+    return {**others, "SLOWER": word} if word else others
+
+
 class Yardstick(unittest.TestCase):
     def test_it_is_a_whole_number_from_1_to_20(self) -> None:
         slower = runpy.run_path(str(YARDSTICK))["slower"]
@@ -22,8 +28,8 @@ class Yardstick(unittest.TestCase):
 
     def test_what_reads_it(self) -> None:
         for folder, read, usual in (("tests", "trying.SECONDS", 60), ("service", "trial.programs.BUILD_SECONDS", 600)):
-            for more, times in (({}, 1), ({"SLOWER": "7"}, 7)):
-                environment = {name: value for name, value in os.environ.items() if name != "SLOWER"} | more
+            for slower, times in (("", 1), ("7", 7)):
+                environment = with_slower(slower)
                 module = read.rpartition(".")[0]
                 ran = subprocess.run([sys.executable, "-c", f"import {module}; print({read})"], cwd=TOP / folder, env=environment,
                                      capture_output=True, text=True, timeout=120)
@@ -32,8 +38,8 @@ class Yardstick(unittest.TestCase):
     def test_a_script_of_bash_waits_longer_too(self) -> None:
         text = (TOP / "tests" / "end-to-end").read_text()
         head = text[:text.index("top=$(cd")]
-        for more, most in (({}, "20"), ({"SLOWER": "3"}, "60")):
-            environment = {name: value for name, value in os.environ.items() if name != "SLOWER"} | more
+        for slower, most in (("", "20"), ("3", "60")):
+            environment = with_slower(slower)
             ran = subprocess.run(["bash", "-c", f"{head}\necho $most"], env=environment, capture_output=True, text=True, timeout=120)
             self.assertEqual(ran.stdout, f"{most}\n", ran.stderr)
 
