@@ -59,16 +59,27 @@ class Page:
     def _add(self, last: int, top: int, written: str) -> None:
         """After the table's last line, where that is one key and its value, else after its head."""
         after = last if _LINE.fullmatch(self._text[last - 1]) else top
-        end = "\r" if self._text[top - 1].endswith("\r") else ""
-        self._added.setdefault(after, []).append(written + end)
+        self._added.setdefault(after, []).append(written)
 
     @property
     def text(self) -> str:
         """The whole text, as it is now."""
         lines = []
         for number, line in enumerate(self._text, 1):
-            lines += [line, *self._added.get(number, [])]
+            lines += self._with_added(number, line)
         return "\n".join(lines)
+
+    def _with_added(self, number: int, line: str) -> list[str]:
+        """The line, and what is added after it, with line feeds like its own; after the last line of a text, like the one before."""
+        added = self._added.get(number)
+        if added is None:
+            return [line]
+        is_last = number == len(self._text)
+        end = "\r" if self._text[number - (2 if is_last else 1)].endswith("\r") else ""
+        if is_last:
+            *others, last = added
+            return [line + end, *(other + end for other in others), last]
+        return [line, *(one + end for one in added)]
 
 
 def _written(value: Moment | int | bool, before: str | None) -> str:

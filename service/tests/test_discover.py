@@ -2,20 +2,24 @@
 
 from __future__ import annotations
 
+import os
 import shutil
 import subprocess
 import tempfile
+import time
 import unittest
 from pathlib import Path
-from typing import Any
+from typing import Any, cast
 
 from leasekeep_inventory.broker import Broker, read_lease_lookup, read_token_lookup
 from leasekeep_inventory.dialect import SERVED
 from leasekeep_inventory.discover import DiscoverFault, Filled, discover, read_list
 from leasekeep_inventory.inventory import ALWAYS, Entry, Inventory, Kind
 from leasekeep_inventory.inventory_file import read_inventory
+from leasekeep_inventory.rfc3339 import date_text
 from trial.programs import SLOWER
 
+from .model.server import RealWorld, VaultServer
 from .model.vault import Act, Fault, Vault, VaultTransport
 from .model.world import World, simulate
 
@@ -119,7 +123,8 @@ class Kept(Discovered):
         self.assertEqual(self.text(FILLED), FILLED)
 
     def test_ends_of_lines_a_mark_at_the_start_and_none_at_the_end(self) -> None:
-        for change in (lambda text: text.replace("\n", "\r\n"), lambda text: "\ufeff" + text, lambda text: text.removesuffix("\n")):
+        for change in (lambda text: text.replace("\n", "\r\n"), lambda text: "\ufeff" + text, lambda text: text.removesuffix("\n"),
+                       lambda text: text.replace("\n", "\r\n").removesuffix("\r\n")):
             self.assertEqual(self.text(change(LIST)), change(FILLED))
 
     def test_old_values_are_written_anew_in_their_place(self) -> None:
@@ -244,6 +249,26 @@ class Command(Discovered):
         file.chmod(mode)
         return subprocess.run([str(LEASEKEEPD), "inventory", str(file), str(self.folder / "nobody.sock")], capture_output=True, text=True,
                               timeout=60 * SLOWER)
+
+    def test_over_a_socket(self) -> None:
+        """The text comes as it was told, in UTF-8 whatever the terminal has, and what is doubtful to standard error."""
+        began = int(time.time())
+        vault = Vault(cast(World, RealWorld()))
+        vault.load(Inventory((Entry("app", Kind.TOKEN, None, began, began + 900, renewable=False, credential="s.app"),)), app={"lasts": 900})
+        server = VaultServer(vault).start()
+        self.addCleanup(server.stop)
+        file = self.folder / "list.toml"
+        file.write_text('# für immer\r\n[[token]]\r\nname = "app" # €\r\nmax_ttl = "1d"\r\nsecret = "s.app"', "utf-8", newline="")
+        file.chmod(0o600)
+        ran = subprocess.run([str(LEASEKEEPD), "inventory", str(file), server.word], capture_output=True, timeout=60 * SLOWER,
+                             env={**os.environ, "PYTHONIOENCODING": "latin-1"})
+        self.assertEqual((ran.returncode, ran.stderr.decode()), (
+            0, f"{file}:2: doubt: app renewable: the broker says that it cannot be renewed; issue it afresh before its end\n"))
+        lines = ran.stdout.decode("utf-8").split("\r\n")
+        self.assertEqual(lines[:4], ["# für immer", "[[token]]", 'name = "app" # €', 'max_ttl = "1d"'])
+        self.assertEqual([line.partition(" = ")[0] for line in lines[4:]], ["secret", "issued", "end", "renewable", "increment"])
+        self.assertIn(lines[6], [f'end = "{date_text(began + 900 + late)}"' for late in (-1, 0, 1)])
+        self.assertEqual(lines[7:], ["renewable = false", "increment = 900"])
 
     def test_where_nobody_answers(self) -> None:
         ran = self.run_on(0o600)
