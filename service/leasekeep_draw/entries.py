@@ -12,6 +12,7 @@ from leasekeep_inventory.inventory import ALWAYS, Kind
 from leasekeep_inventory.inventory import Entry as Written
 from leasekeep_inventory.inventory import Inventory as WrittenInventory
 from leasekeep_inventory.inventory_file import read_inventory
+from leasekeep_inventory.toml_1_0 import older
 
 __all__ = ["Entry", "Inventory", "InventoryFault", "Kind", "read"]
 _DRAWN = Dialect(NEED, STRICT.absent_margin, False)
@@ -54,7 +55,7 @@ def read(text: str, path: str = "FILE") -> Inventory:
         raise InventoryFault(f"{first.text(path)} (`leasekeepd lint {path}` shows every fault)")
     written = reading.inventory
     places = {entry.name: place for place, entry in enumerate(written.entries)}
-    return Inventory(tuple(_entry(written, entry, places) for entry in written.entries), _is_dated(tomllib.loads(text)))
+    return Inventory(tuple(_entry(written, entry, places) for entry in written.entries), _is_dated(tomllib.loads(older(text).text)))
 
 
 def _entry(inventory: WrittenInventory, entry: Written, places: dict[str, int]) -> Entry:

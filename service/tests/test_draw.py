@@ -182,6 +182,10 @@ class Open(unittest.TestCase):
             self.assertEqual((ran.returncode, ran.stderr), (0, ""))
             self.assertEqual(ran.stdout.splitlines()[1].split()[0], "5000")
 
+    def test_a_document_of_toml_1_1(self) -> None:
+        inventory = entries.read('token = [{\n name = "\\x61", # a\n issued = "1970-01-01T00:16:40Z", end = 2000,\n}]\n')
+        self.assertEqual(([entry.name for entry in inventory.entries], inventory.is_dated), (["a"], True))
+
     def test_the_margin_that_is_not_written_is_that_of_the_plan(self) -> None:
         """An increment of 2 is read without one, though the service would not take it."""
         self.assertEqual(len(entries.read('[[token]]\nname = "a"\nissued = 1\nend = 9\nincrement = 2\n').entries), 1)

@@ -31,6 +31,11 @@ OF_SECONDS = ("system_max", "margin", "increment", "period", "max_ttl", "explici
 RARE = ("increment = 0", "increment = 0\nperiod = 0", "period = 60", "period = 0", 'period = "0s"', 'period = "1m"', "", 'need = "always"',
         'secret_file = "f"', 'secret_file = "f"\nsecret = "s"', 'secret_file = ""\nsecret = ""', 'secret_file = "f"\nperiod = 60')
 """Keys of a token that chance seldom writes together; each is tried with and without issue and end."""
+TERMS = 'name = "a", issued = 1000, end = 2000'
+WHOLE = (f"token = [{{{TERMS},}}]\n", f"token = [{{\n{TERMS}\n, # a\n}},\n]\n", f"token = [{{{TERMS},,}}]\n", f"token = [{{{TERMS}, need =\n1}}]\n",
+         f"token = {{{TERMS}}}\n", "token = [{}]\n", "lease = [\n]\n", '[[token]]\nname = "\\x61\\e"\n', '[[token]]\nname = "\\x6"\n',
+         f'token = [{{{TERMS}, secret = "\\x41\\u0042", }}]\n', "[[token]]\n" + TERMS.replace(", ", "\n").replace('"a"', '"\\x61"') + "\n")
+"""Documents of TOML 1.1, and what is nearly one."""
 
 
 def a_table(chance: random.Random, kind: str, name: str, tokens: str) -> str:
@@ -91,6 +96,7 @@ class Agreement(unittest.TestCase):
             file = Path(folder) / "inventory.toml"
             rare = [f'margin = 20\n[[token]]\nname = "a"\n{terms}{keys}\n' for keys in RARE
                     for terms in ("issued = 1000\nend = 2000\n", "", "issued = 1000\n", "end = 2000\n", "issued = 0\nend = 0\n")]
+            rare += WHOLE
             for case in range(CASES):
                 text = rare[case] if case < len(rare) else an_inventory(chance)
                 file.write_text(text, "utf-8")
