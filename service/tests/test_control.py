@@ -20,7 +20,7 @@ from trial.programs import SLOWER
 
 from .model.world import simulate
 
-ONE_LINE = b"error: one line of JSON"
+ONE_LINE = b"error: send one line of JSON"
 
 
 class Sockets(unittest.TestCase):

@@ -228,8 +228,8 @@ class InTheInventory(InFolder):
         (self.folder / "app.token").chmod(0o644)
         found = [finding.text("f") for finding in lint(LIST.encode(), 0o600, 5, 1000.0, folder=self.folder)]
         self.assertIn("f:6: doubt: app secret_file: may be read or written by others; chmod o-rwx the file: it holds a secret", found)
-        self.assertIn("f:18: doubt: db lease_id_file: cannot be read: No such file or directory; it is not kept, nor what is under it,"
-                      " until the file holds its secret", found)
+        self.assertIn("f:18: doubt: db lease_id_file: cannot be read: No such file or directory; neither it nor what is under it is"
+                      " kept until the file holds its secret", found)
         self.assertNotIn("hvs.app", "\n".join(found))
 
 

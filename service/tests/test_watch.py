@@ -237,7 +237,7 @@ class Endings(InStage):
         sixteenth of what is left is half a minute.)"""
         endings: tuple[tuple[list[Any], str], ...] = (
             ([6], "leasekeep watch ended"), (["hello"], "an unknown line"),
-            (["fault clock-back"], "none of its own"), (["end db 5 yes"], "an entry that it was not given"))
+            (["fault clock-back"], "an unknown line"), (["end db 5 yes"], "an entry that it was not given"))
         for ending, why in endings:
             with self.subTest(ending=ending):
                 shutil.rmtree(self.folder)
