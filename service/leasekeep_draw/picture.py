@@ -7,7 +7,7 @@ lost answer, a triangle is a need that was shortened. Marks that would fall on t
 
 from __future__ import annotations
 
-from collections.abc import Callable, Iterator
+from collections.abc import Iterator
 from html import escape
 
 from leasekeep_draw import colours, table

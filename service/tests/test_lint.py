@@ -15,7 +15,6 @@ from pathlib import Path
 from leasekeep_inventory.dialect import SERVED, STRICT, Dialect
 from leasekeep_inventory.discover import read_list
 from leasekeep_inventory.inventory import Entry, Inventory, Kind, inventory_text
-from leasekeep_inventory.inventory_file import read_inventory
 from leasekeep_inventory.lint import lint
 from leasekeepd_journal.changes import only_entry
 from leasekeepd_journal.storage import Storage
