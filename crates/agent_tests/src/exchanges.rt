@@ -14,7 +14,7 @@ use mini_broker::{Fault, Table};
 use std::alloc::{AllocError, Global};
 use std::fs;
 use std::io::Read;
-use std::net::{IpAddr, Ipv4Addr, OpenListener, SocketAddr, TcpListener};
+use std::net::{IpAddr, Ipv4Addr, Net, OpenListener, SocketAddr, TcpListener};
 use std::os::unix::net::UnixListener;
 use std::process::Abort;
 use std::rc::Rc;
@@ -154,63 +154,85 @@ fn has_cost<R: Abort>(rt: &R, books: &Books, connects: u32, reads: u32, millis: 
 
 /// A peer that says nothing is waited for once, and then for a quarter of a second; and a new event line has the longest time
 /// again.
-#[test]
-fn waits_short_for_who_was_silent(rt: HostRuntime) -> Result<(), Fail> {
-    let books = books_of(rt.alloc(), Peer::Silent)?;
-    let network = Network {
-        books: books.clone()?,
-    };
-    let mut exchange = TcpExchange::patient(&network, 4321, Duration::from_secs(5));
+fn is_silent<R: AllocGlobal + Abort, N: Net>(
+    rt: &R,
+    network: &N,
+    books: &Books,
+) -> Result<(), Fail> {
+    let mut exchange = TcpExchange::patient(network, 4321, Duration::from_secs(5));
     let late = ExchangeFault::Http(HttpFault::ReadFailed);
-    fails_with(&rt, &mut exchange, late, 1)?;
-    has_cost(&rt, &books, 1, 1, 5000);
-    fails_with(&rt, &mut exchange, late, 2)?;
-    fails_with(&rt, &mut exchange, late, 3)?;
-    has_cost(&rt, &books, 3, 3, 5500);
+    fails_with(rt, &mut exchange, late, 1)?;
+    has_cost(rt, books, 1, 1, 5000);
+    fails_with(rt, &mut exchange, late, 2)?;
+    fails_with(rt, &mut exchange, late, 3)?;
+    has_cost(rt, books, 3, 3, 5500);
     exchange.begin_line();
-    fails_with(&rt, &mut exchange, late, 4)?;
-    has_cost(&rt, &books, 4, 4, 10500);
+    fails_with(rt, &mut exchange, late, 4)?;
+    has_cost(rt, books, 4, 4, 10500);
     assert!(rt; books.written() == 4 * 172);
     Ok(())
 }
 
 /// The same of one that takes no connection.
-#[test]
-fn waits_short_for_who_takes_no_connection(rt: HostRuntime) -> Result<(), Fail> {
-    let books = books_of(rt.alloc(), Peer::Absent)?;
-    let network = Network {
-        books: books.clone()?,
-    };
-    let mut exchange = TcpExchange::patient(&network, 4321, Duration::from_secs(5));
-    fails_with(&rt, &mut exchange, ExchangeFault::ConnectFailed, 1)?;
-    has_cost(&rt, &books, 1, 0, 5000);
-    fails_with(&rt, &mut exchange, ExchangeFault::ConnectFailed, 2)?;
-    has_cost(&rt, &books, 2, 0, 5250);
+fn is_absent<R: AllocGlobal + Abort, N: Net>(
+    rt: &R,
+    network: &N,
+    books: &Books,
+) -> Result<(), Fail> {
+    let mut exchange = TcpExchange::patient(network, 4321, Duration::from_secs(5));
+    fails_with(rt, &mut exchange, ExchangeFault::ConnectFailed, 1)?;
+    has_cost(rt, books, 1, 0, 5000);
+    fails_with(rt, &mut exchange, ExchangeFault::ConnectFailed, 2)?;
+    has_cost(rt, books, 2, 0, 5250);
     Ok(())
 }
 
 /// A connection that is refused at once shortens nothing, and a reply brings the longest time back.
-#[test]
-fn waits_long_again_after_a_reply(rt: HostRuntime) -> Result<(), Fail> {
-    let books = books_of(rt.alloc(), Peer::Closed)?;
-    let network = Network {
-        books: books.clone()?,
-    };
-    let mut exchange = TcpExchange::patient(&network, 4321, Duration::from_secs(5));
+fn comes_back<R: AllocGlobal + Abort, N: Net>(
+    rt: &R,
+    network: &N,
+    books: &Books,
+) -> Result<(), Fail> {
+    let mut exchange = TcpExchange::patient(network, 4321, Duration::from_secs(5));
     let late = ExchangeFault::Http(HttpFault::ReadFailed);
-    fails_with(&rt, &mut exchange, ExchangeFault::ConnectFailed, 1)?;
-    has_cost(&rt, &books, 1, 0, 0);
+    fails_with(rt, &mut exchange, ExchangeFault::ConnectFailed, 1)?;
+    has_cost(rt, books, 1, 0, 0);
     books.becomes(Peer::Silent);
-    fails_with(&rt, &mut exchange, late, 2)?;
-    has_cost(&rt, &books, 2, 1, 5000);
+    fails_with(rt, &mut exchange, late, 2)?;
+    has_cost(rt, books, 2, 1, 5000);
     books.becomes(Peer::Answers);
-    is_renewed(&rt, &mut exchange)?;
+    is_renewed(rt, &mut exchange)?;
     assert!(rt; books.connects() == 3);
     let reads = books.reads();
     books.becomes(Peer::Silent);
-    fails_with(&rt, &mut exchange, late, 3)?;
-    has_cost(&rt, &books, 4, reads.saturating_add(1), 10000);
+    fails_with(rt, &mut exchange, late, 3)?;
+    has_cost(rt, books, 4, reads.saturating_add(1), 10000);
     Ok(())
+}
+
+/// The network of these books.
+fn network_of(books: &Rc<Books>) -> Result<Network, AllocError> {
+    Ok(Network {
+        books: books.clone()?,
+    })
+}
+
+#[test]
+fn waits_short_for_who_was_silent(rt: HostRuntime) -> Result<(), Fail> {
+    let books = books_of(rt.alloc(), Peer::Silent)?;
+    is_silent(&rt, &network_of(&books)?, &books)
+}
+
+#[test]
+fn waits_short_for_who_takes_no_connection(rt: HostRuntime) -> Result<(), Fail> {
+    let books = books_of(rt.alloc(), Peer::Absent)?;
+    is_absent(&rt, &network_of(&books)?, &books)
+}
+
+#[test]
+fn waits_long_again_after_a_reply(rt: HostRuntime) -> Result<(), Fail> {
+    let books = books_of(rt.alloc(), Peer::Closed)?;
+    comes_back(&rt, &network_of(&books)?, &books)
 }
 
 #[test]
