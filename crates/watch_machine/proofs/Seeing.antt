@@ -1,0 +1,95 @@
+-- Seeing: what is seen of entries, and what they carry, depends on their believed ends, on which of them are renewable, and on which are at their
+-- top. For the steps of a clock that write none of these.
+use Rattle.std.proofs.Common.{◌≡◌, ◌∙◌, ℕ, ◌<◌, ◌≤◌, List, Option, get_or, filter, length, map, refl, sym, ap, arith, inl, inr}
+use Rattle.std.proofs.Math.Path.{fun_ext}
+use Rattle.std.proofs.lemmas.Bool.{cases_lt}
+use Rattle.std.proofs.lemmas.List.{ext_get_or, get_or_past}
+use Rattle.std.proofs.lemmas.List.FromFn.{get_or-map-range_with_len, length-map-range_with_len}
+use Rattle.std.specs.List.{range_with_len}
+use Rattle.keep_needs.specs.Carried.{CarriedNeed, IsCarried}
+use Rattle.keep_tree.specs.declared.entry.Entry.{Entry}
+use Rattle.keep_tree.specs.declared.forest.TheConstants.{END_MAX}
+use Rattle.keep_tree.specs.Carried.{carried}
+use Rattle.keep_tree.specs.Forest.{Forest}
+use Rattle.keep_tree.specs.Over.{chain}
+use Rattle.watch_machine.specs.declared.clocks.Clocks.{Clocks}
+use Rattle.watch_machine.specs.declared.track.Track.{Track}
+use Rattle.watch_machine.specs.Clocks.{sec}
+use Rattle.watch_machine.specs.State.{each, no_track, track_in}
+use Rattle.watch_machine.specs.Wanted.{HasNeeds, believed, is_fixed, least, least_over, limit, need_of, seen, view}
+use Rattle.watch_machine.specs.code.View.{Sees}
+use Rattle.watch_machine.proofs.Written.{each_length}
+
+-- what of a track is seen
+abbrev pub sight : Track → Track
+sight x = record no_track { end = x.end; renewable = x.renewable; top = x.top }
+
+-- tracks of which the same is seen
+pub record SameSeen (new old : List Track) : Type 0 where
+  pub tracks : (i : ℕ) → sight (track_in new i) ≡ sight (track_in old i)
+
+module _ (new old : List Track) (h : SameSeen new old) (es : List Entry) (c : Clocks) where
+  believed_same : (i : ℕ) → believed (track_in new i).end ≡ believed (track_in old i).end
+  believed_same i = ap (λ (x : Track). believed x.end) (h.tracks i)
+
+  fixed_same : (i : ℕ) → is_fixed (track_in new i) ≡ is_fixed (track_in old i)
+  fixed_same i = ap is_fixed (h.tracks i)
+
+  limit_same : (i : ℕ) → limit es new i ≡ limit es old i
+  unfolding least_over
+  limit_same i =
+      ap (λ (f : ℕ → ℕ). least END_MAX (map f (filter (λ a. is_fixed (track_in new a)) (chain es i)))) (fun_ext believed_same)
+      ∙ ap (λ p. least END_MAX (map (λ a. believed (track_in old a).end) (filter p (chain es i)))) (fun_ext fixed_same)
+
+  seen_same : (i : ℕ) → seen es new c i ≡ seen es old c i
+  unfolding seen
+  seen_same i =
+      let b = believed_same i in
+      let r = ap (λ (x : Track). x.renewable) (h.tracks i) in
+      let l = limit_same i in
+      cc
+
+  pub view_same : view es new c ≡ view es old c
+  view_same = ap (λ (f : ℕ → Entry). map f (range_with_len 0 (length es))) (fun_ext seen_same)
+
+  pub need_same : (i : ℕ) → need_of es new c i ≡ need_of es old c i
+  unfolding need_of
+  need_same i = ap (λ vs. carried vs (sec c.at) i) view_same
+
+  -- what is carried is carried as well where the same is seen
+  pub needs_same : (needs : List CarriedNeed) → HasNeeds es old c needs → HasNeeds es new c needs
+  needs_same needs has i below = has i below ∙ sym (need_same i)
+
+  pub sees_same : (v g : Forest) (needs : List CarriedNeed) → g.entries ≡ es → Sees v g old c needs → Sees v g new c needs
+  sees_same v g needs = λ entries sees. (sees.0 ∙ ap (λ fs. view fs old c) entries ∙ sym view_same ∙ ap (λ fs. view fs new c) (sym entries), sees.1)
+
+-- what is read of tracks that are made anew
+pub each_read : (f : ℕ → Track → Track) (xs : List Track) (i : ℕ) → i < length xs → track_in (each f xs) i ≡ f i (track_in xs i)
+unfolding each
+each_read f xs i within = get_or-map-range_with_len (λ j. f j (track_in xs j)) 0 (length xs) i i no_track within (omega arith)
+
+pub each_past : (f : ℕ → Track → Track) (xs : List Track) (i : ℕ) → length xs ≤ i → track_in (each f xs) i ≡ no_track
+each_past f xs i past = let count = each_length f xs in get_or_past (each f xs) i no_track (omega (arith, count, past))
+
+-- and of such that write nothing of what is seen
+pub each_seen : (f : ℕ → Track → Track) (xs : List Track) → ((i : ℕ) (x : Track) → sight (f i x) ≡ sight x) → SameSeen (each f xs) xs
+each_seen f xs same = record {
+  tracks = λ i. elim (cases_lt i (length xs)) [
+    | inl within ↦ ap sight (each_read f xs i within) ∙ same i (track_in xs i)
+    | inr past ↦ ap sight (each_past f xs i past ∙ sym (get_or_past xs i no_track past))
+  ];
+}
+
+pub both_seen : (new mid old : List Track) → SameSeen new mid → SameSeen mid old → SameSeen new old
+both_seen new mid old h k = record { tracks = λ i. h.tracks i ∙ k.tracks i }
+
+-- nothing is made anew
+pub each_id : (f : ℕ → Track → Track) (xs : List Track) → ((i : ℕ) (x : Track) → f i x ≡ x) → each f xs ≡ xs
+each_id f xs same = ext_get_or no_track (each f xs) xs (each_length f xs) (λ i below. let count = each_length f xs in each_read f xs i (omega (arith, count, below)) ∙ same i (track_in xs i))
+
+-- what a view of tracks carries are the needs
+pub has_needs : (v g : Forest) (xs : List Track) (c : Clocks) (needs : List CarriedNeed) → Sees v g xs c needs → HasNeeds g.entries xs c needs
+unfolding need_of
+has_needs v g xs c needs sees i below =
+    let count : length v.entries ≡ length g.entries = ap length sees.0 ∙ length-map-range_with_len (seen g.entries xs c) 0 (length g.entries) in
+    sees.1.need i (omega (arith, count, below)) ∙ ap (λ es. carried es (sec c.at) i) sees.0

@@ -1,0 +1,9 @@
+-- The tracks before the index are made anew.
+use Rattle.std.specs.List.{All}
+use Rattle.watch_machine.specs.Beginning.{untopped_track}
+use Rattle.watch_machine.specs.code.Bounds.{IsTrack}
+use Rattle.watch_machine.proofs.Written.{Written}
+use Rattle.watch_machine.proofs.beginning.clear_tops.Given as goal
+
+abbrev pub invariant-loop-index : goal.invariant-loop-index
+invariant-loop-index l = record { written : Written (λ i. untopped_track) l.initial.tracks l.tracks l.index; bounds : All IsTrack l.tracks }

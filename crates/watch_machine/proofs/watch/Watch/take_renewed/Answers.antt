@@ -1,0 +1,47 @@
+-- An answer to a renewal is noted, taken for its entry, and then for what it says of the broker.
+use Rattle.std.proofs.Common.{◌≡◌, ◌∙◌, ◌<◌, Option, Some, ap, length, subst, sym}
+use Rattle.watch_machine.specs.declared.event.Operation.TheVariants.{Renew}
+use Rattle.watch_machine.specs.declared.lanes.Out.{Out}
+use Rattle.watch_machine.specs.declared.notes.Link.{Link}
+use Rattle.watch_machine.specs.declared.notes.Notes.{Notes}
+use Rattle.watch_machine.specs.Answers.{link, noted, replied}
+use Rattle.watch_machine.specs.Refusal.{request_out}
+use Rattle.watch_machine.specs.Renewed.{renewed, top_by, track_renewed}
+use Rattle.watch_machine.specs.State.{State}
+use Rattle.watch_machine.specs.Step.{StepRenewed, notes_top, nothing, taken, with_link}
+use Rattle.watch_machine.specs.code.Bounds.{IsOut}
+use Rattle.watch_machine.proofs.Cases.{of_value}
+use Rattle.watch_machine.proofs.Within.{out_entry}
+use Rattle.watch_machine.proofs.watch.Watch.take_renewed.Goals as goal
+
+pub renewed-top-requires-clause-within : goal.renewed-top-requires-clause-within
+renewed-top-requires-clause-within c =
+    let old = c.args.self.now in
+    let i = c.args.entry in
+    let r = c.in-Some.request in
+    let found : request_out old.out i Renew ≡ Some r = sym c.request_out.ensures.value ∙ c.in-Some.is in
+    subst (λ (s : State). r.entry < length s.forest.entries) (sym c.in_ok-note.ensures.value)
+    (subst (λ n. n < length old.forest.entries) (sym (out_entry old.out i Renew r found)) c.requires)
+
+pub renewed-top-requires-clause-request : goal.renewed-top-requires-clause-request
+renewed-top-requires-clause-request c = of_value IsOut c.request_out.result c.in-Some.request c.request_out.ensures.bounds c.in-Some.is
+
+pub returns-clause-step : goal.returns-clause-step
+returns-clause-step c =
+    let old = c.args.self.now in
+    let i = c.args.entry in
+    let r = c.in-Some.request in
+    let reply = c.args.reply in
+    let new = c.replied-link.new.self in
+    let l = c.replied-link.result in
+    let s : State = noted old r reply in
+    let found : request_out old.out i Renew ≡ Some r = sym c.request_out.ensures.value ∙ c.in-Some.is in
+    let taken' : c.renewed-top.new.self ≡ renewed s r reply = c.renewed-top.ensures.state ∙ ap (λ (t : State). renewed t r reply) c.in_ok-note.ensures.value in
+    let top : c.renewed-top.result ≡ top_by reply (track_renewed s r reply) = c.renewed-top.ensures.top ∙ ap (λ (t : State). top_by reply (track_renewed t r reply)) c.in_ok-note.ensures.value in
+    let linked : l ≡ link (renewed s r reply) r reply = c.replied-link.ensures.link ∙ ap (λ (t : State). link t r reply) taken' in
+    subst (λ (o : Option Out). StepRenewed old o reply c.taken.result new) (sym found) (
+      c.taken.ensures ∙ ap (λ (n : Notes). taken (record n { top = c.renewed-top.result; link = l })) c.none.ensures
+          ∙ ap (λ t. taken (record nothing { top = t; link = l })) top
+          ∙ ap (λ (o : Option Link). taken (with_link (notes_top (top_by reply (track_renewed s r reply))) o)) linked,
+      c.replied-link.ensures.state ∙ ap (λ (t : State). replied t r reply) taken',
+    )

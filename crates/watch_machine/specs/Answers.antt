@@ -1,0 +1,78 @@
+-- Answers: what a failure makes of a try, and what any answer says of the broker and of the requests that are out.
+-- Source: Vault, HTTP API, "HTTP status codes"; the rest is this project's own.
+use Rattle.std.specs.Prelude.{ℕ, ◌+◌, Bool, true, false, not, ◌&&◌, ◌||◌, ◌==◌, if◌then◌else◌, List, [], ◌∷◌, ◌++◌, Option, Some, None, filter, map, min, slice_set}
+use Rattle.watch_machine.specs.declared.event.Operation.{Operation}
+use Rattle.watch_machine.specs.declared.event.Reply.{Reply}
+use Rattle.watch_machine.specs.declared.lanes.Out.{Out}
+use Rattle.watch_machine.specs.declared.lanes.Presence.{Presence}
+use Rattle.watch_machine.specs.declared.notes.Link.{Link}
+use Rattle.watch_machine.specs.declared.notes.Link.TheVariants.{Away, Back}
+use Rattle.watch_machine.specs.declared.track.Track.{Track}
+use Rattle.watch_machine.specs.declared.track.Try.{Try}
+use Rattle.watch_machine.specs.Beginning.{hastened}
+use Rattle.watch_machine.specs.Lines.{rested}
+use Rattle.watch_machine.specs.Settling.{is_real}
+use Rattle.watch_machine.specs.State.{State, each}
+
+-- a try that failed: what is asked next, whether no answer came or the broker was busy, and whether others were answered meanwhile
+abbrev pub failing : Try → Operation → Bool → Bool → Try
+failing t next lost alone = record t { operation = next; base = None; fails = min 20 (t.fails + 1); lost = lost; alone = alone; failed = true }
+
+-- the broker was busy: this counts as the first failure
+abbrev pub busied : Try → Operation → Try
+busied t next = record (failing t next true false) { fails = 1 }
+
+-- the state with another track of i
+abbrev pub with_track : State → ℕ → Track → State
+with_track s i x = record s { tracks = slice_set s.tracks i x }
+
+-- the requests that are out but for that of i
+unfoldable pub without : ℕ → List Out → List Out
+without i out = filter (λ r. not (r.entry == i)) out
+
+-- a real answer came to another
+abbrev pub heard : Out → Out
+heard r = record r { heard = true }
+
+-- the broker is there again: what was lost is due at once, and what is out was asked in the absence, so that it is no failure
+abbrev pub back_try : Track → Option Try → Option Try
+back_try x None = None
+back_try x (Some t) = if x.out then Some (record t { fails = 0 }) else (if t.lost then Some (hastened t (rested x.last)) else Some t)
+
+unfoldable pub back_track : Track → Track
+back_track x = record x { attempt = back_try x x.attempt }
+
+-- nothing is held back any more; and nothing is yet
+abbrev pub is_back : Presence → Presence
+is_back p = record p { away = false; count = 0; hold = 0 }
+
+abbrev pub is_gone : Presence → Presence
+is_gone p = record p { away = true; count = 0; hold = 0 }
+
+-- the broker answers: all that are out hear of it, and it is away no more
+abbrev pub back : State → State
+back s = if s.presence.away then record s { tracks = each (λ i. back_track) s.tracks; presence = is_back s.presence } else s
+
+abbrev pub answers_all : State → State
+answers_all s = back (record s { out = map heard s.out })
+
+-- it does not answer a request to which it answered no other meanwhile: it is away
+abbrev pub silent : State → State
+silent s = if s.presence.away then s else record s { presence = is_gone s.presence }
+
+-- an answer, as it is kept until the next clock
+abbrev pub noted : State → Out → Reply → State
+noted s r reply = record s { answers = s.answers ++ record { since = r.since; heard = r.heard; reply = reply } ∷ [] }
+
+-- the state after a reply to this request, which is taken for its entry already
+abbrev pub lane_freed : State → Out → State
+lane_freed s r = record s { out = without r.entry s.out }
+
+abbrev pub replied : State → Out → Reply → State
+replied s r reply = if is_real reply then answers_all (lane_freed s r) else (if r.heard then lane_freed s r else silent (lane_freed s r))
+
+-- what is noted of it
+abbrev pub link : State → Out → Reply → Option Link
+link s r reply =
+    if is_real reply then (if s.presence.away then Some Back else None)
+    else (if r.heard || s.presence.away then None else Some Away)

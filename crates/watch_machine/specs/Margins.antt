@@ -1,0 +1,37 @@
+-- Margins: how long before its end an entry is asked.
+-- Source: this project's own, over Vault, "Lease, renew, and revoke" (a grant may be shorter than the increment).
+use Rattle.std.specs.Prelude.{ℕ, ◌-◌, ◌*◌, ◌/◌, Bool, ◌==◌, Option, Some, None, min, nat_le}
+use Rattle.keep_tree.specs.declared.entry.Entry.{Entry}
+use Rattle.keep_tree.specs.declared.forest.TheConstants.{END_MAX}
+use Rattle.watch_machine.specs.declared.track.End.{End}
+use Rattle.watch_machine.specs.declared.track.End.TheVariants.{Unknown, At, Never}
+use Rattle.watch_machine.specs.declared.track.Grant.{Grant}
+use Rattle.watch_machine.specs.declared.track.Track.{Track}
+
+-- how far a renewal is taken to lead: the lesser of the step and the last grant
+abbrev pub lead : ℕ → Option Grant → ℕ
+lead step None = step
+lead step (Some grant) = min step grant.seconds
+
+-- the lesser of the margin and three quarters of that
+abbrev pub own_by : ℕ → ℕ → ℕ
+own_by margin lead = min margin (3 * lead / 4)
+
+unfoldable pub own_margin : ℕ → Entry → Track → ℕ
+own_margin margin e x = own_by margin (lead e.step x.grant)
+
+unfoldable pub is_in_plan : ℕ → Entry → Track → Bool
+is_in_plan margin e x = own_margin margin e x == margin
+
+-- so long before an end: an unknown end's time has come, that of none never does
+abbrev pub time_before : End → ℕ → ℕ
+time_before Unknown margin = 0
+time_before (At end) margin = end - margin
+time_before Never margin = END_MAX
+
+-- the second from which on an entry is asked
+unfoldable pub time : ℕ → Entry → Track → ℕ
+time margin e x = time_before x.end (own_margin margin e x)
+
+unfoldable pub has_come : ℕ → Entry → Track → ℕ → Bool
+has_come margin e x now = nat_le (time margin e x) now

@@ -1,0 +1,78 @@
+-- State: what a watch holds between two events.
+-- Source: this project's own.
+use Rattle.std.specs.Prelude.{ℕ, Bool, true, false, List, [], Option, Some, None, length, map, slice_index_or}
+use Rattle.std.specs.List.{range_with_len}
+use Rattle.keep_tree.specs.declared.entry.Entry.{Entry}
+use Rattle.keep_tree.specs.Forest.{Forest, entry_at}
+use Rattle.watch_machine.specs.declared.clocks.Clocks.{Clocks}
+use Rattle.watch_machine.specs.declared.lanes.Answer.{Answer}
+use Rattle.watch_machine.specs.declared.lanes.Out.{Out}
+use Rattle.watch_machine.specs.declared.lanes.Presence.{Presence}
+use Rattle.watch_machine.specs.declared.track.End.TheVariants.{Unknown}
+use Rattle.watch_machine.specs.declared.track.Track.{Track}
+use Rattle.watch_machine.specs.declared.track.Try.{Try}
+use Rattle.watch_machine.specs.Clocks.{sec, unset}
+
+-- the forest, with needs, steps, ceilings and parents by the broker's moments, as looked up; the most requests that are out at
+-- once; for each entry what is known and to be asked of it; the requests that are out, and the answers since the last clock, both
+-- as they came; the clocks; whether the broker is there; the last beginning, None before the first clock; whether one was asked
+-- for; and whether a date has shown the broker's clock set on since the last one
+pub record State : Type 0 where
+  pub forest : Forest
+  pub width : ℕ
+  pub tracks : List Track
+  pub out : List Out
+  pub answers : List Answer
+  pub clocks : Clocks
+  pub presence : Presence
+  pub begun : Option ℕ
+  pub asked : Bool
+  pub stepped : Bool
+
+-- what is read past the last entry: one that is led no further, and has nothing to be asked
+abbrev pub no_track : Track
+no_track = record { end = Unknown; renewable = false; top = true; grant = None; owes = false; attempt = None; last = None; out = false }
+
+-- the track at an index of a list
+abbrev pub track_in : List Track → ℕ → Track
+track_in xs i = slice_index_or xs i no_track
+
+abbrev pub track_at : State → ℕ → Track
+track_at s i = track_in s.tracks i
+
+abbrev pub attempt_at : State → ℕ → Option Try
+attempt_at s i = (track_at s i).attempt
+
+abbrev pub entry_of : State → ℕ → Entry
+entry_of s i = entry_at s.forest.entries i
+
+-- the second it is now
+abbrev pub second : State → ℕ
+second s = sec s.clocks.at
+
+-- the tracks, each made anew by its index
+unfoldable pub each : (ℕ → Track → Track) → List Track → List Track
+each f xs = map (λ i. f i (track_in xs i)) (range_with_len 0 (length xs))
+
+-- what is known of an entry that is watched from now on
+abbrev pub fresh_track : Entry → Track
+fresh_track e = record { end = Unknown; renewable = e.renewable; top = false; grant = None; owes = false; attempt = None; last = None; out = false }
+
+-- the broker is there, and nothing is held back
+abbrev pub present : Presence
+present = record { away = false; count = 0; hold = 0; free = 0; pace = 0 }
+
+-- the state of a new watch
+abbrev pub opened : Forest → ℕ → State
+opened g width = record {
+  forest = g;
+  width = width;
+  tracks = map fresh_track g.entries;
+  out = [];
+  answers = [];
+  clocks = unset;
+  presence = present;
+  begun = None;
+  asked = false;
+  stepped = false;
+}

@@ -1,0 +1,6 @@
+pub mod Bounds
+pub mod View
+pub mod Rounds
+pub mod Places
+pub mod Readings
+pub mod Watching

@@ -1,0 +1,40 @@
+-- Bounds: what keeps the numbers of a watch small. No public clause cites it.
+-- Source: this project's own.
+use Rattle.std.specs.Prelude.{ℕ, ◌≤◌, IfSome}
+use Rattle.keep_moment.specs.declared.moment.TheConstants.{LAST}
+use Rattle.keep_tree.specs.declared.forest.TheConstants.{END_MAX}
+use Rattle.watch_machine.specs.declared.clocks.Clocks.{Clocks}
+use Rattle.watch_machine.specs.declared.lanes.Out.{Out}
+use Rattle.watch_machine.specs.declared.reading.TheConstants.{READING_MAX}
+use Rattle.watch_machine.specs.declared.track.End.{End}
+use Rattle.watch_machine.specs.declared.track.End.TheVariants.{Unknown, At, Never}
+use Rattle.watch_machine.specs.declared.track.Track.{Track}
+use Rattle.watch_machine.specs.declared.track.Try.{Try}
+
+-- all are readings
+pub record IsClocks (c : Clocks) : Type 0 where
+  pub at : c.at ≤ READING_MAX
+  pub here : c.broker.here ≤ READING_MAX
+  pub there : c.broker.there ≤ LAST
+  pub here_of_wall : c.wall.here ≤ READING_MAX
+  pub wall : c.wall.there ≤ READING_MAX
+
+-- an end that an entry may have
+abbrev pub IsEnd : End → Type 0
+IsEnd Unknown = Unit {0}
+IsEnd (At end) = end ≤ END_MAX
+IsEnd Never = Unit {0}
+
+-- it began at a reading
+abbrev pub IsTry : Try → Type 0
+IsTry t = IfSome t.base (λ base. base ≤ READING_MAX)
+
+-- its end is one that an entry may have, and it was asked at a reading
+pub record IsTrack (x : Track) : Type 0 where
+  pub end : IsEnd x.end
+  pub attempt : IfSome x.attempt IsTry
+  pub last : IfSome x.last (λ last. last ≤ READING_MAX)
+
+-- it went out at a reading
+abbrev pub IsOut : Out → Type 0
+IsOut r = r.since ≤ READING_MAX

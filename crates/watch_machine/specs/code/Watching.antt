@@ -1,0 +1,18 @@
+-- Watching: what a watch keeps of itself. No public clause cites it.
+-- Source: this project's own.
+use Rattle.std.specs.Prelude.{◌≡◌, List, length}
+use Rattle.std.specs.List.{All}
+use Rattle.keep_tree.specs.Forest.{Forest}
+use Rattle.watch_machine.specs.declared.clocks.Clocks.{Clocks}
+use Rattle.watch_machine.specs.declared.lanes.Out.{Out}
+use Rattle.watch_machine.specs.declared.track.Track.{Track}
+use Rattle.watch_machine.specs.code.Bounds.{IsClocks, IsOut, IsTrack}
+use Rattle.watch_machine.specs.code.View.{IsView}
+
+-- a track for each entry of the forest, a view of it, and numbers within bounds
+pub record IsWatch (forest view : Forest) (xs : List Track) (os : List Out) (c : Clocks) : Type 0 where
+  pub count : length xs ≡ length forest.entries
+  pub is_view : IsView view forest
+  pub tracks : All IsTrack xs
+  pub out : All IsOut os
+  pub clocks : IsClocks c

@@ -1,0 +1,259 @@
+ghost use Rattle.std.specs.Prelude.{◌≡◌, IfErr, IfOk, OnErr, length};
+ghost use Rattle.watch_machine.specs.code.Bounds.{IsClocks, IsTrack};
+ghost use Rattle.std.specs.List.{All};
+ghost use Rattle.watch_machine.specs.Settling.{clocks_after, has_jumped, has_stepped};
+ghost use Rattle.watch_machine.specs.Step.{StepClock};
+ghost use Rattle.watch_machine.specs.Beginning.{beginning, begun_tracks, noted_begun, owing_all, untopped};
+ghost use Rattle.watch_machine.specs.Press.{pressed_tracks};
+ghost use Rattle.watch_machine.specs.Round.{IsRound, asked_by};
+ghost use Rattle.watch_machine.specs.code.View.{Sees};
+ghost use Rattle.watch_machine.specs.code.View.{IsView};
+ghost use Rattle.watch_machine.specs.declared.fault.WatchFault.TheVariants.{OutOfMemory};
+
+use crate::beginning::{clear_tops, is_any_urgent, is_past, owe_all};
+use crate::clocks::Clocks;
+use crate::command::{Command, Output, Requests};
+use crate::fault::WatchFault;
+use crate::notes::{Notes, Why};
+use crate::press::{press_alone, press_round};
+use crate::reading::{moment_at, reading, second};
+use crate::round::round;
+use crate::sending::{going, out_with, send_all};
+use crate::settling::{dated_by_all, presence_after, settled_tracks};
+use crate::track::Track;
+use crate::waiting::wait;
+use crate::wanted::write_view;
+use crate::watch::Watch;
+use keep_needs::{Carried, carry};
+use keep_tree::{Forest, Indices};
+use std::alloc::Global;
+
+/// The clocks at later readings, whether the wall has jumped, and whether the broker's clock was set on since the last beginning.
+#[derive(Clone, Copy, Debug)]
+struct Shown {
+    clocks: Clocks,
+    jumped: bool,
+    stepped: bool,
+}
+
+impl Watch {
+    /// The clocks at these readings, in milliseconds, with the dates of the answers since the last one.
+    #[tactic(auto, unfolding(crate::specs::Settling::clocks_after, crate::specs::Settling::has_jumped, crate::specs::Settling::has_stepped))]
+    fn timed(&self, wall: u64, elapsed: u64) -> Shown
+        ensures clocks { result.clocks ≡ clocks_after self.now wall elapsed }
+        ensures jumped { result.jumped ≡ has_jumped self.now wall elapsed }
+        ensures stepped { result.stepped ≡ has_stepped self.now wall elapsed }
+        ensures bounds { IsClocks result.clocks }
+    {
+        let at = self.clocks.later(elapsed);
+        let shown = reading(wall);
+        let dated = dated_by_all(at.walled(shown), &self.answers);
+        let clocks = if self.begun.is_none() {
+            Clocks::first(wall, elapsed)
+        } else {
+            dated.clocks
+        };
+        Shown {
+            clocks,
+            jumped: at.is_stepped(shown),
+            stepped: self.stepped || dated.stepped,
+        }
+    }
+
+    /// Why everything is looked up anew, `None` where it is not.
+    #[tactic(auto, unfolding(crate::specs::Beginning::beginning))]
+    fn reason(&self, timed: Shown, tracks: &[Track]) -> Option<Why>
+        ensures { result ≡ beginning self.now.begun self.now.asked timed.stepped timed.jumped timed.clocks.at tracks.now }
+    {
+        let at = timed.clocks.at;
+        if self.begun.is_none() {
+            Some(Why::Start)
+        } else if timed.jumped || (timed.stepped && is_past(600_000, self.begun, at)) {
+            Some(Why::Jump)
+        } else if self.asked {
+            Some(Why::Asked)
+        } else if is_past(86_400_000, self.begun, at) && !is_any_urgent(tracks, second(at)) {
+            Some(Why::Day)
+        } else {
+            None
+        }
+    }
+
+    /// The two clocks, in milliseconds. Refused, for want of memory alone, it leaves the watch as it was.
+    pub(crate) fn clock(
+        &mut self,
+        alloc: Global,
+        wall: u64,
+        elapsed: u64,
+    ) -> Result<Output, WatchFault>
+        ensures step { IfOk result (λ output. StepClock self.old wall elapsed output self.new) }
+        ensures refused { IfErr result (λ fault. fault ≡ OutOfMemory) }
+        ensures unchanged { OnErr result (self.new ≡ self.old) }
+    {
+        let margin = self.forest.margin();
+        let timed = self.timed(wall, elapsed);
+        let clocks = timed.clocks;
+        let at = clocks.at;
+        let mut tracks = settled_tracks(alloc, margin, at, &self.tracks)?;
+        let presence = presence_after(margin, at, &self.tracks, &self.answers, self.presence);
+        let why = self.reason(timed, &tracks);
+        let needs = begin(
+            alloc,
+            &mut self.view,
+            &self.forest,
+            &mut tracks,
+            clocks,
+            why,
+        )?;
+        let round = press(
+            alloc,
+            &mut self.view,
+            &self.forest,
+            &mut tracks,
+            clocks,
+            &needs,
+        )?;
+        let lanes = (self.width as usize).saturating_sub(self.out.len());
+        let requests = going(alloc, presence, at, &tracks, self.forest.len(), lanes)?;
+        let out = out_with(alloc, &self.out, at, &requests)?;
+        send_all(&mut tracks, at, &requests);
+        let until = wait(&self.forest, &tracks, &needs, presence, at);
+        self.tracks = tracks;
+        self.out = out;
+        self.answers.clear();
+        self.clocks = clocks;
+        self.presence = presence;
+        self.stepped = timed.stepped;
+        self.note_begun(why);
+        Ok(Output {
+            command: Command::Go {
+                requests: Requests { items: requests },
+                until,
+            },
+            notes: Notes {
+                began: why,
+                round,
+                ..Notes::none()
+            },
+        })
+    }
+
+    /// Everything is looked up anew from now on, where there is a reason.
+    fn note_begun(&mut self, why: Option<Why>)
+        ensures { self.new ≡ noted_begun self.old why }
+    {
+        if why.is_some() {
+            self.begun = Some(self.clocks.at);
+            self.asked = false;
+            self.stepped = false;
+        }
+    }
+}
+
+/// Looks everything up anew where there is a reason, and gives what the entries carry. The only error is want of memory.
+fn begin(
+    alloc: Global,
+    view: &mut Forest,
+    forest: &Forest,
+    tracks: &mut [Track],
+    clocks: Clocks,
+    why: Option<Why>,
+) -> Result<Carried, WatchFault>
+    requires count { length tracks.old ≡ length forest.now.entries }
+    requires view { IsView view.old forest.now }
+    requires bounds { All IsTrack tracks.old }
+    requires clocks { IsClocks clocks }
+    ensures tracks { IfOk result (λ needs. tracks.new ≡ begun_tracks forest.now clocks why tracks.old) }
+    ensures needs { IfOk result (λ needs. Sees view.new forest.now tracks.new clocks needs) }
+    ensures count { length tracks.new ≡ length forest.now.entries }
+    ensures view { IsView view.new forest.now }
+    ensures refused { IfErr result (λ fault. fault ≡ OutOfMemory) }
+    ensures bounds { All IsTrack tracks.new }
+{
+    match why {
+        None => needs_of(alloc, view, forest, tracks, clocks),
+        Some(_) => begin_anew(alloc, view, forest, tracks, clocks),
+    }
+}
+
+/// Looks everything up anew, and gives what the entries carry. The only error is want of memory.
+fn begin_anew(
+    alloc: Global,
+    view: &mut Forest,
+    forest: &Forest,
+    tracks: &mut [Track],
+    clocks: Clocks,
+) -> Result<Carried, WatchFault>
+    requires count { length tracks.old ≡ length forest.now.entries }
+    requires view { IsView view.old forest.now }
+    requires bounds { All IsTrack tracks.old }
+    requires clocks { IsClocks clocks }
+    ensures tracks { IfOk result (λ needs. tracks.new ≡ owing_all forest.now clocks (untopped tracks.old)) }
+    ensures needs { IfOk result (λ needs. Sees view.new forest.now tracks.new clocks needs) }
+    ensures count { length tracks.new ≡ length forest.now.entries }
+    ensures view { IsView view.new forest.now }
+    ensures refused { IfErr result (λ fault. fault ≡ OutOfMemory) }
+    ensures bounds { All IsTrack tracks.new }
+{
+    clear_tops(tracks);
+    let needs = needs_of(alloc, view, forest, tracks, clocks)?;
+    let written = carry(alloc, forest, moment_at(0))?;
+    owe_all(
+        tracks,
+        forest.len(),
+        clocks.at,
+        clocks.dated,
+        &needs,
+        &written,
+    );
+    Ok(needs)
+}
+
+/// Writes the view, and gives what the entries carry. The only error is want of memory.
+pub(crate) fn needs_of(
+    alloc: Global,
+    view: &mut Forest,
+    forest: &Forest,
+    tracks: &[Track],
+    clocks: Clocks,
+) -> Result<Carried, WatchFault>
+    requires count { length tracks.now ≡ length forest.now.entries }
+    requires view { IsView view.old forest.now }
+    requires bounds { All IsTrack tracks.now }
+    requires clocks { IsClocks clocks }
+    ensures needs { IfOk result (λ needs. Sees view.new forest.now tracks.now clocks needs) }
+    ensures view { IsView view.new forest.now }
+    ensures refused { IfErr result (λ fault. fault ≡ OutOfMemory) }
+{
+    write_view(view, forest, tracks, clocks);
+    Ok(carry(alloc, view, moment_at(second(clocks.at)))?)
+}
+
+/// Presses those whose time has come, and those whom a round asks. The only error is want of memory.
+fn press(
+    alloc: Global,
+    view: &mut Forest,
+    forest: &Forest,
+    tracks: &mut [Track],
+    clocks: Clocks,
+    needs: &Carried,
+) -> Result<Option<Indices>, WatchFault>
+    requires count { length tracks.old ≡ length forest.now.entries }
+    requires view { IsView view.old forest.now }
+    requires needs { Sees view.old forest.now tracks.old clocks needs.now }
+    requires bounds { All IsTrack tracks.old }
+    requires clocks { IsClocks clocks }
+    ensures round { IfOk result (λ round. IsRound forest.now tracks.old clocks round) }
+    ensures tracks { IfOk result (λ round. tracks.new ≡ pressed_tracks forest.now clocks (asked_by round) tracks.old) }
+    ensures count { length tracks.new ≡ length forest.now.entries }
+    ensures view { IsView view.new forest.now }
+    ensures refused { IfErr result (λ fault. fault ≡ OutOfMemory) }
+    ensures bounds { All IsTrack tracks.new }
+{
+    let round = round(alloc, view, forest, tracks, clocks, needs)?;
+    press_alone(tracks, forest, needs, clocks.at);
+    if let Some(asked) = &round {
+        press_round(tracks, forest, asked.list(), clocks.at);
+    }
+    Ok(round)
+}

@@ -1,0 +1,179 @@
+ghost use Rattle.std.specs.Prelude.{◌≡◌, ◌<◌, ◌≤◌, ◌&&◌, IfSome, length, if◌then◌else◌, max, min, nat_lt, option_map, slice_set};
+ghost use Rattle.watch_machine.specs.code.Bounds.{IsClocks, IsEnd, IsTrack};
+ghost use Rattle.std.specs.List.{All};
+ghost use Rattle.keep_tree.specs.declared.forest.TheConstants.{END_MAX};
+ghost use Rattle.keep_tree.specs.Carried.{carried};
+ghost use Rattle.watch_machine.specs.Wanted.{believed, is_alive, is_fixed, is_open, is_unknown, least_over, seen, wants};
+ghost use Rattle.watch_machine.specs.Wanted as wanted;
+ghost use Rattle.watch_machine.specs.code.View.{IsView};
+
+use crate::clocks::Clocks;
+use crate::reading::moment_at;
+use crate::track::{End, Track};
+use keep_moment::Moment;
+use keep_tree::{END_MAX, Forest};
+
+/// A ceiling, one past the greatest as the greatest.
+pub(crate) fn most(ceiling: Option<u64>) -> Option<u64>
+    ensures value { result ≡ option_map (λ t. min END_MAX t) ceiling }
+    ensures within { IfSome result (λ t. t ≤ END_MAX) }
+{
+    match ceiling {
+        None => None,
+        Some(ceiling) => Some(END_MAX.min(ceiling)),
+    }
+}
+
+/// An end as a number: 0 where it is unknown, and past every need where there is none.
+pub(crate) fn believed(end: End) -> u64
+    ensures value { result ≡ believed end }
+    ensures within { IsEnd end → result ≤ END_MAX }
+{
+    match end {
+        End::Unknown => 0,
+        End::At(end) => end,
+        End::Never => END_MAX,
+    }
+}
+
+/// Whether the end is unknown.
+pub(crate) fn is_unknown(end: End) -> bool
+    ensures { result ≡ is_unknown end }
+{
+    matches!(end, End::Unknown)
+}
+
+/// Whether there is none.
+pub(crate) fn is_never(end: End) -> bool
+    ensures { result ≡ wanted.is_never end }
+{
+    matches!(end, End::Never)
+}
+
+fn is_known(end: End) -> bool
+    ensures { result ≡ wanted.is_known end }
+{
+    matches!(end, End::At(_))
+}
+
+/// Whether the end is ahead in that second.
+pub(crate) fn is_alive(track: Track, now: u64) -> bool
+    ensures { result ≡ is_alive now track }
+{
+    now < believed(track.end)
+}
+
+/// Whether the end is ahead in that second, or unknown.
+pub(crate) fn is_open(track: Track, now: u64) -> bool
+    ensures { result ≡ is_open now track }
+{
+    is_unknown(track.end) || is_alive(track, now)
+}
+
+/// Whether the entry is led no further than its believed end.
+pub(crate) fn is_fixed(track: Track) -> bool
+    ensures { result ≡ is_fixed track }
+{
+    is_known(track.end) && (!track.renewable || track.top)
+}
+
+/// A limit, or the believed end of an entry that is led no further, where that is less.
+fn limited(limit: u64, track: Track) -> u64
+    ensures { result ≡ (if is_fixed track then min limit (believed track.end) else limit) }
+{
+    if is_fixed(track) {
+        limit.min(believed(track.end))
+    } else {
+        limit
+    }
+}
+
+/// The least of a limit and of the believed ends of those over the entry that are led no further.
+fn limit(forest: &Forest, tracks: &[Track], index: u32, above: u64) -> u64
+    requires within { index < length forest.now.entries }
+    requires count { length tracks.now ≡ length forest.now.entries }
+    ensures { result ≡ least_over forest.now.entries tracks.now above index }
+{
+    let least = limited(above, tracks[index as usize]);
+    match forest.get(index).parent {
+        None => least,
+        Some(parent) => limit(forest, tracks, parent, least),
+    }
+}
+
+/// Writes the entry at an index as it is seen on this clock, by its believed end, its need cut to its limit.
+pub(crate) fn write_seen(
+    view: &mut Forest,
+    forest: &Forest,
+    tracks: &[Track],
+    clocks: Clocks,
+    index: u32,
+)
+    requires within { index < length forest.now.entries }
+    requires count { length tracks.now ≡ length forest.now.entries }
+    requires view { IsView view.old forest.now }
+    requires bounds { All IsTrack tracks.now }
+    requires clocks { IsClocks clocks }
+    ensures view { IsView view.new forest.now }
+    ensures written { view.new.entries ≡ slice_set view.old.entries index (seen forest.now.entries tracks.now clocks index) }
+{
+    let entry = forest.get(index);
+    let track = tracks[index as usize];
+    let need = clocks
+        .need_here(entry.need)
+        .min(limit(forest, tracks, index, END_MAX));
+    view.set_terms(index, entry.step, clocks.ceiling_here(entry.ceiling));
+    view.set_end(index, believed(track.end));
+    view.set_renewable(index, track.renewable);
+    view.set_need(index, moment_at(need));
+}
+
+/// Writes every entry as it is seen on this clock.
+pub(crate) fn write_view(view: &mut Forest, forest: &Forest, tracks: &[Track], clocks: Clocks)
+    requires count { length tracks.now ≡ length forest.now.entries }
+    requires view { IsView view.old forest.now }
+    requires bounds { All IsTrack tracks.now }
+    requires clocks { IsClocks clocks }
+    ensures view { IsView view.new forest.now }
+    ensures written { view.new.entries ≡ wanted.view forest.now.entries tracks.now clocks }
+{
+    for index in 0..forest.len() {
+        write_seen(view, forest, tracks, clocks, index);
+    }
+}
+
+/// A greatest need so far, or that of one entry more where it is after `now`, and of an entry that this one is over.
+fn carry_more(most: u64, now: Moment, need: u64, is_over: bool) -> u64
+    ensures { result ≡ (if is_over && nat_lt now need then max most need else most) }
+{
+    if is_over && now.get() < need {
+        most.max(need)
+    } else {
+        most
+    }
+}
+
+/// The greatest need after `now` of an entry that this one is over, 0 where there is none.
+#[tactic(auto, unfolding(keep_tree::specs::Carried::carried))]
+pub(crate) fn carried_need(view: &Forest, now: Moment, index: u32) -> u64
+    requires { index < length view.now.entries }
+    ensures { result ≡ carried view.now.entries now index }
+{
+    let mut most = 0;
+    for below in 0..view.len() {
+        let is_over = view.is_over(index, below);
+        most = carry_more(most, now, view.get(below).need, is_over);
+    }
+    most
+}
+
+/// Whether an entry may be led further, and has to be, where it carries that need.
+#[tactic(auto, unfolding(crate::specs::Wanted::wants))]
+pub(crate) fn wants(track: Track, need: u64) -> bool
+    ensures { result ≡ wants track need }
+{
+    (track.renewable || is_unknown(track.end))
+        && !track.top
+        && !is_never(track.end)
+        && believed(track.end) < need
+}
