@@ -1,3 +1,4 @@
 pub mod Moments
 mod Runs
 pub mod Torn
+mod Left

@@ -5,3 +5,4 @@ pub mod History
 pub mod Memory
 pub mod MemoryLaws
 pub mod System
+pub mod Left

@@ -49,6 +49,10 @@ at_first image why = record {
 abbrev pub state_of : List Call → List Stored → Option Draft → ℕ → Why → State
 state_of calls files beside faults fault = record (after_all calls (at_first (image_of files) fault)) { beside = beside_of beside; faults = faults; fault = fault }
 
+-- the calls on its files, in their order
+abbrev pub calls_of : MemoryDisk → List Call
+calls_of m = m.calls.items
+
 abbrev pub memory_state : MemoryDisk → State
 memory_state m = state_of m.calls.items m.files.items m.beside m.faults m.fault
 

@@ -52,7 +52,7 @@ pub(crate) fn after_call(
 }
 
 /// The file with these bytes from an offset on.
-fn overwrite(
+pub(crate) fn overwrite(
     alloc: Global,
     file: Option<Held>,
     at: usize,
@@ -78,7 +78,7 @@ fn overwrite(
 }
 
 /// The file cut to a length.
-fn cut(file: Option<Held>, len: usize) -> Option<Held>
+pub(crate) fn cut(file: Option<Held>, len: usize) -> Option<Held>
     ensures { held result ≡ with_bytes (take len) (held file) }
 {
     let Some(
@@ -92,4 +92,17 @@ fn cut(file: Option<Held>, len: usize) -> Option<Held>
     };
     held.truncate(len);
     Some(Held { mode, bytes: held })
+}
+
+/// The same file.
+pub(crate) fn copy_of(alloc: Global, file: &Option<Held>) -> Result<Option<Held>, AllocError>
+    ensures { IfOk result (λ copy. held copy ≡ held file.now) }
+{
+    let Some(held) = file else {
+        return Ok(None);
+    };
+    Ok(Some(Held {
+        mode: held.mode,
+        bytes: Vec::from_slice(alloc, &held.bytes)?,
+    }))
 }

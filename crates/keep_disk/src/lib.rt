@@ -7,6 +7,7 @@
 
 mod call;
 mod content;
+mod crash;
 mod disk;
 mod failing;
 mod fault;

@@ -1,10 +1,10 @@
-ghost use Rattle.std.specs.Prelude.{◌≡◌, true, false, if◌then◌else◌, Ok, Err, IfOk, OnOk};
+ghost use Rattle.std.specs.Prelude.{◌≡◌, true, false, if◌then◌else◌, Ok, Err, IfOk, OnOk, List, ℕ};
 ghost use Rattle.keep_device.specs.Failures.{one_more};
 ghost use Rattle.keep_disk.specs.declared.fault.DiskFault.TheVariants as faults;
-ghost use Rattle.keep_disk.specs.State.{Tells};
+ghost use Rattle.keep_disk.specs.State.{IsKept, Tells};
 ghost use Rattle.keep_disk.specs.MemoryLaws.{memory_lawful};
 ghost use Rattle.std.proofs.Common.{le_refl};
-ghost use Rattle.keep_disk.specs.Memory.{IsFirst, IsSame, Enters, image_of, memory_state, held, is_turn, next_turn};
+ghost use Rattle.keep_disk.specs.Memory.{IsFirst, IsSame, Enters, image_of, calls_of, memory_state, held, is_turn, next_turn};
 
 use crate::call::{Call, Draft, Held, Stored, What};
 use crate::content::{after_call, first_of};
@@ -17,8 +17,8 @@ use std::alloc::{AllocError, Global};
 #[derive(Debug, Drop)]
 pub struct MemoryDisk {
     alloc: Global,
-    files: Vec<Stored>,
-    calls: Vec<Call>,
+    pub(crate) files: Vec<Stored>,
+    pub(crate) calls: Vec<Call>,
     beside: Option<Draft>,
     failing: Failing,
     faults: u64,
@@ -29,6 +29,7 @@ impl MemoryDisk {
     /// A disk with these files, all of them on it. Of two with one path the first is there. Calls that fail meet `fault`.
     pub fn new(alloc: Global, files: Vec<Stored>, failing: Failing, fault: Why) -> MemoryDisk
         ensures first { IsFirst (image_of files.items) fault (memory_state result) }
+        ensures kept { (path : List ℕ) → IsKept path (memory_state result) }
     {
         MemoryDisk {
             alloc,
@@ -39,6 +40,13 @@ impl MemoryDisk {
             faults: 0,
             fault,
         }
+    }
+
+    /// The calls that were made on its files, in their order: writes, cuts, syncs and moves, also those that failed.
+    pub fn calls(&self) -> &[Call]
+        ensures { result.now ≡ calls_of self.now }
+    {
+        &self.calls
     }
 
     /// The file that a read gives.
