@@ -1,6 +1,7 @@
 -- Always: needs that are always, as they are set and as they are kept.
 use Rattle.std.proofs.Common.{◌≡◌, ℕ, ◌+◌, ◌<◌, ◌≤◌, Bool, true, false, cond, List, Option, Some, None, length, get_or, map, min, refl, sym, ap, ◌∙◌, subst, arith, inl, inr}
 use Rattle.std.proofs.lemmas.Bool.{cases_Bool, cases_lt, cond-true, cond-false}
+use Rattle.std.proofs.lemmas.List.FromFn.{get_or-map-range_with_len, length-map-range_with_len}
 use Rattle.std.proofs.Math.Path.{fun_ext}
 use Rattle.std.specs.List.{range_with_len}
 use Rattle.keep_moment.specs.declared.moment.TheConstants.{LAST}
@@ -12,9 +13,9 @@ use Rattle.keep_tree.proofs.Placed.{parents_first}
 use Rattle.keep_rule.proofs.Lists.{need_within}
 use Rattle.keep_rule.specs.Reach.{reach}
 use Rattle.keep_rule.specs.Unkeepable.{AllKeepable}
-use Rattle.keep_core.specs.Always.{AlwaysLaw, NeverLaw, entry_from, forest_from, is_always, need_from, until_reach}
+use Rattle.keep_core.specs.Always.{AlwaysLaw, NeverLaw, entry_from, forest_from, is_always, need_from, needs_from, until_reach}
 use Rattle.keep_core.specs.Shorten.{is_short, least_reach}
-use Rattle.keep_core.specs.code.Passes.{AreNeeds, needing}
+use Rattle.keep_core.specs.code.Passes.{needing}
 use Rattle.keep_core.proofs.Alike.{Alike, over_alike, reach_alike}
 use Rattle.keep_core.proofs.Needing.{length_needing, needing_alike, needing_at, needing_end, needing_forest}
 use Rattle.keep_core.proofs.Passing.{needing_same}
@@ -24,14 +25,20 @@ pub from_is : (g : Forest) (always : List Bool) (s : ℕ) → forest_from g alwa
 unfolding forest_from entry_from needing
 from_is g always s = refl
 
--- the needs that were listed are set
-pub all_from : (g : Forest) (always : List Bool) (s : ℕ) (needs : List ℕ) → AreNeeds (length g.entries) (need_from g always s) needs → record { entries = needing g.entries (λ i. get_or needs i 0); margin = g.margin } ≡ forest_from g always s
+-- a list of these needs, set one after the other
+pub all_from : (g : Forest) (always : List Bool) (s : ℕ) (needs : List ℕ) → needs ≡ needs_from g always s → record { entries = needing g.entries (λ i. get_or needs i 0); margin = g.margin } ≡ forest_from g always s
+unfolding needs_from
 all_from g always s needs are =
     let f = need_from g always s in
     ap (λ es. record { entries = es; margin = g.margin })
     (needing_same g.entries (needing g.entries f) (λ i. get_or needs i 0) (sym (length_needing g.entries f))
-    (λ i within. needing_at g.entries f i within ∙ ap (λ k. record (entry_at g.entries i) { need = k }) (sym (are.each i within))))
+    (λ i within. needing_at g.entries f i within
+        ∙ ap (λ k. record (entry_at g.entries i) { need = k }) (sym (ap (λ ns. get_or ns i 0) are ∙ get_or-map-range_with_len f 0 (length g.entries) i i 0 within (omega arith)))))
     ∙ sym (from_is g always s)
+
+pub needs_count : (g : Forest) (always : List Bool) (s : ℕ) → length (needs_from g always s) ≡ length g.entries
+unfolding needs_from
+needs_count g always s = length-map-range_with_len (need_from g always s) 0 (length g.entries)
 
 until_last : (o : Option ℕ) (s : ℕ) → until_reach o s ≤ LAST
 until_last None s = omega arith

@@ -25,7 +25,7 @@ needing_past : (es : List Entry) (f : ℕ → ℕ) (i : ℕ) → length es ≤ i
 needing_past es f i past = entry_at_past (needing es f) i (let l = length_needing es f in omega arith) ∙ sym (entry_at_past es i past)
 
 -- a field that is no need is as it was
-field_kept : {X : Type 0} (field : Entry → X) → ((e : Entry) (n : ℕ) → field (record e { need = n }) ≡ field e) → (es : List Entry) (f : ℕ → ℕ) (i : ℕ) → field (entry_at (needing es f) i) ≡ field (entry_at es i)
+pub field_kept : {X : Type 0} (field : Entry → X) → ((e : Entry) (n : ℕ) → field (record e { need = n }) ≡ field e) → (es : List Entry) (f : ℕ → ℕ) (i : ℕ) → field (entry_at (needing es f) i) ≡ field (entry_at es i)
 field_kept field same es f i =
     elim (cases_lt i (length es)) [
       | inl within ↦ ap field (needing_at es f i within) ∙ same (entry_at es i) (f i)

@@ -23,6 +23,10 @@ is_always always i = slice_index_or always i false
 unfoldable pub need_from : Forest → List Bool → ℕ → ℕ → ℕ
 need_from g always s i = if is_always always i then until_reach (least_reach g s i) s else (entry_at g.entries i).need
 
+-- the needs of all entries from s on
+unfoldable pub needs_from : Forest → List Bool → ℕ → List ℕ
+needs_from g always s = map (need_from g always s) (range_with_len 0 (length g.entries))
+
 -- the entry i with that need
 unfoldable pub entry_from : Forest → List Bool → ℕ → ℕ → Entry
 entry_from g always s i = record (entry_at g.entries i) { need = need_from g always s i }

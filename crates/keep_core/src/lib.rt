@@ -50,7 +50,7 @@ mod step;
 mod steps;
 mod tick;
 
-pub use always::{YEAR, always_law, need_always};
+pub use always::{YEAR, always_law, needs_always};
 pub use event::{Event, Output};
 pub use fault::StepFault;
 pub use keeper::Keeper;

@@ -1,5 +1,7 @@
-ghost use Rattle.std.specs.Prelude.{◌≡◌, ◌<◌};
+ghost use Rattle.std.specs.Prelude.{◌≡◌, ◌<◌, Err, IfSome, length};
 ghost use Rattle.toml.specs.View.{items_view, table_view};
+ghost use Rattle.keep_tree.specs.Push.{refusal};
+ghost use Rattle.keep_inventory.specs.declared.fault.InvFault.TheVariants.{Tree};
 ghost use Rattle.keep_inventory.specs.Intake.{Changes, nothing, pushed, distinct, with_token, with_lease};
 ghost use Rattle.keep_inventory.specs.Languages.{full};
 ghost use Rattle.keep_inventory.specs.Inventory.{token_entered, lease_entered, entered_by};
@@ -147,10 +149,11 @@ impl Draft {
     }
 }
 
-// Appends an entry, or names why the forest refuses it.
+// Appends an entry, or names why the forest refuses it. Where it refuses the entry, no memory is wanted.
 #[tactic(auto, unfolding(crate::specs::Intake::pushed))]
 fn push(forest: &mut Forest, entry: Entry) -> Result<(), InvFault>
-    ensures { Changes (pushed forest.old entry) forest.new result }
+    ensures pushed { Changes (pushed forest.old entry) forest.new result }
+    ensures refused { IfSome (refusal forest.old entry) (λ fault. result ≡ Err (Tree (length forest.old.entries) fault)) }
 {
     let index = forest.len();
     match forest.push(entry) {

@@ -1,5 +1,5 @@
 -- A need that is always is never unkeepable.
-use Rattle.keep_core.proofs.Always.{always_law, never_law}
+use Rattle.keep_core.proofs.AlwaysNeeded.{always_law, never_law}
 use Rattle.keep_core.proofs.always.always_law.Goals as goal
 
 pub returns-clause-always : goal.returns-clause-always
