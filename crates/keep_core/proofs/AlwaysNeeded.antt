@@ -13,11 +13,12 @@ use Rattle.keep_tree.proofs.Placed.{parents_first}
 use Rattle.keep_rule.proofs.Lists.{need_within}
 use Rattle.keep_rule.specs.Reach.{reach}
 use Rattle.keep_rule.specs.Unkeepable.{AllKeepable}
+use Rattle.keep_core.specs.LawsOfSteps.{IsShaped}
 use Rattle.keep_core.specs.Always.{AlwaysLaw, NeverLaw, entry_from, forest_from, is_always, need_from, needs_from, until_reach}
 use Rattle.keep_core.specs.Shorten.{is_short, least_reach}
 use Rattle.keep_core.specs.code.Passes.{needing}
 use Rattle.keep_core.proofs.Alike.{Alike, over_alike, reach_alike}
-use Rattle.keep_core.proofs.Needing.{length_needing, needing_alike, needing_at, needing_end, needing_forest}
+use Rattle.keep_core.proofs.Needing.{length_needing, needing_alike, needing_at, needing_end, needing_forest, needing_past}
 use Rattle.keep_core.proofs.Passing.{needing_same}
 use Rattle.keep_core.proofs.Shortening.{IsCut, cut_parts, least_reach_is, least_reach_most, need_past}
 
@@ -33,7 +34,7 @@ all_from g always s needs are =
     ap (λ es. record { entries = es; margin = g.margin })
     (needing_same g.entries (needing g.entries f) (λ i. get_or needs i 0) (sym (length_needing g.entries f))
     (λ i within. needing_at g.entries f i within
-        ∙ ap (λ k. record (entry_at g.entries i) { need = k }) (sym (ap (λ ns. get_or ns i 0) are ∙ get_or-map-range_with_len f 0 (length g.entries) i i 0 within (omega arith)))))
+    ∙ ap (λ k. record (entry_at g.entries i) { need = k }) (sym (ap (λ ns. get_or ns i 0) are ∙ get_or-map-range_with_len f 0 (length g.entries) i i 0 within (omega arith)))))
     ∙ sym (from_is g always s)
 
 pub needs_count : (g : Forest) (always : List Bool) (s : ℕ) → length (needs_from g always s) ≡ length g.entries
@@ -55,6 +56,22 @@ need_from_last g forest always s i =
 from_forest : (g : Forest) → IsForest g → (always : List Bool) (s : ℕ) → IsForest (forest_from g always s)
 from_forest g forest always s = subst IsForest (sym (from_is g always s)) (needing_forest g forest (need_from g always s) (need_from_last g forest always s))
 
+-- the forest from a start on has the entries of the one before, but for their needs
+pub shaped_from : (g : Forest) (always : List Bool) (s : ℕ) → IsShaped g (forest_from g always s)
+shaped_from g always s =
+    let f = need_from g always s in
+    let es = g.entries in
+    subst (IsShaped g) (sym (from_is g always s)) (record {
+      margin = refl;
+      count = length_needing es f;
+      each = λ i.
+          let e = entry_at es i in
+          elim (cases_lt i (length es)) [
+            | inl within ↦ let is = needing_at es f i within in is ∙ sym (ap (λ (x : Entry). record e { end = x.end; renewable = x.renewable; need = x.need }) is)
+            | inr past ↦ let is = needing_past es f i past in is ∙ sym (ap (λ (x : Entry). record e { end = x.end; renewable = x.renewable; need = x.need }) is)
+          ];
+    })
+
 pub never_law : NeverLaw
 unfolding need_from
 never_law g always s never =
@@ -65,7 +82,7 @@ never_law g always s never =
 -- ---- the forest from a start on reaches as far as the one before
 
 module _ (g : Forest) (forest : IsForest g) (always : List Bool) (s : ℕ) where
-  later : Forest
+  abbrev later : Forest
   later = record { entries = needing g.entries (need_from g always s); margin = g.margin }
 
   alike : Alike g.entries later.entries

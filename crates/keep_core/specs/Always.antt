@@ -40,8 +40,8 @@ forest_from g always s = record { entries = map (entry_from g always s) (range_w
 abbrev pub AlwaysLaw : Type 0
 AlwaysLaw =
     (g : Forest) (always : List Bool) (s : ℕ) → IsForest g → IsForest (forest_from g always s)
-    × (((i : ℕ) → is_always always i ≡ true → is_short (forest_from g always s) s i ≡ false)
-    × (((i : ℕ) → is_always always i ≡ false → (entry_at g.entries i).need ≤ s) → AllKeepable (forest_from g always s) s (end_of (forest_from g always s).entries)))
+    × ((i : ℕ) → is_always always i ≡ true → is_short (forest_from g always s) s i ≡ false)
+    × (((i : ℕ) → is_always always i ≡ false → (entry_at g.entries i).need ≤ s) → AllKeepable (forest_from g always s) s (end_of (forest_from g always s).entries))
 
 -- where no entry is needed always, the forest is as it was
 abbrev pub NeverLaw : Type 0

@@ -1,5 +1,5 @@
 -- Faulty: the fault that reading tells is the first in the order of all faults.
-use Rattle.std.proofs.Common.{◌≡◌, ◌×◌, ◌⊎◌, ℕ, zero, suc, ◌+◌, Bool, true, false, cond, ◌&&◌, not, List, [], ◌∷◌, ◌++◌, length, Some, None, Option, Result, Ok, Err, refl, sym, ap, ◌∙◌, subst, arith, option_map, unwrap_or, inl, inr}
+use Rattle.std.proofs.Common.{◌≡◌, ◌⊎◌, ℕ, zero, suc, ◌+◌, Bool, true, false, cond, ◌&&◌, not, List, [], ◌∷◌, ◌++◌, length, Some, None, Option, Result, Ok, Err, refl, sym, ap, ◌∙◌, subst, arith, option_map, unwrap_or, inl, inr}
 use Rattle.std.specs.Option.{is_some}
 use Rattle.std.specs.Str.{is_utf8}
 use Rattle.std.proofs.lemmas.List.{length_push}
@@ -244,18 +244,18 @@ module _ (step : Intake → Members → Result Intake InvFault) (Fails : Intake 
       bind_err (step s ms) _ fault e
       (λ bad. record { place = 0; members = ms; stands = refl; taken = s; before = refl; index = omega arith; fails = fails s ms fault bad })
       (λ t read later.
-          let more = first_in t ds are later in
-          let count = counts s t ms read in
-          let place = more.index in
-          record {
-            place = suc more.place;
-            members = more.members;
-            stands = more.stands;
-            taken = more.taken;
-            before = follow (step s ms) t _ _ read more.before;
-            index = omega (arith, count, place);
-            fails = more.fails;
-          })
+      let more = first_in t ds are later in
+      let count = counts s t ms read in
+      let place = more.index in
+      record {
+        place = suc more.place;
+        members = more.members;
+        stands = more.stands;
+        taken = more.taken;
+        before = follow (step s ms) t _ _ read more.before;
+        index = omega (arith, count, place);
+        fails = more.fails;
+      })
   first_in s (item (string x) ds) are e = absurd cc
   first_in s (item (integer x) ds) are e = absurd cc
   first_in s (item (float x) ds) are e = absurd cc
@@ -304,20 +304,23 @@ intake_first ms fault e =
     chain_or (value_at tables None Lease ms) _ fault _ _ (value_fault tables None Lease ms) e4 (λ leases d e5.
     let most = unwrap_or system_max SYSTEM_MAX in
     let begin = nothing (unwrap_or margin 1) in
-    inr (refl, record {
-      system_max = most;
-      system_max_written = (system_max, writes_is (span full 1 SPAN_MAX) None SystemMax ms system_max a, refl);
-      margin = unwrap_or margin 1;
-      margin_written = (margin, writes_is (span full 1 MARGIN_MAX) None Margin ms margin b, refl);
-      tokens = unwrap_or tokens no_items;
-      tokens_written = (tokens, writes_is tables None Token ms tokens c, refl);
-      leases = unwrap_or leases no_items;
-      leases_written = (leases, writes_is tables None Lease ms leases d, refl);
-      first =
-          bind_err (entered_by (token_entered full most) Token begin (unwrap_or tokens no_items)) _ fault e5
-          (λ fails. inl (first_in (token_entered full most) (TokenFails most) (token_fails most) (tokens_count most) Token fault begin (unwrap_or tokens no_items) (read_tables None Token (get_member (key_text Token) ms) tokens c) fails))
-          (λ u read fails. inr (u, read, first_in (lease_entered full most) (LeaseFails most) (lease_fails most) (leases_count most) Lease fault u (unwrap_or leases no_items) (read_tables None Lease (get_member (key_text Lease) ms) leases d) fails));
-    }))))))
+    inr (
+      refl,
+      record {
+        system_max = most;
+        system_max_written = (system_max, writes_is (span full 1 SPAN_MAX) None SystemMax ms system_max a, refl);
+        margin = unwrap_or margin 1;
+        margin_written = (margin, writes_is (span full 1 MARGIN_MAX) None Margin ms margin b, refl);
+        tokens = unwrap_or tokens no_items;
+        tokens_written = (tokens, writes_is tables None Token ms tokens c, refl);
+        leases = unwrap_or leases no_items;
+        leases_written = (leases, writes_is tables None Lease ms leases d, refl);
+        first =
+            bind_err (entered_by (token_entered full most) Token begin (unwrap_or tokens no_items)) _ fault e5
+            (λ fails. inl (first_in (token_entered full most) (TokenFails most) (token_fails most) (tokens_count most) Token fault begin (unwrap_or tokens no_items) (read_tables None Token (get_member (key_text Token) ms) tokens c) fails))
+            (λ u read fails. inr (u, read, first_in (lease_entered full most) (LeaseFails most) (lease_fails most) (leases_count most) Lease fault u (unwrap_or leases no_items) (read_tables None Lease (get_member (key_text Lease) ms) leases d) fails));
+      },
+    ))))))
 
 no_tree : (b : Bool) (o : Option Members) (fault : InvFault) → cond b (or_not_toml o) (Err NotToml) ≡ Err fault → fault ≡ NotToml
 no_tree true None fault e = cc

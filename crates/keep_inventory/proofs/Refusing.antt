@@ -1,5 +1,5 @@
 -- Refusing: a forest that refuses an entry never names want of memory.
-use Rattle.std.proofs.Common.{◌≡◌, ◌≢◌, Bool, true, false, List, [], ◌∷◌, ◌×◌, Option, Some, refl}
+use Rattle.std.proofs.Common.{◌≡◌, ◌≢◌, Bool, true, false, List, [], ◌∷◌, Option, Some, refl}
 use Rattle.keep_tree.specs.declared.entry.Entry.{Entry}
 use Rattle.keep_tree.specs.declared.fault.TreeFault.{TreeFault}
 use Rattle.keep_tree.specs.declared.fault.TreeFault.TheVariants.{BadName, NameTwice, NoParent, ParentIsLease, LeaseWithoutToken, StepTooSmall, OutOfRange, TooDeep, Full, OutOfMemory}

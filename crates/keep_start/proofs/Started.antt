@@ -1,5 +1,5 @@
 -- Started: what is read from a start on is an inventory, and what differs from the one that was read is its needs alone.
-use Rattle.std.proofs.Common.{◌≡◌, ◌×◌, ℕ, zero, suc, ◌+◌, ◌<◌, ◌≤◌, Bool, true, false, cond, List, [], ◌∷◌, length, Some, None, Option, Result, Ok, Err, refl, sym, ap, ◌∙◌, subst, arith}
+use Rattle.std.proofs.Common.{◌≡◌, ℕ, zero, suc, ◌+◌, ◌<◌, ◌≤◌, Bool, true, false, cond, List, [], ◌∷◌, length, Some, None, Option, Result, Ok, Err, refl, sym, ap, ◌∙◌, subst, arith}
 use Rattle.std.proofs.lemmas.Bool.{cond-true}
 use Rattle.keep_tree.specs.declared.entry.Entry.{Entry}
 use Rattle.keep_tree.specs.Forest.{Forest, end_of, entry_at}
@@ -7,8 +7,9 @@ use Rattle.keep_tree.specs.Push.{IsForest}
 use Rattle.keep_rule.specs.Unkeepable.{AllKeepable}
 use Rattle.keep_core.specs.Always.{forest_from, is_always, need_from}
 use Rattle.keep_core.specs.code.Passes.{needing}
+use Rattle.keep_core.specs.LawsOfSteps.{IsShaped}
 use Rattle.keep_core.specs.Shorten.{is_short}
-use Rattle.keep_core.proofs.AlwaysNeeded.{always_law, from_forest, from_is, never_law}
+use Rattle.keep_core.proofs.AlwaysNeeded.{always_law, from_forest, from_is, never_law, shaped_from}
 use Rattle.keep_core.proofs.Needing.{field_kept, length_needing}
 use Rattle.keep_inventory.specs.declared.fault.InvFault.{InvFault}
 use Rattle.keep_inventory.specs.declared.fault.InvFault.TheVariants.{BadValue, MissingKey}
@@ -38,6 +39,10 @@ known_is bytes v e = bind_ok (read_served bytes) _ v e (λ u read e1. by_first u
 pub at_is : (s : ℕ) (bytes : List ℕ) (inventory : Inventory) → inventory_at s bytes ≡ Ok inventory → (v : Served) × (read_known bytes ≡ Ok v) × (from_start v.inventory (marks v.notes) s ≡ inventory)
 unfolding inventory_at
 at_is s bytes inventory e = bind_ok (read_known bytes) _ inventory e (λ v read e1. (v, read, cc))
+
+pub known_at : (s : ℕ) (bytes : List ℕ) (v : Served) → read_known bytes ≡ Ok v → inventory_at s bytes ≡ Ok (from_start v.inventory (marks v.notes) s)
+unfolding inventory_at
+known_at s bytes v read = follow _ v _ _ read refl
 
 -- ---- other needs alone
 
@@ -69,6 +74,15 @@ start_is_inventory v inventory always s =
     let is = from_is g always s in
     subst (λ (h : Forest). IsInventory (record v { forest = h })) (sym is)
     (needing_is_inventory v inventory (need_from g always s) (subst IsForest is (from_forest g inventory.forest always s)))
+
+-- from a start on the forest has the entries that it had, but for their needs
+pub shaped_start : (v : Inventory) (always : List Bool) (s : ℕ) → IsShaped v.forest (from_start v always s).forest
+unfolding from_start
+shaped_start v always s = shaped_from v.forest always s
+
+pub kept_credentials : (v : Inventory) (always : List Bool) (s : ℕ) → (from_start v always s).credentials ≡ v.credentials
+unfolding from_start
+kept_credentials v always s = refl
 
 pub start_law : StartLaw
 start_law s bytes inventory e =
@@ -105,7 +119,6 @@ closed index (note ∷ notes) e =
     (cond-true note.is_told (first_untold (index + 1) notes) (Some index) parts.0 ∙ more.0, by_place parts.1 more.1)
   where
     by_place : note.is_always ≡ false → ((j : ℕ) → is_always (marks notes) j ≡ false) → (j : ℕ) → is_always (marks (note ∷ notes)) j ≡ false
-    unfolding marks
     by_place here later zero = here
     by_place here later (suc j) = later j
 

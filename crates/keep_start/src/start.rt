@@ -1,10 +1,12 @@
-ghost use Rattle.std.specs.Prelude.{◌≡◌, IfOk, OnErr, OnOk, length};
+ghost use Rattle.std.specs.Prelude.{◌≡◌, ◌<◌, IfOk, OnErr, OnOk, length};
+ghost use Rattle.keep_tree.specs.Forest.{entry_at};
 ghost use Rattle.keep_inventory.specs.Answers.{Gives};
-ghost use Rattle.keep_start.specs.Start.{from_start, inventory_at, marks, with_needs};
+ghost use Rattle.keep_start.specs.Start.{from_start, inventory_at, inventory_for_good, marks, need_for_good, needs_for_good, with_needs};
 
 use keep_core::needs_always;
-use keep_inventory::{InvFault, Inventory, Note, read_known};
-use keep_moment::Moment;
+use keep_inventory::{InvFault, Inventory, Note, read_known, read_served};
+use keep_moment::{LAST, Moment};
+use keep_tree::Forest;
 use std::alloc::{AllocError, Global};
 
 /// The inventory that these bytes write, from `start` on: an entry whose need is `always` is needed as long as it can be kept from
@@ -22,6 +24,25 @@ pub fn read_at(alloc: Global, bytes: &[u8], start: Moment) -> Result<Inventory, 
     let (mut inventory, notes) = served.into_parts();
     let always = marks(alloc, &notes)?;
     need_always(alloc, &mut inventory, &always, start)?;
+    Ok(inventory)
+}
+
+/// The inventory that these bytes write, for a watch: an entry whose need is `always` is needed until the last moment, since a watch
+/// shortens each need to what can be kept as it goes. Ends that are not written are 0, as a lookup is to tell them, and files of
+/// secrets are not read: the name stands for a credential in one.
+///
+/// # Errors
+///
+/// Those of [`read_served`].
+#[tactic(auto, unfolding(crate::specs::Start::inventory_for_good))]
+pub fn read_for_good(alloc: Global, bytes: &[u8]) -> Result<Inventory, InvFault>
+    ensures { Gives (λ inventory. inventory) result (inventory_for_good bytes.now) }
+{
+    let served = read_served(alloc, bytes)?;
+    let (mut inventory, notes) = served.into_parts();
+    let always = marks(alloc, &notes)?;
+    let needs = needs_for_good(alloc, inventory.forest(), &always)?;
+    set_needs(&mut inventory, &needs);
     Ok(inventory)
 }
 
@@ -55,6 +76,45 @@ pub fn need_always(
     let needs = needs_always(alloc, inventory.forest(), always, start)?;
     set_needs(inventory, &needs);
     Ok(())
+}
+
+/// The needs of all entries, where those that `always` marks are needed until the last moment.
+#[tactic(auto, unfolding(crate::specs::Start::needs_for_good))]
+fn needs_for_good(
+    alloc: Global,
+    forest: &Forest,
+    always: &[bool],
+) -> Result<Vec<Moment>, AllocError>
+    requires { length always.now ≡ length forest.now.entries }
+    ensures { IfOk result (λ needs. needs.items ≡ needs_for_good forest.now always.now) }
+{
+    let mut needs = Vec::new(alloc);
+    for index in 0..forest.len() {
+        needs.push(need_for_good(forest, always, index))?;
+    }
+    Ok(needs)
+}
+
+/// The need of an entry, where those that `always` marks are needed until the last moment.
+#[tactic(auto, unfolding(crate::specs::Start::need_for_good))]
+fn need_for_good(forest: &Forest, always: &[bool], index: u32) -> Moment
+    requires within { index < length forest.now.entries }
+    requires places { length always.now ≡ length forest.now.entries }
+    ensures { result ≡ need_for_good forest.now always.now index }
+{
+    if always[index as usize] {
+        Moment::new(LAST).unwrap()
+    } else {
+        own_need(forest, index)
+    }
+}
+
+/// The need of an entry as it stands.
+fn own_need(forest: &Forest, index: u32) -> Moment
+    requires { index < length forest.now.entries }
+    ensures { result ≡ (entry_at forest.now.entries index).need }
+{
+    Moment::new(forest.get(index).need).unwrap()
 }
 
 /// Gives the entries these needs.
