@@ -43,7 +43,7 @@ take_front : (xs ys : List ℕ) → take (length xs) (xs ++ ys) ≡ xs
 take_front [] ys = refl
 take_front (x ∷ xs) ys = ap (λ l. x ∷ l) (take_front xs ys)
 
-drop_front : (xs : List ℕ) (y : ℕ) (ys : List ℕ) → drop (length xs + 1) (xs ++ y ∷ ys) ≡ ys
+drop_front : (xs : List ℕ) (y : ℕ) (ys : List ℕ) → drop (suc (length xs)) (xs ++ y ∷ ys) ≡ ys
 drop_front [] y ys = refl
 drop_front (x ∷ xs) y ys = drop_front xs y ys
 
@@ -58,19 +58,22 @@ no_items (x ∷ xs) h = absurd (omega (arith, h))
 -- ---- the digits at the front
 
 front_all : (text : List ℕ) → list_all is_ascii_digit (take (digits_before text) text) ≡ true
+unfolding digits_before
 front_all [] = refl
 front_all (b ∷ bs) =
     elim (cases_Bool (is_ascii_digit b)) [
-      | inl is ↦ subst (λ n. list_all is_ascii_digit (take n (b ∷ bs)) ≡ true) (sym (front_digit b bs is)) (both_true (is_ascii_digit b) _ is (front_all bs))
-      | inr no ↦ subst (λ n. list_all is_ascii_digit (take n (b ∷ bs)) ≡ true) (sym (front_other b bs no)) refl
+      | inl is ↦
+          let more : digits_before (b ∷ bs) ≡ suc (digits_before bs) = let f = front_digit b bs is in omega (arith, f) in
+          subst (λ n. list_all is_ascii_digit (take n (b ∷ bs)) ≡ true) (sym more) (both_true (is_ascii_digit b) (list_all is_ascii_digit (take (digits_before bs) bs)) is (front_all bs))
+      | inr non ↦ subst (λ n. list_all is_ascii_digit (take n (b ∷ bs)) ≡ true) (sym (front_other b bs non)) refl
     ]
 
 front_count : (digits : List ℕ) (l : ℕ) (rest : List ℕ) → list_all is_ascii_digit digits ≡ true → is_ascii_digit l ≡ false → digits_before (digits ++ l ∷ rest) ≡ length digits
-front_count [] l rest all no = front_other l rest no
-front_count (d ∷ digits) l rest all no =
+front_count [] l rest all non = front_other l rest non
+front_count (d ∷ digits) l rest all non =
     let parts = and_parts (is_ascii_digit d) (list_all is_ascii_digit digits) all in
     let more = front_digit d (digits ++ l ∷ rest) parts.0 in
-    let so = front_count digits l rest parts.1 no in
+    let so = front_count digits l rest parts.1 non in
     omega (arith, more, so)
 
 -- ---- found
@@ -100,7 +103,7 @@ module _ (letter size : ℕ) (text : List ℕ) where
   part_of =
       elim (cases_Bool (has_part letter text)) [
         | inl has ↦ with_part has
-        | inr no ↦ ([], inl (refl, cond-false (has_part letter text) (digits_value 10 (take (digits_before text) text) * size) 0 no), sym (cond-false (has_part letter text) (drop (digits_before text + 1) text) text no))
+        | inr non ↦ ([], inl (refl, cond-false (has_part letter text) (digits_value 10 (take (digits_before text) text) * size) 0 non), sym (cond-false (has_part letter text) (drop (digits_before text + 1) text) text non))
       ]
 
 some_is : (b : Bool) (m n : ℕ) → cond b (Some m) None ≡ Some n → (b ≡ true) × (n ≡ m)
@@ -144,12 +147,12 @@ three_ands true false c = refl
 three_ands true true false = refl
 three_ands true true true = refl
 
-module _ (digits : List ℕ) (l : ℕ) (rest : List ℕ) (all : list_all is_ascii_digit digits ≡ true) (no : is_ascii_digit l ≡ false) where
-  text : List ℕ
+module _ (digits : List ℕ) (l : ℕ) (rest : List ℕ) (all : list_all is_ascii_digit digits ≡ true) (non : is_ascii_digit l ≡ false) where
+  abbrev text : List ℕ
   text = digits ++ l ∷ rest
 
   count : digits_before text ≡ length digits
-  count = front_count digits l rest all no
+  count = front_count digits l rest all non
 
   read : get_or text (digits_before text) 0 ≡ l
   read = ap (λ k. get_or text k 0) count ∙ get_front digits l rest
@@ -173,7 +176,10 @@ module _ (digits : List ℕ) (l : ℕ) (rest : List ℕ) (all : list_all is_asci
 
   after_is : has_part l text ≡ true → after_part l text ≡ rest
   unfolding after_part
-  after_is has = cond-true (has_part l text) (drop (digits_before text + 1) text) text has ∙ ap (λ k. drop (k + 1) text) count ∙ drop_front digits l rest
+  after_is has =
+      let k = count in
+      let place : digits_before text + 1 ≡ suc (length digits) = omega (arith, k) in
+      cond-true (has_part l text) (drop (digits_before text + 1) text) text has ∙ ap (λ n. drop n text) place ∙ drop_front digits l rest
 
   worth_is : (size : ℕ) → has_part l text ≡ true → part_seconds l size text ≡ digits_value 10 digits * size
   unfolding part_seconds
@@ -185,26 +191,26 @@ abbrev Lacks : ℕ → List ℕ → Type 0
 Lacks letter text = has_part letter text ≡ false
 
 lacks_nothing : (letter : ℕ) → Lacks letter []
-unfolding has_part
+unfolding has_part digits_before
 lacks_nothing letter = refl
 
 lacks_part : (letter l size : ℕ) (part : List ℕ) (n : ℕ) (rest : List ℕ) → is_ascii_digit l ≡ false → l ≢ letter → IsPart l size part n → Lacks letter rest → Lacks letter (part ++ rest)
-lacks_part letter l size part n rest no apart (inl none) lacks = subst (λ p. Lacks letter (p ++ rest)) (sym none.0) lacks
-lacks_part letter l size part n rest no apart (inr is) lacks =
+lacks_part letter l size part n rest non apart (inl none) lacks = subst (λ p. Lacks letter (p ++ rest)) (sym none.0) lacks
+lacks_part letter l size part n rest non apart (inr is) lacks =
     let digits = is.0 in
-    subst (Lacks letter) (sym (ap (λ p. p ++ rest) is.2 ∙ append_assoc digits (l ∷ []) rest)) (other_part digits l rest is.1.2 no letter apart)
+    subst (Lacks letter) (sym (ap (λ p. p ++ rest) is.2 ∙ append_assoc digits (l ∷ []) rest)) (other_part digits l rest is.1.2 non letter apart)
 
 reads_part : (letter size : ℕ) (part : List ℕ) (n : ℕ) (rest : List ℕ) → is_ascii_digit letter ≡ false → IsPart letter size part n → Lacks letter rest →
     (after_part letter (part ++ rest) ≡ rest) × (part_seconds letter size (part ++ rest) ≡ n)
 unfolding after_part part_seconds
-reads_part letter size part n rest no (inl none) lacks =
+reads_part letter size part n rest non (inl none) lacks =
     subst (λ p. (after_part letter (p ++ rest) ≡ rest) × (part_seconds letter size (p ++ rest) ≡ n)) (sym none.0)
     (cond-false (has_part letter rest) (drop (digits_before rest + 1) rest) rest lacks, cond-false (has_part letter rest) (digits_value 10 (take (digits_before rest) rest) * size) 0 lacks ∙ sym none.1)
-reads_part letter size part n rest no (inr is) lacks =
+reads_part letter size part n rest non (inr is) lacks =
     let digits = is.0 in
-    let has = is_part digits letter rest is.1.2 no is.1.0 is.1.1 in
+    let has = is_part digits letter rest is.1.2 non is.1.0 is.1.1 in
     let parts : part ++ rest ≡ digits ++ letter ∷ rest = ap (λ p. p ++ rest) is.2 ∙ append_assoc digits (letter ∷ []) rest in
-    (ap (after_part letter) parts ∙ after_is digits letter rest is.1.2 no has, ap (part_seconds letter size) parts ∙ worth_is digits letter rest is.1.2 no size has ∙ sym is.3)
+    (ap (after_part letter) parts ∙ after_is digits letter rest is.1.2 non has, ap (part_seconds letter size) parts ∙ worth_is digits letter rest is.1.2 non size has ∙ sym is.3)
 
 pub duration_only : DurationOnly
 unfolding duration_of
@@ -212,10 +218,10 @@ duration_only text n d =
     let seconds : d.seconds ++ [] ≡ d.seconds = append-nil d.seconds in
     let lacks_s : (letter : ℕ) → 115 ≢ letter → Lacks letter d.seconds = λ letter apart. subst (Lacks letter) seconds (lacks_part letter 115 1 d.seconds d.in_seconds [] refl apart d.are_seconds (lacks_nothing letter)) in
     let lacks_m : (letter : ℕ) → 115 ≢ letter → 109 ≢ letter → Lacks letter (d.minutes ++ d.seconds) = λ letter s m. lacks_part letter 109 60 d.minutes d.in_minutes d.seconds refl m d.are_minutes (lacks_s letter s) in
-    let lacks_h : Lacks 100 (d.hours ++ (d.minutes ++ d.seconds)) = lacks_part 100 104 3600 d.hours d.in_hours (d.minutes ++ d.seconds) refl (λ e. cc) d.are_hours (lacks_m 100 (λ e. cc) (λ e. cc)) in
+    let lacks_h : Lacks 100 (d.hours ++ (d.minutes ++ d.seconds)) = lacks_part 100 104 3600 d.hours d.in_hours (d.minutes ++ d.seconds) refl (λ e. omega (arith, e)) d.are_hours (lacks_m 100 (λ e. omega (arith, e)) (λ e. omega (arith, e))) in
     let days = reads_part 100 86400 d.days d.in_days (d.hours ++ (d.minutes ++ d.seconds)) refl d.are_days lacks_h in
-    let hours = reads_part 104 3600 d.hours d.in_hours (d.minutes ++ d.seconds) refl d.are_hours (lacks_m 104 (λ e. cc) (λ e. cc)) in
-    let minutes = reads_part 109 60 d.minutes d.in_minutes d.seconds refl d.are_minutes (lacks_s 109 (λ e. cc)) in
+    let hours = reads_part 104 3600 d.hours d.in_hours (d.minutes ++ d.seconds) refl d.are_hours (lacks_m 104 (λ e. omega (arith, e)) (λ e. omega (arith, e))) in
+    let minutes = reads_part 109 60 d.minutes d.in_minutes d.seconds refl d.are_minutes (lacks_s 109 (λ e. omega (arith, e))) in
     let last = reads_part 115 1 d.seconds d.in_seconds [] refl d.are_seconds (lacks_nothing 115) in
     let on_hours : hours_on text ≡ d.hours ++ (d.minutes ++ d.seconds) = ap (after_part 100) d.parts ∙ days.0 in
     let on_minutes : minutes_on text ≡ d.minutes ++ d.seconds = ap (after_part 104) on_hours ∙ hours.0 in

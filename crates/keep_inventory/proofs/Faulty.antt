@@ -66,7 +66,10 @@ cond_fault false e x = refl
 
 -- ---- one value
 
-taken_fault : {A : Type 0} (place : Option ℕ) (key : Key) (o : Option A) → fault_of (elim o [ Some x ↦ Ok (Some x) | None ↦ Err (BadValue place key) ]) ≡ fault_if (not (is_some o)) (BadValue place key)
+abbrev taken : {A : Type 0} → Option ℕ → Key → Option A → Result (Option A) InvFault
+taken place key o = elim o [ Some x ↦ Ok (Some x) | None ↦ Err (BadValue place key) ]
+
+taken_fault : {A : Type 0} (place : Option ℕ) (key : Key) (o : Option A) → fault_of (taken place key o) ≡ fault_if (not (is_some o)) (BadValue place key)
 taken_fault place key None = refl
 taken_fault place key (Some x) = refl
 
@@ -77,7 +80,7 @@ read_fault f place key (Some d) = taken_fault place key (f d)
 value_fault : {A : Type 0} (f : Data → Option A) (place : Option ℕ) (key : Key) (ms : Members) → fault_of (value_at f place key ms) ≡ bad f place key ms
 value_fault f place key ms = read_fault f place key (get_member (key_text key) ms)
 
-taken_there : {A : Type 0} (place : Option ℕ) (key : Key) (o found : Option A) → elim o [ Some x ↦ Ok (Some x) | None ↦ Err (BadValue place key) ] ≡ Ok found → is_some found ≡ true
+taken_there : {A : Type 0} (place : Option ℕ) (key : Key) (o found : Option A) → taken place key o ≡ Ok found → is_some found ≡ true
 taken_there place key None found e = absurd cc
 taken_there {A = A} place key (Some x) found e = let same : Some x ≡ found = cc in ap (λ (o : Option A). is_some o) (sym same)
 
@@ -91,7 +94,7 @@ value_there f place key ms found e = read_there f place key (get_member (key_tex
 only_fault : (keys : List Key) (place : Option ℕ) (ms : Members) → fault_of (only keys place ms) ≡ unknown keys place ms
 only_fault keys place ms = by_test (all_keys (is_one_of keys) ms)
   where
-    by_test : (b : Bool) → fault_of (cond b (Ok tt) (Err (UnknownKey place))) ≡ fault_if (not b) (UnknownKey place)
+    by_test : (b : Bool) → fault_of {A = Unit {0}} (cond b (Ok tt) (Err (UnknownKey place))) ≡ fault_if (not b) (UnknownKey place)
     by_test true = refl
     by_test false = refl
 
@@ -141,8 +144,8 @@ lease_terms_fault system_max i issued ms =
     chain (value_at (span full 0 SPAN_MAX) (Some i) Increment ms) _ _ _ (value_fault (span full 0 SPAN_MAX) (Some i) Increment ms) (λ increment a.
     last (value_at (span full 0 SPAN_MAX) (Some i) MaxTtl ms) _ _ (value_fault (span full 0 SPAN_MAX) (Some i) MaxTtl ms) (λ max_ttl b. refl))
 
-file_fault : (i : ℕ) (secret key : Key) (has_credential : Bool) (ms : Members) → has_credential ≡ there secret ms → fault_of (file_at i key has_credential ms) ≡ first_of (bad path (Some i) key ms ∷ beside secret i key ms ∷ [])
-file_fault i secret key has_credential ms is =
+file_fault : (i : ℕ) (other key : Key) (has_credential : Bool) (ms : Members) → has_credential ≡ there other ms → fault_of (file_at i key has_credential ms) ≡ first_of (bad path (Some i) key ms ∷ beside other i key ms ∷ [])
+file_fault i other key has_credential ms is =
     chain (value_at path (Some i) key ms) _ _ _ (value_fault path (Some i) key ms) (λ file a.
     last (alone_if has_credential i key (is_some file)) _ _ (alone_fault _ _ i key _ _ is (value_there path (Some i) key ms file a)) (λ alone b. refl))
 
@@ -265,7 +268,7 @@ module _ (step : Intake → Members → Result Intake InvFault) (Fails : Intake 
 
 -- ---- the tables that the top level has
 
-found_tables : (place : Option ℕ) (key : Key) (o found : Option Items) → ((ds : Items) → o ≡ Some ds → are_tables ds ≡ true) → elim o [ Some x ↦ Ok (Some x) | None ↦ Err (BadValue place key) ] ≡ Ok found → are_tables (unwrap_or found no_items) ≡ true
+found_tables : (place : Option ℕ) (key : Key) (o found : Option Items) → ((ds : Items) → o ≡ Some ds → are_tables ds ≡ true) → taken place key o ≡ Ok found → are_tables (unwrap_or found no_items) ≡ true
 found_tables place key None found are e = absurd cc
 found_tables place key (Some ds) found are e = let same : Some ds ≡ found = cc in subst (λ (o : Option Items). are_tables (unwrap_or o no_items) ≡ true) same (are ds refl)
 

@@ -2,7 +2,7 @@ ghost use Rattle.std.specs.Prelude.{◌≡◌, ◌<◌, Err, IfSome, length};
 ghost use Rattle.toml.specs.View.{items_view, table_view};
 ghost use Rattle.keep_tree.specs.Push.{refusal};
 ghost use Rattle.keep_inventory.specs.declared.fault.InvFault.TheVariants.{Tree};
-ghost use Rattle.keep_inventory.specs.Intake.{Changes, nothing, pushed, distinct, with_token, with_lease};
+ghost use Rattle.keep_inventory.specs.Intake.{Changes, nothing, told_as, pushed, distinct, with_token, with_lease};
 ghost use Rattle.keep_inventory.specs.Languages.{full};
 ghost use Rattle.keep_inventory.specs.Inventory.{token_entered, lease_entered, entered_by};
 
@@ -158,8 +158,17 @@ fn push(forest: &mut Forest, entry: Entry) -> Result<(), InvFault>
     let index = forest.len();
     match forest.push(entry) {
         Ok(_) => Ok(()),
-        Err(TreeFault::OutOfMemory) => Err(InvFault::OutOfMemory),
-        Err(fault) => Err(InvFault::Tree(index, fault)),
+        Err(fault) => Err(told(index, fault)),
+    }
+}
+
+// What a forest said of the entry at an index.
+fn told(index: u32, fault: TreeFault) -> InvFault
+    ensures { result ≡ told_as index fault }
+{
+    match fault {
+        TreeFault::OutOfMemory => InvFault::OutOfMemory,
+        fault => InvFault::Tree(index, fault),
     }
 }
 

@@ -16,7 +16,7 @@ use std::alloc::{AllocError, Global};
 ///
 /// Those of [`read_served`](keep_inventory::read_served); then `MissingKey` with `issued`, of the first table that leaves its end
 /// to a lookup.
-#[tactic(auto, unfolding(crate::specs::Start::inventory_at))]
+#[tactic(auto, using(crate::proofs::Started::places), unfolding(crate::specs::Start::inventory_at))]
 pub fn read_at(alloc: Global, bytes: &[u8], start: Moment) -> Result<Inventory, InvFault>
     ensures { Gives (λ inventory. inventory) result (inventory_at start bytes.now) }
 {
@@ -34,7 +34,7 @@ pub fn read_at(alloc: Global, bytes: &[u8], start: Moment) -> Result<Inventory, 
 /// # Errors
 ///
 /// Those of [`read_served`].
-#[tactic(auto, unfolding(crate::specs::Start::inventory_for_good))]
+#[tactic(auto, using(crate::proofs::Started::places, crate::proofs::Started::good_for_each), unfolding(crate::specs::Start::inventory_for_good))]
 pub fn read_for_good(alloc: Global, bytes: &[u8]) -> Result<Inventory, InvFault>
     ensures { Gives (λ inventory. inventory) result (inventory_for_good bytes.now) }
 {
@@ -47,7 +47,7 @@ pub fn read_for_good(alloc: Global, bytes: &[u8]) -> Result<Inventory, InvFault>
 }
 
 /// Which entries are needed as long as they can be kept, by what their tables leave open. The only error is want of memory.
-#[tactic(auto, unfolding(crate::specs::Start::marks))]
+#[tactic(auto, using(crate::proofs::Started::marks_none, crate::proofs::Started::marks_more, crate::proofs::Started::marks_all))]
 pub fn marks(alloc: Global, notes: &[Note]) -> Result<Vec<bool>, AllocError>
     ensures { IfOk result (λ always. always.items ≡ marks notes.now) }
 {
@@ -62,7 +62,7 @@ pub fn marks(alloc: Global, notes: &[Note]) -> Result<Vec<bool>, AllocError>
 /// least reach over it, or a year from `start` where nothing limits it, and no later than the last moment. The others keep theirs.
 ///
 /// The only error is want of memory, which leaves the inventory as it was.
-#[tactic(auto, unfolding(crate::specs::Start::from_start))]
+#[tactic(auto, using(crate::proofs::Started::needs_for_each, crate::proofs::Started::needs_set))]
 pub fn need_always(
     alloc: Global,
     inventory: &mut Inventory,
