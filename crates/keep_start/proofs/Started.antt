@@ -11,7 +11,7 @@ use Rattle.keep_core.specs.Always.{forest_from, is_always, need_from, needs_from
 use Rattle.keep_core.specs.code.Passes.{needing}
 use Rattle.keep_core.specs.LawsOfSteps.{IsShaped}
 use Rattle.keep_core.specs.Shorten.{is_short}
-use Rattle.keep_core.proofs.AlwaysNeeded.{all_from, always_law, from_forest, from_is, needs_count, never_law, shaped_from}
+use Rattle.keep_core.proofs.AlwaysNeeded.{all_from, always_law, from_is, needs_count, never_law, shaped_from}
 use Rattle.keep_core.proofs.Needing.{field_kept, length_needing}
 use Rattle.keep_inventory.specs.declared.fault.InvFault.{InvFault}
 use Rattle.keep_inventory.specs.declared.fault.InvFault.TheVariants.{BadValue, MissingKey}
@@ -110,7 +110,7 @@ start_is_inventory v inventory always s =
     let g = v.forest in
     let is = from_is g always s in
     subst (λ (h : Forest). IsInventory (record v { forest = h })) (sym is)
-    (needing_is_inventory v inventory (need_from g always s) (subst IsForest is (from_forest g inventory.forest always s)))
+    (needing_is_inventory v inventory (need_from g always s) (subst IsForest is (always_law g always s inventory.forest).0))
 
 -- from a start on the forest has the entries that it had, but for their needs
 pub shaped_start : (v : Inventory) (always : List Bool) (s : ℕ) → IsShaped v.forest (from_start v always s).forest
@@ -141,7 +141,10 @@ secrecy_law s bytes other v w alike e d =
 
 -- ---- nothing open
 
-open_parts : (index : ℕ) (told always : Bool) (later : Option InvFault) → elim (cond told (cond always (Some (BadValue (Some index) Need)) None) (Some (MissingKey index Issued))) [ Some fault ↦ Some fault | None ↦ later ] ≡ None →
+abbrev or_later : Option InvFault → Option InvFault → Option InvFault
+or_later here later = elim here [ Some fault ↦ Some fault | None ↦ later ]
+
+open_parts : (index : ℕ) (told always : Bool) (later : Option InvFault) → or_later (cond told (cond always (Some (BadValue (Some index) Need)) None) (Some (MissingKey index Issued))) later ≡ None →
     (told ≡ true) × (always ≡ false) × (later ≡ None)
 open_parts index true true later e = absurd cc
 open_parts index true false later e = (refl, refl, e)
