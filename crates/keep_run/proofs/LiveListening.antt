@@ -116,6 +116,13 @@ module _ (port : ℕ) (bytes : List ℕ) (start : ℕ) (before : Option Behind) 
     by_fault (faults.BadValue i key) h = (h, refl, refl, refl)
     by_fault (faults.Tree i t) h = (h, refl, refl, refl)
 
+  -- memory for what the tables leave open was wanting
+  pub unmarked_lives :
+      (result : Result (Unit {0}) Stop) (j : Bool) (x : Seen) (k : Bool) (a : Seen) → IsErr result × IsErrAnd result (λ (q : Stop). q ≡ stops.Memory) →
+      LivesTo port bytes start before result (change j x x) (change k a a) before
+  unmarked_lives (Ok u) j x k a is = absurd (let no = is.0 in cc)
+  unmarked_lives (Err stop) j x k a is = subst (λ (q : Stop). LivesTo port bytes start before (Err q) (change j x x) (change k a a) before) (sym is.1) (inl (refl, refl, refl))
+
   -- it ended before it listened
   pub early_lives :
       (result : Result (Unit {0}) Stop) (stop : Stop) (v : Served) (j : Bool) (x : Seen) (out : Change) (new : Option Behind) → read_served bytes ≡ Ok v → IsErr result × IsErrAnd result (λ (q : Stop). q ≡ stop) →
