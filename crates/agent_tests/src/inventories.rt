@@ -7,6 +7,14 @@ use std::test::Fail;
 pub const WEB: &str =
     "[[token]]\nname = \"web\"\nissued = 1000\nend = 1060\nincrement = 60\nmax_ttl = 9000\nneed = 1200\n";
 
+/// A token that is needed as long as it can be kept, in the full language: until 1150, its issue and its maximum TTL.
+pub const FOR_GOOD: &str =
+    "[[token]]\nname = \"web\"\nissued = \"1970-01-01T00:16:40Z\"\nend = 1060\nincrement = \"1m\"\nmax_ttl = \"2m30s\"\nneed = \"always\"\nsecret_file = \"/run/web\"\n";
+
+/// One that nothing limits: it is needed for a year.
+pub const FOR_A_YEAR: &str =
+    "[[token]]\nname = \"pay\"\nissued = 900\nend = 1060\nperiod = \"1m\"\nneed = \"always\"\n";
+
 /// The same with a margin of ten seconds.
 pub const WITH_MARGIN: &str =
     "margin = 10\n[[token]]\nname = \"web\"\nissued = 1000\nend = 1060\nincrement = 60\nmax_ttl = 9000\nneed = 1200\n";

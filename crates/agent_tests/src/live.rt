@@ -7,7 +7,7 @@ use keep_device::{MemorySink, MemorySource};
 use keep_exchange::MemoryExchange;
 use keep_report::Exit;
 use keep_run::run_live;
-use mini_broker::Fault;
+use mini_broker::{Fault, Table};
 use std::alloc::Global;
 use std::process::Abort;
 use std::test::Fail;
@@ -118,14 +118,14 @@ const HEARD: [Heard; 11] = [
 
 // A run from 1000 on over the inventory's own table, with a fault at the first renewal, if there is one; and how many reads
 // it made.
-fn runs<R: AllocGlobal + Abort>(
+fn runs_over<R: AllocGlobal + Abort>(
     rt: &R,
     inventory: &str,
-    fault: Option<Fault>,
+    table: Table,
     events: MemorySource,
 ) -> Result<(Outcome, u64), Fail> {
     let alloc = rt.alloc();
-    let mut exchange = MemoryExchange::new(alloc, table_of(rt, inventory, fault)?);
+    let mut exchange = MemoryExchange::new(alloc, table);
     let mut streams = streams_to(alloc, events, MemorySink::new(alloc, None));
     let start = moment(1000)?;
     let exit = run_live(
@@ -137,6 +137,16 @@ fn runs<R: AllocGlobal + Abort>(
     );
     let reads = streams.lines.reads();
     Ok((Outcome::of(exit, streams), reads))
+}
+
+// The same against the inventory's own table.
+fn runs<R: AllocGlobal + Abort>(
+    rt: &R,
+    inventory: &str,
+    fault: Option<Fault>,
+    events: MemorySource,
+) -> Result<(Outcome, u64), Fail> {
+    runs_over(rt, inventory, table_of(rt, inventory, fault)?, events)
 }
 
 fn is_written<R: AllocGlobal + Abort>(rt: &R, row: &Heard) -> Result<(), Fail> {
@@ -152,6 +162,21 @@ fn live_runs_are_written(rt: HostRuntime) -> Result<(), Fail> {
     for row in &HEARD {
         is_written(&rt, row)?;
     }
+    Ok(())
+}
+
+// A table that leaves its end to a lookup, and is needed as long as it can be kept: until 1150, since the lookup tells that it was
+// issued at 1000.
+const UNTOLD: &str =
+    "[[token]]\nname = \"web\"\nincrement = \"1m\"\nmax_ttl = \"2m30s\"\nneed = \"always\"\n";
+
+#[test]
+fn live_runs_look_up_what_is_left_open(rt: HostRuntime) -> Result<(), Fail> {
+    let events = source(rt.alloc(), TWO_TICKS, &[], None)?;
+    let (outcome, _) = runs_over(&rt, UNTOLD, table_of(&rt, WEB, None)?, events)?;
+    let text =
+        "entry web 1060\nwake 1059 web\ntold web 60\nnext 1118\nwake 1118 web\ntold web 60\nnext none\n";
+    assert!(rt; outcome.is(Exit::Done, text, ""));
     Ok(())
 }
 

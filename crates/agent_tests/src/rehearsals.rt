@@ -1,5 +1,7 @@
 //! Rehearsals over whole inventories: exit, output, fault line and wire.
-use crate::inventories::{LOW_CEILING, PAY, TOKEN_AND_LEASE, WEB, WEB_BASE_AND_BIG, WITH_MARGIN};
+use crate::inventories::{
+    FOR_GOOD, LOW_CEILING, PAY, TOKEN_AND_LEASE, WEB, WEB_BASE_AND_BIG, WITH_MARGIN,
+};
 use crate::moments::moment;
 use crate::outcomes::Outcome;
 use keep_device::{MemorySink, MemorySource};
@@ -23,7 +25,7 @@ pub(crate) const AS_PLANNED: &str =
     "wake 1059 web\ntold web 60\nwake 1118 web\ntold web 60\nwake 1177 web\ntold web 60\ndone 3 3\n";
 
 // Inventories, FAULT words and the lines of their rehearsals from 1000 on.
-const REHEARSED: [(&str, &str, &str); 28] = [
+const REHEARSED: [(&str, &str, &str); 29] = [
     (WEB, "", AS_PLANNED),
     (WEB_BASE_AND_BIG, "", AS_PLANNED),
     ("", "", "done 0 0\n"),
@@ -43,6 +45,11 @@ const REHEARSED: [(&str, &str, &str); 28] = [
         "short L 1150\nwake 1059 T L\ntold T 91\ntold L 60\nwake 1118 L\ntold L 60\ndone 2 3\n",
     ),
     (PAY, "", "wake 1059 pay\ntold pay 41\ndone 1 1\n"),
+    (
+        FOR_GOOD,
+        "",
+        "wake 1059 web\ntold web 60\nwake 1118 web\ntold web 32\ndone 2 2\n",
+    ),
     (
         WEB,
         "1=short:30",

@@ -13,3 +13,4 @@ pub mod ReadingLevels
 pub mod FaultyRuns
 pub mod FaultyLevels
 pub mod FirstFault
+pub mod Stated

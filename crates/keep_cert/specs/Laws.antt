@@ -10,7 +10,7 @@ use Rattle.keep_cert.specs.declared.cert.Body.{Body}
 use Rattle.keep_cert.specs.declared.cert.Cert.{Cert}
 use Rattle.keep_cert.specs.CertificateText.{Writes, certificate_text}
 use Rattle.keep_cert.specs.Printing.{IsOf, certified, claim}
-use Rattle.keep_cert.specs.Reading.{certificate_of}
+use Rattle.keep_cert.specs.Reading.{certificate_of, text_start}
 
 -- a text that is read writes the certificate
 abbrev pub ReadIsWritten : Type 0
@@ -19,6 +19,10 @@ ReadIsWritten = (es : List Entry) (text : List ℕ) (c : Cert) → certificate_o
 -- a text that writes a certificate over a forest is read as that certificate
 abbrev pub WrittenIsRead : Type 0
 WrittenIsRead = (g : Forest) → IsForest g → (text : List ℕ) (c : Cert) → Writes g.entries text c → certificate_of g.entries text ≡ Ok c
+
+-- the start of a certificate is the one that its text states, whatever the names of the entries
+abbrev pub StartIsStated : Type 0
+StartIsStated = (es : List Entry) (text : List ℕ) (c : Cert) → certificate_of es text ≡ Ok c → text_start text ≡ Ok c.start
 
 -- a decision for a forest has the indices of its entries
 abbrev pub DecidedIsOf : Type 0

@@ -40,6 +40,13 @@ unfoldable pub start_of : List ℕ → Result ℕ CertFault
 start_of line =
     if bytes_eq (keyword line) (codes "start") then (two_words 2 line >>= λ w. number_at 2 w.1) else Err (BadLine 2)
 
+-- the start that a text states, whatever follows it
+unfoldable pub text_start : List ℕ → Result ℕ CertFault
+text_start text = do
+  head ← header_of (lines text)
+  second ← line_at 2 head.1
+  start_of second.0
+
 -- the line `wake N ENTRY NEEDED`: one wake-up
 unfoldable pub wake_of : ℕ → List Entry → List ℕ → Result Run CertFault
 wake_of n es line = do

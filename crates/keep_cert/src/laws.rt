@@ -1,13 +1,14 @@
 ghost use Rattle.std.specs.Prelude.{◌≡◌};
 ghost use Rattle.keep_cert.specs.declared.cert.TheConstants.{MAX_LINES, MOST_CERTIFICATE};
-ghost use Rattle.keep_cert.specs.Laws.{DecidedIsOf, PrintedIsRead, ReadIsWritten, WrittenIsRead};
+ghost use Rattle.keep_cert.specs.Laws.{DecidedIsOf, PrintedIsRead, ReadIsWritten, StartIsStated, WrittenIsRead};
 
 /// The laws that join text and reading: what is read from a text is what that text writes, and a text that writes a
 /// certificate over a forest is read as that certificate. So a text writes at most one certificate, and a certificate has
-/// one text.
+/// one text. The start of a certificate is the one that its text states, whatever the names of the entries.
 pub fn certificates_are_read_back()
     ensures found { ReadIsWritten }
     ensures only { WrittenIsRead }
+    ensures start { StartIsStated }
 {}
 
 /// The limits of certificates as numbers; that of their wake-ups is in [`limit_law`](keep_rule::limit_law). It does nothing.

@@ -23,5 +23,5 @@ pub use first_fault::first_fault_law;
 pub use keep_rule::LIMIT;
 pub use laws::{certificates_are_read_back, decisions_are_read_back, limits_of_certificates};
 pub use printer::{PrintFault, print};
-pub use reader::read;
+pub use reader::{read, read_start};
 pub use writer::text_of;

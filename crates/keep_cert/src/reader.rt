@@ -2,7 +2,7 @@ ghost use Rattle.std.specs.Prelude.{◌≡◌, List, ℕ, IfOk};
 ghost use Rattle.keep_cert.specs.Answers.{Gives};
 ghost use Rattle.keep_cert.specs.CertificateText.{CanBeWritten, Writes};
 ghost use Rattle.keep_cert.specs.Lines.{lines};
-ghost use Rattle.keep_cert.specs.Reading.{version_of, header_of, start_of, unkeepable_of, body_of, certificate_of};
+ghost use Rattle.keep_cert.specs.Reading.{version_of, header_of, start_of, unkeepable_of, body_of, certificate_of, text_start};
 ghost use Rattle.keep_cert.specs.declared.cert.Version.{Version};
 
 use crate::cert::{Body, Cert, Version};
@@ -28,6 +28,21 @@ pub fn read(alloc: Global, forest: &Forest, text: &[u8]) -> Result<Cert, CertFau
     ensures exact { Gives (λ c. c) result (certificate_of forest.now.entries text.now) }
 {
     read_exactly(alloc, forest, text)
+}
+
+/// The start that a text states in its second line, whatever follows that: that of its certificate, if it writes one over some
+/// forest.
+///
+/// # Errors
+///
+/// The fault of the first or of the second line, as [`read`] tells it.
+#[tactic(auto, unfolding(crate::specs::Reading::text_start))]
+pub fn read_start(text: &[u8]) -> Result<Moment, CertFault>
+    ensures { Gives (λ start. start) result (text_start text.now) }
+{
+    let (_, rest) = header_of(text)?;
+    let (second, _) = line_at(2, rest)?;
+    start_of(second)
 }
 
 #[tactic(auto, unfolding(crate::specs::Reading::certificate_of))]

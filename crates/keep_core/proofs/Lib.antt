@@ -23,3 +23,4 @@ pub mod States
 pub mod Closing
 pub mod Once
 pub mod Shaped
+pub mod AlwaysNeeded

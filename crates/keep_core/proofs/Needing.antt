@@ -21,11 +21,11 @@ pub needing_at : (es : List Entry) (f : ℕ → ℕ) (i : ℕ) → i < length es
 unfolding needing entry_at
 needing_at es f i within = get_or-map-range_with_len (λ k. record (get_or es k no_entry) { need = f k }) 0 (length es) i i no_entry within (omega arith)
 
-needing_past : (es : List Entry) (f : ℕ → ℕ) (i : ℕ) → length es ≤ i → entry_at (needing es f) i ≡ entry_at es i
+pub needing_past : (es : List Entry) (f : ℕ → ℕ) (i : ℕ) → length es ≤ i → entry_at (needing es f) i ≡ entry_at es i
 needing_past es f i past = entry_at_past (needing es f) i (let l = length_needing es f in omega arith) ∙ sym (entry_at_past es i past)
 
 -- a field that is no need is as it was
-field_kept : {X : Type 0} (field : Entry → X) → ((e : Entry) (n : ℕ) → field (record e { need = n }) ≡ field e) → (es : List Entry) (f : ℕ → ℕ) (i : ℕ) → field (entry_at (needing es f) i) ≡ field (entry_at es i)
+pub field_kept : {X : Type 0} (field : Entry → X) → ((e : Entry) (n : ℕ) → field (record e { need = n }) ≡ field e) → (es : List Entry) (f : ℕ → ℕ) (i : ℕ) → field (entry_at (needing es f) i) ≡ field (entry_at es i)
 field_kept field same es f i =
     elim (cases_lt i (length es)) [
       | inl within ↦ ap field (needing_at es f i within) ∙ same (entry_at es i) (f i)

@@ -123,7 +123,7 @@ unfolding pairs
 pairs_all g t n count = ap (λ k. map (pair_of g t) (filter (is_short g t) (range_with_len 0 k))) count
 
 -- entries with the same needs are the same
-needing_same : (es fs : List Entry) (f : ℕ → ℕ) → length es ≡ length fs → ((i : ℕ) → i < length es → entry_at fs i ≡ record (entry_at es i) { need = f i }) → needing es f ≡ fs
+pub needing_same : (es fs : List Entry) (f : ℕ → ℕ) → length es ≡ length fs → ((i : ℕ) → i < length es → entry_at fs i ≡ record (entry_at es i) { need = f i }) → needing es f ≡ fs
 needing_same es fs f count each =
     let size = length_needing es f in
     same_entries (needing es f) fs (size ∙ count) (λ i. elim (cases_lt i (length es)) [

@@ -1,5 +1,6 @@
 pub mod State
 pub mod Shorten
+pub mod Always
 pub mod Refusal
 pub mod Replan
 pub mod Step

@@ -29,6 +29,7 @@
 //! Begin with `event`, then `step`.
 #![tactic(auto)]
 
+mod always;
 mod answer;
 mod event;
 mod fault;
@@ -49,6 +50,7 @@ mod step;
 mod steps;
 mod tick;
 
+pub use always::{YEAR, always_law, needs_always};
 pub use event::{Event, Output};
 pub use fault::StepFault;
 pub use keeper::Keeper;

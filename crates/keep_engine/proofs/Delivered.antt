@@ -7,6 +7,8 @@ use Rattle.keep_plan.specs.declared.decision.Decision.TheVariants as decision
 use Rattle.keep_plan.specs.Decides.{Decides}
 use Rattle.keep_cert.specs.declared.printer.PrintFault.TheVariants.{NoCertificate}
 use Rattle.keep_cert.specs.Printing.{Prints, claim}
+use Rattle.keep_inventory.specs.declared.fault.InvFault.{InvFault}
+use Rattle.keep_inventory.specs.Inventories.{Inventory}
 use Rattle.keep_report.specs.declared.exit.Exit.{Exit}
 use Rattle.keep_report.specs.declared.stop.Stop.{Stop}
 use Rattle.keep_report.specs.declared.stop.Stop.TheVariants as stops
@@ -17,24 +19,24 @@ use Rattle.keep_engine.specs.Running.{Halted, Halts, RunOf, Texts}
 
 -- ---- any command
 
-halted : (Text : Texts) (Halt : Halts) (bytes : List ℕ) (stop : Stop) → Makes Text Halt bytes (Err stop) → Halted Halt bytes stop
-halted Text Halt bytes (stops.Inventory fault) makes = makes
-halted Text Halt bytes (stops.Moments fault) makes = makes
-halted Text Halt bytes (stops.FaultWord position) makes = makes
-halted Text Halt bytes stops.TooLong makes = makes
-halted Text Halt bytes stops.Read makes = makes
-halted Text Halt bytes stops.Write makes = makes
-halted Text Halt bytes (stops.Broker name) makes = makes
-halted Text Halt bytes (stops.Line number) makes = makes
-halted Text Halt bytes stops.Memory makes = makes
+halted : (Text : Texts) (Halt : Halts) (answer : Result Inventory InvFault) (stop : Stop) → Makes Text Halt answer (Err stop) → Halted Halt answer stop
+halted Text Halt answer (stops.Inventory fault) makes = makes
+halted Text Halt answer (stops.Moments fault) makes = makes
+halted Text Halt answer (stops.FaultWord position) makes = makes
+halted Text Halt answer stops.TooLong makes = makes
+halted Text Halt answer stops.Read makes = makes
+halted Text Halt answer stops.Write makes = makes
+halted Text Halt answer (stops.Broker name) makes = makes
+halted Text Halt answer (stops.Line number) makes = makes
+halted Text Halt answer stops.Memory makes = makes
 
-pub run_delivered : (Text : Texts) (Halt : Halts) (bytes : List ℕ) (made : Result Outcome Stop) (exit : Exit) (out errors : Change) →
-    Makes Text Halt bytes made → Delivers made exit out errors → RunOf Text Halt bytes exit out errors
-run_delivered Text Halt bytes (Ok outcome) exit out errors makes (inl sent) =
+pub run_delivered : (Text : Texts) (Halt : Halts) (answer : Result Inventory InvFault) (made : Result Outcome Stop) (exit : Exit) (out errors : Change) →
+    Makes Text Halt answer made → Delivers made exit out errors → RunOf Text Halt answer exit out errors
+run_delivered Text Halt answer (Ok outcome) exit out errors makes (inl sent) =
     inl (makes.0, makes.1, outcome.text, subst (λ e. Text makes.0.forest e outcome.text) (sym sent.0) makes.2, sent.1, sent.2)
-run_delivered Text Halt bytes (Ok outcome) exit out errors makes (inr cut) =
+run_delivered Text Halt answer (Ok outcome) exit out errors makes (inr cut) =
     inr (inr (makes.0, makes.1, outcome.exit, outcome.text, makes.2, cut.0, cut.1, cut.2, cut.3))
-run_delivered Text Halt bytes (Err stop) exit out errors makes told = inr (inl (stop, halted Text Halt bytes stop makes, told.0, told.1, told.2))
+run_delivered Text Halt answer (Err stop) exit out errors makes told = inr (inl (stop, halted Text Halt answer stop makes, told.0, told.1, told.2))
 
 -- ---- a forest's decision
 

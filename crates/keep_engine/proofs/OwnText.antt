@@ -1,5 +1,5 @@
 -- Own texts: what `plan` writes is a certificate that gets Yes, and short enough to be read, so that `check` says `yes`.
-use Rattle.std.proofs.Common.{◌≡◌, ◌⊎◌, inl, inr, ℕ, ◌≤◌, List, Option, None, Some, codes, length, refl, sym, subst, arith}
+use Rattle.std.proofs.Common.{◌≡◌, ◌⊎◌, inl, inr, ℕ, ◌≤◌, List, Option, None, Some, Ok, ap, codes, length, refl, sym, subst, arith}
 use Rattle.keep_moment.specs.declared.moment.TheConstants.{LAST}
 use Rattle.keep_tree.specs.Forest.{Forest}
 use Rattle.keep_tree.specs.Push.{IsForest}
@@ -12,16 +12,19 @@ use Rattle.keep_cert.specs.declared.cert.Cert.{Cert}
 use Rattle.keep_cert.specs.declared.cert.Version.TheVariants.{Two}
 use Rattle.keep_cert.specs.CertificateText.{IsBody, certificate_text}
 use Rattle.keep_cert.specs.Printing.{certified}
+use Rattle.keep_cert.specs.Reading.{certificate_of}
 use Rattle.keep_cert.proofs.Printing.{claim_is_body, counted_wakes, runs_within}
+use Rattle.keep_cert.proofs.ReadBackAll.{written_is_read}
+use Rattle.keep_cert.proofs.Stated.{start_stated}
 use Rattle.keep_check.specs.declared.answer.Answer.TheVariants.{Yes}
 use Rattle.keep_check.specs.Answer.{IsAnswer}
 use Rattle.keep_check.proofs.Answers.{yes_holds}
 use Rattle.keep_check.proofs.Written.{body_fits}
-use Rattle.keep_inventory.proofs.Inventoried.{inventory_law}
+use Rattle.keep_start.proofs.Started.{start_law}
 use Rattle.keep_report.specs.declared.exit.Exit.{Exit}
 use Rattle.keep_report.specs.declared.exit.Exit.TheVariants as exits
 use Rattle.keep_cert.specs.declared.cert.TheConstants.{MOST_CERTIFICATE}
-use Rattle.keep_engine.specs.CheckRun.{IsAccepted, StartsAsAsked}
+use Rattle.keep_engine.specs.CheckRun.{IsAccepted, StartsAsAsked, or_zero, stated_start}
 use Rattle.keep_engine.specs.Laws.{IsOwnText, OwnTextLaw}
 use Rattle.keep_engine.specs.PlanRun.{IsCertified}
 use Rattle.keep_engine.proofs.OneText.{one_check_text}
@@ -42,6 +45,10 @@ own_start : (s : ℕ) (c : Cert) → c.start ≡ s → (asked : Option ℕ) → 
 own_start s c is asked (inl none) = subst (λ (o : Option ℕ). StartsAsAsked o c) (sym none) tt
 own_start s c is asked (inr own) = subst (λ (o : Option ℕ). StartsAsAsked o c) (sym own) is
 
+is_stated : (g : Forest) (text : List ℕ) (c : Cert) → certificate_of g.entries text ≡ Ok c → stated_start text ≡ c.start
+unfolding stated_start
+is_stated g text c read = ap or_zero (start_stated g.entries text c read)
+
 body_accepted : (g : Forest) (s : ℕ) (b : Body) (text : List ℕ) → IsForest g → s ≤ LAST → IsBody Two g.entries b → HasFewRuns g b → IsAnswer g (certified s b) Yes
     → text ≡ certificate_text g.entries (certified s b) → IsOwnText g s text
 body_accepted g s b text forest start is few right spelled =
@@ -59,6 +66,7 @@ body_accepted g s b text forest start is few right spelled =
       accepted = accepted (Some s) refl;
       alone = λ asked own exit line judged. one_check_text asked g text exit exits.Done line (codes "yes\n") forest judged (accepted asked (own_start s c refl asked own));
       short = subst (λ t. length t ≤ MOST_CERTIFICATE) (sym spelled) (certificate_size g forest s start b is few);
+      stated = is_stated g text c (written_is_read g forest text c (record { certificate = (start, is); spelled = spelled }));
     }
 
 certified_is_own : (g : Forest) (s : ℕ) (exit : Exit) (text : List ℕ) → IsForest g → s ≤ LAST → IsCertified g s exit text → IsOwnText g s text
@@ -76,5 +84,5 @@ certified_is_own g s exits.Memory text forest start is = absurd is
 
 pub own_text : OwnTextLaw
 own_text bytes inventory s exit text read start is =
-    let forest = (inventory_law bytes inventory read).forest in
+    let forest = (start_law s bytes inventory read).forest in
     (forest, certified_is_own inventory.forest s exit text forest start is)

@@ -1,6 +1,6 @@
 -- Same rehearsal: of two inventories that differ in credentials alone the rehearsals with the same FAULT words that come to their
 -- end have one exit and one text.
-use Rattle.std.proofs.Common.{◌≡◌, ◌∙◌, ℕ, List, [], Ok, Err, refl, sym, ap, subst, inl, inr, ◌⊎◌}
+use Rattle.std.proofs.Common.{◌≡◌, ◌∙◌, ℕ, List, [], Result, Ok, Err, refl, sym, ap, subst, inl, inr, ◌⊎◌}
 use Rattle.std.specs.Io.KnownBytes.{Appends, Keeps}
 use Rattle.std.proofs.KnownBytes.{Keeps-refl}
 use Rattle.keep_device.specs.Seen.{Change}
@@ -9,11 +9,11 @@ use Rattle.keep_tree.specs.Forest.{Forest}
 use Rattle.keep_core.specs.Replan.{ReplanTooLong}
 use Rattle.keep_core.specs.State.{unplanned}
 use Rattle.keep_core.proofs.Orders.{not_both}
+use Rattle.keep_inventory.specs.declared.fault.InvFault.{InvFault}
 use Rattle.keep_inventory.specs.declared.terms.Terms.{Terms}
 use Rattle.keep_inventory.specs.Inventories.{IsInventory, Inventory}
-use Rattle.keep_inventory.specs.Inventory.{read_inventory}
-use Rattle.keep_inventory.proofs.Barely.{secrecy_law}
-use Rattle.keep_inventory.proofs.Inventoried.{inventory_law}
+use Rattle.keep_start.specs.Start.{from_start, inventory_at, marks}
+use Rattle.keep_start.proofs.Started.{known_at, secrecy_law, start_law}
 use Rattle.mini_broker.specs.declared.fault.NumberedFault.{NumberedFault}
 use Rattle.keep_exchange.specs.Exchanges.{Behind}
 use Rattle.keep_report.specs.declared.exit.Exit.{Exit}
@@ -57,28 +57,28 @@ IsHalted v start words exit out errors =
 abbrev EndsIn : Inventory → ℕ → List (List ℕ) → Exit → Change → Change → Type 0
 EndsIn v start words exit out errors = (IsDone v start words exit out errors ⊎ IsMisspelt words exit out errors) ⊎ (IsUnplanned v start words exit out errors ⊎ IsHalted v start words exit out errors)
 
-one_inventory : (bytes : List ℕ) (v x : Inventory) → read_inventory bytes ≡ Ok v → read_inventory bytes ≡ Ok x → x ≡ v
-one_inventory bytes v x a b = let same : x ≡ v = cc in same
+one_inventory : (answer : Result Inventory InvFault) (v x : Inventory) → answer ≡ Ok v → answer ≡ Ok x → x ≡ v
+one_inventory answer v x a b = let same : x ≡ v = cc in same
 
-ends_in : (bytes : List ℕ) (v : Inventory) (start : ℕ) (words : List (List ℕ)) (exit : Exit) (out errors : Change) (old new : Behind) → read_inventory bytes ≡ Ok v → IsWhole exit → RehearseRun bytes start words exit out old new →
-    RehearseTold bytes words exit errors → EndsIn v start words exit out errors
-ends_in bytes v start words exits.Done out errors old new reads end run told =
-    let same = one_inventory bytes v run.0 reads run.2.read in
+ends_in : (answer : Result Inventory InvFault) (v : Inventory) (start : ℕ) (words : List (List ℕ)) (exit : Exit) (out errors : Change) (old new : Behind) → answer ≡ Ok v → IsWhole exit → RehearseRun answer start words exit out old new →
+    RehearseTold answer words exit errors → EndsIn v start words exit out errors
+ends_in answer v start words exits.Done out errors old new reads end run told =
+    let same = one_inventory answer v run.0 reads run.2.read in
     inl (inl (refl, (run.1, (run.2.faults_are, (run.3, (run.4, (subst (λ x. IsClosedRun x run.1 start run.3 run.4) same run.5, (subst (λ x. Appends out.old.output.written out.new.output.written (course_text x run.3)) same run.6.0, told))))))))
-ends_in bytes v start words exits.CommandLine out errors old new reads end run told =
+ends_in answer v start words exits.CommandLine out errors old new reads end run told =
     let position : told.0 ≡ run.2 = (let e = sym told.1 ∙ run.3 in cc) in
     inl (inr (refl, (run.2, (run.3, (run.4, subst (λ n. Reports (line_of (stops.FaultWord n)) errors) position told.2)))))
-ends_in bytes v start words exits.TooLong out errors old new reads end run told =
-    let same = one_inventory bytes v run.0 reads run.2.read in
+ends_in answer v start words exits.TooLong out errors old new reads end run told =
+    let same = one_inventory answer v run.0 reads run.2.read in
     elim run.3 [
       | inl long ↦ inr (inl (refl, (run.1, (run.2.faults_are, (subst (λ (x : Inventory). ReplanTooLong x.forest start) same long.0, (long.1, told))))))
       | inr long ↦ inr (inr (refl, (run.1, (run.2.faults_are, (long.0, (long.1, (subst (λ x. IsStopped x run.1 start long.0 long.1) same long.2, (long.3.0, told))))))))
     ]
-ends_in bytes v start words exits.Inventory out errors old new reads end run told = absurd (let fault = run.1 in cc)
-ends_in bytes v start words exits.Unkeepable out errors old new reads end run told = absurd run
-ends_in bytes v start words exits.No out errors old new reads end run told = absurd run
-ends_in bytes v start words exits.Device out errors old new reads end run told = absurd end
-ends_in bytes v start words exits.Memory out errors old new reads end run told = absurd end
+ends_in answer v start words exits.Inventory out errors old new reads end run told = absurd (let fault = run.1 in cc)
+ends_in answer v start words exits.Unkeepable out errors old new reads end run told = absurd run
+ends_in answer v start words exits.No out errors old new reads end run told = absurd run
+ends_in answer v start words exits.Device out errors old new reads end run told = absurd end
+ends_in answer v start words exits.Memory out errors old new reads end run told = absurd end
 
 -- ---- what it has written, if it was cut short
 
@@ -86,33 +86,33 @@ abbrev Fronts : Inventory → ℕ → List (List ℕ) → Change → Type 0
 Fronts v start words out =
     ((faults : List NumberedFault) × ((faults_of words ≡ Ok faults) × ((text : List ℕ) × (IsRunText v faults start text × AppendsFront out.old.output.written out.new.output.written text)))) ⊎ IsUntouched out
 
-abbrev IsWritten : List ℕ → ℕ → List (List ℕ) → Change → Type 0
-IsWritten bytes start words out =
-    (inventory : Inventory) × (faults : List NumberedFault) × (read_inventory bytes ≡ Ok inventory) × (faults_of words ≡ Ok faults) × (text : List ℕ) × IsRunText inventory faults start text × AppendsFront out.old.output.written out.new.output.written text
+abbrev IsWritten : Result Inventory InvFault → ℕ → List (List ℕ) → Change → Type 0
+IsWritten answer start words out =
+    (inventory : Inventory) × (faults : List NumberedFault) × (answer ≡ Ok inventory) × (faults_of words ≡ Ok faults) × (text : List ℕ) × IsRunText inventory faults start text × AppendsFront out.old.output.written out.new.output.written text
 
-written_front : (bytes : List ℕ) (v : Inventory) (start : ℕ) (words : List (List ℕ)) (out : Change) → read_inventory bytes ≡ Ok v → IsWritten bytes start words out → Fronts v start words out
-written_front bytes v start words out reads w = inl (w.1, (w.3, (w.4, (subst (λ x. IsRunText x w.1 start w.4) (one_inventory bytes v w.0 reads w.2) w.5, w.6))))
+written_front : (answer : Result Inventory InvFault) (v : Inventory) (start : ℕ) (words : List (List ℕ)) (out : Change) → answer ≡ Ok v → IsWritten answer start words out → Fronts v start words out
+written_front answer v start words out reads w = inl (w.1, (w.3, (w.4, (subst (λ x. IsRunText x w.1 start w.4) (one_inventory answer v w.0 reads w.2) w.5, w.6))))
 
-fronts_in : (bytes : List ℕ) (v : Inventory) (start : ℕ) (words : List (List ℕ)) (exit : Exit) (out : Change) (old new : Behind) → read_inventory bytes ≡ Ok v → RehearseRun bytes start words exit out old new → Fronts v start words out
-fronts_in bytes v start words exits.Done out old new reads run =
-    written_front bytes v start words out reads
+fronts_in : (answer : Result Inventory InvFault) (v : Inventory) (start : ℕ) (words : List (List ℕ)) (exit : Exit) (out : Change) (old new : Behind) → answer ≡ Ok v → RehearseRun answer start words exit out old new → Fronts v start words out
+fronts_in answer v start words exits.Done out old new reads run =
+    written_front answer v start words out reads
     (run.0, run.1, run.2.read, run.2.faults_are, course_text run.0 run.3, run_of_course run.0 run.1 start run.3 run.4 run.5, whole_front out.old.output.written out.new.output.written out.new.output.written (course_text run.0 run.3) run.6.0 (Keeps-refl out.new.output.written))
-fronts_in bytes v start words exits.CommandLine out old new reads run = inr run.4
-fronts_in bytes v start words exits.TooLong out old new reads run = elim run.3 [
+fronts_in answer v start words exits.CommandLine out old new reads run = inr run.4
+fronts_in answer v start words exits.TooLong out old new reads run = elim run.3 [
   | inl long ↦ inr long.1
   | inr long ↦
-      written_front bytes v start words out reads
+      written_front answer v start words out reads
       (run.0, run.1, run.2.read, run.2.faults_are, long.1, run_of_stopped run.0 run.1 start long.0 long.1 long.2, whole_front out.old.output.written out.new.output.written out.new.output.written long.1 long.3.0 (Keeps-refl out.new.output.written))
 ]
-fronts_in bytes v start words exits.Inventory out old new reads run = inr run.2
-fronts_in bytes v start words exits.Unkeepable out old new reads run = absurd run
-fronts_in bytes v start words exits.No out old new reads run = absurd run
-fronts_in bytes v start words exits.Device out old new reads run =
+fronts_in answer v start words exits.Inventory out old new reads run = inr run.2
+fronts_in answer v start words exits.Unkeepable out old new reads run = absurd run
+fronts_in answer v start words exits.No out old new reads run = absurd run
+fronts_in answer v start words exits.Device out old new reads run =
     let w = run.1 in
-    written_front bytes v start words out reads (w.0, w.1, w.2.read, w.2.faults_are, w.3, w.4, w.5)
-fronts_in bytes v start words exits.Memory out old new reads run = elim run [
+    written_front answer v start words out reads (w.0, w.1, w.2.read, w.2.faults_are, w.3, w.4, w.5)
+fronts_in answer v start words exits.Memory out old new reads run = elim run [
   | inl none ↦ inr none
-  | inr w ↦ written_front bytes v start words out reads (w.0, w.1, w.2.read, w.2.faults_are, w.3, w.4, w.5)
+  | inr w ↦ written_front answer v start words out reads (w.0, w.1, w.2.read, w.2.faults_are, w.3, w.4, w.5)
 ]
 
 -- ---- two of them
@@ -194,16 +194,18 @@ module _ (g : Forest) (cs ds : List (List ℕ)) (ts : List Terms) (one : IsInven
 
 pub rehearse_secrecy : RehearseSecrecy
 rehearse_secrecy bytes other start words exit exit' out out' errors errors' d a b =
-    let s = d.inventory in
-    let o = d.other_inventory in
-    let alike = secrecy_law bytes other s o d.alike d.reads d.other_reads in
+    let s = from_start d.served.inventory (marks d.served.notes) start in
+    let o = from_start d.other_served.inventory (marks d.other_served.notes) start in
+    let reads : inventory_at start bytes ≡ Ok s = known_at start bytes d.served d.reads in
+    let other_reads : inventory_at start other ≡ Ok o = known_at start other d.other_served d.other_reads in
+    let alike = secrecy_law start bytes other s o d.alike reads other_reads in
     let u : Inventory = record { forest = s.forest; credentials = o.credentials; terms = s.terms } in
     let is : o ≡ u =
     ap (λ g. record { forest = g; credentials = o.credentials; terms = o.terms }) (sym alike.0) ∙ ap (λ ts. record { forest = s.forest; credentials = o.credentials; terms = ts }) (sym alike.1) in
-    let reads : read_inventory other ≡ Ok u = d.other_reads ∙ ap (λ (v : Inventory). Ok v) is in
-    let one = inventory_law bytes s d.reads in
-    let two = inventory_law other u reads in (
-      two_fronts s.forest s.credentials o.credentials s.terms one two start words out out' (fronts_in bytes s start words exit out a.0 a.1 d.reads a.2) (fronts_in other u start words exit' out' b.0 b.1 reads b.2),
-      λ end end'. both_end s.forest s.credentials o.credentials s.terms one two start words exit exit' out out' errors errors' (ends_in bytes s start words exit out errors a.0 a.1 d.reads end a.2 a.3)
-          (ends_in other u start words exit' out' errors' b.0 b.1 reads end' b.2 b.3),
+    let reads_so : inventory_at start other ≡ Ok u = other_reads ∙ ap (λ (v : Inventory). Ok v) is in
+    let one = start_law start bytes s reads in
+    let two = start_law start other u reads_so in (
+      two_fronts s.forest s.credentials o.credentials s.terms one two start words out out' (fronts_in (inventory_at start bytes) s start words exit out a.0 a.1 reads a.2) (fronts_in (inventory_at start other) u start words exit' out' b.0 b.1 reads_so b.2),
+      λ end end'. both_end s.forest s.credentials o.credentials s.terms one two start words exit exit' out out' errors errors' (ends_in (inventory_at start bytes) s start words exit out errors a.0 a.1 reads end a.2 a.3)
+          (ends_in (inventory_at start other) u start words exit' out' errors' b.0 b.1 reads_so end' b.2 b.3),
     )

@@ -1,6 +1,6 @@
 -- Same run: of two inventories that differ in credentials alone each run that comes to its end has one exit and one text,
 -- for every command whose text and whose reason to have none are told by the forest.
-use Rattle.std.proofs.Common.{◌≡◌, ◌∙◌, ℕ, Bool, List, [], Option, Some, Ok, Err, length, refl, sym, ap, subst, arith, inl, inr, ◌⊎◌}
+use Rattle.std.proofs.Common.{◌≡◌, ◌∙◌, ℕ, Bool, List, [], Option, Some, Result, Ok, Err, length, refl, sym, ap, subst, arith, inl, inr, ◌⊎◌}
 use Rattle.std.specs.Io.KnownBytes.{Appends, Keeps}
 use Rattle.std.proofs.lemmas.List.{length-map}
 use Rattle.std.proofs.KnownBytes.{Keeps-refl}
@@ -12,10 +12,10 @@ use Rattle.keep_rule.specs.declared.wake.Wake.{Wake}
 use Rattle.keep_rule.specs.Plans.{moments}
 use Rattle.keep_rule.specs.Runs.{all_wakes, moments_of}
 use Rattle.keep_plan.specs.Decides.{IsTooLong}
+use Rattle.keep_inventory.specs.declared.fault.InvFault.{InvFault}
 use Rattle.keep_inventory.specs.Inventories.{Inventory}
-use Rattle.keep_inventory.specs.Inventory.{read_inventory}
-use Rattle.keep_inventory.proofs.Barely.{secrecy_law}
-use Rattle.keep_inventory.proofs.Inventoried.{inventory_law}
+use Rattle.keep_start.specs.Start.{from_start, inventory_at, marks}
+use Rattle.keep_start.proofs.Started.{known_at, secrecy_law, start_law}
 use Rattle.keep_report.specs.declared.exit.Exit.{Exit}
 use Rattle.keep_report.specs.declared.exit.Exit.TheVariants as exits
 use Rattle.keep_report.specs.declared.stop.Stop.{Stop}
@@ -24,7 +24,7 @@ use Rattle.keep_report.specs.Exits.{exit_of}
 use Rattle.keep_report.specs.Sent.{IsUntouched, Sends}
 use Rattle.keep_report.specs.Told.{Reports}
 use Rattle.keep_report.proofs.Fronts.{whole_front}
-use Rattle.keep_engine.specs.CheckRun.{CheckTexts}
+use Rattle.keep_engine.specs.CheckRun.{CheckTexts, stated_start}
 use Rattle.keep_engine.specs.EndsRun.{EndsHalts, EndsTexts}
 use Rattle.keep_engine.specs.declared.margin.MarginQuery.{MarginQuery}
 use Rattle.keep_engine.specs.MarginRun.{MarginHalts, MarginTexts}
@@ -41,11 +41,33 @@ use Rattle.keep_run.proofs.Written.{untouched_appends}
 
 -- ---- the forest is one
 
-one_forest : (bytes other : List ℕ) (d : DifferInSecrets bytes other) → d.inventory.forest ≡ d.other_inventory.forest
-one_forest bytes other d = (secrecy_law bytes other d.inventory d.other_inventory d.alike d.reads d.other_reads).0
+-- two answers, both inventories, with one forest
+pub record AreAlike (answer other : Result Inventory InvFault) : Type 0 where
+  pub inventory : Inventory
+  pub reads : answer ≡ Ok inventory
+  pub other_inventory : Inventory
+  pub other_reads : other ≡ Ok other_inventory
+  pub forest : IsForest inventory.forest
+  pub same : inventory.forest ≡ other_inventory.forest
 
-one_inventory : (bytes : List ℕ) (x y : Inventory) → read_inventory bytes ≡ Ok x → read_inventory bytes ≡ Ok y → x.forest ≡ y.forest
-one_inventory bytes x y a b = let same : x ≡ y = cc in ap (λ (s : Inventory). s.forest) same
+-- from a start on
+alike_at : (s : ℕ) (bytes other : List ℕ) → DifferInSecrets bytes other → AreAlike (inventory_at s bytes) (inventory_at s other)
+alike_at s bytes other d =
+    let v = from_start d.served.inventory (marks d.served.notes) s in
+    let w = from_start d.other_served.inventory (marks d.other_served.notes) s in
+    let reads = known_at s bytes d.served d.reads in
+    let other_reads = known_at s other d.other_served d.other_reads in
+    record {
+      inventory = v;
+      reads = reads;
+      other_inventory = w;
+      other_reads = other_reads;
+      forest = (start_law s bytes v reads).forest;
+      same = (secrecy_law s bytes other v w d.alike reads other_reads).0;
+    }
+
+one_inventory : (answer : Result Inventory InvFault) (x y : Inventory) → answer ≡ Ok x → answer ≡ Ok y → x.forest ≡ y.forest
+one_inventory answer x y a b = let same : x ≡ y = cc in ap (λ (s : Inventory). s.forest) same
 
 -- ---- sendings that were cut short
 
@@ -86,23 +108,23 @@ module _ (Text : Texts) (Halt : Halts) where
       ((text : List ℕ) × Text g exit text × Appends out.old.output.written out.new.output.written text × IsUntouched errors)
       ⊎ ((stop : Stop) × Halt g stop × (exit ≡ exit_of stop) × IsUntouched out × Reports (line_of stop) errors)
 
-  halted_in : (bytes : List ℕ) (inventory : Inventory) (stop : Stop) → read_inventory bytes ≡ Ok inventory → IsWhole (exit_of stop) → Halted Halt bytes stop → Halt inventory.forest stop
-  halted_in bytes inventory stops.Memory reads whole halted = absurd whole
-  halted_in bytes inventory (stops.Inventory fault) reads whole halted = absurd cc
-  halted_in bytes inventory (stops.Moments fault) reads whole halted = subst (λ g. Halt g (stops.Moments fault)) (one_inventory bytes halted.0 inventory halted.1 reads) halted.2
-  halted_in bytes inventory (stops.FaultWord position) reads whole halted = subst (λ g. Halt g (stops.FaultWord position)) (one_inventory bytes halted.0 inventory halted.1 reads) halted.2
-  halted_in bytes inventory stops.TooLong reads whole halted = subst (λ g. Halt g stops.TooLong) (one_inventory bytes halted.0 inventory halted.1 reads) halted.2
-  halted_in bytes inventory stops.Read reads whole halted = absurd whole
-  halted_in bytes inventory stops.Write reads whole halted = absurd whole
-  halted_in bytes inventory (stops.Broker name) reads whole halted = absurd whole
-  halted_in bytes inventory (stops.Line number) reads whole halted = absurd whole
+  halted_in : (answer : Result Inventory InvFault) (inventory : Inventory) (stop : Stop) → answer ≡ Ok inventory → IsWhole (exit_of stop) → Halted Halt answer stop → Halt inventory.forest stop
+  halted_in answer inventory stops.Memory reads whole halted = absurd whole
+  halted_in answer inventory (stops.Inventory fault) reads whole halted = absurd cc
+  halted_in answer inventory (stops.Moments fault) reads whole halted = subst (λ g. Halt g (stops.Moments fault)) (one_inventory answer halted.0 inventory halted.1 reads) halted.2
+  halted_in answer inventory (stops.FaultWord position) reads whole halted = subst (λ g. Halt g (stops.FaultWord position)) (one_inventory answer halted.0 inventory halted.1 reads) halted.2
+  halted_in answer inventory stops.TooLong reads whole halted = subst (λ g. Halt g stops.TooLong) (one_inventory answer halted.0 inventory halted.1 reads) halted.2
+  halted_in answer inventory stops.Read reads whole halted = absurd whole
+  halted_in answer inventory stops.Write reads whole halted = absurd whole
+  halted_in answer inventory (stops.Broker name) reads whole halted = absurd whole
+  halted_in answer inventory (stops.Line number) reads whole halted = absurd whole
 
-  ends_in : (bytes : List ℕ) (inventory : Inventory) (exit : Exit) (out errors : Change) → read_inventory bytes ≡ Ok inventory → IsWhole exit → RunOf Text Halt bytes exit out errors → EndsIn inventory.forest exit out errors
-  ends_in bytes inventory exit out errors reads whole (inl run) =
-      inl (run.2, subst (λ g. Text g exit run.2) (one_inventory bytes run.0 inventory run.1 reads) run.3, run.4.0, run.5)
-  ends_in bytes inventory exit out errors reads whole (inr (inl run)) =
-      inr (run.0, halted_in bytes inventory run.0 reads (subst IsWhole run.2 whole) run.1, run.2, run.3, run.4)
-  ends_in bytes inventory exit out errors reads whole (inr (inr run)) = not_cut run.5 run.3 out run.6 (subst IsWhole run.7 whole)
+  ends_in : (answer : Result Inventory InvFault) (inventory : Inventory) (exit : Exit) (out errors : Change) → answer ≡ Ok inventory → IsWhole exit → RunOf Text Halt answer exit out errors → EndsIn inventory.forest exit out errors
+  ends_in answer inventory exit out errors reads whole (inl run) =
+      inl (run.2, subst (λ g. Text g exit run.2) (one_inventory answer run.0 inventory run.1 reads) run.3, run.4.0, run.5)
+  ends_in answer inventory exit out errors reads whole (inr (inl run)) =
+      inr (run.0, halted_in answer inventory run.0 reads (subst IsWhole run.2 whole) run.1, run.2, run.3, run.4)
+  ends_in answer inventory exit out errors reads whole (inr (inr run)) = not_cut run.5 run.3 out run.6 (subst IsWhole run.7 whole)
 
   both_end : (g : Forest) (exit exit' : Exit) (out out' errors errors' : Change) → IsOne Text Halt → IsForest g → EndsIn g exit out errors → EndsIn g exit' out' errors' →
       (exit ≡ exit') × WriteSame out out' × TellSame errors errors'
@@ -119,12 +141,12 @@ module _ (Text : Texts) (Halt : Halts) where
   abbrev Fronts : Forest → Change → Type 0
   Fronts g out = ((text : List ℕ) × ((exit : Exit) × Text g exit text) × AppendsFront out.old.output.written out.new.output.written text) ⊎ IsUntouched out
 
-  fronts_in : (bytes : List ℕ) (inventory : Inventory) (exit : Exit) (out errors : Change) → read_inventory bytes ≡ Ok inventory → RunOf Text Halt bytes exit out errors → Fronts inventory.forest out
-  fronts_in bytes inventory exit out errors reads (inl run) =
-      subst (λ g. Fronts g out) (one_inventory bytes run.0 inventory run.1 reads) (inl (run.2, (exit, run.3), whole_front out.old.output.written out.new.output.written out.new.output.written run.2 run.4.0 (Keeps-refl out.new.output.written)))
-  fronts_in bytes inventory exit out errors reads (inr (inl run)) = inr run.3
-  fronts_in bytes inventory exit out errors reads (inr (inr run)) =
-      subst (λ g. Fronts g out) (one_inventory bytes run.0 inventory run.1 reads) (inl (run.3, (run.2, run.4), cut_front run.5 run.3 out run.6))
+  fronts_in : (answer : Result Inventory InvFault) (inventory : Inventory) (exit : Exit) (out errors : Change) → answer ≡ Ok inventory → RunOf Text Halt answer exit out errors → Fronts inventory.forest out
+  fronts_in answer inventory exit out errors reads (inl run) =
+      subst (λ g. Fronts g out) (one_inventory answer run.0 inventory run.1 reads) (inl (run.2, (exit, run.3), whole_front out.old.output.written out.new.output.written out.new.output.written run.2 run.4.0 (Keeps-refl out.new.output.written)))
+  fronts_in answer inventory exit out errors reads (inr (inl run)) = inr run.3
+  fronts_in answer inventory exit out errors reads (inr (inr run)) =
+      subst (λ g. Fronts g out) (one_inventory answer run.0 inventory run.1 reads) (inl (run.3, (run.2, run.4), cut_front run.5 run.3 out run.6))
 
   two_fronts : (g : Forest) (out out' : Change) → IsOne Text Halt → IsForest g → Fronts g out → Fronts g out' → WriteFronts out out'
   two_fronts g out out' one forest (inl a) (inl b) =
@@ -133,14 +155,13 @@ module _ (Text : Texts) (Halt : Halts) where
   two_fronts g out out' one forest (inr kept) (inl b) = (b.0, (0, untouched_appends out kept), b.2)
   two_fronts g out out' one forest (inr kept) (inr same) = ([], (0, untouched_appends out kept), (0, untouched_appends out' same))
 
-  pub runs_alike : (bytes other : List ℕ) (exit exit' : Exit) (out out' errors errors' : Change) → IsOne Text Halt → DifferInSecrets bytes other →
-      RunOf Text Halt bytes exit out errors → RunOf Text Halt other exit' out' errors' → RunAlike exit exit' out out' errors errors'
-  runs_alike bytes other exit exit' out out' errors errors' one d a b =
-      let same = sym (one_forest bytes other d) in
-      let g = d.inventory.forest in
-      let forest = (inventory_law bytes d.inventory d.reads).forest in (
-        two_fronts g out out' one forest (fronts_in bytes d.inventory exit out errors d.reads a) (subst (λ g. Fronts g out') same (fronts_in other d.other_inventory exit' out' errors' d.other_reads b)),
-        λ whole whole'. both_end g exit exit' out out' errors errors' one forest (ends_in bytes d.inventory exit out errors d.reads whole a)
+  pub runs_alike : (answer other : Result Inventory InvFault) (exit exit' : Exit) (out out' errors errors' : Change) → IsOne Text Halt → AreAlike answer other →
+      RunOf Text Halt answer exit out errors → RunOf Text Halt other exit' out' errors' → RunAlike exit exit' out out' errors errors'
+  runs_alike answer other exit exit' out out' errors errors' one d a b =
+      let same = sym d.same in
+      let g = d.inventory.forest in (
+        two_fronts g out out' one d.forest (fronts_in answer d.inventory exit out errors d.reads a) (subst (λ g. Fronts g out') same (fronts_in other d.other_inventory exit' out' errors' d.other_reads b)),
+        λ whole whole'. both_end g exit exit' out out' errors errors' one d.forest (ends_in answer d.inventory exit out errors d.reads whole a)
             (subst (λ g. EndsIn g exit' out' errors') same (ends_in other d.other_inventory exit' out' errors' d.other_reads whole' b)),
       )
 
@@ -154,7 +175,7 @@ one_ends s at = record {
 }
 
 pub ends_secrecy : EndsSecrecy
-ends_secrecy bytes other s at exit exit' out out' errors errors' d a b = runs_alike (EndsTexts s at) (EndsHalts s at) bytes other exit exit' out out' errors errors' (one_ends s at) d a b
+ends_secrecy bytes other s at exit exit' out out' errors errors' d a b = runs_alike (EndsTexts s at) (EndsHalts s at) (inventory_at s bytes) (inventory_at s other) exit exit' out out' errors errors' (one_ends s at) (alike_at s bytes other d) a b
 
 long_or_planned : {X : Type 0} (g : Forest) (s : ℕ) (text : List ℕ) → IsTooLong g s → IsPlanText g s text → X
 long_or_planned g s text a b =
@@ -187,7 +208,7 @@ one_plan s = record {
 }
 
 pub plan_secrecy : PlanSecrecy
-plan_secrecy bytes other s exit exit' out out' errors errors' d a b = runs_alike (PlanTexts s) (PlanHalts s) bytes other exit exit' out out' errors errors' (one_plan s) d a b
+plan_secrecy bytes other s exit exit' out out' errors errors' d a b = runs_alike (PlanTexts s) (PlanHalts s) (inventory_at s bytes) (inventory_at s other) exit exit' out out' errors errors' (one_plan s) (alike_at s bytes other d) a b
 
 one_margin : (q : MarginQuery) → IsOne (MarginTexts q) (MarginHalts q)
 one_margin q = record {
@@ -197,7 +218,7 @@ one_margin q = record {
 }
 
 pub margin_secrecy : MarginSecrecy
-margin_secrecy bytes other q exit exit' out out' errors errors' d a b = runs_alike (MarginTexts q) (MarginHalts q) bytes other exit exit' out out' errors errors' (one_margin q) d a b
+margin_secrecy bytes other q exit exit' out out' errors errors' d a b = runs_alike (MarginTexts q) (MarginHalts q) (inventory_at q.start bytes) (inventory_at q.start other) exit exit' out out' errors errors' (one_margin q) (alike_at q.start bytes other d) a b
 
 one_reach : (s : ℕ) (dates : Bool) → IsOne (ReachTexts s dates) NoHalts
 one_reach s dates = record {
@@ -207,7 +228,7 @@ one_reach s dates = record {
 }
 
 pub reach_secrecy : ReachSecrecy
-reach_secrecy bytes other s dates exit exit' out out' errors errors' d a b = runs_alike (ReachTexts s dates) NoHalts bytes other exit exit' out out' errors errors' (one_reach s dates) d a b
+reach_secrecy bytes other s dates exit exit' out out' errors errors' d a b = runs_alike (ReachTexts s dates) NoHalts (inventory_at s bytes) (inventory_at s other) exit exit' out out' errors errors' (one_reach s dates) (alike_at s bytes other d) a b
 
 one_check : (asked : Option ℕ) (text : List ℕ) → IsOne (CheckTexts asked text) NoHalts
 one_check asked text = record {
@@ -217,4 +238,4 @@ one_check asked text = record {
 }
 
 pub check_secrecy : CheckSecrecy
-check_secrecy bytes other text asked exit exit' out out' errors errors' d a b = runs_alike (CheckTexts asked text) NoHalts bytes other exit exit' out out' errors errors' (one_check asked text) d a b
+check_secrecy bytes other text asked exit exit' out out' errors errors' d a b = runs_alike (CheckTexts asked text) NoHalts (inventory_at (stated_start text) bytes) (inventory_at (stated_start text) other) exit exit' out out' errors errors' (one_check asked text) (alike_at (stated_start text) bytes other d) a b

@@ -1,12 +1,12 @@
 -- The run `check`: which line goes with which exit.
 -- Source: this project's own.
-use Rattle.std.specs.Prelude.{◌≡◌, ℕ, ◌⊎◌, List, Option, Some, IfSome, Err, codes}
+use Rattle.std.specs.Prelude.{◌≡◌, ℕ, ◌⊎◌, List, Option, Some, IfSome, Result, Ok, Err, codes}
 use Rattle.keep_device.specs.Seen.{Change}
 use Rattle.keep_tree.specs.Forest.{Forest}
 use Rattle.keep_cert.specs.declared.cert.Cert.{Cert}
 use Rattle.keep_cert.specs.declared.fault.CertFault.{CertFault}
 use Rattle.keep_cert.specs.CertificateText.{Writes}
-use Rattle.keep_cert.specs.Reading.{certificate_of}
+use Rattle.keep_cert.specs.Reading.{certificate_of, text_start}
 use Rattle.keep_check.specs.declared.answer.Answer.TheVariants.{No, Yes}
 use Rattle.keep_check.specs.declared.answer.Cause.{Cause}
 use Rattle.keep_check.specs.Answer.{IsAnswer}
@@ -14,7 +14,16 @@ use Rattle.keep_check.specs.Laws.{Holds}
 use Rattle.keep_report.specs.declared.exit.Exit.{Exit}
 use Rattle.keep_report.specs.declared.exit.Exit.TheVariants as exits
 use Rattle.keep_engine.specs.CheckText.{no_line, unreadable_line}
+use Rattle.keep_start.specs.Start.{inventory_at}
 use Rattle.keep_engine.specs.Running.{NoHalts, RunOf, Texts}
+
+abbrev pub or_zero : Result ℕ CertFault → ℕ
+or_zero (Ok s) = s
+or_zero (Err fault) = 0
+
+-- the start that a certificate's text states, 0 where it states none
+unfoldable pub stated_start : List ℕ → ℕ
+stated_start text = or_zero (text_start text)
 
 -- the certificate's start is the one that is asked for, if one is
 abbrev pub StartsAsAsked : Option ℕ → Cert → Type 0
@@ -61,6 +70,7 @@ IsJudged asked g text exit line = ⊥
 abbrev pub CheckTexts : Option ℕ → List ℕ → Texts
 CheckTexts asked text g exit line = IsJudged asked g text exit line
 
--- `check` over the bytes of an inventory and of a certificate, with the start that is asked for, if one is
+-- `check` over the bytes of an inventory, from the start on that the certificate states, and of the certificate, with the start that
+-- is asked for, if one is
 abbrev pub CheckRun : List ℕ → List ℕ → Option ℕ → Exit → Change → Change → Type 0
-CheckRun bytes text asked exit out errors = RunOf (CheckTexts asked text) NoHalts bytes exit out errors
+CheckRun bytes text asked exit out errors = RunOf (CheckTexts asked text) NoHalts (inventory_at (stated_start text) bytes) exit out errors

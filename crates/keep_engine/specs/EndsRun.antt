@@ -7,6 +7,7 @@ use Rattle.keep_report.specs.declared.exit.Exit.{Exit}
 use Rattle.keep_report.specs.declared.exit.Exit.TheVariants as exits
 use Rattle.keep_report.specs.declared.stop.Stop.TheVariants as stops
 use Rattle.keep_engine.specs.EndsText.{IsEndsText, all_asked}
+use Rattle.keep_start.specs.Start.{inventory_at}
 use Rattle.keep_engine.specs.Running.{Halts, RunOf, Texts}
 
 abbrev pub EndsTexts : ℕ → List ℕ → Texts
@@ -16,6 +17,6 @@ EndsTexts s moments g exit text = (exit ≡ exits.Done) × IsEndsText g s moment
 abbrev pub EndsHalts : ℕ → List ℕ → Halts
 EndsHalts s moments g stop = (fault : WakeFault) × (stop ≡ stops.Moments fault) × (wake_fault g.entries s (all_asked (length g.entries) moments) ≡ Some fault)
 
--- `ends` over the bytes of an inventory
+-- `ends` over the bytes of an inventory, from its start on
 abbrev pub EndsRun : List ℕ → ℕ → List ℕ → Exit → Change → Change → Type 0
-EndsRun bytes s moments exit out errors = RunOf (EndsTexts s moments) (EndsHalts s moments) bytes exit out errors
+EndsRun bytes s moments exit out errors = RunOf (EndsTexts s moments) (EndsHalts s moments) (inventory_at s bytes) exit out errors

@@ -13,11 +13,11 @@ use Rattle.keep_check.specs.declared.answer.Answer.TheVariants.{Yes}
 use Rattle.keep_check.specs.Answer.{IsAnswer}
 use Rattle.keep_check.specs.Fit.{CanBeJudged}
 use Rattle.keep_inventory.specs.Inventories.{Inventory}
-use Rattle.keep_inventory.specs.Inventory.{read_inventory}
 use Rattle.keep_report.specs.declared.exit.Exit.{Exit}
 use Rattle.keep_report.specs.declared.exit.Exit.TheVariants as exits
 use Rattle.keep_cert.specs.declared.cert.TheConstants.{MOST_CERTIFICATE}
-use Rattle.keep_engine.specs.CheckRun.{IsAccepted, IsJudged}
+use Rattle.keep_start.specs.Start.{inventory_at}
+use Rattle.keep_engine.specs.CheckRun.{IsAccepted, IsJudged, stated_start}
 use Rattle.keep_engine.specs.PlanRun.{IsCertified}
 
 -- what is printed of a decision for a forest is read back over it as a certificate that can be judged, and each right
@@ -27,17 +27,18 @@ OwnCertificateLaw =
     (g : Forest) (s : ℕ) (d : Decision) (text : List ℕ) → IsForest g → s ≤ LAST → Decides g s d → Prints g.entries s (claim d) (Ok text) →
     (c : Cert) × (certificate_of g.entries text ≡ Ok c) × CanBeJudged g c.body × ((answer : Answer) → IsAnswer g c answer → answer ≡ Yes)
 
--- a text that `check` accepts with `yes`, with no other line and no other exit, whether this start is asked for or none; and
--- that is short enough to be read
+-- a text that `check` accepts with `yes`, with no other line and no other exit, whether this start is asked for or none; that is
+-- short enough to be read; and that states this start, so that `check` reads the inventory from it on
 pub record IsOwnText (g : Forest) (s : ℕ) (text : List ℕ) : Type 0 where
   pub accepted : IsAccepted (Some s) g text (codes "yes\n")
   pub alone : (asked : Option ℕ) → (asked ≡ None) ⊎ (asked ≡ Some s) → (exit : Exit) (line : List ℕ) → IsJudged asked g text exit line → (exit ≡ exits.Done) × (line ≡ codes "yes\n")
   pub short : length text ≤ MOST_CERTIFICATE
+  pub stated : stated_start text ≡ s
 
--- what `plan` writes of the bytes of an inventory and a start, of whichever exit, is such a text over the inventory's forest
+-- what `plan` writes of the bytes of an inventory and a start, of whichever exit, is such a text over the forest from that start on
 abbrev pub OwnTextLaw : Type 0
 OwnTextLaw =
-    (bytes : List ℕ) (inventory : Inventory) (s : ℕ) (exit : Exit) (text : List ℕ) → read_inventory bytes ≡ Ok inventory → s ≤ LAST → IsCertified inventory.forest s exit text →
+    (bytes : List ℕ) (inventory : Inventory) (s : ℕ) (exit : Exit) (text : List ℕ) → inventory_at s bytes ≡ Ok inventory → s ≤ LAST → IsCertified inventory.forest s exit text →
     IsForest inventory.forest × IsOwnText inventory.forest s text
 
 -- a forest and a start have one text of `plan`, and one exit: nothing else shows in them

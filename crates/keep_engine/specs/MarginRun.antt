@@ -9,6 +9,7 @@ use Rattle.keep_report.specs.declared.stop.Stop.{Stop}
 use Rattle.keep_report.specs.declared.stop.Stop.TheVariants as stops
 use Rattle.keep_engine.specs.declared.margin.MarginQuery.{MarginQuery}
 use Rattle.keep_engine.specs.MarginText.{IsMarginText, asked_about}
+use Rattle.keep_start.specs.Start.{inventory_at}
 use Rattle.keep_engine.specs.Running.{Halts, RunOf, Texts}
 
 abbrev pub MarginTexts : MarginQuery → Texts
@@ -22,6 +23,6 @@ HasNoCount g s (Some most) stop = ⊥
 abbrev pub MarginHalts : MarginQuery → Halts
 MarginHalts q g stop = HasNoCount (asked_about q g) q.start q.most_wakes stop
 
--- `margin` over the bytes of an inventory
+-- `margin` over the bytes of an inventory, from its start on
 abbrev pub MarginRun : List ℕ → MarginQuery → Exit → Change → Change → Type 0
-MarginRun bytes q exit out errors = RunOf (MarginTexts q) (MarginHalts q) bytes exit out errors
+MarginRun bytes q exit out errors = RunOf (MarginTexts q) (MarginHalts q) (inventory_at q.start bytes) exit out errors

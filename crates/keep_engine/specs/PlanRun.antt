@@ -12,6 +12,7 @@ use Rattle.keep_cert.specs.Printing.{certified}
 use Rattle.keep_report.specs.declared.exit.Exit.{Exit}
 use Rattle.keep_report.specs.declared.exit.Exit.TheVariants as exits
 use Rattle.keep_report.specs.declared.stop.Stop.TheVariants as stops
+use Rattle.keep_start.specs.Start.{inventory_at}
 use Rattle.keep_engine.specs.Running.{Halts, RunOf, Texts}
 
 -- the certificate of runs whose wake-ups are the forces from s on: their moments are least and latest, and with their Asks
@@ -42,6 +43,6 @@ PlanHalts s g stop = (stop ≡ stops.TooLong) × IsTooLong g s
 abbrev pub PlanTexts : ℕ → Texts
 PlanTexts s g exit text = IsCertified g s exit text
 
--- `plan` over the bytes of an inventory
+-- `plan` over the bytes of an inventory, from its start on
 abbrev pub PlanRun : List ℕ → ℕ → Exit → Change → Change → Type 0
-PlanRun bytes s exit out errors = RunOf (PlanTexts s) (PlanHalts s) bytes exit out errors
+PlanRun bytes s exit out errors = RunOf (PlanTexts s) (PlanHalts s) (inventory_at s bytes) exit out errors

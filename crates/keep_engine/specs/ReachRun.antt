@@ -4,11 +4,12 @@ use Rattle.keep_device.specs.Seen.{Change}
 use Rattle.keep_report.specs.declared.exit.Exit.{Exit}
 use Rattle.keep_report.specs.declared.exit.Exit.TheVariants as exits
 use Rattle.keep_engine.specs.ReachText.{IsReachText}
+use Rattle.keep_start.specs.Start.{inventory_at}
 use Rattle.keep_engine.specs.Running.{NoHalts, RunOf, Texts}
 
 abbrev pub ReachTexts : ℕ → Bool → Texts
 ReachTexts s dates g exit text = (exit ≡ exits.Done) × IsReachText g s dates text
 
--- `reach` over the bytes of an inventory
+-- `reach` over the bytes of an inventory, from its start on
 abbrev pub ReachRun : List ℕ → ℕ → Bool → Exit → Change → Change → Type 0
-ReachRun bytes s dates exit out errors = RunOf (ReachTexts s dates) NoHalts bytes exit out errors
+ReachRun bytes s dates exit out errors = RunOf (ReachTexts s dates) NoHalts (inventory_at s bytes) exit out errors

@@ -2,8 +2,8 @@
 use Rattle.std.specs.Prelude.{◌≡◌, ◌⊎◌, ℕ, Bool, List, Option, Ok}
 use Rattle.keep_device.specs.Seen.{Change, Receives, ReceivesFront}
 use Rattle.keep_inventory.specs.Bare.{AreAlike}
-use Rattle.keep_inventory.specs.Inventories.{Inventory}
-use Rattle.keep_inventory.specs.Inventory.{read_inventory}
+use Rattle.keep_inventory.specs.Inventory.{read_known}
+use Rattle.keep_inventory.specs.Served.{Served}
 use Rattle.keep_report.specs.declared.exit.Exit.{Exit}
 use Rattle.keep_report.specs.declared.exit.Exit.TheVariants as exits
 use Rattle.keep_engine.specs.CheckRun.{CheckRun}
@@ -16,13 +16,14 @@ use Rattle.keep_engine.specs.PlanRun.{PlanRun}
 use Rattle.keep_engine.specs.ReachRun.{ReachRun}
 use Rattle.keep_engine.specs.RehearseFrom.{Rehearses}
 
--- two good inventories whose documents differ in the keys `secret` and `lease_id` and their values alone
+-- two good inventories, each of whose tables writes its end, whose documents differ in the keys `secret` and `lease_id` and their
+-- values alone
 pub record DifferInSecrets (bytes other : List ℕ) : Type 0 where
   pub alike : AreAlike bytes other
-  pub inventory : Inventory
-  pub reads : read_inventory bytes ≡ Ok inventory
-  pub other_inventory : Inventory
-  pub other_reads : read_inventory other ≡ Ok other_inventory
+  pub served : Served
+  pub reads : read_known bytes ≡ Ok served
+  pub other_served : Served
+  pub other_reads : read_known other ≡ Ok other_served
 
 -- the run came to its end: no device failed, and no memory was wanting
 abbrev pub IsWhole : Exit → Type 0

@@ -1,17 +1,20 @@
 ghost use Rattle.keep_check.specs.Fit.{CanBeJudged};
-ghost use Rattle.std.specs.Prelude.{◌↔◌, IsTrue};
+ghost use Rattle.std.specs.Prelude.{◌≡◌, ◌↔◌, IfOk, IsTrue};
+ghost use Rattle.std.specs.Result.{IfErr};
 ghost use Rattle.keep_engine.specs.code.CheckAnswers.{StartTexts, VerdictTexts};
-ghost use Rattle.keep_engine.specs.CheckRun.{CheckTexts, StartsAsAsked};
+ghost use Rattle.keep_engine.specs.CheckRun.{CheckTexts, StartsAsAsked, stated_start};
 ghost use Rattle.keep_engine.specs.code.Making.{Makes, MakesOf};
 ghost use Rattle.keep_engine.specs.Running.{NoHalts};
+ghost use Rattle.keep_report.specs.declared.stop.Stop.TheVariants.{Memory};
+ghost use Rattle.keep_start.specs.Start.{inventory_at};
 
 use crate::check_lines::{no_line, unreadable_line};
 use crate::outcome::Outcome;
-use keep_cert::Cert;
+use keep_cert::{Cert, CertFault, read_start};
 use keep_check::{Answer, CheckFault, check};
-use keep_inventory::read;
 use keep_moment::{Moment, Text};
 use keep_report::{Exit, Stop};
+use keep_start::read_at;
 use keep_tree::Forest;
 use std::alloc::Global;
 
@@ -22,10 +25,24 @@ pub(crate) fn check_text(
     certificate: &[u8],
     asked: Option<Moment>,
 ) -> Result<Outcome, Stop>
-    ensures { Makes (CheckTexts asked certificate.now) NoHalts inventory.now result }
+    ensures { Makes (CheckTexts asked certificate.now) NoHalts (inventory_at (stated_start certificate.now) inventory.now) result }
 {
-    let inventory = read(alloc, inventory)?;
+    let start = stated_start(certificate)?;
+    let inventory = read_at(alloc, inventory, start)?;
     judge_text(alloc, inventory.forest(), certificate, asked)
+}
+
+/// The start that a certificate's text states, 0 where it states none. The only error is want of memory.
+#[tactic(auto, unfolding(crate::specs::CheckRun::stated_start))]
+fn stated_start(certificate: &[u8]) -> Result<Moment, Stop>
+    ensures start { IfOk result (λ start. start ≡ stated_start certificate.now) }
+    ensures memory { IfErr result (λ stop. stop ≡ Memory) }
+{
+    match read_start(certificate) {
+        Ok(start) => Ok(start),
+        Err(CertFault::OutOfMemory) => Err(Stop::Memory),
+        Err(_) => Ok(Moment::new(0).unwrap()),
+    }
 }
 
 /// The line about a text over a forest, from its names and numbers alone.

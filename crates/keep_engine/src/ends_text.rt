@@ -3,12 +3,13 @@ ghost use Rattle.std.specs.List.{range_with_len};
 ghost use Rattle.keep_engine.specs.EndsRun.{EndsHalts, EndsTexts};
 ghost use Rattle.keep_engine.specs.code.Making.{Makes, MakesOf, at_index};
 ghost use Rattle.keep_engine.specs.EndsText.{all_asked, end_line, end_lines, keeps_line};
+ghost use Rattle.keep_start.specs.Start.{inventory_at};
 
 use crate::outcome::Outcome;
-use keep_inventory::read;
 use keep_moment::{Moment, Text};
 use keep_report::{Exit, Stop};
 use keep_rule::{Wake, ends_after, keeps};
+use keep_start::read_at;
 use keep_tree::{Entry, Forest, Indices};
 use std::alloc::{AllocError, Global};
 
@@ -19,9 +20,9 @@ pub(crate) fn ends_text(
     start: Moment,
     moments: &[Moment],
 ) -> Result<Outcome, Stop>
-    ensures { Makes (EndsTexts start moments.now) (EndsHalts start moments.now) inventory.now result }
+    ensures { Makes (EndsTexts start moments.now) (EndsHalts start moments.now) (inventory_at start inventory.now) result }
 {
-    let inventory = read(alloc, inventory)?;
+    let inventory = read_at(alloc, inventory, start)?;
     replay_text(alloc, inventory.forest(), start, moments)
 }
 

@@ -8,15 +8,16 @@ ghost use Rattle.keep_engine.specs.code.Making.{Makes, MakesOf};
 ghost use Rattle.keep_engine.specs.code.MarginMaking.{HaltsFrom, TextsFrom};
 ghost use Rattle.keep_engine.specs.MarginRun.{MarginHalts, MarginTexts};
 ghost use Rattle.keep_engine.specs.MarginText.{AreOwnAndWidest, IsWidestLine, asked_about, margin_line};
+ghost use Rattle.keep_start.specs.Start.{inventory_at};
 
 use crate::margin::MarginQuery;
 use crate::no_margin::{no_margin, unkeepable_line};
 use crate::outcome::Outcome;
 use crate::renewed::renew_all;
-use keep_inventory::read;
 use keep_moment::{Moment, Text};
 use keep_plan::{Decision, LIMIT, PlanFault, Shortfall, Widest, plan, widest_margin};
 use keep_report::{Exit, Stop};
+use keep_start::read_at;
 use keep_tree::Forest;
 use keep_words::push_number;
 use std::alloc::{AllocError, Global};
@@ -27,9 +28,9 @@ pub(crate) fn margin_text(
     inventory: &[u8],
     query: &MarginQuery,
 ) -> Result<Outcome, Stop>
-    ensures { Makes (MarginTexts query.now) (MarginHalts query.now) inventory.now result }
+    ensures { Makes (MarginTexts query.now) (MarginHalts query.now) (inventory_at query.now.start inventory.now) result }
 {
-    let inventory = read(alloc, inventory)?;
+    let inventory = read_at(alloc, inventory, query.start)?;
     let (forest, _credentials) = inventory.into_parts();
     answer_about(alloc, forest, query)
 }

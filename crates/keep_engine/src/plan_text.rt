@@ -1,21 +1,22 @@
 ghost use Rattle.std.specs.Prelude.{◌≡◌};
 ghost use Rattle.keep_engine.specs.code.Making.{Makes, MakesOf, decided_exit};
 ghost use Rattle.keep_engine.specs.PlanRun.{PlanHalts, PlanTexts};
+ghost use Rattle.keep_start.specs.Start.{inventory_at};
 
 use crate::outcome::Outcome;
 use keep_cert::{PrintFault, print};
-use keep_inventory::read;
 use keep_moment::Moment;
 use keep_plan::{Decision, PlanFault, plan};
 use keep_report::{Exit, Stop};
+use keep_start::read_at;
 use keep_tree::Forest;
 use std::alloc::Global;
 
 /// The certificate of an inventory's decision with its exit, or why there is none.
 pub(crate) fn plan_text(alloc: Global, inventory: &[u8], start: Moment) -> Result<Outcome, Stop>
-    ensures { Makes (PlanTexts start) (PlanHalts start) inventory.now result }
+    ensures { Makes (PlanTexts start) (PlanHalts start) (inventory_at start inventory.now) result }
 {
-    let inventory = read(alloc, inventory)?;
+    let inventory = read_at(alloc, inventory, start)?;
     certificate(alloc, inventory.forest(), start)
 }
 

@@ -5,15 +5,16 @@ ghost use Rattle.keep_engine.specs.code.Making.{Makes, MakesOf};
 ghost use Rattle.keep_engine.specs.ReachRun.{ReachTexts};
 ghost use Rattle.keep_engine.specs.ReachText.{AreReachLines, IsKept, IsMomentWord, IsNeedWord, IsReachLine, IsUntilWord, four_words};
 ghost use Rattle.keep_engine.specs.Running.{NoHalts};
+ghost use Rattle.keep_start.specs.Start.{inventory_at};
 
 use crate::bound::bound_of;
 use crate::ends_text::keeps_line;
 use crate::outcome::Outcome;
-use keep_inventory::read;
 use keep_moment::{Moment, Text, date_text};
 use keep_needs::{NeedsFault, carry};
 use keep_plan::shortfall;
 use keep_report::{Exit, Stop};
+use keep_start::read_at;
 use keep_tree::Forest;
 use std::alloc::{AllocError, Global};
 
@@ -24,9 +25,9 @@ pub(crate) fn reach_text(
     start: Moment,
     dates: bool,
 ) -> Result<Outcome, Stop>
-    ensures { Makes (ReachTexts start dates) NoHalts inventory.now result }
+    ensures { Makes (ReachTexts start dates) NoHalts (inventory_at start inventory.now) result }
 {
-    let inventory = read(alloc, inventory)?;
+    let inventory = read_at(alloc, inventory, start)?;
     reaches_text(alloc, inventory.forest(), start, dates)
 }
 

@@ -18,3 +18,6 @@ pub mod Grown
 pub mod Written
 pub mod Strictly
 pub mod Told
+pub mod Refusing
+pub mod Faulty
+pub mod DurationLaws

@@ -14,7 +14,7 @@ use Rattle.keep_inventory.specs.declared.lookup.LookupFault.{LookupFault}
 use Rattle.keep_inventory.specs.declared.lookup.LookupFault.TheVariants.{OtherKind, OtherTree, NoStep}
 use Rattle.keep_inventory.specs.declared.terms.Terms.{Terms}
 use Rattle.keep_inventory.specs.Terms.{ceiling_of, step_of}
-use Rattle.keep_inventory.specs.Inventories.{IsInventory, Inventory, no_terms, terms_at}
+use Rattle.keep_inventory.specs.Inventories.{IsInventory, Inventory, no_terms, terms_at, with_need}
 use Rattle.keep_inventory.specs.Lookup.{lookup_fault, told, told_entry, told_terms}
 
 -- the entry that a lookup makes of the one at an index
@@ -75,11 +75,11 @@ kind_stays : (now : ℕ) (lookup : Lookup) (t : Terms) (e : Entry) → (told_ent
 kind_stays now (Token ttl created explicit_max orphan renewable period) t e = refl
 kind_stays now (Lease id issued renewable ttl) t e = refl
 
-kinds_stay : (es : List Entry) (i : ℕ) (e : Entry) → i < length es → e.kind ≡ (entry_at es i).kind → (j : ℕ) → (entry_at (set es i e) j).kind ≡ (entry_at es j).kind
-kinds_stay es i e within same j =
+field_stays : {X : Type 0} (field : Entry → X) (es : List Entry) (i : ℕ) (e : Entry) → i < length es → field e ≡ field (entry_at es i) → (j : ℕ) → field (entry_at (set es i e) j) ≡ field (entry_at es j)
+field_stays field es i e within same j =
     elim (cases_eq j i) [
-      | inl here ↦ ap (λ n. (entry_at (set es i e) n).kind) here ∙ ap (λ (x : Entry). x.kind) (entry_at_set_same es i e within) ∙ same ∙ ap (λ n. (entry_at es n).kind) (sym here)
-      | inr there ↦ ap (λ (x : Entry). x.kind) (entry_at_set_other es i j e there)
+      | inl here ↦ ap (λ n. field (entry_at (set es i e) n)) here ∙ ap field (entry_at_set_same es i e within) ∙ same ∙ ap (λ n. field (entry_at es n)) (sym here)
+      | inr there ↦ ap field (entry_at_set_other es i j e there)
     ]
 
 -- the step and the ceiling of the entry are those of the terms
@@ -126,7 +126,7 @@ told_is_inventory s inventory i within lookup now span forest =
     let m = length-set ts i t in
     let a = inventory.credentials in
     let b = inventory.terms in
-    let kinds = kinds_stay es i e within (kind_stays now lookup t (entry_at es i)) in
+    let kinds = field_stays (λ (x : Entry). x.kind) es i e within (kind_stays now lookup t (entry_at es i)) in
     record {
       forest = forest;
       credentials = omega (arith, a, n);
@@ -136,4 +136,28 @@ told_is_inventory s inventory i within lookup now span forest =
       steps = λ j h. each_told (λ x y. x.step ≤ SPAN_MAX) es ts i e t b within span inventory.steps j (omega (arith, h, n));
       step_is = λ j h. each_told (λ x y. x.step ≡ step_of y) es ts i e t b within (step_told now lookup (terms_at ts i) (entry_at es i) (inventory.step_is i within)) inventory.step_is j (omega (arith, h, n));
       ceiling_is = λ j h. each_told (λ x y. x.ceiling ≡ ceiling_of y) es ts i e t b within (ceiling_told now lookup (terms_at ts i) (entry_at es i)) inventory.ceiling_is j (omega (arith, h, n));
+    }
+
+-- ---- an inventory with another need of one entry is one still
+
+pub needed_is_inventory : (s : Inventory) → IsInventory s → (i : ℕ) → i < length s.forest.entries → (need : ℕ) → IsForest (with_need s i need).forest → IsInventory (with_need s i need)
+unfolding with_need
+needed_is_inventory s inventory i within need forest =
+    let es = s.forest.entries in
+    let e : Entry = record (entry_at es i) { need = need } in
+    let n = length-set es i e in
+    let a = inventory.credentials in
+    let b = inventory.terms in
+    let kinds = field_stays (λ (x : Entry). x.kind) es i e within refl in
+    let steps = field_stays (λ (x : Entry). x.step) es i e within refl in
+    let ceilings = field_stays (λ (x : Entry). x.ceiling) es i e within refl in
+    record {
+      forest = forest;
+      credentials = omega (arith, a, n);
+      terms = omega (arith, b, n);
+      apart = λ j k hj hk kind same. inventory.apart j k (omega (arith, hj, n)) (omega (arith, hk, n)) (sym (kinds j) ∙ kind ∙ kinds k) same;
+      sendable = inventory.sendable;
+      steps = λ j h. subst (λ x. x ≤ SPAN_MAX) (sym (steps j)) (inventory.steps j (omega (arith, h, n)));
+      step_is = λ j h. steps j ∙ inventory.step_is j (omega (arith, h, n));
+      ceiling_is = λ j h. ceilings j ∙ inventory.ceiling_is j (omega (arith, h, n));
     }

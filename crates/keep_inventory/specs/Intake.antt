@@ -3,10 +3,11 @@ use Rattle.std.specs.Prelude.{◌≡◌, ℕ, Bool, List, [], ◌∷◌, ◌++�
 use Rattle.std.specs.List.{list_any}
 use Rattle.keep_tree.specs.declared.entry.Entry.{Entry}
 use Rattle.keep_tree.specs.declared.fault.TreeFault.{TreeFault}
+use Rattle.keep_tree.specs.declared.fault.TreeFault.TheVariants as trees
 use Rattle.keep_tree.specs.Forest.{Forest}
 use Rattle.keep_tree.specs.Push.{refusal}
 use Rattle.keep_inventory.specs.declared.fault.InvFault.{InvFault}
-use Rattle.keep_inventory.specs.declared.fault.InvFault.TheVariants.{Tree, BadValue}
+use Rattle.keep_inventory.specs.declared.fault.InvFault.TheVariants.{Tree, BadValue, OutOfMemory}
 use Rattle.keep_inventory.specs.declared.key.Key.{Key}
 use Rattle.keep_inventory.specs.declared.key.Key.TheVariants.{Secret, LeaseId}
 use Rattle.keep_inventory.specs.declared.note.Note.{Note}
@@ -33,6 +34,11 @@ inventory_with s = record { forest = s.forest; credentials = s.secrets ++ s.leas
 abbrev pub appended : Forest → Entry → Option TreeFault → Result Forest InvFault
 appended g e (Some fault) = Err (Tree (length g.entries) fault)
 appended g e None = Ok (record g { entries = g.entries ++ e ∷ [] })
+
+-- what a forest says of the entry at an index: why it refuses that, or that memory was wanting
+abbrev pub told_as : ℕ → TreeFault → InvFault
+told_as index trees.OutOfMemory = OutOfMemory
+told_as index fault = Tree index fault
 
 -- a forest with one entry more, or why it refuses that
 unfoldable pub pushed : Forest → Entry → Result Forest InvFault

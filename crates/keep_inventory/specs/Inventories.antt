@@ -1,5 +1,5 @@
 -- What an inventory holds: a forest, and beside each entry the credential that is sent for it and its terms.
-use Rattle.std.specs.Prelude.{◌≡◌, ℕ, ◌<◌, ◌≤◌, List, [], None, length, slice_index_or}
+use Rattle.std.specs.Prelude.{◌≡◌, ℕ, ◌<◌, ◌≤◌, List, [], None, length, slice_index_or, slice_set}
 use Rattle.std.specs.List.{All}
 use Rattle.keep_tree.specs.Forest.{Forest, entry_at}
 use Rattle.keep_tree.specs.Push.{IsForest}
@@ -45,3 +45,7 @@ pub record IsInventory (s : Inventory) : Type 0 where
   pub steps : (i : ℕ) → i < length s.forest.entries → (entry_at s.forest.entries i).step ≤ SPAN_MAX
   pub step_is : (i : ℕ) → i < length s.forest.entries → (entry_at s.forest.entries i).step ≡ step_of (terms_at s.terms i)
   pub ceiling_is : (i : ℕ) → i < length s.forest.entries → (entry_at s.forest.entries i).ceiling ≡ ceiling_of (terms_at s.terms i)
+
+-- the inventory with another need of one entry
+unfoldable pub with_need : Inventory → ℕ → ℕ → Inventory
+with_need s i need = record s { forest = record s.forest { entries = slice_set s.forest.entries i (record (entry_at s.forest.entries i) { need = need }) } }

@@ -15,7 +15,7 @@ use Rattle.keep_inventory.specs.Answers.{◌>>=◌}
 use Rattle.keep_inventory.specs.Languages.{Language, strict, full}
 use Rattle.keep_inventory.specs.Values.{only, span, tables, there, value_at}
 use Rattle.keep_inventory.specs.Inventories.{Inventory}
-use Rattle.keep_inventory.specs.Served.{Served, whole_of}
+use Rattle.keep_inventory.specs.Served.{Served, known_of, whole_of}
 use Rattle.keep_inventory.specs.Intake.{Intake, nothing, inventory_with, with_token, with_lease}
 use Rattle.keep_inventory.specs.Rows.{token_row, lease_row}
 
@@ -62,6 +62,10 @@ read_served bytes = tree_of bytes >>= served_of full
 -- what a text of the strict language is read as
 unfoldable pub read_strict : List ℕ → Result Served InvFault
 read_strict bytes = tree_of bytes >>= served_of strict
+
+-- what is served by a text, each of whose tables writes its end
+unfoldable pub read_known : List ℕ → Result Served InvFault
+read_known bytes = read_served bytes >>= known_of
 
 -- the inventory of a text that leaves nothing open
 unfoldable pub read_inventory : List ℕ → Result Inventory InvFault

@@ -14,4 +14,5 @@ pub mod Inventory
 pub mod Bare
 pub mod Written
 pub mod Lookup
+pub mod FirstFault
 pub mod Laws

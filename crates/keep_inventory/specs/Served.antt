@@ -28,6 +28,19 @@ pub record IsServed (v : Served) : Type 0 where
   pub inventory : IsInventory v.inventory
   pub notes : length v.notes ≡ length v.inventory.forest.entries
 
+-- the first of these tables, which are those from this index on, that leaves its end to a lookup
+abbrev pub first_untold : ℕ → List Note → Option ℕ
+first_untold index [] = None
+first_untold index (note ∷ notes) = if note.is_told then first_untold (index + 1) notes else Some index
+
+abbrev pub told_unless : Served → Option ℕ → Result Served InvFault
+told_unless v None = Ok v
+told_unless v (Some index) = Err (MissingKey index Issued)
+
+-- what is served, where each table writes its end
+unfoldable pub known_of : Served → Result Served InvFault
+known_of v = told_unless v (first_untold 0 v.notes)
+
 -- why a table cannot be planned: neither its issue nor its end is written
 abbrev pub open_fault : ℕ → Note → Option InvFault
 open_fault index note = if note.is_told then (if note.is_always then Some (BadValue (Some index) Need) else None) else Some (MissingKey index Issued)

@@ -3,7 +3,7 @@ ghost use Rattle.toml.specs.Errors.{IsMemory};
 ghost use Rattle.toml.specs.View.{table_view};
 ghost use Rattle.keep_inventory.specs.Answers.{Gives};
 ghost use Rattle.keep_inventory.specs.declared.fault.InvFault.TheVariants.{NotToml, OutOfMemory};
-ghost use Rattle.keep_inventory.specs.Inventory.{intake_of, served_of, tree_of, read_inventory, read_served};
+ghost use Rattle.keep_inventory.specs.Inventory.{intake_of, served_of, tree_of, read_inventory, read_known, read_served};
 ghost use Rattle.keep_inventory.specs.Languages.{full};
 
 use crate::draft::Draft;
@@ -29,6 +29,18 @@ pub fn read_served(alloc: Global, bytes: &[u8]) -> Result<Served, InvFault>
 {
     let table = read_tree(alloc, bytes)?;
     served_in(alloc, &table)
+}
+
+/// What these bytes write, where each table writes its end.
+///
+/// # Errors
+///
+/// Those of [`read_served`]; then `MissingKey` with `issued`, of the first table that leaves its end to a lookup.
+#[tactic(auto, unfolding(crate::specs::Inventory::read_known))]
+pub fn read_known(alloc: Global, bytes: &[u8]) -> Result<Served, InvFault>
+    ensures { Gives (λ served. served) result (read_known bytes.now) }
+{
+    read_served(alloc, bytes)?.into_known()
 }
 
 /// The inventory that these bytes write, where no table leaves anything open.

@@ -1,6 +1,8 @@
-ghost use Rattle.std.specs.Prelude.{◌≡◌, ◌<◌};
+ghost use Rattle.std.specs.Prelude.{◌≡◌, ◌<◌, Err, IfSome, length};
 ghost use Rattle.toml.specs.View.{items_view, table_view};
-ghost use Rattle.keep_inventory.specs.Intake.{Changes, nothing, pushed, distinct, with_token, with_lease};
+ghost use Rattle.keep_tree.specs.Push.{refusal};
+ghost use Rattle.keep_inventory.specs.declared.fault.InvFault.TheVariants.{Tree};
+ghost use Rattle.keep_inventory.specs.Intake.{Changes, nothing, told_as, pushed, distinct, with_token, with_lease};
 ghost use Rattle.keep_inventory.specs.Languages.{full};
 ghost use Rattle.keep_inventory.specs.Inventory.{token_entered, lease_entered, entered_by};
 
@@ -147,16 +149,26 @@ impl Draft {
     }
 }
 
-// Appends an entry, or names why the forest refuses it.
+// Appends an entry, or names why the forest refuses it. Where it refuses the entry, no memory is wanted.
 #[tactic(auto, unfolding(crate::specs::Intake::pushed))]
 fn push(forest: &mut Forest, entry: Entry) -> Result<(), InvFault>
-    ensures { Changes (pushed forest.old entry) forest.new result }
+    ensures pushed { Changes (pushed forest.old entry) forest.new result }
+    ensures refused { IfSome (refusal forest.old entry) (λ fault. result ≡ Err (Tree (length forest.old.entries) fault)) }
 {
     let index = forest.len();
     match forest.push(entry) {
         Ok(_) => Ok(()),
-        Err(TreeFault::OutOfMemory) => Err(InvFault::OutOfMemory),
-        Err(fault) => Err(InvFault::Tree(index, fault)),
+        Err(fault) => Err(told(index, fault)),
+    }
+}
+
+// What a forest said of the entry at an index.
+fn told(index: u32, fault: TreeFault) -> InvFault
+    ensures { result ≡ told_as index fault }
+{
+    match fault {
+        TreeFault::OutOfMemory => InvFault::OutOfMemory,
+        fault => InvFault::Tree(index, fault),
     }
 }
 

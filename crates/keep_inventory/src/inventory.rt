@@ -1,10 +1,10 @@
 ghost use Rattle.std.specs.Prelude.{◌≡◌, ◌<◌, None, Ok, Err, IfSome, length};
-ghost use Rattle.keep_inventory.specs.Inventories.{IsSendable, IsInventory, terms_at, credential_at};
+ghost use Rattle.keep_inventory.specs.Inventories.{IsSendable, IsInventory, terms_at, credential_at, with_need};
 ghost use Rattle.keep_inventory.specs.Intake.{inventory_with};
 ghost use Rattle.keep_inventory.specs.Lookup.{lookup_fault, told};
 
 use crate::draft::Draft;
-use crate::lookup::{LookupFault, is_lease, tell, told_terms, write_terms};
+use crate::lookup::{LookupFault, is_lease, set_need, tell, told_terms, write_terms};
 use crate::note::Note;
 use crate::register::Register;
 use crate::terms::Terms;
@@ -126,6 +126,14 @@ impl Inventory {
         tell(&mut self.forest, index, lookup, &terms, now);
         write_terms(&mut self.terms, index, terms);
         Ok(())
+    }
+
+    /// Sets until when the entry at an index is needed. It takes no memory.
+    pub fn set_need(&mut self, index: u32, need: Moment)
+        requires { index < length self.old.forest.entries }
+        ensures { self.new ≡ with_need self.old index need }
+    {
+        set_need(&mut self.forest, index, need);
     }
 
     /// Why what a broker has said is not applied to an entry, `None` where it is.

@@ -2,6 +2,8 @@ ghost use Rattle.std.specs.Prelude.{◌≡◌, ◌+◌};
 ghost use Rattle.keep_moment.specs.declared.moment.TheConstants.{LAST};
 ghost use Rattle.keep_tree.specs.declared.forest.TheConstants.{END_MAX, MARGIN_MAX};
 ghost use Rattle.keep_inventory.specs.declared.limits.TheConstants.{CREDENTIAL_MAX, MOST_INVENTORY, PATH_MAX, SPAN_MAX, STEP_ABSENT, SYSTEM_MAX};
+ghost use Rattle.keep_inventory.specs.Durations.{DurationFound, DurationOnly};
+ghost use Rattle.keep_inventory.specs.FirstFault.{FirstFaultLaw};
 ghost use Rattle.keep_inventory.specs.Laws.{InventoryLaw, SecrecyLaw, SendableLaw, ServedLaw, ServedSecrecyLaw, StrictLaw, TextLaw, WrittenLaw};
 
 /// The limits of inventories, each by its number; those of moments and margins are cited from the crates below.
@@ -31,6 +33,22 @@ pub fn inventories_are_forests()
 /// key.
 pub fn inventories_are_written()
     ensures { WrittenLaw }
+{}
+
+/// The law of durations: a text is read as a duration exactly where it writes one: days, hours, minutes and seconds, one of them at
+/// least and in this order, each a number of 1 to 10 digits and its letter; and its seconds are their sum.
+pub fn durations_are_read()
+    ensures found { DurationFound }
+    ensures only { DurationOnly }
+{}
+
+/// The law that the fault that is told of a text is its first: the text is no document; or it is the first of the faults that the
+/// top level can have; or it is that of the first table at fault, tokens before leases and each in the order of the text, where all
+/// tables before it are taken, and there the first of the faults that such a table can have, in the order in which `token_faults`
+/// and `lease_faults` list them, before those of its row: why the forest refuses the entry, and a credential that an earlier entry
+/// of its kind has.
+pub fn faults_are_first()
+    ensures { FirstFaultLaw }
 {}
 
 /// The law that the strict language is a part of the full one: a text that is read with durations as numbers, with each issue, end

@@ -24,13 +24,14 @@ mod served;
 mod terms;
 mod value;
 
-pub use document::{read, read_served};
+pub use document::{read, read_known, read_served};
 pub use fault::InvFault;
 pub use inventory::{Credentials, Inventory};
 pub use key::Key;
 pub use laws::{
-    credentials_are_sendable, inventories_are_forests, limits_of_inventories,
-    secrets_stay_in_credentials, strict_inventories_mean_the_same,
+    credentials_are_sendable, durations_are_read, faults_are_first, inventories_are_forests,
+    inventories_are_written, limits_of_inventories, secrets_stay_in_credentials,
+    strict_inventories_mean_the_same,
 };
 pub use limits::{CREDENTIAL_MAX, MOST_INVENTORY, PATH_MAX, SPAN_MAX, STEP_ABSENT, SYSTEM_MAX};
 pub use lookup::{LookupFault, told_terms};

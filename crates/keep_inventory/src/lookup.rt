@@ -113,6 +113,17 @@ fn set(forest: &mut Forest, index: u32, end: u64, renewable: bool, step: Span, c
     let _entries = forest.len();
 }
 
+/// Sets the need of an entry.
+pub(crate) fn set_need(forest: &mut Forest, index: u32, need: Moment)
+    requires { index < length forest.old.entries }
+    ensures set { forest.new ≡ record forest.old { entries = slice_set forest.old.entries index (record (entry_at forest.old.entries index) { need = need }) } }
+    ensures sound { IsForest forest.new }
+{
+    forest.set_need(index, need);
+    // The forest is one still, and a look at it says so.
+    let _entries = forest.len();
+}
+
 /// Writes the terms of an entry.
 pub(crate) fn write_terms(terms: &mut Vec<Terms>, index: u32, told: Terms)
     requires { index < length terms.old.items }

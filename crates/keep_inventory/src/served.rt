@@ -1,7 +1,7 @@
 ghost use Rattle.std.specs.Prelude.{◌≡◌, ◌<◌, length};
 ghost use Rattle.keep_inventory.specs.Answers.{Gives};
 ghost use Rattle.keep_inventory.specs.Intake.{inventory_with};
-ghost use Rattle.keep_inventory.specs.Served.{IsServed, first_open, open_fault, whole_of};
+ghost use Rattle.keep_inventory.specs.Served.{IsServed, first_open, first_untold, known_of, open_fault, whole_of};
 
 use crate::draft::Draft;
 use crate::fault::InvFault;
@@ -66,6 +66,18 @@ impl Served {
         }
     }
 
+    /// What is served, where each table writes its end; else `MissingKey` with `issued` of the first that leaves it to a lookup. It
+    /// takes no memory.
+    #[tactic(auto, unfolding(crate::specs::Served::known_of))]
+    pub fn into_known(self) -> Result<Served, InvFault>
+        ensures { result ≡ known_of self }
+    {
+        match first_untold(&self.notes) {
+            None => Ok(self),
+            Some(index) => Err(InvFault::MissingKey(index, Key::Issued)),
+        }
+    }
+
     /// The inventory and the notes, one for each of its entries. It takes no memory.
     pub fn into_parts(self) -> (Inventory, Vec<Note>)
         ensures inventory { result.0 ≡ self.inventory }
@@ -87,6 +99,19 @@ impl Served {
             has_margin,
         }
     }
+}
+
+// The first table that leaves its end to a lookup.
+fn first_untold(notes: &[Note]) -> Option<u32>
+    requires { length notes.now < 4097 }
+    ensures { result ≡ first_untold 0 notes.now }
+{
+    for (index, note) in notes.iter().enumerate() {
+        if !note.is_told {
+            return Some(index as u32);
+        }
+    }
+    None
 }
 
 // Why the first table that leaves something open cannot be planned.

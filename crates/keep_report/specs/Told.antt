@@ -1,8 +1,8 @@
 -- Told: what the device for fault lines was sent by a run.
 -- Source: this project's own.
-use Rattle.std.specs.Prelude.{◌≡◌, ℕ, IsTrue, ◌⊎◌, List, Err}
+use Rattle.std.specs.Prelude.{◌≡◌, ℕ, IsTrue, ◌⊎◌, List, Result, Err}
 use Rattle.keep_inventory.specs.declared.fault.InvFault.{InvFault}
-use Rattle.keep_inventory.specs.Inventory.{read_inventory}
+use Rattle.keep_inventory.specs.Inventories.{Inventory}
 use Rattle.keep_device.specs.Seen.{Change, Receives, ReceivesFront}
 use Rattle.keep_report.specs.declared.exit.Exit.{Exit}
 use Rattle.keep_report.specs.declared.exit.Exit.TheVariants as exits
@@ -16,10 +16,11 @@ Reports line errors =
     (Receives line errors × (IsTrue errors.new.output.is_flushed ⊎ GaveUp errors))
     ⊎ (ReceivesFront line errors × GaveUp errors)
 
--- what a run of this program over the bytes of an inventory has told, by exit, where it writes and reads nothing besides
-abbrev pub Told : List ℕ → List ℕ → Exit → Change → Type 0
-Told program bytes exits.Inventory errors = (fault : InvFault) × (read_inventory bytes ≡ Err fault) × Reports (fault_line program (stops.Inventory fault)) errors
-Told program bytes exits.TooLong errors = Reports (fault_line program stops.TooLong) errors
-Told program bytes exits.Device errors = Reports (fault_line program stops.Write) errors
-Told program bytes exits.Memory errors = Reports (fault_line program stops.Memory) errors
-Told program bytes exit errors = IsUntouched errors
+-- what a run of this program has told, by what is read of the bytes of an inventory and by exit, where it writes and reads nothing
+-- besides
+abbrev pub Told : List ℕ → Result Inventory InvFault → Exit → Change → Type 0
+Told program answer exits.Inventory errors = (fault : InvFault) × (answer ≡ Err fault) × Reports (fault_line program (stops.Inventory fault)) errors
+Told program answer exits.TooLong errors = Reports (fault_line program stops.TooLong) errors
+Told program answer exits.Device errors = Reports (fault_line program stops.Write) errors
+Told program answer exits.Memory errors = Reports (fault_line program stops.Memory) errors
+Told program answer exit errors = IsUntouched errors

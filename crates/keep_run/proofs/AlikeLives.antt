@@ -1,9 +1,11 @@
 -- Alike lives: two live runs of inventories that differ in credentials alone, over brokers whose tables do, have one text: from the
 -- lookups on, and after them line by line, as far as both go.
-use Rattle.std.proofs.Common.{◌≡◌, ◌∙◌, ℕ, List, [], ◌∷◌, ◌++◌, refl, sym, ap, ap₂, subst}
+use Rattle.std.proofs.Common.{◌≡◌, ◌∙◌, ℕ, Bool, List, [], ◌∷◌, ◌++◌, refl, sym, ap, ap₂, subst}
 use Rattle.std.proofs.lemmas.List.{append_assoc}
 use Rattle.keep_core.specs.State.{State, unplanned}
-use Rattle.keep_core.proofs.Shaped.{replanned, same as same_shape}
+use Rattle.keep_core.proofs.Shaped.{replanned}
+use Rattle.keep_start.specs.Start.{from_start}
+use Rattle.keep_start.proofs.Started.{shaped_start}
 use Rattle.keep_run.specs.Alike.{IsKept}
 use Rattle.keep_run.specs.Closed.{World, taken}
 use Rattle.keep_run.specs.Listening.{AreHeard}
@@ -16,15 +18,16 @@ use Rattle.keep_run.proofs.AlikeLookups.{opened_both, opened_looked}
 use Rattle.vault_json.specs.Laws.{LookedLeaseIsRead}
 
 alike_whole : LookedLeaseIsRead → AlikeWholeLaw
-alike_whole read g cs ds ts one two port other start b c lines final last text more tables dated run again =
+alike_whole read g cs ds ts one two port other start always b c lines final last text more tables dated run again =
     let a = run.opened in
     let d = again.opened in
-    let looked = opened_looked g cs ds ts one two read port other start b c run.opening again.opening run.before again.before tables dated a d in
-    let opened = opened_both g cs ds ts one two read port other start b c run.opening again.opening run.before again.before tables dated a d in
-    let h = a.looked.inventory.forest in
+    let looked = opened_looked g cs ds ts one two read port other start always b c run.opening again.opening run.before again.before tables dated a d in
+    let opened = opened_both g cs ds ts one two read port other start always b c run.opening again.opening run.before again.before tables dated a d in
+    let looked_forest = a.looked.inventory.forest in
+    let h = (from_start a.looked.inventory always start).forest in
     let keeper : run.opening.keeper ≡ taken a.keeper = ap (λ (w : World). w.keeper) a.is in
     let kept : IsKept g run.opening.keeper.forest =
-    subst (λ (k : State). IsKept g k.forest) (sym keeper) (kept_shaped g h a.keeper.forest looked.kept (replanned h (unplanned h) start a.keeper (same_shape h) a.planned)) in
+    subst (λ (k : State). IsKept g k.forest) (sym keeper) (kept_shaped g looked_forest a.keeper.forest looked.kept (replanned looked_forest (unplanned h) start a.keeper (shaped_start a.looked.inventory always start) a.planned)) in
     let heard = alike_answers g cs ds ts one two port other run.opening again.opening final last lines run.spoken again.spoken kept opened.1 run.heard again.heard in
     (again.text_is ∙ ap₂ (λ x y. x ++ y) opened.0 heard.0 ∙ sym run.text_is, heard.1)
 
@@ -48,11 +51,11 @@ heard_first port cs old new (line ∷ lines) later text a =
       ),
     )
 
-abbrev RunFirst : ℕ → ℕ → Looked → List (List ℕ) → List ℕ → Type 0
-RunFirst port start old lines text = (mid : World) × ((front : List ℕ) × (IsLiveRun port start old lines mid front × Begins front text))
+abbrev RunFirst : ℕ → ℕ → List Bool → Looked → List (List ℕ) → List ℕ → Type 0
+RunFirst port start always old lines text = (mid : World) × ((front : List ℕ) × (IsLiveRun port start always old lines mid front × Begins front text))
 
-run_first : (port start : ℕ) (old : Looked) (lines later : List (List ℕ)) (final : World) (text : List ℕ) → IsLiveRun port start old (lines ++ later) final text → RunFirst port start old lines text
-run_first port start old lines later final text run =
+run_first : (port start : ℕ) (always : List Bool) (old : Looked) (lines later : List (List ℕ)) (final : World) (text : List ℕ) → IsLiveRun port start always old (lines ++ later) final text → RunFirst port start always old lines text
+run_first port start always old lines later final text run =
     let heard = heard_first port old.inventory.credentials run.opening final lines later run.spoken run.heard in
     let spoken = heard.1.0 in
     let left = heard.1.1.1.0 in (
@@ -67,14 +70,14 @@ run_first port start old lines later final text run =
     )
 
 alike_so_far : LookedLeaseIsRead → AlikeSoFarLaw
-alike_so_far read g cs ds ts one two port other start b c lines later final last text more tables dated = (
+alike_so_far read g cs ds ts one two port other start always b c lines later final last text more tables dated = (
   λ run again.
-      let first = run_first other start _ lines later last more again in
-      let same = alike_whole read g cs ds ts one two port other start b c lines final first.0 text first.1.0 tables dated run first.1.1.0 in
+      let first = run_first other start always _ lines later last more again in
+      let same = alike_whole read g cs ds ts one two port other start always b c lines final first.0 text first.1.0 tables dated run first.1.1.0 in
       (first.1.1.1.0, first.1.1.1.1 ∙ ap (λ l. l ++ first.1.1.1.0) same.0),
   λ run again.
-      let first = run_first port start _ lines later final text run in
-      let same = alike_whole read g cs ds ts one two port other start b c lines first.0 last first.1.0 more tables dated first.1.1.0 again in
+      let first = run_first port start always _ lines later final text run in
+      let same = alike_whole read g cs ds ts one two port other start always b c lines first.0 last first.1.0 more tables dated first.1.1.0 again in
       (first.1.1.1.0, first.1.1.1.1 ∙ ap (λ l. l ++ first.1.1.1.0) (sym same.0)),
 )
 

@@ -48,6 +48,7 @@ use Rattle.vault_json.specs.declared.lookup.Lookup.TheVariants as lookups
 use Rattle.vault_json.specs.Laws.{LookedLeaseIsRead}
 use Rattle.vault_json.specs.Lookup.{lookup_lease_answer}
 use Rattle.vault_json.specs.Written.{looked_self_text}
+use Rattle.keep_start.specs.Start.{from_start}
 use Rattle.keep_run.specs.Alike.{AreBrokersAlike, AreDated, AreTablesAlike, IsKept}
 use Rattle.keep_run.specs.Closed.{World, taken}
 use Rattle.keep_run.specs.LiveRun.{IsLiveOpening}
@@ -381,20 +382,26 @@ module _ (g : Forest) (cs ds : List (List ℕ)) (ts : List Terms) (one : IsInven
   fresh_both : (b c : Behind) → AreTablesAlike g cs ds b.table c.table → AreDated b.table → AreLookedAlike g cs ds (started s b) (started u c)
   fresh_both b c tables dated = record { credentials = refl; inventory = refl; kept = kept_itself g; brokers = record { behind = b; known = refl; other_behind = c; other_known = refl; tables = tables }; dated = dated }
 
-  pub opened_looked : (port other start : ℕ) (b c : Behind) (opening last : World) (text more : List ℕ) → AreTablesAlike g cs ds b.table c.table → AreDated b.table →
-      (a : IsLiveOpening port start (started s b) opening text) (d : IsLiveOpening other start (started u c) last more) → AreLookedAlike g cs ds a.looked d.looked
-  opened_looked port other start b c opening last text more tables dated a d =
+  pub opened_looked : (port other start : ℕ) (always : List Bool) (b c : Behind) (opening last : World) (text more : List ℕ) → AreTablesAlike g cs ds b.table c.table → AreDated b.table →
+      (a : IsLiveOpening port start always (started s b) opening text) (d : IsLiveOpening other start always (started u c) last more) → AreLookedAlike g cs ds a.looked d.looked
+  opened_looked port other start always b c opening last text more tables dated a d =
       let n = length g.entries in
       all_both port other start (first n) (started s b) (started u c) a.looked d.looked (all_first n n 0 (omega arith)) (fresh_both b c tables dated) a.all d.all
 
-  pub opened_both : (port other start : ℕ) (b c : Behind) (opening last : World) (text more : List ℕ) → AreTablesAlike g cs ds b.table c.table → AreDated b.table →
-      IsLiveOpening port start (started s b) opening text → IsLiveOpening other start (started u c) last more → (more ≡ text) × AreSidesAlike g cs ds opening last
+  -- other credentials leave the forest from a start on as it is
+  start_same : (v : Inventory) (always : List Bool) (start : ℕ) → (from_start (record v { credentials = ds }) always start).forest ≡ (from_start v always start).forest
+  unfolding from_start
+  start_same v always start = refl
+
+  pub opened_both : (port other start : ℕ) (always : List Bool) (b c : Behind) (opening last : World) (text more : List ℕ) → AreTablesAlike g cs ds b.table c.table → AreDated b.table →
+      IsLiveOpening port start always (started s b) opening text → IsLiveOpening other start always (started u c) last more → (more ≡ text) × AreSidesAlike g cs ds opening last
   unfolding looked_text
-  opened_both port other start b c opening last text more tables dated a d =
+  opened_both port other start always b c opening last text more tables dated a d =
       let n = length g.entries in
-      let alike = opened_looked port other start b c opening last text more tables dated a d in
-      let second = subst (λ (v : Inventory). ◌≡◌ {A = Forest} v.forest a.looked.inventory.forest) (sym alike.inventory) refl in
-      let keeper : d.keeper ≡ a.keeper = sym (replan_once (unplanned a.looked.inventory.forest) start a.keeper d.keeper a.planned (subst (λ h. Replan (unplanned h) start d.keeper) second d.planned)) in
+      let alike = opened_looked port other start always b c opening last text more tables dated a d in
+      let from = λ (v : Inventory). (from_start v always start).forest in
+      let second : from d.looked.inventory ≡ from a.looked.inventory = subst (λ (v : Inventory). ◌≡◌ {A = Forest} (from v) (from a.looked.inventory)) (sym alike.inventory) (start_same a.looked.inventory always start) in
+      let keeper : d.keeper ≡ a.keeper = sym (replan_once (unplanned (from a.looked.inventory)) start a.keeper d.keeper a.planned (subst (λ h. Replan (unplanned h) start d.keeper) second d.planned)) in
       let opened = ap (λ (w : World). w.keeper) a.is in (
         d.text_is
             ∙ ap (λ (v : Inventory). looked_text v (first n) ++ short_lines v.forest d.keeper.shortened) alike.inventory
@@ -407,7 +414,7 @@ module _ (g : Forest) (cs ds : List (List ℕ)) (ts : List Terms) (one : IsInven
       )
 
 pub alike_openings : LookedLeaseIsRead → AlikeOpeningsLaw
-alike_openings read g cs ds ts one two port other start b c opening last text more tables dated a d = opened_both g cs ds ts one two read port other start b c opening last text more tables dated a d
+alike_openings read g cs ds ts one two port other start always b c opening last text more tables dated a d = opened_both g cs ds ts one two read port other start always b c opening last text more tables dated a d
 
 pub alike_lookups : LookedLeaseIsRead → AlikeLookupsLaw
 alike_lookups read g cs ds ts one two port other t old begun new last is within alike a b =

@@ -10,8 +10,9 @@ use Rattle.keep_exchange.specs.Exchanges.{Behind}
 use Rattle.keep_inventory.specs.Answers.{Fails}
 use Rattle.keep_inventory.specs.declared.fault.InvFault.{InvFault}
 use Rattle.keep_inventory.specs.declared.fault.InvFault.TheVariants as faults
-use Rattle.keep_inventory.specs.Inventory.{read_inventory}
-use Rattle.keep_inventory.specs.Inventories.{Inventory}
+use Rattle.keep_inventory.specs.Inventory.{read_served}
+use Rattle.keep_inventory.specs.Served.{Served}
+use Rattle.keep_start.specs.Start.{marks}
 use Rattle.keep_report.specs.declared.exit.Exit.{Exit}
 use Rattle.keep_report.specs.declared.exit.Exit.TheVariants as exits
 use Rattle.keep_report.specs.declared.stop.Stop.{Stop}
@@ -103,11 +104,11 @@ module _ (port : ℕ) (cs : List (List ℕ)) (read : List ℕ) (number : ℕ) (m
 module _ (port : ℕ) (bytes : List ℕ) (start : ℕ) (before : Option Behind) where
   -- the bytes are no inventory, or memory was wanting
   pub read_lives :
-      (result : Result (Unit {0}) Stop) (fault : InvFault) (j : Bool) (x : Seen) (k : Bool) (a : Seen) → IsErr result × IsErrAnd result (λ (q : Stop). q ≡ stop_of_inventory fault) → Fails fault (read_inventory bytes) →
+      (result : Result (Unit {0}) Stop) (fault : InvFault) (j : Bool) (x : Seen) (k : Bool) (a : Seen) → IsErr result × IsErrAnd result (λ (q : Stop). q ≡ stop_of_inventory fault) → Fails fault (read_served bytes) →
       LivesTo port bytes start before result (change j x x) (change k a a) before
   read_lives (Ok u) fault j x k a is fails = absurd (let no = is.0 in cc)
   read_lives (Err stop) fault j x k a is fails = subst (λ (q : Stop). LivesTo port bytes start before (Err q) (change j x x) (change k a a) before) (sym is.1) (by_fault fault fails) where
-    by_fault : (e : InvFault) → Fails e (read_inventory bytes) → LivesTo port bytes start before (Err (stop_of_inventory e)) (change j x x) (change k a a) before
+    by_fault : (e : InvFault) → Fails e (read_served bytes) → LivesTo port bytes start before (Err (stop_of_inventory e)) (change j x x) (change k a a) before
     by_fault faults.OutOfMemory h = inl (refl, refl, refl)
     by_fault faults.NotToml h = (h, refl, refl, refl)
     by_fault (faults.MissingKey i key) h = (h, refl, refl, refl)
@@ -115,17 +116,24 @@ module _ (port : ℕ) (bytes : List ℕ) (start : ℕ) (before : Option Behind) 
     by_fault (faults.BadValue i key) h = (h, refl, refl, refl)
     by_fault (faults.Tree i t) h = (h, refl, refl, refl)
 
+  -- memory for what the tables leave open was wanting
+  pub unmarked_lives :
+      (result : Result (Unit {0}) Stop) (j : Bool) (x : Seen) (k : Bool) (a : Seen) → IsErr result × IsErrAnd result (λ (q : Stop). q ≡ stops.Memory) →
+      LivesTo port bytes start before result (change j x x) (change k a a) before
+  unmarked_lives (Ok u) j x k a is = absurd (let no = is.0 in cc)
+  unmarked_lives (Err stop) j x k a is = subst (λ (q : Stop). LivesTo port bytes start before (Err q) (change j x x) (change k a a) before) (sym is.1) (inl (refl, refl, refl))
+
   -- it ended before it listened
   pub early_lives :
-      (result : Result (Unit {0}) Stop) (stop : Stop) (inventory : Inventory) (j : Bool) (x : Seen) (out : Change) (new : Option Behind) → read_inventory bytes ≡ Ok inventory → IsErr result × IsErrAnd result (λ (q : Stop). q ≡ stop) →
-      EndsEarly port start (record { inventory = inventory; behind = before }) stop out new → LivesTo port bytes start before result (change j x x) out new
-  early_lives (Ok u) stop inventory j x out new read is early = absurd (let no = is.0 in cc)
-  early_lives (Err q) stop inventory j x out new read is early = subst (λ (u : Stop). LivesTo port bytes start before (Err u) (change j x x) out new) (sym is.1) (by_stop stop early) where
-    by_stop : (u : Stop) → EndsEarly port start (record { inventory = inventory; behind = before }) u out new → LivesTo port bytes start before (Err u) (change j x x) out new
-    by_stop stops.Memory h = inr (inventory, read, inl (h, refl))
-    by_stop stops.Write h = (inventory, read, inl (h, refl))
-    by_stop stops.TooLong h = (inventory, read, inl (h, refl))
-    by_stop (stops.Broker name) h = (inventory, read, inl (h, refl))
+      (result : Result (Unit {0}) Stop) (stop : Stop) (v : Served) (j : Bool) (x : Seen) (out : Change) (new : Option Behind) → read_served bytes ≡ Ok v → IsErr result × IsErrAnd result (λ (q : Stop). q ≡ stop) →
+      EndsEarly port start (marks v.notes) (record { inventory = v.inventory; behind = before }) stop out new → LivesTo port bytes start before result (change j x x) out new
+  early_lives (Ok u) stop v j x out new read is early = absurd (let no = is.0 in cc)
+  early_lives (Err q) stop v j x out new read is early = subst (λ (u : Stop). LivesTo port bytes start before (Err u) (change j x x) out new) (sym is.1) (by_stop stop early) where
+    by_stop : (u : Stop) → EndsEarly port start (marks v.notes) (record { inventory = v.inventory; behind = before }) u out new → LivesTo port bytes start before (Err u) (change j x x) out new
+    by_stop stops.Memory h = inr (v, read, inl (h, refl))
+    by_stop stops.Write h = (v, read, inl (h, refl))
+    by_stop stops.TooLong h = (v, read, inl (h, refl))
+    by_stop (stops.Broker name) h = (v, read, inl (h, refl))
     by_stop stops.Read h = absurd h
     by_stop (stops.Inventory fault) h = absurd h
     by_stop (stops.Moments fault) h = absurd h
@@ -134,13 +142,13 @@ module _ (port : ℕ) (bytes : List ℕ) (start : ℕ) (before : Option Behind) 
 
   -- it listened
   pub listened_lives :
-      (now : ℕ) (inventory : Inventory) (cs : List (List ℕ)) (keeper : State) (middle : Option Behind) (a b c : Seen) (k : Bool) (result : Result (Unit {0}) Stop) (final : World) (fed : Change) → read_inventory bytes ≡ Ok inventory → now ≡ port →
-      IsOpened port start (record { inventory = inventory; behind = before }) cs keeper middle (change k a b) → Listens now cs (both keeper middle) result final fed (change k b c) →
+      (now : ℕ) (v : Served) (cs : List (List ℕ)) (keeper : State) (middle : Option Behind) (a b c : Seen) (k : Bool) (result : Result (Unit {0}) Stop) (final : World) (fed : Change) → read_served bytes ≡ Ok v → now ≡ port →
+      IsOpened port start (marks v.notes) (record { inventory = v.inventory; behind = before }) cs keeper middle (change k a b) → Listens now cs (both keeper middle) result final fed (change k b c) →
       LivesTo port bytes start before result fed (change k a c) final.behind
-  listened_lives now inventory cs keeper middle a b c k result final fed read same o listens = by_result result has where
-    has : HasListened port start (record { inventory = inventory; behind = before }) result final fed (change k a c)
+  listened_lives now v cs keeper middle a b c k result final fed read same o listens = by_result result has where
+    has : HasListened port start (marks v.notes) (record { inventory = v.inventory; behind = before }) result final fed (change k a c)
     has =
-        let h : Listens port inventory.credentials (both keeper middle) result final fed (change k b c) = as_begun same o.same (λ x ds. Listens x ds (both keeper middle) result final fed (change k b c)) listens in
+        let h : Listens port v.inventory.credentials (both keeper middle) result final fed (change k b c) = as_begun same o.same (λ x ds. Listens x ds (both keeper middle) result final fed (change k b c)) listens in
         record {
           read = h.read;
           consumed = h.consumed;
@@ -152,19 +160,19 @@ module _ (port : ℕ) (bytes : List ℕ) (start : ℕ) (before : Option Behind) 
           mid = h.mid;
           text = o.text ++ h.text;
           run = record { opening = both keeper middle; before = o.text; opened = o.opened; spoken = h.text; heard = h.heard.heard; text_is = refl };
-          ends = listens_to port inventory.credentials h.read (length h.lines + 1) h.mid h.behind o.text h.text final fed a b c k o.sent.0 o.kept result h.ends;
+          ends = listens_to port v.inventory.credentials h.read (length h.lines + 1) h.mid h.behind o.text h.text final fed a b c k o.sent.0 o.kept result h.ends;
         }
 
-    by_result : (u : Result (Unit {0}) Stop) → HasListened port start (record { inventory = inventory; behind = before }) u final fed (change k a c) → LivesTo port bytes start before u fed (change k a c) final.behind
-    by_result (Ok u) h = (inventory, read, (final, h, refl))
-    by_result (Err stops.Memory) h = inr (inventory, read, inr (final, h, refl))
-    by_result (Err stops.Write) h = (inventory, read, inr (final, h, refl))
-    by_result (Err stops.TooLong) h = (inventory, read, inr (final, h, refl))
-    by_result (Err stops.Read) h = (inventory, read, inr (final, h, refl))
-    by_result (Err (stops.Line i)) h = (inventory, read, inr (final, h, refl))
-    by_result (Err (stops.Broker name)) h = (inventory, read, inr (final, h, refl))
-    by_result (Err (stops.Moments fault)) h = (inventory, read, inr (final, h, refl))
-    by_result (Err (stops.FaultWord i)) h = (inventory, read, inr (final, h, refl))
+    by_result : (u : Result (Unit {0}) Stop) → HasListened port start (marks v.notes) (record { inventory = v.inventory; behind = before }) u final fed (change k a c) → LivesTo port bytes start before u fed (change k a c) final.behind
+    by_result (Ok u) h = (v, read, (final, h, refl))
+    by_result (Err stops.Memory) h = inr (v, read, inr (final, h, refl))
+    by_result (Err stops.Write) h = (v, read, inr (final, h, refl))
+    by_result (Err stops.TooLong) h = (v, read, inr (final, h, refl))
+    by_result (Err stops.Read) h = (v, read, inr (final, h, refl))
+    by_result (Err (stops.Line i)) h = (v, read, inr (final, h, refl))
+    by_result (Err (stops.Broker name)) h = (v, read, inr (final, h, refl))
+    by_result (Err (stops.Moments fault)) h = (v, read, inr (final, h, refl))
+    by_result (Err (stops.FaultWord i)) h = (v, read, inr (final, h, refl))
     by_result (Err (stops.Inventory fault)) h = absurd h.ends.1
 
   -- ---- by exit

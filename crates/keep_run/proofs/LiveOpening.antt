@@ -4,7 +4,9 @@ use Rattle.std.specs.Io.KnownBytes.{Appends}
 use Rattle.std.specs.Result.{IfErr, IsErr, IsErrAnd}
 use Rattle.std.proofs.lemmas.List.{append-nil}
 use Rattle.keep_device.specs.Seen.{Change, Seen, change}
-use Rattle.keep_core.proofs.Shaped.{replanned, same}
+use Rattle.keep_core.proofs.Shaped.{replanned}
+use Rattle.keep_start.specs.Start.{from_start}
+use Rattle.keep_start.proofs.Started.{shaped_start}
 use Rattle.keep_core.specs.Replan.{Replan, ReplanTooLong}
 use Rattle.keep_core.specs.State.{State, unplanned}
 use Rattle.keep_device.specs.Failures.{HasFailed}
@@ -26,20 +28,20 @@ use Rattle.keep_tree.specs.Forest.{Forest}
 
 -- ---- a lookup that stops it
 
-pub looking_early : (port t : ℕ) (old : Looked) (stop : Stop) (out : Change) (inventory : Inventory) (new : Option Behind) → LooksAllUp port t old (Err stop) out inventory new → EndsEarly port t old stop out new
-looking_early port t old (stops.Broker name) out inventory new h = h
-looking_early port t old stops.Write out inventory new h = (h.4, inl (h.0, h.1, h.2, h.3))
-looking_early port t old stops.Memory out inventory new h = inl h
-looking_early port t old stops.TooLong out inventory new h = absurd h
-looking_early port t old stops.Read out inventory new h = absurd h
-looking_early port t old (stops.Inventory fault) out inventory new h = absurd h
-looking_early port t old (stops.Moments fault) out inventory new h = absurd h
-looking_early port t old (stops.FaultWord n) out inventory new h = absurd h
-looking_early port t old (stops.Line n) out inventory new h = absurd h
+pub looking_early : (port t : ℕ) (always : List Bool) (old : Looked) (stop : Stop) (out : Change) (inventory : Inventory) (new : Option Behind) → LooksAllUp port t old (Err stop) out inventory new → EndsEarly port t always old stop out new
+looking_early port t always old (stops.Broker name) out inventory new h = h
+looking_early port t always old stops.Write out inventory new h = (h.4, inl (h.0, h.1, h.2, h.3))
+looking_early port t always old stops.Memory out inventory new h = inl h
+looking_early port t always old stops.TooLong out inventory new h = absurd h
+looking_early port t always old stops.Read out inventory new h = absurd h
+looking_early port t always old (stops.Inventory fault) out inventory new h = absurd h
+looking_early port t always old (stops.Moments fault) out inventory new h = absurd h
+looking_early port t always old (stops.FaultWord n) out inventory new h = absurd h
+looking_early port t always old (stops.Line n) out inventory new h = absurd h
 
 -- ---- after all lookups
 
-module _ (port t : ℕ) (old : Looked) (inventory : Inventory) (middle : Option Behind) (a b c : Seen) (k : Bool) (all : LooksAll port t old (change k a b) inventory middle) where
+module _ (port t : ℕ) (always : List Bool) (old : Looked) (inventory : Inventory) (middle : Option Behind) (a b c : Seen) (k : Bool) (all : LooksAll port t old (change k a b) inventory middle) where
   abbrev lines : List ℕ
   lines = looked_text inventory (first (length old.inventory.forest.entries))
 
@@ -47,7 +49,7 @@ module _ (port t : ℕ) (old : Looked) (inventory : Inventory) (middle : Option 
   written = said_appends (looked_text inventory (first (length old.inventory.forest.entries))) (change k a b) all.said
 
   -- memory was wanting before the lines of the opening were sent
-  pub memory_early : EndsEarly port t old stops.Memory (change k a b) middle
+  pub memory_early : EndsEarly port t always old stops.Memory (change k a b) middle
   memory_early = inl (
     length old.inventory.forest.entries,
     record { inventory = inventory; behind = middle },
@@ -55,22 +57,22 @@ module _ (port t : ℕ) (old : Looked) (inventory : Inventory) (middle : Option 
     left_alone port middle t inventory (length old.inventory.forest.entries) middle refl,
   )
 
-  pub long_early : ReplanTooLong inventory.forest t → EndsEarly port t old stops.TooLong (change k a b) middle
+  pub long_early : ReplanTooLong (from_start inventory always t).forest t → EndsEarly port t always old stops.TooLong (change k a b) middle
   long_early long = record { looked = record { inventory = inventory; behind = middle }; all = all.looked; long = long; said = all.said; left = refl }
 
-  opening : (keeper : State) (shorts : List ℕ) → Replan (unplanned inventory.forest) t keeper → shorts ≡ short_lines keeper.forest keeper.shortened → IsLiveOpening port t old (both (taken keeper) middle) (lines ++ shorts)
+  opening : (keeper : State) (shorts : List ℕ) → Replan (unplanned (from_start inventory always t).forest) t keeper → shorts ≡ short_lines keeper.forest keeper.shortened → IsLiveOpening port t always old (both (taken keeper) middle) (lines ++ shorts)
   opening keeper shorts planned is = record {
     looked = record { inventory = inventory; behind = middle };
     all = all.looked;
     keeper = keeper;
     planned = planned;
     is = refl;
-    text_is = ap (λ x. lines ++ x) (is ∙ same_shorts inventory.forest keeper.forest (replanned inventory.forest (unplanned inventory.forest) t keeper (same inventory.forest) planned) keeper.shortened);
+    text_is = ap (λ x. lines ++ x) (is ∙ same_shorts inventory.forest keeper.forest (replanned inventory.forest (unplanned (from_start inventory always t).forest) t keeper (shaped_start inventory always t) planned) keeper.shortened);
   }
 
   pub unsent_early :
-      (keeper : State) (shorts : List ℕ) (stop : Stop) → Replan (unplanned inventory.forest) t keeper → shorts ≡ short_lines keeper.forest keeper.shortened → Sends (Err stop) shorts (change k b c) →
-      EndsEarly port t old stop (change k a c) middle
+      (keeper : State) (shorts : List ℕ) (stop : Stop) → Replan (unplanned (from_start inventory always t).forest) t keeper → shorts ≡ short_lines keeper.forest keeper.shortened → Sends (Err stop) shorts (change k b c) →
+      EndsEarly port t always old stop (change k a c) middle
   unsent_early keeper shorts stops.Write planned is sends =
       (subst (λ x. HasFailed x c.failed_calls) all.kept sends.0, inr (both (taken keeper) middle, lines ++ shorts, opening keeper shorts planned is, front_then _ _ _ lines shorts written sends.1, refl))
   unsent_early keeper shorts stops.Memory planned is sends =
@@ -84,8 +86,8 @@ module _ (port t : ℕ) (old : Looked) (inventory : Inventory) (middle : Option 
   unsent_early keeper shorts (stops.Line x) planned is sends = absurd sends
 
   pub opened :
-      (keeper : State) (shorts : List ℕ) → Replan (unplanned inventory.forest) t keeper → shorts ≡ short_lines keeper.forest keeper.shortened → IsAll shorts (change k b c) → c.failed_calls ≡ b.failed_calls →
-      IsOpened port t old inventory.credentials (taken keeper) middle (change k a c)
+      (keeper : State) (shorts : List ℕ) → Replan (unplanned (from_start inventory always t).forest) t keeper → shorts ≡ short_lines keeper.forest keeper.shortened → IsAll shorts (change k b c) → c.failed_calls ≡ b.failed_calls →
+      IsOpened port t always old inventory.credentials (taken keeper) middle (change k a c)
   opened keeper shorts planned is sends more = record {
     same = same_credentials port t old (first (length old.inventory.forest.entries)) (record { inventory = inventory; behind = middle }) all.looked;
     text = lines ++ shorts;
@@ -96,27 +98,27 @@ module _ (port t : ℕ) (old : Looked) (inventory : Inventory) (middle : Option 
 
 -- ---- by the names that the code has
 
-module _ (port t : ℕ) (old : Looked) (inventory : Inventory) (middle : Option Behind) (a b c : Seen) (k : Bool) (all : LooksAll port t old (change k a b) inventory middle) where
-  pub memory_ends : (stop : Stop) → stop ≡ stops.Memory → EndsEarly port t old stop (change k a b) middle
-  memory_ends stop is = subst (λ (u : Stop). EndsEarly port t old u (change k a b) middle) (sym is) (memory_early port t old inventory middle a b b k all)
+module _ (port t : ℕ) (always : List Bool) (old : Looked) (inventory : Inventory) (middle : Option Behind) (a b c : Seen) (k : Bool) (all : LooksAll port t old (change k a b) inventory middle) where
+  pub memory_ends : (stop : Stop) → stop ≡ stops.Memory → EndsEarly port t always old stop (change k a b) middle
+  memory_ends stop is = subst (λ (u : Stop). EndsEarly port t always old u (change k a b) middle) (sym is) (memory_early port t always old inventory middle a b b k all)
 
-  pub planning_ends : (g : Forest) (stop : Stop) → g ≡ inventory.forest → (stop ≡ stops.Memory) ⊎ ((stop ≡ stops.TooLong) × ReplanTooLong g t) → EndsEarly port t old stop (change k a b) middle
+  pub planning_ends : (g : Forest) (stop : Stop) → g ≡ (from_start inventory always t).forest → (stop ≡ stops.Memory) ⊎ ((stop ≡ stops.TooLong) × ReplanTooLong g t) → EndsEarly port t always old stop (change k a b) middle
   planning_ends g stop is (inl memory) = memory_ends stop memory
   planning_ends g stop is (inr long) =
-      subst (λ (u : Stop). EndsEarly port t old u (change k a b) middle) (sym long.0) (long_early port t old inventory middle a b b k all (subst (λ h. ReplanTooLong h t) is long.1))
+      subst (λ (u : Stop). EndsEarly port t always old u (change k a b) middle) (sym long.0) (long_early port t always old inventory middle a b b k all (subst (λ h. ReplanTooLong h t) is long.1))
 
   pub sending_ends :
-      (g : Forest) (keeper : State) (shorts : List ℕ) (stop : Stop) → g ≡ inventory.forest → Replan (unplanned g) t keeper → shorts ≡ short_lines keeper.forest keeper.shortened → Sends (Err stop) shorts (change k b c) →
-      EndsEarly port t old stop (change k a c) middle
-  sending_ends g keeper shorts stop is planned are sends = unsent_early port t old inventory middle a b c k all keeper shorts stop (subst (λ h. Replan (unplanned h) t keeper) is planned) are sends
+      (g : Forest) (keeper : State) (shorts : List ℕ) (stop : Stop) → g ≡ (from_start inventory always t).forest → Replan (unplanned g) t keeper → shorts ≡ short_lines keeper.forest keeper.shortened → Sends (Err stop) shorts (change k b c) →
+      EndsEarly port t always old stop (change k a c) middle
+  sending_ends g keeper shorts stop is planned are sends = unsent_early port t always old inventory middle a b c k all keeper shorts stop (subst (λ h. Replan (unplanned h) t keeper) is planned) are sends
 
   pub opens :
-      (g : Forest) (cs : List (List ℕ)) (keeper now : State) (shorts : List ℕ) → g ≡ inventory.forest → cs ≡ inventory.credentials → Replan (unplanned g) t keeper → now ≡ taken keeper → shorts ≡ short_lines keeper.forest keeper.shortened →
-      IsAll shorts (change k b c) → c.failed_calls ≡ b.failed_calls → IsOpened port t old cs now middle (change k a c)
+      (g : Forest) (cs : List (List ℕ)) (keeper now : State) (shorts : List ℕ) → g ≡ (from_start inventory always t).forest → cs ≡ inventory.credentials → Replan (unplanned g) t keeper → now ≡ taken keeper → shorts ≡ short_lines keeper.forest keeper.shortened →
+      IsAll shorts (change k b c) → c.failed_calls ≡ b.failed_calls → IsOpened port t always old cs now middle (change k a c)
   opens g cs keeper now shorts is_g is_cs planned is_now are sends more =
-      subst (λ u. IsOpened port t old u now middle (change k a c)) (sym is_cs)
-      (subst (λ (v : State). IsOpened port t old inventory.credentials v middle (change k a c)) (sym is_now)
-      (opened port t old inventory middle a b c k all keeper shorts (subst (λ h. Replan (unplanned h) t keeper) is_g planned) are sends more))
+      subst (λ u. IsOpened port t always old u now middle (change k a c)) (sym is_cs)
+      (subst (λ (v : State). IsOpened port t always old inventory.credentials v middle (change k a c)) (sym is_now)
+      (opened port t always old inventory middle a b c k all keeper shorts (subst (λ h. Replan (unplanned h) t keeper) is_g planned) are sends more))
 
 -- ---- what a call gives that stops it
 

@@ -77,6 +77,10 @@ same_credentials port t old [] new all = ap (λ (u : Looked). u.inventory.creden
 same_credentials port t old (i ∷ is) new all =
     same_credentials port t all.0 is new all.1.1 ∙ (told_by port t old i all.0.inventory all.0.behind all.1.0).credentials
 
+pub same_count : (port t : ℕ) (old : Looked) (is : List ℕ) (new : Looked) → AreLookedUp port t old is new → length new.inventory.forest.entries ≡ length old.inventory.forest.entries
+same_count port t old [] new all = ap (λ (u : Looked). length u.inventory.forest.entries) all
+same_count port t old (i ∷ is) new all = same_count port t all.0 is new all.1.1 ∙ (told_by port t old i all.0.inventory all.0.behind all.1.0).count
+
 -- ---- the lines
 
 same_lines : (one two : ℕ → List ℕ) (n a : ℕ) → ((j : ℕ) → j < a + n → two j ≡ one j) → flat_map two (range_with_len a n) ≡ flat_map one (range_with_len a n)

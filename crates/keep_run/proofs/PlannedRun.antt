@@ -10,9 +10,9 @@ use Rattle.keep_plan.specs.declared.decision.Decision.TheVariants.{Keep}
 use Rattle.keep_plan.specs.Decides.{Decides}
 use Rattle.keep_plan.specs.Planned.{Planned, to_come}
 use Rattle.keep_core.specs.Replan.{IsPlanOf}
-use Rattle.keep_inventory.specs.Inventory.{read_inventory}
+use Rattle.keep_start.specs.Start.{inventory_at}
 use Rattle.keep_inventory.specs.Inventories.{Inventory}
-use Rattle.keep_inventory.proofs.Inventoried.{inventory_law}
+use Rattle.keep_start.proofs.Started.{start_law}
 use Rattle.mini_broker.specs.declared.fault.NumberedFault.{NumberedFault}
 use Rattle.keep_exchange.specs.Exchanges.{Behind}
 use Rattle.keep_report.specs.declared.exit.Exit.TheVariants as exits
@@ -33,21 +33,21 @@ none_bad : (position : ℕ) → faults_of [] ≡ Err position → ⊥
 unfolding faults_from
 none_bad position e = (let bad : ◌≡◌ {A = Result (List NumberedFault) ℕ} (Ok []) (Err position) = e in cc)
 
-one_inventory : (bytes : List ℕ) (a b : Inventory) → read_inventory bytes ≡ Ok a → read_inventory bytes ≡ Ok b → b ≡ a
-one_inventory bytes a b x y = (let same = sym y ∙ x in cc)
+one_inventory : (start : ℕ) (bytes : List ℕ) (a b : Inventory) → inventory_at start bytes ≡ Ok a → inventory_at start bytes ≡ Ok b → b ≡ a
+one_inventory start bytes a b x y = (let same = sym y ∙ x in cc)
 
 no_round : (n m : ℕ) → n < m → m ≤ 100000 → n ≡ 100000 → ⊥
 no_round n m less most is = omega (arith, less, most, is)
 
 -- the run as it is done
 done_as_planned :
-    (bytes : List ℕ) (inventory : Inventory) (start : ℕ) (p : Planned) (course : Course) (final : World) (out : Change) (new : Behind) → read_inventory bytes ≡ Ok inventory → start ≤ LAST → Decides inventory.forest start (Keep p) → length (to_come p) ≤ 100000 →
+    (bytes : List ℕ) (inventory : Inventory) (start : ℕ) (p : Planned) (course : Course) (final : World) (out : Change) (new : Behind) → inventory_at start bytes ≡ Ok inventory → start ≤ LAST → Decides inventory.forest start (Keep p) → length (to_come p) ≤ 100000 →
     IsClosedRun inventory [] start course final → IsAll (course_text inventory course) out → final.behind ≡ Some new → IsPlannedRun inventory start p out new
 done_as_planned bytes inventory start p course final out new read late decides few run sent left =
     let ts = moments_of (to_come p) in
     let plan : IsPlanOf inventory.forest start ts = decides.best.least in
     let count : length ts ≡ length (to_come p) = length-map (to_come p) (λ (x : Force). x.at) in
-    let is = rehearsal inventory start ts (inventory_law bytes inventory read) late plan (omega arith) course final run in
+    let is = rehearsal inventory start ts (start_law start bytes inventory read) late plan (omega arith) course final run in
     let text = planned_run bytes inventory start p read late decides few course final run in
     record {
       course = course;
@@ -61,7 +61,7 @@ done_as_planned bytes inventory start p course final out new read late decides f
 
 -- it does not stop
 not_long :
-    (bytes : List ℕ) (inventory : Inventory) (start : ℕ) (p : Planned) (out : Change) (behind : Behind) → read_inventory bytes ≡ Ok inventory → start ≤ LAST → Decides inventory.forest start (Keep p) → length (to_come p) ≤ 100000 → RunsLong inventory [] start out behind → ⊥
+    (bytes : List ℕ) (inventory : Inventory) (start : ℕ) (p : Planned) (out : Change) (behind : Behind) → inventory_at start bytes ≡ Ok inventory → start ≤ LAST → Decides inventory.forest start (Keep p) → length (to_come p) ≤ 100000 → RunsLong inventory [] start out behind → ⊥
 not_long bytes inventory start p out behind read late decides few (inl long) =
     let ts = moments_of (to_come p) in
     let plan : IsPlanOf inventory.forest start ts = decides.best.least in
@@ -76,7 +76,7 @@ not_long bytes inventory start p out behind read late decides few (inr long) =
     let more = stopped.more in
     let beats = so_far.beats ++ more.beats in
     let played = joins 8200 inventory.credentials so_far.opening long.0 more.mid (Some start) (Some stopped.due) (Some more.at) so_far.beats more.beats so_far.played more.played in
-    let less = more_to_come inventory start ts (inventory_law bytes inventory read) late plan (omega arith) so_far.short so_far.opening more.mid beats more.at so_far.opened played more.asked more.keeper more.turn in
+    let less = more_to_come inventory start ts (start_law start bytes inventory read) late plan (omega arith) so_far.short so_far.opening more.mid beats more.at so_far.opened played more.asked more.keeper more.turn in
     let all : length (rounds beats) ≡ length (rounds so_far.beats) + length (rounds more.beats) = wakes_join so_far.beats more.beats in
     let none = ap length more.none_asked in
     let made = so_far.wakes_are in
@@ -84,14 +84,14 @@ not_long bytes inventory start p out behind read late decides few (inr long) =
 
 pub planned_rehearsal : PlannedRehearsalLaw
 planned_rehearsal bytes inventory start p exits.Done out old new read late decides few run =
-    let same = one_inventory bytes inventory run.0 read run.2.read in
+    let same = one_inventory start bytes inventory run.0 read run.2.read in
     let none = none_written run.1 run.2.faults_are in
     let closed : IsClosedRun inventory [] start run.3 run.4 = subst (λ s. IsClosedRun s [] start run.3 run.4) same (subst (λ fs. IsClosedRun run.0 fs start run.3 run.4) none run.5) in
     done_as_planned bytes inventory start p run.3 run.4 out new read late decides few closed (subst (λ s. IsAll (course_text s run.3) out) same run.6) run.7
 planned_rehearsal bytes inventory start p exits.Inventory out old new read late decides few run = absurd (let bad = sym read ∙ run.1 in cc)
 planned_rehearsal bytes inventory start p exits.CommandLine out old new read late decides few run = none_bad run.2 run.3
 planned_rehearsal bytes inventory start p exits.TooLong out old new read late decides few run =
-    let same = one_inventory bytes inventory run.0 read run.2.read in
+    let same = one_inventory start bytes inventory run.0 read run.2.read in
     let none = none_written run.1 run.2.faults_are in
     not_long bytes inventory start p out new read late decides few (subst (λ s. RunsLong s [] start out new) same (subst (λ fs. RunsLong run.0 fs start out new) none run.3))
 planned_rehearsal bytes inventory start p exits.Device out old new read late decides few run = tt

@@ -6,7 +6,7 @@ use Rattle.std.specs.Result.{IsErr, IsErrAnd}
 use Rattle.std.specs.Io.KnownBytes.{Appends}
 use Rattle.keep_device.specs.Seen.{Change, Seen, change}
 use Rattle.keep_device.specs.Front.{AppendsFront}
-use Rattle.keep_inventory.specs.Inventory.{read_inventory}
+use Rattle.keep_inventory.specs.declared.fault.InvFault.{InvFault}
 use Rattle.keep_inventory.specs.Inventories.{IsInventory, Inventory}
 use Rattle.keep_moment.specs.declared.moment.TheConstants.{LAST}
 use Rattle.keep_tree.specs.Forest.{Forest}
@@ -85,9 +85,9 @@ module _ (inventory : Inventory) (faults : List NumberedFault) (start : ℕ) (k 
 -- ---- the rehearsal
 
 front_written :
-    (bytes : List ℕ) (words : List (List ℕ)) (inventory : Inventory) (faults : List NumberedFault) (start : ℕ) (k : State) (lines : List ℕ) (out : Change) → IsCalled bytes words inventory faults → (r : Replan (unplanned inventory.forest) start k) →
-    lines ≡ short_lines k.forest k.shortened → PlaysFront (inventory_with inventory.credentials k.forest) (both (taken k) (Some (fresh inventory faults))) start lines out → WritesFront bytes start words out
-front_written bytes words inventory faults start k lines out called r lines_are front = (
+    (found : Result Inventory InvFault) (words : List (List ℕ)) (inventory : Inventory) (faults : List NumberedFault) (start : ℕ) (k : State) (lines : List ℕ) (out : Change) → IsCalled found words inventory faults → (r : Replan (unplanned inventory.forest) start k) →
+    lines ≡ short_lines k.forest k.shortened → PlaysFront (inventory_with inventory.credentials k.forest) (both (taken k) (Some (fresh inventory faults))) start lines out → WritesFront found start words out
+front_written found words inventory faults start k lines out called r lines_are front = (
   inventory,
   faults,
   called,
@@ -97,17 +97,17 @@ front_written bytes words inventory faults start k lines out called r lines_are 
 )
 
 pub rehearsed :
-    (bytes : List ℕ) (words : List (List ℕ)) (inventory : Inventory) (faults : List NumberedFault) (start : ℕ) (k : State) (lines : List ℕ) (result : Result (Unit {0}) Stop) (new : World) (left : Behind) (out : Change) (old : Behind) →
-    IsCalled bytes words inventory faults → (r : Replan (unplanned inventory.forest) start k) → lines ≡ short_lines k.forest k.shortened →
-    Plays inventory.credentials (both (taken k) (Some (fresh inventory faults))) start lines result new out → new.behind ≡ Some left → Rehearses bytes start words result out old left
-rehearsed bytes words inventory faults start k lines (Ok u) new left out old called r lines_are p is =
+    (found : Result Inventory InvFault) (words : List (List ℕ)) (inventory : Inventory) (faults : List NumberedFault) (start : ℕ) (k : State) (lines : List ℕ) (result : Result (Unit {0}) Stop) (new : World) (left : Behind) (out : Change) (old : Behind) →
+    IsCalled found words inventory faults → (r : Replan (unplanned inventory.forest) start k) → lines ≡ short_lines k.forest k.shortened →
+    Plays inventory.credentials (both (taken k) (Some (fresh inventory faults))) start lines result new out → new.behind ≡ Some left → Rehearses found start words result out old left
+rehearsed found words inventory faults start k lines (Ok u) new left out old called r lines_are p is =
     let so_far = so_far_of inventory faults start k r new None p.wakes p.asked p.lines p.goes in
     let whole = at_end inventory faults start new p.wakes p.asked (short_lines inventory.forest k.shortened ++ p.lines) so_far p.few in
     let text = ap (λ l. l ++ (p.lines ++ done_text p.wakes p.asked)) (shorts_are inventory faults start k r lines lines_are)
     ∙ sym (append_assoc (short_lines inventory.forest k.shortened) p.lines (done_text p.wakes p.asked))
     ∙ whole.1.1 in
     (inventory, faults, called, whole.0, new, whole.1.0, (subst (Appends out.old.output.written out.new.output.written) text p.sent.0, p.sent.1), is)
-rehearsed bytes words inventory faults start k lines (Err stops.TooLong) new left out old called r lines_are p is =
+rehearsed found words inventory faults start k lines (Err stops.TooLong) new left out old called r lines_are p is =
     let final = both p.keeper new.behind in
     let text = short_lines inventory.forest k.shortened ++ p.lines in (
       inventory,
@@ -121,53 +121,53 @@ rehearsed bytes words inventory faults start k lines (Err stops.TooLong) new lef
         is,
       ),
     )
-rehearsed bytes words inventory faults start k lines (Err stops.Write) new left out old called r lines_are p is = (p.0, front_written bytes words inventory faults start k lines out called r lines_are p.1)
-rehearsed bytes words inventory faults start k lines (Err stops.Memory) new left out old called r lines_are p is = inr (front_written bytes words inventory faults start k lines out called r lines_are p)
-rehearsed bytes words inventory faults start k lines (Err stops.Read) new left out old called r lines_are p is = absurd p
-rehearsed bytes words inventory faults start k lines (Err (stops.Inventory fault)) new left out old called r lines_are p is = absurd p
-rehearsed bytes words inventory faults start k lines (Err (stops.Moments fault)) new left out old called r lines_are p is = absurd p
-rehearsed bytes words inventory faults start k lines (Err (stops.FaultWord n)) new left out old called r lines_are p is = absurd p
-rehearsed bytes words inventory faults start k lines (Err (stops.Broker name)) new left out old called r lines_are p is = absurd p
-rehearsed bytes words inventory faults start k lines (Err (stops.Line n)) new left out old called r lines_are p is = absurd p
+rehearsed found words inventory faults start k lines (Err stops.Write) new left out old called r lines_are p is = (p.0, front_written found words inventory faults start k lines out called r lines_are p.1)
+rehearsed found words inventory faults start k lines (Err stops.Memory) new left out old called r lines_are p is = inr (front_written found words inventory faults start k lines out called r lines_are p)
+rehearsed found words inventory faults start k lines (Err stops.Read) new left out old called r lines_are p is = absurd p
+rehearsed found words inventory faults start k lines (Err (stops.Inventory fault)) new left out old called r lines_are p is = absurd p
+rehearsed found words inventory faults start k lines (Err (stops.Moments fault)) new left out old called r lines_are p is = absurd p
+rehearsed found words inventory faults start k lines (Err (stops.FaultWord n)) new left out old called r lines_are p is = absurd p
+rehearsed found words inventory faults start k lines (Err (stops.Broker name)) new left out old called r lines_are p is = absurd p
+rehearsed found words inventory faults start k lines (Err (stops.Line n)) new left out old called r lines_are p is = absurd p
 
 -- ---- by exit
 
-pub run_stopped : (bytes : List ℕ) (start : ℕ) (words : List (List ℕ)) (stop : Stop) (out : Change) (old new : Behind) → Rehearses bytes start words (Err stop) out old new → RehearseRun bytes start words (exit_of stop) out old new
-run_stopped bytes start words (stops.Inventory fault) out old new r = (fault, r.0, r.1, r.2)
-run_stopped bytes start words (stops.FaultWord n) out old new r = (r.0, r.1, n, r.2, r.3, r.4)
-run_stopped bytes start words stops.TooLong out old new r = r
-run_stopped bytes start words stops.Write out old new r = r
-run_stopped bytes start words stops.Memory out old new r = r
-run_stopped bytes start words stops.Read out old new r = absurd r
-run_stopped bytes start words (stops.Moments fault) out old new r = absurd r
-run_stopped bytes start words (stops.Broker name) out old new r = absurd r
-run_stopped bytes start words (stops.Line n) out old new r = absurd r
+pub run_stopped : (found : Result Inventory InvFault) (start : ℕ) (words : List (List ℕ)) (stop : Stop) (out : Change) (old new : Behind) → Rehearses found start words (Err stop) out old new → RehearseRun found start words (exit_of stop) out old new
+run_stopped found start words (stops.Inventory fault) out old new r = (fault, r.0, r.1, r.2)
+run_stopped found start words (stops.FaultWord n) out old new r = (r.0, r.1, n, r.2, r.3, r.4)
+run_stopped found start words stops.TooLong out old new r = r
+run_stopped found start words stops.Write out old new r = r
+run_stopped found start words stops.Memory out old new r = r
+run_stopped found start words stops.Read out old new r = absurd r
+run_stopped found start words (stops.Moments fault) out old new r = absurd r
+run_stopped found start words (stops.Broker name) out old new r = absurd r
+run_stopped found start words (stops.Line n) out old new r = absurd r
 
 pub stopped_told :
-    (bytes : List ℕ) (start : ℕ) (words : List (List ℕ)) (stop : Stop) (out errors : Change) (old new : Behind) → Rehearses bytes start words (Err stop) out old new → Reports (fault_line (codes "leasekeep") stop) errors →
-    RehearseTold bytes words (exit_of stop) errors
-stopped_told bytes start words (stops.Inventory fault) out errors old new r told = (fault, r.0, told)
-stopped_told bytes start words (stops.FaultWord n) out errors old new r told = (n, r.2, told)
-stopped_told bytes start words stops.TooLong out errors old new r told = told
-stopped_told bytes start words stops.Write out errors old new r told = told
-stopped_told bytes start words stops.Memory out errors old new r told = told
-stopped_told bytes start words stops.Read out errors old new r told = absurd r
-stopped_told bytes start words (stops.Moments fault) out errors old new r told = absurd r
-stopped_told bytes start words (stops.Broker name) out errors old new r told = absurd r
-stopped_told bytes start words (stops.Line n) out errors old new r told = absurd r
+    (found : Result Inventory InvFault) (start : ℕ) (words : List (List ℕ)) (stop : Stop) (out errors : Change) (old new : Behind) → Rehearses found start words (Err stop) out old new → Reports (fault_line (codes "leasekeep") stop) errors →
+    RehearseTold found words (exit_of stop) errors
+stopped_told found start words (stops.Inventory fault) out errors old new r told = (fault, r.0, told)
+stopped_told found start words (stops.FaultWord n) out errors old new r told = (n, r.2, told)
+stopped_told found start words stops.TooLong out errors old new r told = told
+stopped_told found start words stops.Write out errors old new r told = told
+stopped_told found start words stops.Memory out errors old new r told = told
+stopped_told found start words stops.Read out errors old new r told = absurd r
+stopped_told found start words (stops.Moments fault) out errors old new r told = absurd r
+stopped_told found start words (stops.Broker name) out errors old new r told = absurd r
+stopped_told found start words (stops.Line n) out errors old new r told = absurd r
 
 -- ---- what the calls of the code give
 
 -- the FAULT words are not taken
 pub words_stopped :
-    (bytes : List ℕ) (start : ℕ) (words : List (List ℕ)) (inventory : Inventory) (answer : Result (Unit {0}) Stop) (stop : Stop) (table now : Table) (a : Seen) (m : Bool) (old : Behind) → read_inventory bytes ≡ Ok inventory →
+    (found : Result Inventory InvFault) (start : ℕ) (words : List (List ℕ)) (inventory : Inventory) (answer : Result (Unit {0}) Stop) (stop : Stop) (table now : Table) (a : Seen) (m : Bool) (old : Behind) → found ≡ Ok inventory →
     IsErr answer × IsErrAnd answer (λ (q : Stop). q ≡ stop) → SetsFaults words table (Err stop) now →
-    Rehearses bytes start words answer (change m a a) old old
-words_stopped bytes start words inventory (Ok u) stop table now a m old read is sets = absurd (let no = is.0 in cc)
-words_stopped bytes start words inventory (Err q) stop table now a m old read is sets =
-    subst (λ (x : Stop). Rehearses bytes start words (Err x) (change m a a) old old) (sym is.1) (by_stop stop sets) where
+    Rehearses found start words answer (change m a a) old old
+words_stopped found start words inventory (Ok u) stop table now a m old read is sets = absurd (let no = is.0 in cc)
+words_stopped found start words inventory (Err q) stop table now a m old read is sets =
+    subst (λ (x : Stop). Rehearses found start words (Err x) (change m a a) old old) (sym is.1) (by_stop stop sets) where
       by_stop : (x : Stop) → SetsFaults words table (Err x) now →
-          Rehearses bytes start words (Err x) (change m a a) old old
+          Rehearses found start words (Err x) (change m a a) old old
       by_stop (stops.FaultWord k) is' = (inventory, read, is', refl, refl)
       by_stop stops.Memory is' = inl (refl)
       by_stop stops.TooLong is' = absurd is'
@@ -179,35 +179,35 @@ words_stopped bytes start words inventory (Err q) stop table now a m old read is
       by_stop (stops.Line k) is' = absurd is'
 
 pub memory_stopped :
-    (bytes : List ℕ) (start : ℕ) (words : List (List ℕ)) (answer : Result (Unit {0}) Stop) (a : Seen) (m : Bool) (old new : Behind) → IsErr answer × IsErrAnd answer (λ (q : Stop). q ≡ stops.Memory) →
-    Rehearses bytes start words answer (change m a a) old new
-memory_stopped bytes start words (Ok u) a m old new is = absurd (let no = is.0 in cc)
-memory_stopped bytes start words (Err q) a m old new is =
-    subst (λ (x : Stop). Rehearses bytes start words (Err x) (change m a a) old new) (sym is.1) (inl (refl))
+    (found : Result Inventory InvFault) (start : ℕ) (words : List (List ℕ)) (answer : Result (Unit {0}) Stop) (a : Seen) (m : Bool) (old new : Behind) → IsErr answer × IsErrAnd answer (λ (q : Stop). q ≡ stops.Memory) →
+    Rehearses found start words answer (change m a a) old new
+memory_stopped found start words (Ok u) a m old new is = absurd (let no = is.0 in cc)
+memory_stopped found start words (Err q) a m old new is =
+    subst (λ (x : Stop). Rehearses found start words (Err x) (change m a a) old new) (sym is.1) (inl (refl))
 
 -- the opening is not planned
 pub opening_stopped :
-    (bytes : List ℕ) (start : ℕ) (words : List (List ℕ)) (inventory : Inventory) (faults : List NumberedFault) (g : Forest) (answer : Result (Unit {0}) Stop) (stop : Stop) (a : Seen) (m : Bool) (old new : Behind) →
-    read_inventory bytes ≡ Ok inventory → faults_of words ≡ Ok faults → g ≡ inventory.forest → new ≡ fresh inventory faults → IsErr answer × IsErrAnd answer (λ (q : Stop). q ≡ stop) → (stop ≡ stops.Memory) ⊎ ((stop ≡ stops.TooLong) × ReplanTooLong g start) →
-    Rehearses bytes start words answer (change m a a) old new
-opening_stopped bytes start words inventory faults g (Ok u) stop a m old new read taken' is_g is_new is long = absurd (let no = is.0 in cc)
-opening_stopped bytes start words inventory faults g (Err q) stop a m old new read taken' is_g is_new is (inl memory) =
-    subst (λ (x : Stop). Rehearses bytes start words (Err x) (change m a a) old new) (sym (is.1 ∙ memory)) (inl (refl))
-opening_stopped bytes start words inventory faults g (Err q) stop a m old new read taken' is_g is_new is (inr long) =
-    subst (λ (x : Stop). Rehearses bytes start words (Err x) (change m a a) old new) (sym (is.1 ∙ long.0))
+    (found : Result Inventory InvFault) (start : ℕ) (words : List (List ℕ)) (inventory : Inventory) (faults : List NumberedFault) (g : Forest) (answer : Result (Unit {0}) Stop) (stop : Stop) (a : Seen) (m : Bool) (old new : Behind) →
+    found ≡ Ok inventory → faults_of words ≡ Ok faults → g ≡ inventory.forest → new ≡ fresh inventory faults → IsErr answer × IsErrAnd answer (λ (q : Stop). q ≡ stop) → (stop ≡ stops.Memory) ⊎ ((stop ≡ stops.TooLong) × ReplanTooLong g start) →
+    Rehearses found start words answer (change m a a) old new
+opening_stopped found start words inventory faults g (Ok u) stop a m old new read taken' is_g is_new is long = absurd (let no = is.0 in cc)
+opening_stopped found start words inventory faults g (Err q) stop a m old new read taken' is_g is_new is (inl memory) =
+    subst (λ (x : Stop). Rehearses found start words (Err x) (change m a a) old new) (sym (is.1 ∙ memory)) (inl (refl))
+opening_stopped found start words inventory faults g (Err q) stop a m old new read taken' is_g is_new is (inr long) =
+    subst (λ (x : Stop). Rehearses found start words (Err x) (change m a a) old new) (sym (is.1 ∙ long.0))
     (inventory, faults, record { read = read; faults_are = taken' }, inl (subst (λ h. ReplanTooLong h start) is_g long.1, refl, is_new))
 
 -- the run is played
 pub plays_on :
-    (bytes : List ℕ) (words : List (List ℕ)) (inventory : Inventory) (faults : List NumberedFault) (start at : ℕ) (g : Forest) (cs : List (List ℕ)) (k now : State) (behind : Behind) (lines : List ℕ) (result : Result (Unit {0}) Stop) (new : World) (left : Behind) (out : Change) (old : Behind) →
-    read_inventory bytes ≡ Ok inventory → faults_of words ≡ Ok faults → g ≡ inventory.forest → cs ≡ inventory.credentials → behind ≡ fresh inventory faults → Replan (unplanned g) start k → now ≡ taken k → at ≡ start →
-    lines ≡ short_lines k.forest k.shortened → Plays cs (both now (Some behind)) at lines result new out → new.behind ≡ Some left → Rehearses bytes start words result out old left
-plays_on bytes words inventory faults start at g cs k now behind lines result new left out old read taken' is_g is_cs is_behind r is_now is_at lines_are plays is =
+    (found : Result Inventory InvFault) (words : List (List ℕ)) (inventory : Inventory) (faults : List NumberedFault) (start at : ℕ) (g : Forest) (cs : List (List ℕ)) (k now : State) (behind : Behind) (lines : List ℕ) (result : Result (Unit {0}) Stop) (new : World) (left : Behind) (out : Change) (old : Behind) →
+    found ≡ Ok inventory → faults_of words ≡ Ok faults → g ≡ inventory.forest → cs ≡ inventory.credentials → behind ≡ fresh inventory faults → Replan (unplanned g) start k → now ≡ taken k → at ≡ start →
+    lines ≡ short_lines k.forest k.shortened → Plays cs (both now (Some behind)) at lines result new out → new.behind ≡ Some left → Rehearses found start words result out old left
+plays_on found words inventory faults start at g cs k now behind lines result new left out old read taken' is_g is_cs is_behind r is_now is_at lines_are plays is =
     let p1 = subst (λ c. Plays c (both now (Some behind)) at lines result new out) is_cs plays in
     let p2 = subst (λ e. Plays inventory.credentials (both now (Some e)) at lines result new out) is_behind p1 in
     let p3 = subst (λ s. Plays inventory.credentials (both s (Some (fresh inventory faults))) at lines result new out) is_now p2 in
     let p4 = subst (λ t. Plays inventory.credentials (both (taken k) (Some (fresh inventory faults))) t lines result new out) is_at p3 in
-    rehearsed bytes words inventory faults start k lines result new left out old (record { read = read; faults_are = taken' }) (subst (λ h. Replan (unplanned h) start k) is_g r) lines_are p4 is
+    rehearsed found words inventory faults start k lines result new left out old (record { read = read; faults_are = taken' }) (subst (λ h. Replan (unplanned h) start k) is_g r) lines_are p4 is
 
 -- the keeper is ready for its first tick
 pub ready_opened : (g : Forest) (start : ℕ) (k now : State) → Replan (unplanned g) start k → now ≡ taken k → IsReady now

@@ -47,7 +47,7 @@ use Rattle.keep_run.specs.Mirrors.{with_forest}
 use Rattle.keep_run.proofs.Midway.{settled}
 use Rattle.keep_run.proofs.Mirroring.{mirrors_first}
 use Rattle.keep_run.proofs.Round.{AtRest, InRound, next_turn, part_goes}
-use Rattle.keep_inventory.proofs.Inventoried.{inventory_law}
+use Rattle.keep_start.proofs.Started.{start_law}
 use Rattle.keep_run.proofs.Running.{Awaits, asks_left, asks_open, requests_from, run_goes, tick_leaves, tick_says, tick_turn}
 use Rattle.mini_broker.proofs.Sweeping.{named_among}
 
@@ -214,7 +214,7 @@ planned_run bytes inventory start p read late decides few course final run =
     let ts = moments_of (to_come p) in
     let plan : IsPlanOf inventory.forest start ts = decides.best.least in
     let count : length ts ≡ length (to_come p) = length-map (to_come p) (λ (x : Force). x.at) in
-    let is = rehearsal inventory start ts (inventory_law bytes inventory read) late plan (omega arith) course final run in
+    let is = rehearsal inventory start ts (start_law start bytes inventory read) late plan (omega arith) course final run in
     let rounds_are : length (rounds course.beats) ≡ length (to_come p) = sym (length-map (rounds course.beats) (λ (b : Beat). b.at)) ∙ ap length is.0 ∙ count in
     let text = flat_map (beat_text inventory) course.beats in (
       is.0,

@@ -14,7 +14,7 @@ use Rattle.keep_rule.specs.Runs.{moments_of}
 use Rattle.keep_plan.specs.declared.decision.Decision.TheVariants.{Keep}
 use Rattle.keep_plan.specs.Decides.{Decides}
 use Rattle.keep_plan.specs.Planned.{Planned, to_come}
-use Rattle.keep_inventory.specs.Inventory.{read_inventory}
+use Rattle.keep_start.specs.Start.{inventory_at}
 use Rattle.keep_inventory.specs.Inventories.{IsInventory, Inventory}
 use Rattle.mini_broker.specs.Rows.{row_named}
 use Rattle.mini_broker.specs.Sweep.{swept}
@@ -107,7 +107,7 @@ AnswersTakenLaw =
 -- sum of the lengths of its Asks
 abbrev pub PlannedRunLaw : Type 0
 PlannedRunLaw =
-    (bytes : List ℕ) (inventory : Inventory) (start : ℕ) (p : Planned) → read_inventory bytes ≡ Ok inventory → start ≤ LAST → Decides inventory.forest start (Keep p) → length (to_come p) ≤ MOST_WAKES →
+    (bytes : List ℕ) (inventory : Inventory) (start : ℕ) (p : Planned) → inventory_at start bytes ≡ Ok inventory → start ≤ LAST → Decides inventory.forest start (Keep p) → length (to_come p) ≤ MOST_WAKES →
     (course : Course) (final : World) → IsClosedRun inventory [] start course final →
     (map (λ b. b.at) (rounds course.beats) ≡ moments_of (to_come p))
     × (course_text inventory course ≡ flat_map (beat_text inventory) course.beats

@@ -10,7 +10,7 @@ use Rattle.keep_rule.specs.Runs.{moments_of}
 use Rattle.keep_plan.specs.declared.decision.Decision.TheVariants.{Keep}
 use Rattle.keep_plan.specs.Decides.{Decides}
 use Rattle.keep_plan.specs.Planned.{Planned, to_come}
-use Rattle.keep_inventory.specs.Inventory.{read_inventory}
+use Rattle.keep_start.specs.Start.{inventory_at}
 use Rattle.keep_inventory.specs.Inventories.{Inventory}
 use Rattle.keep_exchange.specs.Exchanges.{Behind}
 use Rattle.keep_report.specs.declared.exit.Exit.{Exit}
@@ -44,5 +44,5 @@ EndsAsPlanned inventory start p exit out new = ⊥
 -- where `plan` keeps with at most 100,000 wake-ups, the rehearsal without FAULT words makes just these
 abbrev pub PlannedRehearsalLaw : Type 0
 PlannedRehearsalLaw =
-    (bytes : List ℕ) (inventory : Inventory) (start : ℕ) (p : Planned) (exit : Exit) (out : Change) (old new : Behind) → read_inventory bytes ≡ Ok inventory → start ≤ LAST → Decides inventory.forest start (Keep p) → length (to_come p) ≤ MOST_WAKES →
-    RehearseRun bytes start [] exit out old new → EndsAsPlanned inventory start p exit out new
+    (bytes : List ℕ) (inventory : Inventory) (start : ℕ) (p : Planned) (exit : Exit) (out : Change) (old new : Behind) → inventory_at start bytes ≡ Ok inventory → start ≤ LAST → Decides inventory.forest start (Keep p) → length (to_come p) ≤ MOST_WAKES →
+    RehearseRun (inventory_at start bytes) start [] exit out old new → EndsAsPlanned inventory start p exit out new

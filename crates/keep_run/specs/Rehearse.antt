@@ -4,7 +4,6 @@ use Rattle.std.specs.Prelude.{◌≡◌, ℕ, ◌⊎◌, List, [], ◌++◌, Opt
 use Rattle.keep_device.specs.Seen.{Change, ReceivesFront}
 use Rattle.keep_device.specs.Failures.{HasFailed}
 use Rattle.keep_inventory.specs.declared.fault.InvFault.{InvFault}
-use Rattle.keep_inventory.specs.Inventory.{read_inventory}
 use Rattle.keep_inventory.specs.Inventories.{Inventory}
 use Rattle.mini_broker.specs.declared.fault.NumberedFault.{NumberedFault}
 use Rattle.keep_exchange.specs.Exchanges.{Behind}
@@ -23,8 +22,8 @@ use Rattle.keep_run.specs.Stops.{IsStopped, SoFar}
 use Rattle.keep_run.specs.Text.{course_text, done_text}
 
 -- the inventory and the FAULT words are read
-pub record IsCalled (bytes : List ℕ) (words : List (List ℕ)) (inventory : Inventory) (faults : List NumberedFault) : Type 0 where
-  pub read : read_inventory bytes ≡ Ok inventory
+pub record IsCalled (answer : Result Inventory InvFault) (words : List (List ℕ)) (inventory : Inventory) (faults : List NumberedFault) : Type 0 where
+  pub read : answer ≡ Ok inventory
   pub faults_are : faults_of words ≡ Ok faults
 
 -- the lines of a run so far, or all of them with the last one
@@ -38,9 +37,9 @@ pub record IsRunText (inventory : Inventory) (faults : List NumberedFault) (star
   pub text_is : (text ≡ lines) ⊎ ((next ≡ None) × (text ≡ lines ++ done_text wakes asked))
 
 -- no more than a front of the lines of the run was written
-abbrev pub WritesFront : List ℕ → ℕ → List (List ℕ) → Change → Type 0
-WritesFront bytes start words out =
-    (inventory : Inventory) × (faults : List NumberedFault) × IsCalled bytes words inventory faults × (text : List ℕ) × IsRunText inventory faults start text × ReceivesFront text out
+abbrev pub WritesFront : Result Inventory InvFault → ℕ → List (List ℕ) → Change → Type 0
+WritesFront answer start words out =
+    (inventory : Inventory) × (faults : List NumberedFault) × IsCalled answer words inventory faults × (text : List ℕ) × IsRunText inventory faults start text × ReceivesFront text out
 
 -- the inventory's table with these faults, and nothing carried yet
 abbrev pub fresh : Inventory → List NumberedFault → Behind
@@ -52,30 +51,30 @@ RunsLong inventory faults start out behind =
     (ReplanTooLong inventory.forest start × IsUntouched out × (behind ≡ fresh inventory faults))
     ⊎ ((final : World) × (text : List ℕ) × IsStopped inventory faults start final text × IsAll text out × (final.behind ≡ Some behind))
 
--- `rehearse` over the bytes of an inventory, a start and FAULT words, by exit
-abbrev pub RehearseRun : List ℕ → ℕ → List (List ℕ) → Exit → Change → Behind → Behind → Type 0
-RehearseRun bytes start words exits.Done out old new =
-    (inventory : Inventory) × (faults : List NumberedFault) × IsCalled bytes words inventory faults
+-- `rehearse` by what is read of the bytes of an inventory, a start and FAULT words, by exit
+abbrev pub RehearseRun : Result Inventory InvFault → ℕ → List (List ℕ) → Exit → Change → Behind → Behind → Type 0
+RehearseRun answer start words exits.Done out old new =
+    (inventory : Inventory) × (faults : List NumberedFault) × IsCalled answer words inventory faults
     × (course : Course) × (final : World) × IsClosedRun inventory faults start course final × IsAll (course_text inventory course) out × (final.behind ≡ Some new)
-RehearseRun bytes start words exits.Inventory out old new = (fault : InvFault) × (read_inventory bytes ≡ Err fault) × IsUntouched out × (new ≡ old)
-RehearseRun bytes start words exits.CommandLine out old new =
-    (inventory : Inventory) × (read_inventory bytes ≡ Ok inventory) × (position : ℕ) × (faults_of words ≡ Err position) × IsUntouched out × (new ≡ old)
-RehearseRun bytes start words exits.TooLong out old new = (inventory : Inventory) × (faults : List NumberedFault) × IsCalled bytes words inventory faults × RunsLong inventory faults start out new
-RehearseRun bytes start words exits.Device out old new = HasFailed out.old.failed_calls out.new.failed_calls × WritesFront bytes start words out
-RehearseRun bytes start words exits.Memory out old new = IsUntouched out ⊎ WritesFront bytes start words out
-RehearseRun bytes start words exit out old new = ⊥
+RehearseRun answer start words exits.Inventory out old new = (fault : InvFault) × (answer ≡ Err fault) × IsUntouched out × (new ≡ old)
+RehearseRun answer start words exits.CommandLine out old new =
+    (inventory : Inventory) × (answer ≡ Ok inventory) × (position : ℕ) × (faults_of words ≡ Err position) × IsUntouched out × (new ≡ old)
+RehearseRun answer start words exits.TooLong out old new = (inventory : Inventory) × (faults : List NumberedFault) × IsCalled answer words inventory faults × RunsLong inventory faults start out new
+RehearseRun answer start words exits.Device out old new = HasFailed out.old.failed_calls out.new.failed_calls × WritesFront answer start words out
+RehearseRun answer start words exits.Memory out old new = IsUntouched out ⊎ WritesFront answer start words out
+RehearseRun answer start words exit out old new = ⊥
 
 -- what it has told of its end, by exit
-abbrev pub RehearseTold : List ℕ → List (List ℕ) → Exit → Change → Type 0
-RehearseTold bytes words exits.CommandLine errors = (position : ℕ) × (faults_of words ≡ Err position) × Reports (fault_line (codes "leasekeep") (stops.FaultWord position)) errors
-RehearseTold bytes words exit errors = Told (codes "leasekeep") bytes exit errors
+abbrev pub RehearseTold : Result Inventory InvFault → List (List ℕ) → Exit → Change → Type 0
+RehearseTold answer words exits.CommandLine errors = (position : ℕ) × (faults_of words ≡ Err position) × Reports (fault_line (codes "leasekeep") (stops.FaultWord position)) errors
+RehearseTold answer words exit errors = Told (codes "leasekeep") answer exit errors
 
 -- the same without its fault line, by what stops it
-abbrev pub Rehearses : List ℕ → ℕ → List (List ℕ) → Result (Unit {0}) Stop → Change → Behind → Behind → Type 0
-Rehearses bytes start words (Ok u) out old new = RehearseRun bytes start words exits.Done out old new
-Rehearses bytes start words (Err (stops.Inventory fault)) out old new = (read_inventory bytes ≡ Err fault) × IsUntouched out × (new ≡ old)
-Rehearses bytes start words (Err (stops.FaultWord position)) out old new = (inventory : Inventory) × (read_inventory bytes ≡ Ok inventory) × (faults_of words ≡ Err position) × IsUntouched out × (new ≡ old)
-Rehearses bytes start words (Err stops.TooLong) out old new = RehearseRun bytes start words exits.TooLong out old new
-Rehearses bytes start words (Err stops.Write) out old new = RehearseRun bytes start words exits.Device out old new
-Rehearses bytes start words (Err stops.Memory) out old new = RehearseRun bytes start words exits.Memory out old new
-Rehearses bytes start words (Err stop) out old new = ⊥
+abbrev pub Rehearses : Result Inventory InvFault → ℕ → List (List ℕ) → Result (Unit {0}) Stop → Change → Behind → Behind → Type 0
+Rehearses answer start words (Ok u) out old new = RehearseRun answer start words exits.Done out old new
+Rehearses answer start words (Err (stops.Inventory fault)) out old new = (answer ≡ Err fault) × IsUntouched out × (new ≡ old)
+Rehearses answer start words (Err (stops.FaultWord position)) out old new = (inventory : Inventory) × (answer ≡ Ok inventory) × (faults_of words ≡ Err position) × IsUntouched out × (new ≡ old)
+Rehearses answer start words (Err stops.TooLong) out old new = RehearseRun answer start words exits.TooLong out old new
+Rehearses answer start words (Err stops.Write) out old new = RehearseRun answer start words exits.Device out old new
+Rehearses answer start words (Err stops.Memory) out old new = RehearseRun answer start words exits.Memory out old new
+Rehearses answer start words (Err stop) out old new = ⊥

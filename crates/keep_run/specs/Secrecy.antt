@@ -50,18 +50,18 @@ AlikeLookupsLaw =
 abbrev pub AlikeOpeningsLaw : Type 0
 AlikeOpeningsLaw =
     (g : Forest) (cs ds : List (List ℕ)) (ts : List Terms) → IsInventory (record { forest = g; credentials = cs; terms = ts }) → IsInventory (record { forest = g; credentials = ds; terms = ts }) →
-    (port other_port start : ℕ) (b c : Behind) (opening last : World) (text more : List ℕ) → AreTablesAlike g cs ds b.table c.table → AreDated b.table →
-    IsLiveOpening port start (record { inventory = record { forest = g; credentials = cs; terms = ts }; behind = Some b }) opening text →
-    IsLiveOpening other_port start (record { inventory = record { forest = g; credentials = ds; terms = ts }; behind = Some c }) last more →
+    (port other_port start : ℕ) (always : List Bool) (b c : Behind) (opening last : World) (text more : List ℕ) → AreTablesAlike g cs ds b.table c.table → AreDated b.table →
+    IsLiveOpening port start always (record { inventory = record { forest = g; credentials = cs; terms = ts }; behind = Some b }) opening text →
+    IsLiveOpening other_port start always (record { inventory = record { forest = g; credentials = ds; terms = ts }; behind = Some c }) last more →
     (more ≡ text) × AreSidesAlike g cs ds opening last
 
 -- and the same event lines are answered by the same lines: one text for the whole run
 abbrev pub AlikeWholeLaw : Type 0
 AlikeWholeLaw =
     (g : Forest) (cs ds : List (List ℕ)) (ts : List Terms) → IsInventory (record { forest = g; credentials = cs; terms = ts }) → IsInventory (record { forest = g; credentials = ds; terms = ts }) →
-    (port other_port start : ℕ) (b c : Behind) (lines : List (List ℕ)) (final last : World) (text more : List ℕ) → AreTablesAlike g cs ds b.table c.table → AreDated b.table →
-    IsLiveRun port start (record { inventory = record { forest = g; credentials = cs; terms = ts }; behind = Some b }) lines final text →
-    IsLiveRun other_port start (record { inventory = record { forest = g; credentials = ds; terms = ts }; behind = Some c }) lines last more →
+    (port other_port start : ℕ) (always : List Bool) (b c : Behind) (lines : List (List ℕ)) (final last : World) (text more : List ℕ) → AreTablesAlike g cs ds b.table c.table → AreDated b.table →
+    IsLiveRun port start always (record { inventory = record { forest = g; credentials = cs; terms = ts }; behind = Some b }) lines final text →
+    IsLiveRun other_port start always (record { inventory = record { forest = g; credentials = ds; terms = ts }; behind = Some c }) lines last more →
     (more ≡ text) × AreSidesAlike g cs ds final last
 
 -- this text is how that one begins
@@ -73,11 +73,11 @@ Begins text longer = (rest : List ℕ) × (longer ≡ text ++ rest)
 abbrev pub AlikeSoFarLaw : Type 0
 AlikeSoFarLaw =
     (g : Forest) (cs ds : List (List ℕ)) (ts : List Terms) → IsInventory (record { forest = g; credentials = cs; terms = ts }) → IsInventory (record { forest = g; credentials = ds; terms = ts }) →
-    (port other_port start : ℕ) (b c : Behind) (lines later : List (List ℕ)) (final last : World) (text more : List ℕ) → AreTablesAlike g cs ds b.table c.table → AreDated b.table →
-    (IsLiveRun port start (record { inventory = record { forest = g; credentials = cs; terms = ts }; behind = Some b }) lines final text →
-    IsLiveRun other_port start (record { inventory = record { forest = g; credentials = ds; terms = ts }; behind = Some c }) (lines ++ later) last more → Begins text more)
-    × (IsLiveRun port start (record { inventory = record { forest = g; credentials = cs; terms = ts }; behind = Some b }) (lines ++ later) final text →
-    IsLiveRun other_port start (record { inventory = record { forest = g; credentials = ds; terms = ts }; behind = Some c }) lines last more → Begins more text)
+    (port other_port start : ℕ) (always : List Bool) (b c : Behind) (lines later : List (List ℕ)) (final last : World) (text more : List ℕ) → AreTablesAlike g cs ds b.table c.table → AreDated b.table →
+    (IsLiveRun port start always (record { inventory = record { forest = g; credentials = cs; terms = ts }; behind = Some b }) lines final text →
+    IsLiveRun other_port start always (record { inventory = record { forest = g; credentials = ds; terms = ts }; behind = Some c }) (lines ++ later) last more → Begins text more)
+    × (IsLiveRun port start always (record { inventory = record { forest = g; credentials = cs; terms = ts }; behind = Some b }) (lines ++ later) final text →
+    IsLiveRun other_port start always (record { inventory = record { forest = g; credentials = ds; terms = ts }; behind = Some c }) lines last more → Begins more text)
 
 -- so two runs are told alike, as far as both go
 abbrev pub AlikeRunsLaw : Type 0

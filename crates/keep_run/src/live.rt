@@ -1,5 +1,5 @@
 //! The live run: lookups, and then event lines as they come.
-ghost use Rattle.std.specs.Prelude.{◌≡◌, IfOk, IsTrue, OnOk};
+ghost use Rattle.std.specs.Prelude.{◌≡◌, IfOk, IsTrue, OnOk, length};
 ghost use Rattle.std.specs.Result.{IfErr};
 ghost use Rattle.keep_run.specs.Hearing.{IsReady};
 ghost use Rattle.keep_run.specs.LiveRun.{EndsEarly, IsOpened, LiveRun, LivesTo};
@@ -18,9 +18,10 @@ use crate::live::looking::look_all_up;
 use keep_core::Keeper;
 use keep_device::{Sink, Source, Streams, Watched};
 use keep_exchange::Exchange;
-use keep_inventory::{Inventory, read};
+use keep_inventory::{Inventory, read_served};
 use keep_moment::Moment;
 use keep_report::{Exit, Stop, send};
+use keep_start::{marks, need_always};
 use std::alloc::Global;
 
 /// Keeps the entries of an inventory alive: looks each of them up at `start`, takes event lines, and renews over the exchange.
@@ -66,27 +67,33 @@ fn live<R: Source, E: Exchange, W: Sink>(
 ) -> Result<(), Stop>
     ensures { LivesTo (E.host_port exchange.old) bytes.now start (E.behind exchange.old) result (⟦<R as Watched>⟧.change events.old events.new) (⟦<W as Watched>⟧.change out.old out.new) (E.behind exchange.new) }
 {
-    let inventory = read(alloc, bytes)?;
-    let mut agent = begin(alloc, inventory, start, exchange, out)?;
+    let served = read_served(alloc, bytes)?;
+    let (inventory, notes) = served.into_parts();
+    let always = marks(alloc, &notes)?;
+    let mut agent = begin(alloc, inventory, &always, start, exchange, out)?;
     listen(alloc, &mut agent, events, exchange, out)
 }
 
-/// Looks all entries up, plans from `start`, and writes and flushes the lines of both.
+/// Looks all entries up, plans from `start`, and writes and flushes the lines of both. The entries that `always` marks are needed
+/// as long as they can be kept by what the lookups told.
 fn begin<E: Exchange, W: Sink>(
     alloc: Global,
     inventory: Inventory,
+    always: &[bool],
     start: Moment,
     exchange: &mut E,
     out: &mut W,
 ) -> Result<Agent, Stop>
-    ensures early { IfErr result (λ stop. EndsEarly (E.host_port exchange.old) start (record { inventory = inventory; behind = E.behind exchange.old }) stop (⟦<W as Watched>⟧.change out.old out.new) (E.behind exchange.new)) }
-    ensures opened { IfOk result (λ agent. IsOpened (E.host_port exchange.old) start (record { inventory = inventory; behind = E.behind exchange.old }) agent.credentials agent.keeper (E.behind exchange.new) (⟦<W as Watched>⟧.change out.old out.new)) }
+    requires { length always.now ≡ length inventory.forest.entries }
+    ensures early { IfErr result (λ stop. EndsEarly (E.host_port exchange.old) start always.now (record { inventory = inventory; behind = E.behind exchange.old }) stop (⟦<W as Watched>⟧.change out.old out.new) (E.behind exchange.new)) }
+    ensures opened { IfOk result (λ agent. IsOpened (E.host_port exchange.old) start always.now (record { inventory = inventory; behind = E.behind exchange.old }) agent.credentials agent.keeper (E.behind exchange.new) (⟦<W as Watched>⟧.change out.old out.new)) }
     ensures ready { IfOk result (λ agent. IsReady agent.keeper) }
     ensures port { E.host_port exchange.new ≡ E.host_port exchange.old }
     ensures flushed { OnOk result (IsTrue (W.seen out.new).output.is_flushed) }
 {
     let mut inventory = inventory;
     look_all_up(alloc, &mut inventory, start, exchange, out)?;
+    need_always(alloc, &mut inventory, always, start)?;
     let (forest, credentials) = inventory.into_parts();
     let made = Keeper::new(alloc, forest, start);
     let mut keeper = opened(made)?;

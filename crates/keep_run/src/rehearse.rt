@@ -1,5 +1,6 @@
 //! The command `rehearse`.
 ghost use Rattle.keep_run.specs.Rehearse.{RehearseRun, RehearseTold, Rehearses};
+ghost use Rattle.keep_start.specs.Start.{inventory_at};
 
 pub(crate) mod fault_words;
 pub(crate) mod playing;
@@ -13,9 +14,9 @@ use crate::rehearse::playing::play;
 use keep_core::Keeper;
 use keep_device::{Sink, Watched};
 use keep_exchange::MemoryExchange;
-use keep_inventory::read;
 use keep_moment::{Moment, Text};
 use keep_report::{Exit, Stop};
+use keep_start::read_at;
 use mini_broker::Table;
 use std::alloc::Global;
 
@@ -52,8 +53,8 @@ pub fn run_rehearse<W: Sink, F: Sink>(
     errors: &mut F,
     exchange: &mut MemoryExchange,
 ) -> Exit
-    ensures run { RehearseRun inventory.now script.now.start script.now.faults.now result (⟦<W as Watched>⟧.change out.old out.new) exchange.old exchange.new }
-    ensures told { RehearseTold inventory.now script.now.faults.now result (⟦<F as Watched>⟧.change errors.old errors.new) }
+    ensures run { RehearseRun (inventory_at script.now.start inventory.now) script.now.start script.now.faults.now result (⟦<W as Watched>⟧.change out.old out.new) exchange.old exchange.new }
+    ensures told { RehearseTold (inventory_at script.now.start inventory.now) script.now.faults.now result (⟦<F as Watched>⟧.change errors.old errors.new) }
 {
     match rehearse(alloc, inventory, script, out, exchange) {
         Ok(()) => Exit::Done,
@@ -69,9 +70,9 @@ fn rehearse<W: Sink>(
     out: &mut W,
     exchange: &mut MemoryExchange,
 ) -> Result<(), Stop>
-    ensures { Rehearses inventory.now script.now.start script.now.faults.now result (⟦<W as Watched>⟧.change out.old out.new) exchange.old exchange.new }
+    ensures { Rehearses (inventory_at script.now.start inventory.now) script.now.start script.now.faults.now result (⟦<W as Watched>⟧.change out.old out.new) exchange.old exchange.new }
 {
-    let inventory = read(alloc, inventory)?;
+    let inventory = read_at(alloc, inventory, script.start)?;
     let mut table = Table::load(alloc, &inventory)?;
     set_faults(&mut table, script.faults)?;
     exchange.give(table);

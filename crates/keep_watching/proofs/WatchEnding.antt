@@ -5,7 +5,7 @@ use Rattle.keep_device.specs.Seen.{Change}
 use Rattle.keep_inventory.specs.Answers.{Fails}
 use Rattle.keep_inventory.specs.declared.fault.InvFault.{InvFault}
 use Rattle.keep_inventory.specs.declared.fault.InvFault.TheVariants as faults
-use Rattle.keep_inventory.specs.Inventory.{read_inventory}
+use Rattle.keep_start.specs.Start.{inventory_for_good}
 use Rattle.keep_inventory.specs.Inventories.{Inventory}
 use Rattle.keep_report.specs.declared.exit.Exit.TheVariants as exits
 use Rattle.keep_report.specs.declared.exit.Exit.{Exit}
@@ -39,10 +39,10 @@ ended bytes stop exit errors is why told = subst (λ (e : Exit). WatchEnds bytes
 module _ (port : ℕ) (bytes : List ℕ) (width : ℕ) (old : Option Table) (fed : Change) (out : Change) where
   -- the bytes are no inventory, or memory was wanting
   pub read_watches :
-      (result : Result (Unit {0}) Stop) (fault : InvFault) → IsErr result × IsErrAnd result (λ (q : Stop). q ≡ stop_of_inventory fault) → Fails fault (read_inventory bytes) → IsUnbegun old fed out old → WatchesTo port bytes width old result fed out old
+      (result : Result (Unit {0}) Stop) (fault : InvFault) → IsErr result × IsErrAnd result (λ (q : Stop). q ≡ stop_of_inventory fault) → Fails fault (inventory_for_good bytes) → IsUnbegun old fed out old → WatchesTo port bytes width old result fed out old
   read_watches (Ok u) fault is fails none = absurd (let no = is.0 in cc)
   read_watches (Err stop) fault is fails none = subst (λ (q : Stop). WatchesTo port bytes width old (Err q) fed out old) (sym is.1) (by_fault fault fails) where
-    by_fault : (e : InvFault) → Fails e (read_inventory bytes) → WatchesTo port bytes width old (Err (stop_of_inventory e)) fed out old
+    by_fault : (e : InvFault) → Fails e (inventory_for_good bytes) → WatchesTo port bytes width old (Err (stop_of_inventory e)) fed out old
     by_fault faults.OutOfMemory h = inl none
     by_fault faults.NotToml h = (h, none)
     by_fault (faults.MissingKey i key) h = (h, none)
@@ -52,7 +52,7 @@ module _ (port : ℕ) (bytes : List ℕ) (width : ℕ) (old : Option Table) (fed
 
   -- it listened
   pub listened_watches :
-      (inventory : Inventory) (watching : Watching) (final : Side) (result : Result (Unit {0}) Stop) → read_inventory bytes ≡ Ok inventory → watching ≡ fresh inventory width → Listens port (side watching old) result final fed out →
+      (inventory : Inventory) (watching : Watching) (final : Side) (result : Result (Unit {0}) Stop) → inventory_for_good bytes ≡ Ok inventory → watching ≡ fresh inventory width → Listens port (side watching old) result final fed out →
       WatchesTo port bytes width old result fed out final.table
   listened_watches inventory watching final result read is listens = by_result result (subst (λ (w : Watching). Listens port (side w old) result final fed out) is listens) where
     has : (u : Result (Unit {0}) Stop) → Listens port (side (fresh inventory width) old) u final fed out → HasListened port bytes width old u fed out final.table

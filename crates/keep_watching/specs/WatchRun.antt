@@ -3,7 +3,7 @@
 use Rattle.std.specs.Prelude.{◌≡◌, ℕ, ◌⊎◌, List, Option, Result, Ok, Err, codes}
 use Rattle.keep_device.specs.Seen.{Change}
 use Rattle.keep_inventory.specs.Inventories.{Inventory}
-use Rattle.keep_inventory.specs.Inventory.{read_inventory}
+use Rattle.keep_start.specs.Start.{inventory_for_good}
 use Rattle.keep_report.specs.declared.exit.Exit.{Exit}
 use Rattle.keep_report.specs.declared.exit.Exit.TheVariants as exits
 use Rattle.keep_report.specs.declared.stop.Stop.{Stop}
@@ -27,7 +27,7 @@ IsListenStop stop = ⊥
 
 -- or the bytes are no inventory
 abbrev pub IsWatchStop : List ℕ → Stop → Type 0
-IsWatchStop bytes (stops.Inventory fault) = read_inventory bytes ≡ Err fault
+IsWatchStop bytes (stops.Inventory fault) = inventory_for_good bytes ≡ Err fault
 IsWatchStop bytes stop = IsListenStop stop
 
 -- the lines have ended, and nothing was told; or why there were no more answers, in the one line of it
@@ -40,7 +40,7 @@ WatchEnds bytes exit errors = (stop : Stop) × (exit ≡ exit_of stop) × IsWatc
 -- a watch of that width over the inventory has listened; and the table behind the exchange, where it is known, is as that left it
 pub record HasListened (port : ℕ) (bytes : List ℕ) (width : ℕ) (old : Option Table) (result : Result (Unit {0}) Stop) (fed : Change) (out : Change) (new : Option Table) : Type 0 where
   pub inventory : Inventory
-  pub is : read_inventory bytes ≡ Ok inventory
+  pub is : inventory_for_good bytes ≡ Ok inventory
   pub final : Side
   pub listened : Listens port (side (fresh inventory width) old) result final fed out
   pub table : new ≡ final.table
@@ -53,7 +53,7 @@ pub record IsUnbegun (old : Option Table) (fed : Change) (out : Change) (new : O
 
 -- how the watch over the bytes of an inventory goes
 abbrev pub WatchesTo : ℕ → List ℕ → ℕ → Option Table → Result (Unit {0}) Stop → Change → Change → Option Table → Type 0
-WatchesTo port bytes width old (Err (stops.Inventory fault)) fed out new = (read_inventory bytes ≡ Err fault) × IsUnbegun old fed out new
+WatchesTo port bytes width old (Err (stops.Inventory fault)) fed out new = (inventory_for_good bytes ≡ Err fault) × IsUnbegun old fed out new
 WatchesTo port bytes width old (Err stops.Memory) fed out new = IsUnbegun old fed out new ⊎ HasListened port bytes width old (Err stops.Memory) fed out new
 WatchesTo port bytes width old result fed out new = HasListened port bytes width old result fed out new
 

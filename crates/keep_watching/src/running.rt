@@ -6,11 +6,11 @@ use crate::listening::listen;
 use crate::watching::Watching;
 use keep_device::{Sink, Source, Streams, Watched};
 use keep_exchange::Abreast;
-use keep_inventory::read;
 use keep_report::{Exit, Stop};
+use keep_start::read_for_good;
 use std::alloc::Global;
 
-/// Watches over the entries of an inventory, and sends at most `width` requests abreast over the exchange, as `streams.lines`
+/// Watches over the entries of an inventory, one whose need is `always` until the last moment, and sends at most `width` requests abreast over the exchange, as `streams.lines`
 /// hand in the time. `docs/commands/watch.md` says what each line means.
 ///
 /// A line is answered, and its lines written and flushed, before `streams.lines` is read again. The exits: `Done`, the lines have
@@ -52,7 +52,7 @@ fn watch<R: Source, E: Abreast, W: Sink>(
     ensures stops { IfErr result (IsWatchStop bytes.now) }
     ensures run { WatchesTo (E.host_port exchange.old) bytes.now width (E.table exchange.old) result (⟦<R as Watched>⟧.change lines.old lines.new) (⟦<W as Watched>⟧.change out.old out.new) (E.table exchange.new) }
 {
-    let inventory = read(alloc, bytes)?;
+    let inventory = read_for_good(alloc, bytes)?;
     let mut watching = Watching::new(alloc, inventory, width)?;
     listen(alloc, &mut watching, lines, exchange, out)
 }

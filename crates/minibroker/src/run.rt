@@ -3,7 +3,7 @@ use crate::sockets::{serve_path, serve_port};
 use crate::words::{Command, PROGRAM, read_command};
 use keep_command::words;
 use keep_device::{Counted, Place, Sink, Source, read_file};
-use keep_inventory::{MOST_INVENTORY, read};
+use keep_inventory::{MOST_INVENTORY, read_known};
 use keep_report::{Exit, Stop};
 use mini_broker::Table;
 use std::io;
@@ -41,8 +41,8 @@ fn obey<R: Files + AllocGlobal + Print + Net, S: Source, E: Sink>(
 ) -> Result<(), Stop> {
     let alloc = rt.alloc();
     let text = read_file(rt, command.file, MOST_INVENTORY)?;
-    let inventory = read(alloc, text.list())?;
-    let mut table = Table::load(alloc, &inventory)?;
+    let served = read_known(alloc, text.list())?;
+    let mut table = Table::load(alloc, served.inventory())?;
     match command.place {
         Place::Port(port) => serve_port(rt, port, command, &mut table, lines, errors)?,
         Place::Path(path) => serve_path(rt, path, command, &mut table, lines)?,

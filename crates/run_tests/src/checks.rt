@@ -1,5 +1,5 @@
 use crate::plans::{OF_ONE_TOKEN, PLANNED, plans};
-use agent_tests::inventories::{IN_TURN, ONE_DUE, TOKEN_AND_LEASE, WEB, inventory_of};
+use agent_tests::inventories::{FOR_A_YEAR, IN_TURN, ONE_DUE, TOKEN_AND_LEASE, WEB, inventory_of};
 use agent_tests::moments::moment;
 use agent_tests::outcomes::Outcome;
 use keep_device::MemorySink;
@@ -284,6 +284,15 @@ const FROM_A_START: [(&str, u64, &str); 7] = [
     ),
     ("start 1200\nend 1\n", 1000, "unreadable bad-number 3\n"),
 ];
+
+// What is needed always is needed for a year from the start that a certificate states: 33 seconds later it takes a wake-up more.
+#[test]
+fn a_year_begins_at_the_start_of_the_certificate(rt: HostRuntime) {
+    let longer = b"leasekeep-plan 2\nstart 1033\nrun 1059 59 534509 pay pay\nend 534509\n";
+    judges(&rt, FOR_A_YEAR, longer.as_slice(), "yes\n");
+    let shorter = b"leasekeep-plan 2\nstart 1033\nrun 1059 59 534508 pay pay\nend 534508\n";
+    judges(&rt, FOR_A_YEAR, shorter.as_slice(), "no not-kept pay\n");
+}
 
 #[test]
 fn a_certificate_has_the_start_that_is_asked_for(rt: HostRuntime) -> Result<(), Fail> {

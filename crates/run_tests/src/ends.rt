@@ -1,6 +1,6 @@
 use agent_tests::inventories::{
-    HIDDEN, IN_TURN, LOW_CEILING, PAY, TOKEN_AND_LEASE, WEB, WEB_BASE_AND_BIG, WEB_BY_DATE,
-    WITH_MARGIN,
+    FOR_GOOD, HIDDEN, IN_TURN, LOW_CEILING, PAY, TOKEN_AND_LEASE, WEB, WEB_BASE_AND_BIG,
+    WEB_BY_DATE, WITH_MARGIN,
 };
 use agent_tests::moments::moment;
 use agent_tests::outcomes::Outcome;
@@ -11,7 +11,7 @@ use std::alloc::Global;
 use std::test::Fail;
 
 // Inventories with moments, and what `ends` writes of them from 1000 on.
-const KEPT_OR_NOT: [(&str, &[u64], &str); 15] = [
+const KEPT_OR_NOT: [(&str, &[u64], &str); 17] = [
     (WEB, &[1059, 1118, 1177], "web 1237\nkeeps yes\n"),
     (WEB, &[1059, 1118], "web 1178\nkeeps no\n"),
     (WEB, &[1059], "web 1119\nkeeps no\n"),
@@ -38,6 +38,8 @@ const KEPT_OR_NOT: [(&str, &[u64], &str); 15] = [
     (WITH_MARGIN, &[1055], "web 1060\nkeeps no\n"),
     (WITH_MARGIN, &[1050], "web 1110\nkeeps no\n"),
     ("", &[], "keeps yes\n"),
+    (FOR_GOOD, &[1059, 1118], "web 1150\nkeeps yes\n"),
+    (FOR_GOOD, &[1059], "web 1119\nkeeps no\n"),
     (
         IN_TURN,
         &[1059, 1158, 1257, 1356],

@@ -1,4 +1,4 @@
-use agent_tests::inventories::{LOW_CEILING, TOKEN_AND_LEASE, WEB, Web, inventory_of};
+use agent_tests::inventories::{FOR_GOOD, LOW_CEILING, TOKEN_AND_LEASE, WEB, Web, inventory_of};
 use agent_tests::moments::moment;
 use agent_tests::outcomes::Outcome;
 use keep_device::MemorySink;
@@ -128,6 +128,9 @@ fn margins_are_written(rt: HostRuntime) -> Result<(), Fail> {
     assert!(rt; empty.is(Exit::Done, "1 0\n3600 0\n", ""));
     let both = margins(alloc, TOKEN_AND_LEASE, AS_IT_IS, None)?;
     assert!(rt; both.is(Exit::Done, "1 3\n13 3\n", ""));
+    // Until 1150 it takes two wake-ups, with 15 seconds too: at 1045 and at 1090.
+    let for_good = margins(alloc, FOR_GOOD, AS_IT_IS, None)?;
+    assert!(rt; for_good.is(Exit::Done, "1 2\n15 2\n", ""));
     let low = margins(alloc, LOW_CEILING, AS_IT_IS, None)?;
     assert!(rt; low.is(Exit::Unkeepable, "unkeepable T L\n", ""));
     Ok(())

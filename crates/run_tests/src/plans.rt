@@ -1,6 +1,6 @@
 use agent_tests::inventories::{
-    BESIDE, CHILD, HIDDEN, IN_TURN, LOW_CEILING, PAY, PAY_LONGER, TOKEN_AND_LEASE, WEB,
-    WEB_BASE_AND_BIG, WEB_BY_DATE, Web, inventory_of,
+    BESIDE, CHILD, FOR_A_YEAR, FOR_GOOD, HIDDEN, IN_TURN, LOW_CEILING, PAY, PAY_LONGER,
+    TOKEN_AND_LEASE, WEB, WEB_BASE_AND_BIG, WEB_BY_DATE, Web, inventory_of,
 };
 use agent_tests::moments::moment;
 use agent_tests::outcomes::Outcome;
@@ -10,7 +10,7 @@ use std::alloc::Global;
 use std::test::Fail;
 
 /// Inventories, the exits of their plans from 1000 on, and the lines after the first two.
-pub const PLANNED: [(&str, Exit, &str); 12] = [
+pub const PLANNED: [(&str, Exit, &str); 14] = [
     (WEB, Exit::Done, "run 1059 59 3 web web\nend 3\n"),
     (WEB_BY_DATE, Exit::Done, "run 1059 59 3 web web\nend 3\n"),
     ("", Exit::Done, "end 0\n"),
@@ -31,6 +31,12 @@ pub const PLANNED: [(&str, Exit, &str); 12] = [
     ),
     (BESIDE, Exit::Done, "end 0\n"),
     (CHILD, Exit::Unkeepable, "unkeepable A B\n"),
+    (FOR_GOOD, Exit::Done, "run 1059 59 2 web web\nend 2\n"),
+    (
+        FOR_A_YEAR,
+        Exit::Done,
+        "run 1059 59 534508 pay pay\nend 534508\n",
+    ),
 ];
 
 /// The same of one token.

@@ -1,4 +1,6 @@
-use agent_tests::inventories::{CHILD, LOW_CEILING, PAY, PAY_LONGER, TOKEN_AND_LEASE, WEB};
+use agent_tests::inventories::{
+    CHILD, FOR_A_YEAR, FOR_GOOD, LOW_CEILING, PAY, PAY_LONGER, TOKEN_AND_LEASE, WEB,
+};
 use agent_tests::moments::moment;
 use agent_tests::outcomes::Outcome;
 use keep_device::MemorySink;
@@ -16,7 +18,7 @@ const FAR: &str =
 
 // Inventories with their texts from 1000 on, moments as numbers or as dates. A token's ceiling is `issued + max_ttl`; a
 // lease that can be led as far as its token is bound by the token, which is the lower index.
-const REACHES: [(&str, bool, &str); 10] = [
+const REACHES: [(&str, bool, &str); 12] = [
     ("", false, "keeps yes\n"),
     (WEB, false, "web 10000 web 1200\nkeeps yes\n"),
     (
@@ -42,6 +44,8 @@ const REACHES: [(&str, bool, &str); 10] = [
         true,
         "pay always pay 1970-01-01T00:18:20Z\nkeeps yes\n",
     ),
+    (FOR_GOOD, false, "web 1150 web 1150\nkeeps yes\n"),
+    (FOR_A_YEAR, false, "pay always pay 31537000\nkeeps yes\n"),
     (FAR, true, "far 253402309000 far 0\nkeeps yes\n"),
 ];
 

@@ -4,8 +4,8 @@ use Rattle.keep_device.specs.Seen.{Change}
 use Rattle.keep_tree.specs.Forest.{Forest}
 use Rattle.keep_plan.specs.declared.decision.Decision.{Decision}
 use Rattle.keep_plan.specs.declared.decision.Decision.TheVariants as decision
+use Rattle.keep_inventory.specs.declared.fault.InvFault.{InvFault}
 use Rattle.keep_inventory.specs.Inventories.{Inventory}
-use Rattle.keep_inventory.specs.Inventory.{read_inventory}
 use Rattle.keep_report.specs.declared.exit.Exit.{Exit}
 use Rattle.keep_report.specs.declared.exit.Exit.TheVariants as exits
 use Rattle.keep_report.specs.declared.stop.Stop.{Stop}
@@ -22,11 +22,11 @@ MakesOf Text Halt g (Ok outcome) = Text g outcome.exit outcome.text
 MakesOf Text Halt g (Err stops.Memory) = Unit {0}
 MakesOf Text Halt g (Err stop) = Halt g stop
 
--- what it makes of the bytes of an inventory
-abbrev pub Makes : Texts → Halts → List ℕ → Result Outcome Stop → Type 0
-Makes Text Halt bytes (Err (stops.Inventory fault)) = read_inventory bytes ≡ Err fault
-Makes Text Halt bytes (Err stops.Memory) = Unit {0}
-Makes Text Halt bytes made = (inventory : Inventory) × (read_inventory bytes ≡ Ok inventory) × MakesOf Text Halt inventory.forest made
+-- what it makes of what was read
+abbrev pub Makes : Texts → Halts → Result Inventory InvFault → Result Outcome Stop → Type 0
+Makes Text Halt answer (Err (stops.Inventory fault)) = answer ≡ Err fault
+Makes Text Halt answer (Err stops.Memory) = Unit {0}
+Makes Text Halt answer made = (inventory : Inventory) × (answer ≡ Ok inventory) × MakesOf Text Halt inventory.forest made
 
 -- a text was sent, or why only a front of it was; or why there is none was told
 abbrev pub Delivers : Result Outcome Stop → Exit → Change → Change → Type 0

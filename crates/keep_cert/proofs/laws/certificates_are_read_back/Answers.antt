@@ -1,6 +1,7 @@
 -- What is read is what the text writes, and a text that writes a certificate is read as it.
 use Rattle.keep_cert.proofs.FoundRuns.{read_is_written}
 use Rattle.keep_cert.proofs.ReadBackAll.{written_is_read}
+use Rattle.keep_cert.proofs.Stated.{start_stated}
 use Rattle.keep_cert.proofs.laws.certificates_are_read_back.Goals as goal
 
 pub returns-clause-found : goal.returns-clause-found
@@ -8,3 +9,6 @@ returns-clause-found c = read_is_written
 
 pub returns-clause-only : goal.returns-clause-only
 returns-clause-only c = written_is_read
+
+pub returns-clause-start : goal.returns-clause-start
+returns-clause-start c = start_stated

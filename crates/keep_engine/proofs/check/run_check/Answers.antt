@@ -5,4 +5,4 @@ use Rattle.keep_engine.proofs.Delivered.{run_delivered}
 use Rattle.keep_engine.proofs.check.run_check.Goals as goal
 
 pub returns : goal.returns
-returns g c = run_delivered (CheckTexts c.args.asked c.args.certificate.now) NoHalts c.args.inventory.now c.check_text.result c.deliver.result _ _ c.check_text.ensures c.deliver.ensures
+returns g c = run_delivered (CheckTexts c.args.asked c.args.certificate.now) NoHalts _ c.check_text.result c.deliver.result _ _ c.check_text.ensures c.deliver.ensures

@@ -4,4 +4,4 @@ use Rattle.keep_engine.proofs.Delivered.{run_delivered}
 use Rattle.keep_engine.proofs.ends.run_ends.Goals as goal
 
 pub returns : goal.returns
-returns g c = run_delivered (EndsTexts c.args.start c.args.moments.now) (EndsHalts c.args.start c.args.moments.now) c.args.inventory.now c.ends_text.result c.deliver.result _ _ c.ends_text.ensures c.deliver.ensures
+returns g c = run_delivered (EndsTexts c.args.start c.args.moments.now) (EndsHalts c.args.start c.args.moments.now) _ c.ends_text.result c.deliver.result _ _ c.ends_text.ensures c.deliver.ensures

@@ -4,4 +4,4 @@ use Rattle.keep_engine.proofs.Delivered.{run_delivered}
 use Rattle.keep_engine.proofs.margin.run_margin.Goals as goal
 
 pub returns : goal.returns
-returns g c = run_delivered (MarginTexts c.args.query.now) (MarginHalts c.args.query.now) c.args.inventory.now c.margin_text.result c.deliver.result _ _ c.margin_text.ensures c.deliver.ensures
+returns g c = run_delivered (MarginTexts c.args.query.now) (MarginHalts c.args.query.now) _ c.margin_text.result c.deliver.result _ _ c.margin_text.ensures c.deliver.ensures

@@ -4,4 +4,4 @@ use Rattle.keep_engine.proofs.Delivered.{run_delivered}
 use Rattle.keep_engine.proofs.plan.run_plan.Goals as goal
 
 pub returns : goal.returns
-returns g c = run_delivered (PlanTexts c.args.start) (PlanHalts c.args.start) c.args.inventory.now c.plan_text.result c.deliver.result _ _ c.plan_text.ensures c.deliver.ensures
+returns g c = run_delivered (PlanTexts c.args.start) (PlanHalts c.args.start) _ c.plan_text.result c.deliver.result _ _ c.plan_text.ensures c.deliver.ensures

@@ -5,4 +5,4 @@ use Rattle.keep_engine.proofs.Delivered.{run_delivered}
 use Rattle.keep_engine.proofs.reach.run_reach.Goals as goal
 
 pub returns : goal.returns
-returns g c = run_delivered (ReachTexts c.args.start c.args.dates) NoHalts c.args.inventory.now c.reach_text.result c.deliver.result _ _ c.reach_text.ensures c.deliver.ensures
+returns g c = run_delivered (ReachTexts c.args.start c.args.dates) NoHalts _ c.reach_text.result c.deliver.result _ _ c.reach_text.ensures c.deliver.ensures

@@ -7,9 +7,12 @@ use Rattle.keep_core.specs.State.{State}
 use Rattle.keep_run.specs.Agent.{Agent}
 use Rattle.keep_run.specs.Hearing.{IsReady}
 use Rattle.keep_run.specs.LiveRun.{IsOpened}
-use Rattle.keep_run.specs.Looking.{Looked}
 use Rattle.keep_run.specs.Text.{short_lines}
 use Rattle.keep_run.proofs.Rehearsed.{fit_opened, ready_opened}
+use Rattle.keep_inventory.specs.Inventories.{Inventory}
+use Rattle.keep_run.specs.Looking.{Looked, first}
+use Rattle.keep_run.proofs.LookedUp.{same_count}
+use Rattle.keep_start.proofs.Started.{kept_credentials}
 use Rattle.keep_run.proofs.LiveOpening.{for_err, memory_ends, opens, planning_ends, sending_ends}
 use Rattle.keep_run.proofs.Opened.{planned_as, refused_as, stopped_as}
 use Rattle.keep_run.proofs.Within.{AreOf, replan_within}
@@ -28,20 +31,32 @@ returns-clause-ready g c =
 
 pub new-requires : goal.new-requires
 new-requires g c =
-    fit_opened c.look_all_up.new.inventory c.into_parts-forest.result.0 c.into_parts-forest.result.1 c.args.start c.in_ok-keeper.keeper c.take_shortened-short.new.self c.into_parts-forest.ensures.sound
+    fit_opened c.need_always.new.inventory c.into_parts-forest.result.0 c.into_parts-forest.result.1 c.args.start c.in_ok-keeper.keeper c.take_shortened-short.new.self c.into_parts-forest.ensures.sound
     c.into_parts-forest.ensures.forest c.into_parts-forest.ensures.credentials (planned_as c.into_parts-forest.result.0 c.args.start c.new-made.result c.in_ok-keeper.keeper c.new-made.ensures.opened c.in_ok-keeper.ensures.keeper c.in_ok-keeper.ensures.stop) c.take_shortened-short.ensures.after
 
 pub returns-in_err-keeper-clause-early : goal.returns-in_err-keeper-clause-early
 returns-in_err-keeper-clause-early g c =
     for_err c.from_residual-in_err-keeper.result c.in_err-keeper.field-0.0 _ c.from_residual-in_err-keeper.ensures
-    (planning_ends (g.E.Exchange.host_port c.args.exchange.now) c.args.start (record { inventory = c.args.inventory; behind = g.E.Exchange.behind c.args.exchange.now }) c.look_all_up.new.inventory (g.E.Exchange.behind c.look_all_up.new.exchange)
+    (planning_ends (g.E.Exchange.host_port c.args.exchange.now) c.args.start c.args.always.now (record { inventory = c.args.inventory; behind = g.E.Exchange.behind c.args.exchange.now }) c.look_all_up.new.inventory (g.E.Exchange.behind c.look_all_up.new.exchange)
     (g.W.Device.seen c.args.out.now) (g.W.Device.seen c.look_all_up.new.out) (g.W.Device.seen c.look_all_up.new.out) g.W.Device.is_in_memory c.in_ok-look_all_up.ensures.looked
-    c.into_parts-forest.result.0 c.in_err-keeper.field-0.0 c.into_parts-forest.ensures.forest (stopped_as c.into_parts-forest.result.0 c.args.start c.new-made.result c.in_err-keeper.field-0.0 c.new-made.ensures.refused c.in_err-keeper.ensures.keeper c.in_err-keeper.ensures.stop))
+    c.into_parts-forest.result.0 c.in_err-keeper.field-0.0 (c.into_parts-forest.ensures.forest ∙ ap (λ (v : Inventory). v.forest) c.in_ok-need_always.ensures.needed) (stopped_as c.into_parts-forest.result.0 c.args.start c.new-made.result c.in_err-keeper.field-0.0 c.new-made.ensures.refused c.in_err-keeper.ensures.keeper c.in_err-keeper.ensures.stop))
+
+pub need_always-requires : goal.need_always-requires
+need_always-requires g c =
+    c.requires
+    ∙ sym (same_count (g.E.Exchange.host_port c.args.exchange.now) c.args.start (record { inventory = c.args.inventory; behind = g.E.Exchange.behind c.args.exchange.now }) (first (length c.args.inventory.forest.entries))
+    (record { inventory = c.look_all_up.new.inventory; behind = g.E.Exchange.behind c.look_all_up.new.exchange }) c.in_ok-look_all_up.ensures.looked.looked)
+
+pub returns-in_err-need_always-clause-early : goal.returns-in_err-need_always-clause-early
+returns-in_err-need_always-clause-early g c =
+    for_err c.from_residual-in_err-need_always.result stops.Memory _ c.from_residual-in_err-need_always.ensures
+    (memory_ends (g.E.Exchange.host_port c.args.exchange.now) c.args.start c.args.always.now (record { inventory = c.args.inventory; behind = g.E.Exchange.behind c.args.exchange.now }) c.look_all_up.new.inventory (g.E.Exchange.behind c.look_all_up.new.exchange)
+    (g.W.Device.seen c.args.out.now) (g.W.Device.seen c.look_all_up.new.out) (g.W.Device.seen c.look_all_up.new.out) g.W.Device.is_in_memory c.in_ok-look_all_up.ensures.looked stops.Memory refl)
 
 pub returns-in_err-push_short_lines-clause-early : goal.returns-in_err-push_short_lines-clause-early
 returns-in_err-push_short_lines-clause-early g c =
     for_err c.from_residual-in_err-push_short_lines.result stops.Memory _ c.from_residual-in_err-push_short_lines.ensures
-    (memory_ends (g.E.Exchange.host_port c.args.exchange.now) c.args.start (record { inventory = c.args.inventory; behind = g.E.Exchange.behind c.args.exchange.now }) c.look_all_up.new.inventory (g.E.Exchange.behind c.look_all_up.new.exchange)
+    (memory_ends (g.E.Exchange.host_port c.args.exchange.now) c.args.start c.args.always.now (record { inventory = c.args.inventory; behind = g.E.Exchange.behind c.args.exchange.now }) c.look_all_up.new.inventory (g.E.Exchange.behind c.look_all_up.new.exchange)
     (g.W.Device.seen c.args.out.now) (g.W.Device.seen c.look_all_up.new.out) (g.W.Device.seen c.look_all_up.new.out) g.W.Device.is_in_memory c.in_ok-look_all_up.ensures.looked stops.Memory refl)
 
 pub returns-in_err-send-clause-early : goal.returns-in_err-send-clause-early
@@ -53,9 +68,9 @@ returns-in_err-send-clause-early g c =
     ∙ ap (λ h. short_lines h c.list.result.now) (c.forest.ensures ∙ ap (λ (s : State). s.forest) c.take_shortened-short.ensures.after)
     ∙ ap (short_lines k.forest) (c.list.ensures ∙ c.take_shortened-short.ensures.value) in
     for_err c.from_residual-in_err-send.result c.in_err-send.field-0.0 _ c.from_residual-in_err-send.ensures
-    (sending_ends (g.E.Exchange.host_port c.args.exchange.now) c.args.start (record { inventory = c.args.inventory; behind = g.E.Exchange.behind c.args.exchange.now }) c.look_all_up.new.inventory (g.E.Exchange.behind c.look_all_up.new.exchange)
+    (sending_ends (g.E.Exchange.host_port c.args.exchange.now) c.args.start c.args.always.now (record { inventory = c.args.inventory; behind = g.E.Exchange.behind c.args.exchange.now }) c.look_all_up.new.inventory (g.E.Exchange.behind c.look_all_up.new.exchange)
     (g.W.Device.seen c.args.out.now) (g.W.Device.seen c.look_all_up.new.out) (g.W.Device.seen c.send.new.out) g.W.Device.is_in_memory c.in_ok-look_all_up.ensures.looked
-    c.into_parts-forest.result.0 k c.deref.result.now c.in_err-send.field-0.0 c.into_parts-forest.ensures.forest (planned_as c.into_parts-forest.result.0 c.args.start c.new-made.result c.in_ok-keeper.keeper c.new-made.ensures.opened c.in_ok-keeper.ensures.keeper c.in_ok-keeper.ensures.stop) lines c.in_err-send.ensures.sent)
+    c.into_parts-forest.result.0 k c.deref.result.now c.in_err-send.field-0.0 (c.into_parts-forest.ensures.forest ∙ ap (λ (v : Inventory). v.forest) c.in_ok-need_always.ensures.needed) (planned_as c.into_parts-forest.result.0 c.args.start c.new-made.result c.in_ok-keeper.keeper c.new-made.ensures.opened c.in_ok-keeper.ensures.keeper c.in_ok-keeper.ensures.stop) lines c.in_err-send.ensures.sent)
 
 pub returns-clause-opened : goal.returns-clause-opened
 returns-clause-opened g c =
@@ -67,10 +82,10 @@ returns-clause-opened g c =
     ∙ ap (short_lines k.forest) (c.list.ensures ∙ c.take_shortened-short.ensures.value) in
     let out : Change = change g.W.Device.is_in_memory (g.W.Device.seen c.args.out.now) (g.W.Device.seen c.send.new.out) in
     let before : Looked = record { inventory = c.args.inventory; behind = g.E.Exchange.behind c.args.exchange.now } in
-    subst (λ (agent : Agent). IsOpened (g.E.Exchange.host_port c.args.exchange.now) c.args.start before agent.credentials agent.keeper (g.E.Exchange.behind c.look_all_up.new.exchange) out) (sym c.new.ensures)
-    (opens (g.E.Exchange.host_port c.args.exchange.now) c.args.start (record { inventory = c.args.inventory; behind = g.E.Exchange.behind c.args.exchange.now }) c.look_all_up.new.inventory (g.E.Exchange.behind c.look_all_up.new.exchange)
+    subst (λ (agent : Agent). IsOpened (g.E.Exchange.host_port c.args.exchange.now) c.args.start c.args.always.now before agent.credentials agent.keeper (g.E.Exchange.behind c.look_all_up.new.exchange) out) (sym c.new.ensures)
+    (opens (g.E.Exchange.host_port c.args.exchange.now) c.args.start c.args.always.now (record { inventory = c.args.inventory; behind = g.E.Exchange.behind c.args.exchange.now }) c.look_all_up.new.inventory (g.E.Exchange.behind c.look_all_up.new.exchange)
     (g.W.Device.seen c.args.out.now) (g.W.Device.seen c.look_all_up.new.out) (g.W.Device.seen c.send.new.out) g.W.Device.is_in_memory c.in_ok-look_all_up.ensures.looked
-    c.into_parts-forest.result.0 c.into_parts-forest.result.1 k c.take_shortened-short.new.self c.deref.result.now c.into_parts-forest.ensures.forest c.into_parts-forest.ensures.credentials (planned_as c.into_parts-forest.result.0 c.args.start c.new-made.result c.in_ok-keeper.keeper c.new-made.ensures.opened c.in_ok-keeper.ensures.keeper c.in_ok-keeper.ensures.stop)
+    c.into_parts-forest.result.0 c.into_parts-forest.result.1 k c.take_shortened-short.new.self c.deref.result.now (c.into_parts-forest.ensures.forest ∙ ap (λ (v : Inventory). v.forest) c.in_ok-need_always.ensures.needed) (c.into_parts-forest.ensures.credentials ∙ ap (λ (v : Inventory). v.credentials) c.in_ok-need_always.ensures.needed ∙ kept_credentials c.look_all_up.new.inventory c.args.always.now c.args.start) (planned_as c.into_parts-forest.result.0 c.args.start c.new-made.result c.in_ok-keeper.keeper c.new-made.ensures.opened c.in_ok-keeper.ensures.keeper c.in_ok-keeper.ensures.stop)
     c.take_shortened-short.ensures.after lines c.in_ok-send.ensures.sent c.in_ok-send.ensures.count)
 
 pub opened-requires : goal.opened-requires

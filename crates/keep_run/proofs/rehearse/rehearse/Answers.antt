@@ -13,11 +13,12 @@ use Rattle.keep_run.specs.Text.{short_lines}
 use Rattle.keep_run.proofs.Rehearsed.{comes_first, fit_opened, ready_opened, memory_stopped, opening_stopped, plays_on, words_stopped}
 use Rattle.keep_run.proofs.Opened.{planned_as, refused_as, stopped_as}
 use Rattle.keep_run.proofs.Within.{AreOf, replan_within}
+use Rattle.keep_start.specs.Start.{inventory_at}
 use Rattle.keep_run.proofs.rehearse.rehearse.Goals as goal
 
 pub returns-in_err-set_faults : goal.returns-in_err-set_faults
 returns-in_err-set_faults g c =
-    words_stopped c.args.inventory.now c.args.script.now.start c.args.script.now.faults.now c.in_ok-inventory.inventory c.from_residual-in_err-set_faults.result c.in_err-set_faults.field-0.0 c.in_ok-table.table c.set_faults.new.table _ _ c.args.exchange.now
+    words_stopped (inventory_at c.args.script.now.start c.args.inventory.now) c.args.script.now.start c.args.script.now.faults.now c.in_ok-inventory.inventory c.from_residual-in_err-set_faults.result c.in_err-set_faults.field-0.0 c.in_ok-table.table c.set_faults.new.table _ _ c.args.exchange.now
     c.in_ok-inventory.ensures c.from_residual-in_err-set_faults.ensures c.in_err-set_faults.ensures
 
 pub returns-in_err-keeper : goal.returns-in_err-keeper
@@ -25,7 +26,7 @@ returns-in_err-keeper g c =
     let sets = c.in_ok-set_faults.ensures in
     let table = sets.2 ∙ ap (λ (t : Table). record t { faults = sets.0 }) c.in_ok-table.ensures in
     let behind = c.give.ensures ∙ ap (λ (t : Table). record { table = t; wire = [] }) table in
-    opening_stopped c.args.inventory.now c.args.script.now.start c.args.script.now.faults.now c.in_ok-inventory.inventory sets.0 c.into_parts-forest.result.0 c.from_residual-in_err-keeper.result c.in_err-keeper.field-0.0 _ _ c.args.exchange.now c.give.new.self
+    opening_stopped (inventory_at c.args.script.now.start c.args.inventory.now) c.args.script.now.start c.args.script.now.faults.now c.in_ok-inventory.inventory sets.0 c.into_parts-forest.result.0 c.from_residual-in_err-keeper.result c.in_err-keeper.field-0.0 _ _ c.args.exchange.now c.give.new.self
     c.in_ok-inventory.ensures sets.1 c.into_parts-forest.ensures.forest behind c.from_residual-in_err-keeper.ensures (stopped_as c.into_parts-forest.result.0 c.args.script.now.start c.new-made.result c.in_err-keeper.field-0.0 c.new-made.ensures.refused c.in_err-keeper.ensures.keeper c.in_err-keeper.ensures.stop)
 
 pub push_short_lines-requires : goal.push_short_lines-requires
@@ -37,7 +38,7 @@ push_short_lines-requires g c =
 
 pub returns-in_err-push_short_lines : goal.returns-in_err-push_short_lines
 returns-in_err-push_short_lines g c =
-    memory_stopped c.args.inventory.now c.args.script.now.start c.args.script.now.faults.now c.from_residual-in_err-push_short_lines.result _ _ c.args.exchange.now c.give.new.self c.from_residual-in_err-push_short_lines.ensures
+    memory_stopped (inventory_at c.args.script.now.start c.args.inventory.now) c.args.script.now.start c.args.script.now.faults.now c.from_residual-in_err-push_short_lines.result _ _ c.args.exchange.now c.give.new.self c.from_residual-in_err-push_short_lines.ensures
 
 pub play-requires-clause-ready : goal.play-requires-clause-ready
 play-requires-clause-ready g c =
@@ -68,7 +69,7 @@ returns g c =
     let out : Change = change g.W.Device.is_in_memory (g.W.Device.seen c.args.out.now) (g.W.Device.seen c.play.new.out) in
     let final = both c.play.new.agent.keeper (Some c.play.new.exchange) in
     let plays = subst (λ (agent : Agent). Plays agent.credentials (both agent.keeper (Some c.give.new.self)) c.get.result c.deref.result.now c.play.result final out) c.new-agent.ensures c.play.ensures in
-    plays_on c.args.inventory.now c.args.script.now.faults.now c.in_ok-inventory.inventory sets.0 c.args.script.now.start c.get.result c.into_parts-forest.result.0 c.into_parts-forest.result.1 k now c.give.new.self c.deref.result.now c.play.result
+    plays_on (inventory_at c.args.script.now.start c.args.inventory.now) c.args.script.now.faults.now c.in_ok-inventory.inventory sets.0 c.args.script.now.start c.get.result c.into_parts-forest.result.0 c.into_parts-forest.result.1 k now c.give.new.self c.deref.result.now c.play.result
     final c.play.new.exchange out c.args.exchange.now c.in_ok-inventory.ensures sets.1 c.into_parts-forest.ensures.forest c.into_parts-forest.ensures.credentials behind (planned_as c.into_parts-forest.result.0 c.args.script.now.start c.new-made.result c.in_ok-keeper.keeper c.new-made.ensures.opened c.in_ok-keeper.ensures.keeper c.in_ok-keeper.ensures.stop)
     c.take_shortened-short.ensures.after c.get.ensures.value lines plays refl
 
