@@ -1,0 +1,60 @@
+-- What is heard of a reply, piece by piece: for `Lane` and `read_on`.
+use Rattle.std.proofs.Common.{◌≡◌, ℕ, ◌++◌, List, [], ◌∷◌, append_assoc, append-nil, refl, ap, subst, sym, ◌∙◌, Option, None, Some, IfSome, Result, Ok, Err}
+use Rattle.std.specs.Io.KnownBytes.{Consumes, IsAtEnd, Keeps}
+use Rattle.std.proofs.KnownBytes.{Consumes-kept, Consumes-trans}
+use Rattle.keep_lanes.specs.Lanes.{Follows, IsHeard, IsTold, Tells}
+use Rattle.keep_lanes.specs.Losses.{Answer, loss_of}
+use Rattle.keep_lanes.specs.declared.loss.Loss.{Loss}
+use Rattle.keep_lanes.specs.declared.loss.Loss.TheVariants as losses
+use Rattle.vault_http.specs.Dates.{IsDatedReply}
+use Rattle.vault_http.specs.declared.dated_reply.DatedReply.{DatedReply}
+use Rattle.vault_http.specs.declared.http_fault.HttpFault.{HttpFault}
+use Rattle.vault_http.specs.declared.known.TheConstants.{MOST_MESSAGE}
+
+-- what stands whatever follows the pieces so far stands of all the bytes
+whole : (P : List ℕ → Type 0) (old came piece : List ℕ) (before mid now : Option (List ℕ)) → Consumes before mid came → Consumes mid now piece → (piece ≡ [] → IsAtEnd now)
+    → ((more : List ℕ) → Follows piece more → P (((old ++ came) ++ piece) ++ more)) → IfSome before (λ bytes. P (old ++ bytes))
+whole P old came piece None mid now first then' end h = tt
+whole P old came piece (Some bytes) None now first then' end h = absurd first
+whole P old came piece (Some bytes) (Some ms) None first then' end h = absurd then'
+whole P old came piece (Some bytes) (Some ms) (Some rest) first then' end h =
+    let all : bytes ≡ (came ++ piece) ++ rest = first ∙ ap (λ t. came ++ t) then' ∙ sym (append_assoc came piece rest) in
+    let long : ((old ++ came) ++ piece) ++ rest ≡ old ++ bytes =
+    ap (λ t. t ++ rest) (append_assoc old came piece) ∙ append_assoc old (came ++ piece) rest ∙ ap (λ t. old ++ t) (sym all) in
+    subst P long (h rest end)
+
+pub heard_answer : (old came piece : List ℕ) (before mid now : Option (List ℕ)) (a : Answer) (last new : List ℕ) → Consumes before mid came → Consumes mid now piece → (piece ≡ [] → IsAtEnd now)
+    → last ≡ old ++ came → IsTold last piece (Some a) new → IsHeard old (Some a) new before now
+heard_answer old came piece before mid now a last new first then' end is told = record {
+    came = came ++ piece;
+    consumed = Consumes-trans before mid now came piece first then';
+    tells = by_answer a (subst (λ l. IsTold l piece (Some a) new) is told);
+  }
+  where
+    by_answer : (a : Answer) → IsTold (old ++ came) piece (Some a) new → Tells old (came ++ piece) before (Some a) new
+    by_answer (Ok dated) h = whole (λ bytes. IsDatedReply MOST_MESSAGE bytes (Ok dated)) old came piece before mid now first then' end h
+    by_answer (Err losses.Reply) (fault, (e, h)) = with_fault before fault e (whole (λ bytes. IsDatedReply MOST_MESSAGE bytes (Err fault)) old came piece before mid now first then' end h)
+      where
+        with_fault : (b : Option (List ℕ)) (fault : HttpFault) → loss_of fault ≡ losses.Reply → IfSome b (λ bytes. IsDatedReply MOST_MESSAGE (old ++ bytes) (Err fault))
+            → IfSome b (λ bytes. (f : HttpFault) × ((loss_of f ≡ losses.Reply) × IsDatedReply MOST_MESSAGE (old ++ bytes) (Err f)))
+        with_fault None fault e h = tt
+        with_fault (Some bytes) fault e h = (fault, (e, h))
+    by_answer (Err losses.Connect) h = tt
+    by_answer (Err losses.Timeout) h = tt
+    by_answer (Err losses.Closed) h = tt
+    by_answer (Err (losses.Status status)) h = tt
+
+-- nothing more came, and it is lost for a reason that is not told of the bytes
+pub heard_lost : (old came last new : List ℕ) (before mid now : Option (List ℕ)) (loss : Loss) → Consumes before mid came → Keeps mid now → (loss ≡ losses.Reply → ⊥) → IsHeard old (Some (Err loss)) new before now
+heard_lost old came last new before mid now loss first kept other = record {
+    came = came;
+    consumed = Consumes-kept before mid now came first kept;
+    tells = by_loss loss other;
+  }
+  where
+    by_loss : (loss : Loss) → (loss ≡ losses.Reply → ⊥) → Tells old came before (Some (Err loss)) new
+    by_loss losses.Reply other = absurd (other refl)
+    by_loss losses.Connect other = tt
+    by_loss losses.Timeout other = tt
+    by_loss losses.Closed other = tt
+    by_loss (losses.Status status) other = tt

@@ -1,0 +1,1 @@
+//! Deadlines by hand.

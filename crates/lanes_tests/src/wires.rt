@@ -1,0 +1,159 @@
+//! Connections of a play, in time that passes only while they are waited for.
+use crate::asks::REQUEST;
+use keep_lanes::{Line, Tried, Wires};
+use std::alloc::{AllocError, Global};
+use std::cell::Cell;
+
+/// What a peer does with one connection. Moments are milliseconds from the play's begin.
+#[derive(Clone, Copy, Debug)]
+pub(crate) struct Part {
+    /// When it is there; before that it takes nothing.
+    pub(crate) accepts: u64,
+    /// How many bytes it takes at once.
+    pub(crate) takes: usize,
+    /// When its first piece comes, and how long after one piece the next.
+    pub(crate) first: u64,
+    pub(crate) pause: u64,
+    /// What it sends, in pieces of so many bytes.
+    pub(crate) text: &'static [u8],
+    pub(crate) piece: usize,
+    /// What it does behind the last piece.
+    pub(crate) end: End,
+}
+
+/// How a connection ends.
+#[derive(Clone, Copy, Debug, PartialEq, Eq)]
+pub(crate) enum End {
+    /// The peer closes it.
+    Closes,
+    /// It fails.
+    Fails,
+    /// Nothing comes.
+    Stays,
+}
+
+/// A connection of the play.
+#[derive(Drop)]
+pub(crate) struct Actor<'a> {
+    part: Part,
+    clock: &'a Cell<u64>,
+    /// What it took.
+    taken: Vec<u8>,
+    sent: usize,
+}
+
+impl<'a> Line for Actor<'a> {
+    fn give(&mut self, piece: &[u8]) -> Tried {
+        if self.clock.get() < self.part.accepts {
+            return Tried::Waits;
+        }
+        let n = piece.len().min(self.part.takes.max(1));
+        if self.taken.extend_from_slice(&piece[..n]).is_err() {
+            return Tried::Failed;
+        }
+        Tried::Done(n)
+    }
+
+    fn get(&mut self, buf: &mut [u8]) -> Tried {
+        // Nothing is answered before the request is there as it has to be.
+        if self.taken.as_slice() != REQUEST {
+            return Tried::Failed;
+        }
+        let pieces = self.sent / self.part.piece.max(1);
+        let due = self
+            .part
+            .first
+            .saturating_add(self.part.pause.saturating_mul(pieces as u64));
+        if self.clock.get() < due {
+            return Tried::Waits;
+        }
+        let left = self.part.text.len().saturating_sub(self.sent);
+        if left == 0 {
+            return match self.part.end {
+                End::Closes => Tried::Done(0),
+                End::Fails => Tried::Failed,
+                End::Stays => Tried::Waits,
+            };
+        }
+        let n = left.min(self.part.piece.max(1)).min(buf.len());
+        for at in 0..n {
+            buf[at] = self.part.text[self.sent + at];
+        }
+        self.sent += n;
+        Tried::Done(n)
+    }
+
+    fn is_restless(&self) -> bool {
+        false
+    }
+}
+
+/// The play: a part for each connection, in the order in which they are made.
+#[derive(Drop)]
+pub(crate) struct Play<'a> {
+    alloc: Global,
+    parts: &'a [Part],
+    clock: &'a Cell<u64>,
+    began: u64,
+    dials: usize,
+    /// How long it was to wait at most.
+    longest: u64,
+}
+
+impl<'a> Play<'a> {
+    pub(crate) fn new(alloc: Global, parts: &'a [Part], clock: &'a Cell<u64>) -> Play<'a> {
+        Play {
+            alloc,
+            parts,
+            clock,
+            began: 0,
+            dials: 0,
+            longest: 0,
+        }
+    }
+}
+
+const ABSENT: Part = Part {
+    accepts: 0,
+    takes: 1,
+    first: 0,
+    pause: 0,
+    text: b"",
+    piece: 1,
+    end: End::Fails,
+};
+
+impl<'a> Wires for Play<'a> {
+    type Line = Actor<'a>;
+
+    fn port(&self) -> u16 {
+        8200
+    }
+
+    fn dial(&mut self, _index: u32) -> Actor<'a> {
+        let part = self.parts.get(self.dials).copied().unwrap_or(ABSENT);
+        self.dials = self.dials.saturating_add(1);
+        Actor {
+            part,
+            clock: self.clock,
+            taken: Vec::new(self.alloc),
+            sent: 0,
+        }
+    }
+
+    fn begin(&mut self) {
+        self.began = self.clock.get();
+    }
+
+    /// A millisecond passes, or as much as it was to wait.
+    fn wait(&mut self, millis: u64) -> u64 {
+        self.longest = self.longest.max(millis);
+        self.clock
+            .set(self.clock.get().saturating_add(millis.min(1)));
+        self.clock.get().saturating_sub(self.began)
+    }
+
+    fn is_ready(&self, _index: u32) -> bool {
+        true
+    }
+}
