@@ -3,3 +3,5 @@ pub mod Arrives
 pub mod Parted
 pub mod Seated
 pub mod TakenOut
+pub mod Moved
+pub mod Dials

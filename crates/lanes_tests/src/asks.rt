@@ -1,65 +1,138 @@
-//! Requests, and the broker's table that answers them.
+//! Requests of four tokens, the broker's table that answers them, and what it says.
 use http::Method;
+use keep_exchange::can_carry;
 use keep_inventory::read;
-use keep_lanes::{Answered, Ask, Loss};
+use keep_lanes::{Answered, Ask, Lanes, Loss};
 use keep_moment::{Moment, Text};
 use mini_broker::Table;
 use std::alloc::Global;
 use std::test::Fail;
 use vault_http::Request;
 
-/// A token of 60 seconds until 1060, with the credential `web`.
-pub(crate) const WEB: &str = "[[token]]\nname = \"web\"\nissued = 1000\nend = 1060\nincrement = 60\nmax_ttl = 9000\nneed = 1200\n";
+/// Four tokens until 1060, renewed by 60, 61, 62 and 63 seconds. The credential of each is its name.
+const ESTATE: &str = "\
+[[token]]\nname = \"ta\"\nissued = 1000\nend = 1060\nincrement = 60\nmax_ttl = 9000\nneed = 1200\n
+[[token]]\nname = \"tb\"\nissued = 1000\nend = 1060\nincrement = 61\nmax_ttl = 9000\nneed = 1200\n
+[[token]]\nname = \"tc\"\nissued = 1000\nend = 1060\nincrement = 62\nmax_ttl = 9000\nneed = 1200\n
+[[token]]\nname = \"td\"\nissued = 1000\nend = 1060\nincrement = 63\nmax_ttl = 9000\nneed = 1200\n";
 
-/// What the broker says of it when it is renewed.
-pub(crate) const RENEWED: &[u8] = b"{\"auth\":{\"lease_duration\":60,\"renewable\":true}}";
+/// A token, and its renewal at 1059.
+pub(crate) struct Token {
+    pub(crate) credential: &'static [u8],
+    /// The body that asks for it, and the body that grants it.
+    pub(crate) asks: &'static [u8],
+    pub(crate) grants: &'static [u8],
+    /// Its end once it is granted.
+    pub(crate) end: u64,
+}
 
-/// The reply to that renewal as bytes (docs/http.md).
-pub(crate) const REPLY: &[u8] =
-    b"HTTP/1.1 200 OK\r\nContent-Type: application/json\r\nContent-Length: 47\r\nConnection: close\r\n\r\n\
-{\"auth\":{\"lease_duration\":60,\"renewable\":true}}";
+pub(crate) const TOKENS: [Token; 4] = [
+    Token {
+        credential: b"ta",
+        asks: b"{\"increment\":60}",
+        grants: b"{\"auth\":{\"lease_duration\":60,\"renewable\":true}}",
+        end: 1119,
+    },
+    Token {
+        credential: b"tb",
+        asks: b"{\"increment\":61}",
+        grants: b"{\"auth\":{\"lease_duration\":61,\"renewable\":true}}",
+        end: 1120,
+    },
+    Token {
+        credential: b"tc",
+        asks: b"{\"increment\":62}",
+        grants: b"{\"auth\":{\"lease_duration\":62,\"renewable\":true}}",
+        end: 1121,
+    },
+    Token {
+        credential: b"td",
+        asks: b"{\"increment\":63}",
+        grants: b"{\"auth\":{\"lease_duration\":63,\"renewable\":true}}",
+        end: 1122,
+    },
+];
 
-/// The request of that renewal as bytes (docs/http.md), to a broker at port 8200.
-pub(crate) const REQUEST: &[u8] =
-    b"POST /v1/auth/token/renew-self HTTP/1.1\r\nHost: 127.0.0.1:8200\r\nX-Vault-Token: web\r\n\
-Content-Type: application/json\r\nContent-Length: 16\r\nConnection: close\r\n\r\n{\"increment\":60}";
+/// The token that is asked for under an index.
+pub(crate) fn token(index: u32) -> &'static Token {
+    &TOKENS[(index % 4) as usize]
+}
 
 pub(crate) fn table(alloc: Global) -> Result<Table, Fail> {
-    let inventory = read(alloc, WEB.as_bytes())?;
+    let inventory = read(alloc, ESTATE.as_bytes())?;
     Ok(Table::load(alloc, &inventory)?)
 }
 
-pub(crate) fn moment(seconds: u64) -> Result<Moment, Fail> {
-    Ok(Moment::new(seconds).ok_or("a moment")?)
-}
-
-/// The renewal, for an index, with so many milliseconds of patience.
-pub(crate) fn renewal(alloc: Global, index: u32, patience: u64, port: u16) -> Result<Ask, Fail> {
+/// The renewal for an index, with so many milliseconds of patience.
+pub(crate) fn ask(alloc: Global, index: u32, patience: u64, port: u16) -> Result<Ask, Fail> {
+    let token = token(index);
     Ok(Ask {
         index,
         patience,
         request: Request {
             method: Method::POST,
             path: Text::of(alloc, b"/v1/auth/token/renew-self")?,
-            token: Some(Text::of(alloc, b"web")?),
-            body: Text::of(alloc, b"{\"increment\":60}")?,
+            token: Some(Text::of(alloc, token.credential)?),
+            body: Text::of(alloc, token.asks)?,
             port,
         },
     })
 }
 
-/// Whether this is the answer for that index: the renewal's reply.
-pub(crate) fn is_renewed(answered: &Answered, index: u32) -> bool {
-    match &answered.answer {
-        Ok(dated) => answered.index == index && dated.reply.status == 200 && dated.reply.body.list() == RENEWED,
-        Err(_) => false,
+/// Sends the renewal for an index at the moment 1059, and at `now` of the elapsed clock.
+pub(crate) fn send<L: Lanes>(
+    alloc: Global,
+    lanes: &mut L,
+    now: u64,
+    index: u32,
+    patience: u64,
+) -> Result<(), Fail> {
+    let moment = Moment::new(1059).ok_or("a moment")?;
+    let ask = ask(alloc, index, patience, lanes.port())?;
+    if lanes.free() == 0 || !can_carry(&ask.request) {
+        return Err("a free lane".into());
+    }
+    Ok(lanes.send(alloc, moment, now, &ask)?)
+}
+
+/// What may come of a request.
+#[derive(Clone, Copy, Debug)]
+pub(crate) enum Comes {
+    /// The grant of its own token.
+    Granted,
+    /// A reply of that status without a body.
+    Bare(u16),
+    /// No answer, for that reason.
+    Lost(Loss),
+}
+
+/// Whether this is the answer for that index.
+pub(crate) fn is(answered: &Answered, index: u32, comes: Comes) -> bool {
+    if answered.index != index {
+        return false;
+    }
+    match (&answered.answer, comes) {
+        (Ok(dated), Comes::Granted) => {
+            dated.reply.status == 200 && dated.reply.body.list() == token(index).grants
+        }
+        (Ok(dated), Comes::Bare(status)) => {
+            dated.reply.status == status && dated.reply.body.list().is_empty()
+        }
+        (Err(loss), Comes::Lost(why)) => *loss == why,
+        _ => false,
     }
 }
 
-/// Whether the request for that index was lost for this reason.
-pub(crate) fn is_lost(answered: &Answered, index: u32, why: Loss) -> bool {
-    match &answered.answer {
-        Ok(_) => false,
-        Err(loss) => answered.index == index && *loss == why,
+/// Whether these are the answers for these indices, in this order: what `comes` for that one index, and the others granted.
+pub(crate) fn are(answers: &[Answered], indices: &[u32], index: u32, comes: Comes) -> bool {
+    if answers.len() != indices.len() {
+        return false;
     }
+    for (answered, of) in answers.iter().zip(indices.iter()) {
+        let awaited = if *of == index { comes } else { Comes::Granted };
+        if !is(answered, *of, awaited) {
+            return false;
+        }
+    }
+    true
 }

@@ -5,6 +5,8 @@
 #[cfg(test)]
 mod asks;
 #[cfg(test)]
+mod heard;
+#[cfg(test)]
 mod loopback;
 #[cfg(test)]
 mod memory;

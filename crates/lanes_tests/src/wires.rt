@@ -1,7 +1,6 @@
 //! Connections of a play, in time that passes only while they are waited for.
-use crate::asks::REQUEST;
 use keep_lanes::{Line, Tried, Wires};
-use std::alloc::{AllocError, Global};
+use std::alloc::Global;
 use std::cell::Cell;
 
 /// What a peer does with one connection. Moments are milliseconds from the play's begin.
@@ -9,15 +8,18 @@ use std::cell::Cell;
 pub(crate) struct Part {
     /// When it is there; before that it takes nothing.
     pub(crate) accepts: u64,
-    /// How many bytes it takes at once.
+    /// How many bytes it takes in each millisecond, and how many until it breaks.
     pub(crate) takes: usize,
+    pub(crate) breaks: usize,
+    /// The bytes that it wants before it answers.
+    pub(crate) request: &'static [u8],
     /// When its first piece comes, and how long after one piece the next.
     pub(crate) first: u64,
     pub(crate) pause: u64,
     /// What it sends, in pieces of so many bytes.
     pub(crate) text: &'static [u8],
     pub(crate) piece: usize,
-    /// What it does behind the last piece.
+    /// What it does after the last piece.
     pub(crate) end: End,
 }
 
@@ -42,12 +44,29 @@ pub(crate) struct Actor<'a> {
     sent: usize,
 }
 
+impl<'a> Actor<'a> {
+    /// How many bytes it may have taken by now.
+    fn may_have(&self) -> usize {
+        let now = self.clock.get();
+        if now < self.part.accepts {
+            return 0;
+        }
+        let millis = (now - self.part.accepts).saturating_add(1);
+        self.part.takes.saturating_mul(millis as usize)
+    }
+}
+
 impl<'a> Line for Actor<'a> {
     fn give(&mut self, piece: &[u8]) -> Tried {
-        if self.clock.get() < self.part.accepts {
+        let unbroken = self.part.breaks.saturating_sub(self.taken.len());
+        if unbroken == 0 {
+            return Tried::Failed;
+        }
+        let room = self.may_have().saturating_sub(self.taken.len());
+        let n = piece.len().min(room).min(unbroken);
+        if n == 0 {
             return Tried::Waits;
         }
-        let n = piece.len().min(self.part.takes.max(1));
         if self.taken.extend_from_slice(&piece[..n]).is_err() {
             return Tried::Failed;
         }
@@ -55,16 +74,13 @@ impl<'a> Line for Actor<'a> {
     }
 
     fn get(&mut self, buf: &mut [u8]) -> Tried {
-        // Nothing is answered before the request is there as it has to be.
-        if self.taken.as_slice() != REQUEST {
+        // Nothing is answered unless the request is there, whole and once.
+        if self.taken.as_slice() != self.part.request {
             return Tried::Failed;
         }
         let pieces = self.sent / self.part.piece.max(1);
-        let due = self
-            .part
-            .first
-            .saturating_add(self.part.pause.saturating_mul(pieces as u64));
-        if self.clock.get() < due {
+        let pauses = self.part.pause.saturating_mul(pieces as u64);
+        if self.clock.get() < self.part.first.saturating_add(pauses) {
             return Tried::Waits;
         }
         let left = self.part.text.len().saturating_sub(self.sent);
@@ -94,28 +110,35 @@ pub(crate) struct Play<'a> {
     alloc: Global,
     parts: &'a [Part],
     clock: &'a Cell<u64>,
+    /// The longest that it was to wait.
+    longest: &'a Cell<u64>,
     began: u64,
     dials: usize,
-    /// How long it was to wait at most.
-    longest: u64,
 }
 
 impl<'a> Play<'a> {
-    pub(crate) fn new(alloc: Global, parts: &'a [Part], clock: &'a Cell<u64>) -> Play<'a> {
+    pub(crate) fn new(
+        alloc: Global,
+        parts: &'a [Part],
+        clock: &'a Cell<u64>,
+        longest: &'a Cell<u64>,
+    ) -> Play<'a> {
         Play {
             alloc,
             parts,
             clock,
+            longest,
             began: 0,
             dials: 0,
-            longest: 0,
         }
     }
 }
 
 const ABSENT: Part = Part {
     accepts: 0,
-    takes: 1,
+    takes: 0,
+    breaks: 0,
+    request: b"",
     first: 0,
     pause: 0,
     text: b"",
@@ -145,12 +168,12 @@ impl<'a> Wires for Play<'a> {
         self.began = self.clock.get();
     }
 
-    /// A millisecond passes, or as much as it was to wait.
+    /// A millisecond passes, or none where none was to pass.
     fn wait(&mut self, millis: u64) -> u64 {
-        self.longest = self.longest.max(millis);
-        self.clock
-            .set(self.clock.get().saturating_add(millis.min(1)));
-        self.clock.get().saturating_sub(self.began)
+        self.longest.set(self.longest.get().max(millis));
+        let now = self.clock.get().saturating_add(millis.min(1));
+        self.clock.set(now);
+        now.saturating_sub(self.began)
     }
 
     fn is_ready(&self, _index: u32) -> bool {
