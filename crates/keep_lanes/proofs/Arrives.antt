@@ -1,6 +1,7 @@
 -- What is heard of a reply, piece by piece: for `Lane` and `read_on`.
-use Rattle.std.proofs.Common.{◌≡◌, ℕ, ◌++◌, List, [], ◌∷◌, append_assoc, append-nil, refl, ap, subst, sym, ◌∙◌, Option, None, Some, IfSome, Result, Ok, Err}
+use Rattle.std.proofs.Common.{◌≡◌, ℕ, zero, suc, ◌<◌, ◌-◌, ◌++◌, List, [], ◌∷◌, length, take, arith, append_assoc, append-nil, refl, ap, subst, sym, ◌∙◌, Option, None, Some, IfSome, Result, Ok, Err}
 use Rattle.std.specs.Io.KnownBytes.{Consumes, IsAtEnd, Keeps}
+use Rattle.std.proofs.Math.Nat.{sub-zero}
 use Rattle.std.proofs.KnownBytes.{Consumes-kept, Consumes-nil, Consumes-trans}
 use Rattle.keep_lanes.specs.Lanes.{Follows, IsHeard, IsTold, Tells}
 use Rattle.keep_lanes.specs.Losses.{Answer, loss_of}
@@ -101,3 +102,16 @@ heard_from old answer new None before now kept h = record {
 }
 heard_from old answer new (Some xs) None now kept h = absurd kept
 heard_from old answer new (Some xs) (Some ys) now kept h = subst (λ l. IsHeard old answer new (Some l) now) kept h
+
+-- an answer by a read of n bytes
+pub heard_read : (old last buf : List ℕ) (before mid now : Option (List ℕ)) (n : ℕ) (got : Option Answer) (a : Answer) (new : List ℕ) → Came old last before mid
+    → Consumes mid now (take n buf) × (n ≡ 0 → 0 < length buf → IsAtEnd now) → 0 < length buf → IsTold last (take (n - 0) buf) got new → got ≡ Some a → IsHeard old (Some a) new before now
+heard_read old last buf before mid now n got a new h read room told is =
+    let piece : take (n - 0) buf ≡ take n buf = ap (λ k. take k buf) (sub-zero n) in
+    heard_answer old h.came (take n buf) before mid now a last new h.consumed read.0 (λ none. read.1 (nothing n buf room none) room) h.kept
+        (subst (λ p. IsTold last p (Some a) new) piece (subst (λ g. IsTold last (take (n - 0) buf) g new) is told))
+  where
+    nothing : (n : ℕ) (buf : List ℕ) → 0 < length buf → take n buf ≡ [] → n ≡ 0
+    nothing zero buf room none = refl
+    nothing (suc n) [] room none = absurd (omega arith)
+    nothing (suc n) (b ∷ bs) room none = cc

@@ -11,7 +11,9 @@ use Rattle.keep_lanes.specs.declared.loss.Loss.TheVariants as losses
 use Rattle.keep_lanes.specs.declared.stage.Stage.{Stage}
 use Rattle.keep_lanes.specs.declared.stage.Stage.TheVariants.{Connecting, Coming}
 use Rattle.vault_http.specs.Dates.{IsDatedReply}
+use Rattle.vault_http.specs.declared.dated_reply.DatedReply.{DatedReply}
 use Rattle.vault_http.specs.declared.http_fault.HttpFault.{HttpFault}
+use Rattle.vault_http.specs.declared.http_fault.HttpFault.TheVariants as https
 use Rattle.vault_http.specs.declared.known.TheConstants.{MOST_MESSAGE}
 
 -- a front of what was still to be sent is written, and the rest is still to be sent
@@ -55,6 +57,12 @@ IsPatient a now stage unsent (Err loss) = IsLost a now stage unsent loss × (uns
 
 -- ---- one piece of the reply
 
+-- what bytes are read as is the answer, and a fault of theirs the loss; out of memory is no answer
+abbrev pub IsRead : Result DatedReply HttpFault → Answer → Type 0
+IsRead (Ok dated) answer = answer ≡ Ok dated
+IsRead (Err https.OutOfMemory) answer = ⊥
+IsRead (Err fault) answer = answer ≡ Err (loss_of fault)
+
 -- where there is no answer yet, its read is counted
 abbrev pub IsCounted : Allowance → ℕ → Stage → Option Answer → Stage → Type 0
 IsCounted a now old None new = (reads_with old < most_reads a) × (new ≡ Coming (reads_with old) now)
@@ -63,7 +71,7 @@ IsCounted a now old (Some (Err losses.Connect)) new = ⊥
 IsCounted a now old (Some (Err (losses.Status status))) new = ⊥
 IsCounted a now old (Some answer) new = new ≡ old
 
--- behind no piece, which is the end, nothing follows
+-- after no piece, which is the end, nothing follows
 abbrev pub Follows : List ℕ → List ℕ → Type 0
 Follows piece more = piece ≡ [] → more ≡ []
 

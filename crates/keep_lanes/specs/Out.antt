@@ -50,7 +50,7 @@ abbrev pub first_at : List Out → Option ℕ
 first_at [] = None
 first_at (o ∷ os) = sooner_at o.comes (first_at os)
 
--- the answers that are there up to this moment are handed back: 5 ms behind the first, where that comes in time
+-- the answers that are there up to this moment are handed back: 5 ms after the first, where that comes in time
 abbrev pub up_to : ℕ → ℕ → Option ℕ → ℕ
 up_to now until None = now
 up_to now until (Some first) = if nat_le first (max now until) then min (max now first + 5) (2 ^ 64 - 1) else now

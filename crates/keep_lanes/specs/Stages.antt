@@ -14,6 +14,13 @@ wrote taken zero stage = Silent
 wrote zero (suc left) stage = stage
 wrote (suc taken) (suc left) stage = Sending
 
+-- all of the request was taken
+abbrev pub sent : Stage → Stage
+sent Connecting = Silent
+sent Sending = Silent
+sent Silent = Silent
+sent (Coming reads since) = Coming reads since
+
 -- the reads with the one that just handed out bytes
 abbrev pub reads_with : Stage → ℕ
 reads_with Connecting = 1

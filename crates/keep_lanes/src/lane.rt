@@ -3,12 +3,12 @@ ghost use Rattle.std.specs.Prelude.{◌≡◌, ◌<◌, ◌≤◌, [], IfOk, OnE
 ghost use Rattle.std.specs.Io.KnownBytes.{Appends, Keeps};
 ghost use Rattle.keep_lanes.specs.Allowed.{deadline};
 ghost use Rattle.keep_device.specs.Front.{AppendsFront};
-ghost use Rattle.keep_lanes.specs.Lanes.{IsCounted, IsHeard, IsPatient, IsSettled, IsTold, IsWritten};
+ghost use Rattle.keep_lanes.specs.Lanes.{IsCounted, IsHeard, IsPatient, IsRead, IsSettled, IsTold, IsWritten};
 ghost use Rattle.keep_lanes.specs.declared.stage.Stage.TheVariants.{Connecting};
 
 use crate::allowance::Allowance;
 use crate::line::{Line, Tried};
-use crate::loss::{Loss, loss_of};
+use crate::loss::Loss;
 use crate::stage::Stage;
 use std::alloc::{AllocError, Global};
 use vault_http::{Arriving, DatedReply, HttpFault};
@@ -160,6 +160,7 @@ fn read_on<L: Line>(
     ensures heard { IfOk result (λ answer. IsHeard course.old.arriving answer course.new.arriving (L.remaining line.old) (L.remaining line.new)) }
     ensures settled { IfOk result (λ answer. IsSettled course.new.allowance now course.new.stage [] answer) }
 {
+    course.stage = course.stage.sent();
     for _ in 0..course.allowance.most_reads() {
         match line.get(room) {
             Tried::Done(n) => {
@@ -192,9 +193,10 @@ impl Course {
         ensures told { IfOk result (λ answer. IsTold self.old.arriving piece.now answer self.new.arriving) }
     {
         match self.arriving.take(alloc, piece, piece.is_empty()) {
-            Some(Ok(dated)) => Ok(Some(Ok(dated))),
-            Some(Err(HttpFault::OutOfMemory)) => Err(AllocError),
-            Some(Err(fault)) => Ok(Some(Err(loss_of(fault)))),
+            Some(read) => {
+                let answer = answer_of(read)?;
+                Ok(Some(answer))
+            }
             None => match self.stage.came(&self.allowance, now) {
                 Ok(stage) => {
                     self.stage = stage;
@@ -203,5 +205,35 @@ impl Course {
                 Err(loss) => Ok(Some(Err(loss))),
             },
         }
+    }
+}
+
+/// The answer that bytes are read as. The only error is out of memory.
+fn answer_of(
+    read: Result<DatedReply, HttpFault>,
+) -> Result<Result<DatedReply, Loss>, AllocError>
+    ensures { IfOk result (λ answer. IsRead read answer) }
+{
+    match read {
+        Ok(dated) => Ok(Ok(dated)),
+        Err(fault) => {
+            let loss = lost_by(fault)?;
+            Ok(Err(loss))
+        }
+    }
+}
+
+/// The loss that a fault of the bytes is. The only error is out of memory.
+fn lost_by(fault: HttpFault) -> Result<Loss, AllocError>
+    ensures { IfOk result (λ loss. IsRead (Err fault) (Err loss)) }
+{
+    match fault {
+        HttpFault::OutOfMemory => Err(AllocError),
+        HttpFault::Truncated | HttpFault::ReadFailed => Ok(Loss::Closed),
+        HttpFault::BadHead
+        | HttpFault::BadLength
+        | HttpFault::BadChunk
+        | HttpFault::TooLong
+        | HttpFault::TwoLengths => Ok(Loss::Reply),
     }
 }

@@ -1,6 +1,7 @@
 //! How far a request has come, as a value: what each try at its connection makes of it.
 ghost use Rattle.std.specs.Prelude.{◌≡◌};
-ghost use Rattle.keep_lanes.specs.Stages.{came, failed, waits, wrote};
+ghost use Rattle.keep_lanes.specs.Stages.{came, failed, sent, waits, wrote};
+ghost use Rattle.keep_lanes.specs.declared.stage.Stage.TheVariants.{Connecting};
 
 use crate::allowance::Allowance;
 use crate::loss::Loss;
@@ -34,6 +35,17 @@ impl Stage {
             Stage::Sending
         } else {
             self
+        }
+    }
+
+    /// All of the request was taken.
+    pub(crate) fn sent(self) -> Stage
+        ensures stage { result ≡ sent self }
+        ensures further { result ≡ Connecting → ⊥ }
+    {
+        match self {
+            Stage::Connecting | Stage::Sending | Stage::Silent => Stage::Silent,
+            Stage::Coming { reads, since } => Stage::Coming { reads, since },
         }
     }
 

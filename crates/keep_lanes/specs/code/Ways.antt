@@ -41,10 +41,16 @@ Move written remaining now [] new = new ≡ []
 Move written remaining now (s ∷ ss) [] = ⊥
 Move written remaining now (s ∷ ss) (n ∷ ns) = ((n.index ≡ s.index) × (StaysOrMoves written remaining now s.standing n.standing × IsAhead now n.standing)) × Move written remaining now ss ns
 
--- a request with this text has begun with this allowance, over a connection to which nothing was written
+-- a request with this text is on its way, over a connection to which nothing was written before
+pub record IsBegun {L : Type 0} (written : L → Option (List ℕ)) (text : List ℕ) (lane : Lane L) : Type 0 where
+  pub fresh : L
+  pub unwritten : IfSome (written fresh) (λ bytes. bytes ≡ [])
+  pub sent : IsWritten text lane.unsent.items (written fresh) (written lane.line)
+
+-- a request with this text has begun with this allowance
 abbrev pub Begins : {L : Type 0} → (L → Option (List ℕ)) → List ℕ → Allowance → Way L → Type 0
 Begins written text allowance (Over a) = Unit {0}
-Begins written text allowance (Out lane) = (lane.course.allowance ≡ allowance) × ((front : List ℕ) × ((text ≡ front ++ lane.unsent.items) × IfSome (written lane.line) (λ bytes. bytes ≡ front)))
+Begins written text allowance (Out lane) = (lane.course.allowance ≡ allowance) × IsBegun written text lane
 
 -- the moment by which one has to be looked at again, and no later than another moment
 abbrev pub sooner : {L : Type 0} → (L → Bool) → ℕ → ℕ → Way L → ℕ

@@ -2,6 +2,7 @@
 use Rattle.std.proofs.Common.{◌≡◌, ◌<◌, length}
 use Rattle.std.specs.Io.KnownBytes.{Keeps}
 use Rattle.keep_lanes.specs.Stages.{reads_with}
+use Rattle.keep_lanes.specs.declared.stage.Stage.TheVariants.{Connecting}
 use Rattle.keep_lanes.proofs.Arrives.{Came}
 use Rattle.keep_lanes.proofs.lane.read_on.Given as goal
 
@@ -12,4 +13,5 @@ invariant-loop g l = record {
   written : Keeps (g.L.Line.written l.fn.line) (g.L.Line.written l.line);
   came : Came l.fn.course.arriving l.course.arriving (g.L.Line.remaining l.fn.line) (g.L.Line.remaining l.line);
   counted : l.counter < reads_with l.course.stage;
+  sent : l.course.stage ≡ Connecting → ⊥;
 }
