@@ -1,7 +1,6 @@
 -- What is heard of a reply, piece by piece: for `Lane` and `read_on`.
-use Rattle.std.proofs.Common.{◌≡◌, ℕ, zero, suc, ◌<◌, ◌-◌, ◌++◌, List, [], ◌∷◌, length, take, arith, append_assoc, append-nil, refl, ap, subst, sym, ◌∙◌, Option, None, Some, IfSome, Result, Ok, Err}
+use Rattle.std.proofs.Common.{◌≡◌, ℕ, zero, suc, ◌<◌, ◌++◌, List, [], ◌∷◌, length, take, arith, append_assoc, append-nil, refl, ap, subst, sym, ◌∙◌, Option, None, Some, IfSome, Result, Ok, Err}
 use Rattle.std.specs.Io.KnownBytes.{Consumes, IsAtEnd, Keeps}
-use Rattle.std.proofs.Math.Nat.{sub-zero}
 use Rattle.std.proofs.KnownBytes.{Consumes-kept, Consumes-nil, Consumes-trans}
 use Rattle.keep_lanes.specs.Lanes.{Follows, IsHeard, IsTold, Tells}
 use Rattle.keep_lanes.specs.Losses.{Answer, loss_of}
@@ -27,10 +26,10 @@ whole P old came piece (Some bytes) (Some ms) (Some rest) first then' end h =
 pub heard_answer : (old came piece : List ℕ) (before mid now : Option (List ℕ)) (a : Answer) (last new : List ℕ) → Consumes before mid came → Consumes mid now piece → (piece ≡ [] → IsAtEnd now)
     → last ≡ old ++ came → IsTold last piece (Some a) new → IsHeard old (Some a) new before now
 heard_answer old came piece before mid now a last new first then' end is told = record {
-    came = came ++ piece;
-    consumed = Consumes-trans before mid now came piece first then';
-    tells = by_answer a (subst (λ l. IsTold l piece (Some a) new) is told);
-  }
+  came = came ++ piece;
+  consumed = Consumes-trans before mid now came piece first then';
+  tells = by_answer a (subst (λ l. IsTold l piece (Some a) new) is told);
+}
   where
     by_answer : (a : Answer) → IsTold (old ++ came) piece (Some a) new → Tells old (came ++ piece) before (Some a) new
     by_answer (Ok dated) h = whole (λ bytes. IsDatedReply MOST_MESSAGE bytes (Ok dated)) old came piece before mid now first then' end h
@@ -48,10 +47,10 @@ heard_answer old came piece before mid now a last new first then' end is told = 
 -- nothing more came, and it is lost for a reason that is not told of the bytes
 pub heard_lost : (old came last new : List ℕ) (before mid now : Option (List ℕ)) (loss : Loss) → Consumes before mid came → Keeps mid now → (loss ≡ losses.Reply → ⊥) → IsHeard old (Some (Err loss)) new before now
 heard_lost old came last new before mid now loss first kept other = record {
-    came = came;
-    consumed = Consumes-kept before mid now came first kept;
-    tells = by_loss loss other;
-  }
+  came = came;
+  consumed = Consumes-kept before mid now came first kept;
+  tells = by_loss loss other;
+}
   where
     by_loss : (loss : Loss) → (loss ≡ losses.Reply → ⊥) → Tells old came before (Some (Err loss)) new
     by_loss losses.Reply other = absurd (other refl)
@@ -105,11 +104,10 @@ heard_from old answer new (Some xs) (Some ys) now kept h = subst (λ l. IsHeard 
 
 -- an answer by a read of n bytes
 pub heard_read : (old last buf : List ℕ) (before mid now : Option (List ℕ)) (n : ℕ) (got : Option Answer) (a : Answer) (new : List ℕ) → Came old last before mid
-    → Consumes mid now (take n buf) × (n ≡ 0 → 0 < length buf → IsAtEnd now) → 0 < length buf → IsTold last (take (n - 0) buf) got new → got ≡ Some a → IsHeard old (Some a) new before now
+    → Consumes mid now (take n buf) × (n ≡ 0 → 0 < length buf → IsAtEnd now) → 0 < length buf → IsTold last (take n buf) got new → got ≡ Some a → IsHeard old (Some a) new before now
 heard_read old last buf before mid now n got a new h read room told is =
-    let piece : take (n - 0) buf ≡ take n buf = ap (λ k. take k buf) (sub-zero n) in
     heard_answer old h.came (take n buf) before mid now a last new h.consumed read.0 (λ none. read.1 (nothing n buf room none) room) h.kept
-        (subst (λ p. IsTold last p (Some a) new) piece (subst (λ g. IsTold last (take (n - 0) buf) g new) is told))
+    (subst (λ g. IsTold last (take n buf) g new) is told)
   where
     nothing : (n : ℕ) (buf : List ℕ) → 0 < length buf → take n buf ≡ [] → n ≡ 0
     nothing zero buf room none = refl

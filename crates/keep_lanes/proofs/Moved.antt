@@ -1,7 +1,7 @@
 -- Each of those that are out goes on for itself: for `go_on` of them all.
-use Rattle.std.proofs.Common.{◌≡◌, ℕ, zero, suc, ◌<◌, ◌+◌, ◌⊎◌, inl, inr, Some, IfSome, List, [], ◌∷◌, ◌++◌, length, take, drop, get_or, set, Option, None, refl, sym, subst, ap, ◌∙◌, arith}
+use Rattle.std.proofs.Common.{◌≡◌, ℕ, zero, suc, ◌<◌, ◌+◌, ◌⊎◌, inl, inr, Some, IfSome, List, [], ◌∷◌, ◌++◌, length, take, drop, get_or, set, Option, None, refl, sym, subst, ap, ◌∙◌, arith, append-nil}
 use Rattle.std.proofs.lemmas.Grind.{drop_more_same}
-use Rattle.std.proofs.lemmas.List.{drop-set-lt, drop_more, take_more_set}
+use Rattle.std.proofs.lemmas.List.{drop-set-lt, drop_all, drop_more, take_all, take_more_set}
 use Rattle.std.proofs.Math.Seq.{take-add}
 use Rattle.std.proofs.KnownBytes.{Appends-nil}
 use Rattle.keep_lanes.specs.Lanes.{IsWritten}
@@ -42,8 +42,8 @@ module _ {L : Type 0} (written remaining : L → Option (List ℕ)) (now : ℕ) 
       let here : drop i old ≡ s ∷ drop (i + 1) out = sym rest ∙ drop_more out i d within in
       let front : take (i + 1) old ≡ take i old ++ s ∷ [] = take-add i 1 old ∙ ap (λ l. take i old ++ take 1 l) here in
       subst (λ l. Move written remaining now l (take (i + 1) (set out i n))) (sym front)
-          (subst (λ l. Move written remaining now (take i old ++ s ∷ []) l) (sym (take_more_set out i n within))
-          (move_more (take i old) (take i out) s n h (same, (subst (λ w. StaysOrMoves written remaining now w n.standing) is moved, ahead))))
+      (subst (λ l. Move written remaining now (take i old ++ s ∷ []) l) (sym (take_more_set out i n within))
+      (move_more (take i old) (take i out) s n h (same, (subst (λ w. StaysOrMoves written remaining now w n.standing) is moved, ahead))))
 
   -- one goes on, and is answered
   pub moves_over : (old : Way L) (lane next : Lane L) (got : Option Answer) (a : Answer) → old ≡ Out lane → got ≡ Some a → GoesOn written remaining now lane next got
@@ -57,7 +57,7 @@ module _ {L : Type 0} (written remaining : L → Option (List ℕ)) (now : ℕ) 
   begun text allowance lane (Over a) of al fresh h = tt
   begun text allowance lane (Out next) of al fresh (inl same) =
       subst (λ w. Begins written text allowance w) (sym same)
-          (al, record { fresh = lane.line; unwritten = fresh; sent = record { front = []; parts = of; appended = Appends-nil (written lane.line) } })
+      (al, record { fresh = lane.line; unwritten = fresh; sent = record { front = []; parts = of; appended = Appends-nil (written lane.line) } })
   begun text allowance lane (Out next) of al fresh (inr goes) =
       (goes.allowance ∙ al, record { fresh = lane.line; unwritten = fresh; sent = subst (λ l. IsWritten l next.unsent.items (written lane.line) (written next.line)) (sym of) goes.sent })
 
@@ -66,3 +66,8 @@ pub outs_set : {L : Type 0} (out : List (Seat (Way L))) (i : ℕ) (d n : Seat (W
 outs_set [] i d n e = refl
 outs_set (o ∷ os) zero d n e = ap (λ (i : ℕ). let it : outs_of.Out = record { index = i; comes = None } in it ∷ outs (λ _. None) os) e
 outs_set (o ∷ os) (suc i) d n e = ap (λ l. out_of (λ _. None) o ∷ l) (outs_set os i d n e)
+
+-- what is lent whole, and keeps its length, is what comes back
+pub written_back : {X : Type 0} (len : ℕ) (new old : List X) → length new ≡ length old → len ≡ length old → take len (new ++ drop (length new) old) ≡ new
+written_back len new old same whole =
+    ap (λ l. take len (new ++ l)) (drop_all old (length new) (omega arith)) ∙ ap (λ l. take len l) (append-nil new) ∙ take_all len new (omega arith)

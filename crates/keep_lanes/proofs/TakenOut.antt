@@ -93,7 +93,7 @@ module _ {T : Type 0} (comes : T → Option Coming) (there : T → Bool) where
       let one : r ≡ s = same_at out at s r within is removed in
       let here' : there r.standing ≡ true = ap (λ (z : Seat T). there z.standing) one ∙ here in
       subst (λ l. SoFar comes there all new at l) (sym pushed)
-          (goes all out new at answers r (record { index = r.index; answer = x }) within removed here' (refl, opens here') left (length-take-le at out (omega arith)) so)
+      (goes all out new at answers r (record { index = r.index; answer = x }) within removed here' (refl, opens here') left (length-take-le at out (omega arith)) so)
 
   whole : (all out : List (Seat T)) (at done : ℕ) → length out ≤ at → drop at out ≡ drop done all → take done all ≡ all
   whole all out at done past rest = sym (append-nil (take done all)) ∙ ap (λ l. take done all ++ l) (sym (sym rest ∙ drop_all at out past)) ∙ take-append-drop done all

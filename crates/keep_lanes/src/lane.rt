@@ -209,9 +209,7 @@ impl Course {
 }
 
 /// The answer that bytes are read as. The only error is out of memory.
-fn answer_of(
-    read: Result<DatedReply, HttpFault>,
-) -> Result<Result<DatedReply, Loss>, AllocError>
+fn answer_of(read: Result<DatedReply, HttpFault>) -> Result<Result<DatedReply, Loss>, AllocError>
     ensures { IfOk result (λ answer. IsRead read answer) }
 {
     match read {

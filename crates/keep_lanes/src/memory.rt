@@ -244,7 +244,14 @@ impl Lanes for MemoryLanes {
         let number = self.count.saturating_add(1);
         let allowance = Allowance::new(now, ask.patience, self.seconds);
         let fault = fault_at(&self.faults, number);
-        let standing = serve(alloc, &mut self.exchange, t, &allowance, fault, &ask.request)?;
+        let standing = serve(
+            alloc,
+            &mut self.exchange,
+            t,
+            &allowance,
+            fault,
+            &ask.request,
+        )?;
         self.count = number;
         let index = ask.index;
         put(&mut self.out, Seat { index, standing });

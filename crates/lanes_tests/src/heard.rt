@@ -95,7 +95,10 @@ fn a_body_that_says_nothing_of_it_is_lost(rt: HostRuntime) -> Result<(), Fail> {
         let heard = renewal(alloc, Ok(reply(alloc, 200, body)?))?;
         assert!(rt; heard.as_str() == "lost reply", "{body}");
         let looked = hear_lookup(alloc, Kind::Token, Ok(reply(alloc, 200, body)?))?;
-        assert!(rt; words(alloc, &looked, "")?.as_str() == "lost reply", "{body}");
+        assert!(rt;
+            words(alloc, &looked, "")?.as_str() == "lost reply",
+            "{body}"
+        );
     }
     Ok(())
 }
@@ -118,7 +121,10 @@ fn a_loss_keeps_its_reason(rt: HostRuntime) -> Result<(), Fail> {
         let renewed = renewal(alloc, Err(*loss))?;
         assert!(rt; renewed.as_str() == wanted.as_str(), "{word}");
         let looked = hear_lookup(alloc, Kind::Lease, Err(*loss))?;
-        assert!(rt; words(alloc, &looked, "")?.as_str() == wanted.as_str(), "{word}");
+        assert!(rt;
+            words(alloc, &looked, "")?.as_str() == wanted.as_str(),
+            "{word}"
+        );
     }
     Ok(())
 }

@@ -12,7 +12,8 @@ use std::test::Fail;
 use std::time::Clock;
 
 /// The head of a reply (docs/http.md).
-const HEAD: &[u8] = b"HTTP/1.1 200 OK\r\nContent-Type: application/json\r\nContent-Length: 47\r\nConnection: close\r\n\r\n";
+const HEAD: &[u8] =
+    b"HTTP/1.1 200 OK\r\nContent-Type: application/json\r\nContent-Length: 47\r\nConnection: close\r\n\r\n";
 
 /// A request that has come.
 fn heard<S: Read>(alloc: Global, stream: &mut S) -> Result<Vec<u8>, Fail> {
@@ -26,9 +27,7 @@ fn heard<S: Read>(alloc: Global, stream: &mut S) -> Result<Vec<u8>, Fail> {
 fn is_for(request: &[u8], index: u32) -> bool {
     let token = token(index);
     request.starts_with(b"POST /v1/auth/token/renew-self HTTP/1.1\r\n")
-        && request
-            .windows(2)
-            .any(|piece| piece == token.credential)
+        && request.windows(2).any(|piece| piece == token.credential)
         && request.ends_with(token.asks)
 }
 

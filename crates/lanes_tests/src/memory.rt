@@ -7,7 +7,9 @@ use std::test::Fail;
 
 /// The indices that are asked for, in the order of their numbers from 1 on; and by rising index, without each of them.
 const INDICES: [u32; 4] = [9, 2, 7, 4];
+
 const RISING: [u32; 4] = [2, 4, 7, 9];
+
 const OTHERS: [[u32; 3]; 4] = [[2, 4, 7], [4, 7, 9], [2, 4, 9], [2, 7, 9]];
 
 /// Each fault with 400 ms of patience: what comes of it, how many milliseconds later, and whether the broker serves it.
@@ -39,7 +41,11 @@ fn send_all(alloc: Global, lanes: &mut MemoryLanes) -> Result<(), Fail> {
 fn has_granted(lanes: &MemoryLanes, index: u32, is_served: bool) -> bool {
     for other in &INDICES {
         let token = token(*other);
-        let end = if *other == index && !is_served { 1060 } else { token.end };
+        let end = if *other == index && !is_served {
+            1060
+        } else {
+            token.end
+        };
         if lanes.table().end_of(token.credential) != Some(end) {
             return false;
         }

@@ -11,12 +11,15 @@ use std::test::Fail;
 const REQUEST: &[u8] =
     b"POST /v1/auth/token/renew-self HTTP/1.1\r\nHost: 127.0.0.1:8200\r\nX-Vault-Token: ta\r\n\
 Content-Type: application/json\r\nContent-Length: 16\r\nConnection: close\r\n\r\n{\"increment\":60}";
+
 const REPLY: &[u8] =
     b"HTTP/1.1 200 OK\r\nContent-Type: application/json\r\nContent-Length: 47\r\nConnection: close\r\n\r\n\
 {\"auth\":{\"lease_duration\":60,\"renewable\":true}}";
+
 const OTHER_REQUEST: &[u8] =
     b"POST /v1/auth/token/renew-self HTTP/1.1\r\nHost: 127.0.0.1:8200\r\nX-Vault-Token: tb\r\n\
 Content-Type: application/json\r\nContent-Length: 16\r\nConnection: close\r\n\r\n{\"increment\":61}";
+
 const OTHER_REPLY: &[u8] =
     b"HTTP/1.1 200 OK\r\nContent-Type: application/json\r\nContent-Length: 47\r\nConnection: close\r\n\r\n\
 {\"auth\":{\"lease_duration\":61,\"renewable\":true}}";
@@ -48,9 +51,13 @@ const OTHER: Part = Part {
 };
 
 const GRANTED: Comes = Comes::Granted;
+
 const CONNECT: Comes = Comes::Lost(Loss::Connect);
+
 const TIMEOUT: Comes = Comes::Lost(Loss::Timeout);
+
 const CLOSED: Comes = Comes::Lost(Loss::Closed);
+
 const UNREAD: Comes = Comes::Lost(Loss::Reply);
 
 /// A peer, a patience, what comes of the renewal with time-outs of 5 seconds, and when. The request has 171 bytes, the reply
@@ -63,36 +70,225 @@ const PLAYS: [(Part, u64, Comes, u64); 29] = [
     (SILENT, 5000, TIMEOUT, 5000),
     (SILENT, 60_000, TIMEOUT, 5000),
     // So do a connection that comes late, bytes that are taken late, and a first byte that comes late, all three together.
-    (Part { accepts: 249, ..PROMPT }, 250, GRANTED, 249),
-    (Part { accepts: 251, ..PROMPT }, 250, TIMEOUT, 250),
-    (Part { accepts: u64::MAX, ..PROMPT }, 1000, TIMEOUT, 1000),
+    (
+        Part {
+            accepts: 249,
+            ..PROMPT
+        },
+        250,
+        GRANTED,
+        249,
+    ),
+    (
+        Part {
+            accepts: 251,
+            ..PROMPT
+        },
+        250,
+        TIMEOUT,
+        250,
+    ),
+    (
+        Part {
+            accepts: u64::MAX,
+            ..PROMPT
+        },
+        1000,
+        TIMEOUT,
+        1000,
+    ),
     (Part { takes: 1, ..PROMPT }, 250, GRANTED, 170),
     (Part { takes: 1, ..PROMPT }, 169, TIMEOUT, 169),
-    (Part { takes: 40, ..PROMPT }, 250, GRANTED, 4),
-    (Part { accepts: 100, takes: 1, ..PROMPT }, 269, TIMEOUT, 269),
-    (Part { accepts: 100, takes: 1, ..PROMPT }, 271, GRANTED, 270),
-    (Part { first: 899, ..PROMPT }, 900, GRANTED, 899),
-    (Part { first: 901, ..PROMPT }, 900, TIMEOUT, 900),
+    (
+        Part {
+            takes: 40,
+            ..PROMPT
+        },
+        250,
+        GRANTED,
+        4,
+    ),
+    (
+        Part {
+            accepts: 100,
+            takes: 1,
+            ..PROMPT
+        },
+        269,
+        TIMEOUT,
+        269,
+    ),
+    (
+        Part {
+            accepts: 100,
+            takes: 1,
+            ..PROMPT
+        },
+        271,
+        GRANTED,
+        270,
+    ),
+    (
+        Part {
+            first: 899,
+            ..PROMPT
+        },
+        900,
+        GRANTED,
+        899,
+    ),
+    (
+        Part {
+            first: 901,
+            ..PROMPT
+        },
+        900,
+        TIMEOUT,
+        900,
+    ),
     // After its first bytes each read may take a quarter of a second, whatever the patience.
-    (Part { piece: 10, pause: 200, ..PROMPT }, 5000, GRANTED, 2600),
-    (Part { piece: 10, pause: 251, ..PROMPT }, 5000, TIMEOUT, 250),
-    (Part { first: 899, piece: 100, pause: 249, ..PROMPT }, 900, GRANTED, 1148),
+    (
+        Part {
+            piece: 10,
+            pause: 200,
+            ..PROMPT
+        },
+        5000,
+        GRANTED,
+        2600,
+    ),
+    (
+        Part {
+            piece: 10,
+            pause: 251,
+            ..PROMPT
+        },
+        5000,
+        TIMEOUT,
+        250,
+    ),
+    (
+        Part {
+            first: 899,
+            piece: 100,
+            pause: 249,
+            ..PROMPT
+        },
+        900,
+        GRANTED,
+        1148,
+    ),
     // The reads are counted, 28 with time-outs of 5 seconds.
-    (Part { piece: 5, pause: 10, ..PROMPT }, 5000, GRANTED, 270),
-    (Part { piece: 4, pause: 10, ..PROMPT }, 5000, TIMEOUT, 270),
+    (
+        Part {
+            piece: 5,
+            pause: 10,
+            ..PROMPT
+        },
+        5000,
+        GRANTED,
+        270,
+    ),
+    (
+        Part {
+            piece: 4,
+            pause: 10,
+            ..PROMPT
+        },
+        5000,
+        TIMEOUT,
+        270,
+    ),
     // And all of it may take twice the patience.
-    (Part { piece: 10, pause: 240, ..PROMPT }, 300, TIMEOUT, 600),
+    (
+        Part {
+            piece: 10,
+            pause: 240,
+            ..PROMPT
+        },
+        300,
+        TIMEOUT,
+        600,
+    ),
     // A connection that fails before a byte is taken was none.
-    (Part { breaks: 0, ..PROMPT }, 5000, CONNECT, 0),
-    (Part { breaks: 170, ..PROMPT }, 5000, CLOSED, 0),
+    (
+        Part {
+            breaks: 0,
+            ..PROMPT
+        },
+        5000,
+        CONNECT,
+        0,
+    ),
+    (
+        Part {
+            breaks: 170,
+            ..PROMPT
+        },
+        5000,
+        CLOSED,
+        0,
+    ),
     // A reply that is not whole.
-    (Part { text: b"", end: End::Closes, ..PROMPT }, 5000, CLOSED, 0),
-    (Part { text: b"HTTP/1.1 200 OK\r\n", end: End::Closes, ..PROMPT }, 5000, CLOSED, 0),
-    (Part { text: b"HTTP/1.1 200 OK\r\n", end: End::Fails, ..PROMPT }, 5000, CLOSED, 0),
-    (Part { text: b"HTTP/1.1 200 OK\r\n", end: End::Stays, ..PROMPT }, 5000, TIMEOUT, 250),
+    (
+        Part {
+            text: b"",
+            end: End::Closes,
+            ..PROMPT
+        },
+        5000,
+        CLOSED,
+        0,
+    ),
+    (
+        Part {
+            text: b"HTTP/1.1 200 OK\r\n",
+            end: End::Closes,
+            ..PROMPT
+        },
+        5000,
+        CLOSED,
+        0,
+    ),
+    (
+        Part {
+            text: b"HTTP/1.1 200 OK\r\n",
+            end: End::Fails,
+            ..PROMPT
+        },
+        5000,
+        CLOSED,
+        0,
+    ),
+    (
+        Part {
+            text: b"HTTP/1.1 200 OK\r\n",
+            end: End::Stays,
+            ..PROMPT
+        },
+        5000,
+        TIMEOUT,
+        250,
+    ),
     // What is no reply.
-    (Part { text: b"hello\r\n\r\n", ..PROMPT }, 5000, UNREAD, 0),
-    (Part { text: b"HTTP/1.1 200 OK\r\nContent-Length: x\r\n\r\n", ..PROMPT }, 5000, UNREAD, 0),
+    (
+        Part {
+            text: b"hello\r\n\r\n",
+            ..PROMPT
+        },
+        5000,
+        UNREAD,
+        0,
+    ),
+    (
+        Part {
+            text: b"HTTP/1.1 200 OK\r\nContent-Length: x\r\n\r\n",
+            ..PROMPT
+        },
+        5000,
+        UNREAD,
+        0,
+    ),
 ];
 
 /// What came of the renewal for the index 4 that meets this peer, and when.
@@ -166,7 +362,10 @@ fn two(alloc: Global, other: Part, part: Part) -> Result<[(Vec<Answered>, u64); 
 
 #[test]
 fn a_silent_peer_costs_its_neighbour_nothing(rt: HostRuntime) -> Result<(), Fail> {
-    let late = Part { first: 100, ..OTHER };
+    let late = Part {
+        first: 100,
+        ..OTHER
+    };
     let [(first, passed), (then, until)] = two(rt.alloc(), late, SILENT)?;
     assert!(rt; are(&first, &[5], 5, GRANTED) && passed == 105);
     assert!(rt; are(&then, &[4], 4, TIMEOUT) && until == 5000);
@@ -175,7 +374,10 @@ fn a_silent_peer_costs_its_neighbour_nothing(rt: HostRuntime) -> Result<(), Fail
 
 #[test]
 fn answers_in_reverse_keep_their_index(rt: HostRuntime) -> Result<(), Fail> {
-    let late = Part { first: 60, ..PROMPT };
+    let late = Part {
+        first: 60,
+        ..PROMPT
+    };
     let soon = Part { first: 50, ..OTHER };
     let [(first, passed), (then, until)] = two(rt.alloc(), soon, late)?;
     assert!(rt; are(&first, &[5], 0, GRANTED) && passed == 55);
@@ -185,7 +387,10 @@ fn answers_in_reverse_keep_their_index(rt: HostRuntime) -> Result<(), Fail> {
 
 #[test]
 fn answers_within_5_ms_come_together_by_index(rt: HostRuntime) -> Result<(), Fail> {
-    let late = Part { first: 54, ..PROMPT };
+    let late = Part {
+        first: 54,
+        ..PROMPT
+    };
     let soon = Part { first: 50, ..OTHER };
     let [(first, passed), (then, until)] = two(rt.alloc(), soon, late)?;
     assert!(rt; are(&first, &[4, 5], 0, GRANTED) && passed == 54);

@@ -21,9 +21,15 @@ fn a_request_has_its_patience_and_then_as_much_again(rt: HostRuntime) -> Result<
         for stage in [Stage::Connecting, Stage::Sending, Stage::Silent] {
             assert!(rt; allowance.deadline(stage) == *first, "{patience}");
         }
-        let early = Stage::Coming { reads: 1, since: 1000 };
+        let early = Stage::Coming {
+            reads: 1,
+            since: 1000,
+        };
         assert!(rt; allowance.deadline(early) == 1250, "{patience}");
-        let late = Stage::Coming { reads: 1, since: *whole };
+        let late = Stage::Coming {
+            reads: 1,
+            since: *whole,
+        };
         assert!(rt; allowance.deadline(late) == *whole, "{patience}");
         assert!(rt; allowance.most_reads() == *reads, "{patience}");
     }
@@ -63,13 +69,24 @@ fn it_waits_until_its_deadline_and_no_longer(rt: HostRuntime) -> Result<(), Fail
 fn a_reply_may_come_in_28_reads(rt: HostRuntime) -> Result<(), Fail> {
     let allowance = Allowance::new(1000, 5000, 5);
     let first = Stage::Silent.came(&allowance, 1200)?;
-    assert!(rt; first == Stage::Coming { reads: 1, since: 1200 });
+    assert!(rt;
+        first
+            == Stage::Coming {
+                reads: 1,
+                since: 1200
+            }
+    );
     let before = Stage::Coming {
         reads: 26,
         since: 1300,
     };
     let last = before.came(&allowance, 1400)?;
-    assert!(rt; last == Stage::Coming { reads: 27, since: 1400 });
+    assert!(rt;
+        last == Stage::Coming {
+            reads: 27,
+            since: 1400
+        }
+    );
     assert!(rt; last.came(&allowance, 1500) == Err(Loss::Timeout));
     Ok(())
 }

@@ -9,7 +9,7 @@ pub returns-in-Some-clause-heard : goal.returns-in-Some-clause-heard
 returns-in-Some-clause-heard g c =
     let room : 0 < length c.get.new.buf = omega arith in
     heard_read c.args.course.now.arriving c.loop.course.arriving c.get.new.buf _ _ _ c.in-Done.n c.in_ok-answer-in-Done.field-0 c.in-Some.answer _ c.loop.invariant.came
-        c.in-Done.ensures.bytes room c.in_ok-answer-in-Done.ensures.told c.in-Some.is
+    c.in-Done.ensures.bytes room c.in_ok-answer-in-Done.ensures.told c.in-Some.is
 
 pub returns-in-Some-clause-settled : goal.returns-in-Some-clause-settled
 returns-in-Some-clause-settled g c =
