@@ -70,4 +70,4 @@ outs_set (o ∷ os) (suc i) d n e = ap (λ l. out_of (λ _. None) o ∷ l) (outs
 -- what is lent whole, and keeps its length, is what comes back
 pub written_back : {X : Type 0} (len : ℕ) (new old : List X) → length new ≡ length old → len ≡ length old → take len (new ++ drop (length new) old) ≡ new
 written_back len new old same whole =
-    ap (λ l. take len (new ++ l)) (drop_all old (length new) (omega arith)) ∙ ap (λ l. take len l) (append-nil new) ∙ take_all len new (omega arith)
+    ap (λ l. take len (new ++ l)) (drop_all (length new) old (omega arith)) ∙ ap (λ l. take len l) (append-nil new) ∙ take_all len new (omega arith)

@@ -54,7 +54,7 @@ pub(crate) const TOKENS: [Token; 4] = [
 ];
 
 /// The token that is asked for under an index.
-pub(crate) fn token(index: u32) -> &'static Token {
+pub(crate) fn token_of(index: u32) -> &'static Token {
     &TOKENS[(index % 4) as usize]
 }
 
@@ -65,7 +65,7 @@ pub(crate) fn table(alloc: Global) -> Result<Table, Fail> {
 
 /// The renewal for an index, with so many milliseconds of patience.
 pub(crate) fn ask(alloc: Global, index: u32, patience: u64, port: u16) -> Result<Ask, Fail> {
-    let token = token(index);
+    let token = token_of(index);
     Ok(Ask {
         index,
         patience,
@@ -113,7 +113,7 @@ pub(crate) fn is(answered: &Answered, index: u32, comes: Comes) -> bool {
     }
     match (&answered.answer, comes) {
         (Ok(dated), Comes::Granted) => {
-            dated.reply.status == 200 && dated.reply.body.list() == token(index).grants
+            dated.reply.status == 200 && dated.reply.body.list() == token_of(index).grants
         }
         (Ok(dated), Comes::Bare(status)) => {
             dated.reply.status == status && dated.reply.body.list().is_empty()

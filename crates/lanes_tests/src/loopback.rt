@@ -1,5 +1,5 @@
 //! Lanes over real sockets, whose peers stand in the same thread.
-use crate::asks::{Comes, are, is, send, token};
+use crate::asks::{Comes, are, is, send, token_of};
 use keep_device::Place;
 use keep_lanes::{Lanes, LanesOver, Loss};
 use std::alloc::Global;
@@ -25,7 +25,7 @@ fn heard<S: Read>(alloc: Global, stream: &mut S) -> Result<Vec<u8>, Fail> {
 
 /// Whether it is the renewal for that index, whole.
 fn is_for(request: &[u8], index: u32) -> bool {
-    let token = token(index);
+    let token = token_of(index);
     request.starts_with(b"POST /v1/auth/token/renew-self HTTP/1.1\r\n")
         && request.windows(2).any(|piece| piece == token.credential)
         && request.ends_with(token.asks)
@@ -34,7 +34,7 @@ fn is_for(request: &[u8], index: u32) -> bool {
 /// Answers the renewal for that index.
 fn grant<S: Write>(stream: &mut S, index: u32) -> Result<(), Fail> {
     stream.write_all(HEAD)?;
-    stream.write_all(token(index).grants)?;
+    stream.write_all(token_of(index).grants)?;
     Ok(())
 }
 

@@ -1,5 +1,5 @@
 //! Lanes in memory.
-use crate::asks::{Comes, TOKENS, are, is, send, table, token};
+use crate::asks::{Comes, TOKENS, are, is, send, table, token_of};
 use keep_lanes::{LaneFault, Lanes, Loss, MemoryLanes};
 use std::alloc::Global;
 use std::process::Abort;
@@ -40,7 +40,7 @@ fn send_all(alloc: Global, lanes: &mut MemoryLanes) -> Result<(), Fail> {
 /// Whether the broker has granted all, or all but the one for that index.
 fn has_granted(lanes: &MemoryLanes, index: u32, is_served: bool) -> bool {
     for other in &INDICES {
-        let token = token(*other);
+        let token = token_of(*other);
         let end = if *other == index && !is_served {
             1060
         } else {
