@@ -1,0 +1,9 @@
+pub mod Lost
+pub mod Arrives
+pub mod Parted
+pub mod Seated
+pub mod TakenOut
+pub mod Moved
+pub mod Dials
+pub mod Sent
+pub mod There

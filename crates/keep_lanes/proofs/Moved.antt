@@ -1,0 +1,73 @@
+-- Each of those that are out goes on for itself: for `go_on` of them all.
+use Rattle.std.proofs.Common.{◌≡◌, ℕ, zero, suc, ◌<◌, ◌+◌, ◌⊎◌, inl, inr, Some, IfSome, List, [], ◌∷◌, ◌++◌, length, take, drop, get_or, set, Option, None, refl, sym, subst, ap, ◌∙◌, arith, append-nil}
+use Rattle.std.proofs.lemmas.Grind.{drop_more_same}
+use Rattle.std.proofs.lemmas.List.{drop-set-lt, drop_all, drop_more, take_all, take_more_set}
+use Rattle.std.proofs.Math.Seq.{take-add}
+use Rattle.std.proofs.KnownBytes.{Appends-nil}
+use Rattle.keep_lanes.specs.Lanes.{IsWritten}
+use Rattle.keep_lanes.specs.Losses.{Answer}
+use Rattle.keep_lanes.specs.Out as outs_of
+use Rattle.keep_lanes.specs.code.Seats.{out_of, outs}
+use Rattle.keep_lanes.specs.code.Ways.{Begins, GoesOn, IsAhead, IsBegun, Move, Moves, StaysOrMoves}
+use Rattle.keep_lanes.specs.declared.allowance.Allowance.{Allowance}
+use Rattle.keep_lanes.specs.declared.coming.Coming.{Coming}
+use Rattle.keep_lanes.specs.declared.lane.Lane.{Lane}
+use Rattle.keep_lanes.specs.declared.seats.Seat.{Seat}
+use Rattle.keep_lanes.specs.declared.way.Way.{Way}
+use Rattle.keep_lanes.specs.declared.way.Way.TheVariants.{Out, Over}
+
+module _ {L : Type 0} (written remaining : L → Option (List ℕ)) (now : ℕ) where
+  pub move_more : (old new : List (Seat (Way L))) (s n : Seat (Way L)) → Move written remaining now old new
+      → (n.index ≡ s.index) × (StaysOrMoves written remaining now s.standing n.standing × IsAhead now n.standing) → Move written remaining now (old ++ s ∷ []) (new ++ n ∷ [])
+  move_more [] new s n h one = subst (λ l. Move written remaining now (s ∷ []) (l ++ n ∷ [])) (sym h) (one, refl)
+  move_more (o ∷ os) [] s n h one = absurd h
+  move_more (o ∷ os) (x ∷ xs) s n h one = (h.0, move_more os xs s n h.1 one)
+
+  -- they are for the same indices
+  pub outs_move : (old new : List (Seat (Way L))) → Move written remaining now old new → outs (λ _. None) new ≡ outs (λ _. None) old
+  outs_move [] new h = ap (outs (λ _. None)) h
+  outs_move (o ∷ os) [] h = absurd h
+  outs_move (o ∷ os) (x ∷ xs) h =
+      let first : out_of {T = Way L} (λ _. None) x ≡ out_of (λ _. None) o = ap (λ (i : ℕ). let it : outs_of.Out = record { index = i; comes = None } in it) h.0.0 in
+      ap (λ (it : outs_of.Out). it ∷ outs (λ _. None) xs) first ∙ ap (λ l. out_of (λ _. None) o ∷ l) (outs_move os xs h.1)
+
+  pub rest_next : (old out : List (Seat (Way L))) (i : ℕ) (n : Seat (Way L)) → drop i out ≡ drop i old → drop (i + 1) (set out i n) ≡ drop (i + 1) old
+  rest_next old out i n rest = drop-set-lt (i + 1) out i n (omega arith) ∙ drop_more_same out old i rest
+
+  pub move_next : (old out : List (Seat (Way L))) (i : ℕ) (d n : Seat (Way L)) (from : Way L) → i < length out → drop i out ≡ drop i old
+      → Move written remaining now (take i old) (take i out) → StaysOrMoves written remaining now from n.standing → from ≡ (get_or out i d).standing → IsAhead now n.standing
+      → n.index ≡ (get_or out i d).index → Move written remaining now (take (i + 1) old) (take (i + 1) (set out i n))
+  move_next old out i d n from within rest h moved is ahead same =
+      let s = get_or out i d in
+      let here : drop i old ≡ s ∷ drop (i + 1) out = sym rest ∙ drop_more out i d within in
+      let front : take (i + 1) old ≡ take i old ++ s ∷ [] = take-add i 1 old ∙ ap (λ l. take i old ++ take 1 l) here in
+      subst (λ l. Move written remaining now l (take (i + 1) (set out i n))) (sym front)
+      (subst (λ l. Move written remaining now (take i old ++ s ∷ []) l) (sym (take_more_set out i n within))
+      (move_more (take i old) (take i out) s n h (same, (subst (λ w. StaysOrMoves written remaining now w n.standing) is moved, ahead))))
+
+  -- one goes on, and is answered
+  pub moves_over : (old : Way L) (lane next : Lane L) (got : Option Answer) (a : Answer) → old ≡ Out lane → got ≡ Some a → GoesOn written remaining now lane next got
+      → StaysOrMoves written remaining now old (Over a)
+  moves_over old lane next got a is answered goes =
+      inr (subst (λ w. Moves written remaining now w (Over a)) (sym is) (next, subst (λ g. GoesOn written remaining now lane next g) answered goes))
+
+  -- one that goes on from its begin has begun
+  pub begun : (text : List ℕ) (allowance : Allowance) (lane : Lane L) (way : Way L) → text ≡ lane.unsent.items → lane.course.allowance ≡ allowance → IfSome (written lane.line) (λ bytes. bytes ≡ [])
+      → StaysOrMoves written remaining now (Out lane) way → Begins written text allowance way
+  begun text allowance lane (Over a) of al fresh h = tt
+  begun text allowance lane (Out next) of al fresh (inl same) =
+      subst (λ w. Begins written text allowance w) (sym same)
+      (al, record { fresh = lane.line; unwritten = fresh; sent = record { front = []; parts = of; appended = Appends-nil (written lane.line) } })
+  begun text allowance lane (Out next) of al fresh (inr goes) =
+      (goes.allowance ∙ al, record { fresh = lane.line; unwritten = fresh; sent = subst (λ l. IsWritten l next.unsent.items (written lane.line) (written next.line)) (sym of) goes.sent })
+
+-- a change of one under its index
+pub outs_set : {L : Type 0} (out : List (Seat (Way L))) (i : ℕ) (d n : Seat (Way L)) → n.index ≡ (get_or out i d).index → outs (λ _. None) (set out i n) ≡ outs (λ _. None) out
+outs_set [] i d n e = refl
+outs_set (o ∷ os) zero d n e = ap (λ (i : ℕ). let it : outs_of.Out = record { index = i; comes = None } in it ∷ outs (λ _. None) os) e
+outs_set (o ∷ os) (suc i) d n e = ap (λ l. out_of (λ _. None) o ∷ l) (outs_set os i d n e)
+
+-- what is lent whole, and keeps its length, is what comes back
+pub written_back : {X : Type 0} (len : ℕ) (new old : List X) → length new ≡ length old → len ≡ length old → take len (new ++ drop (length new) old) ≡ new
+written_back len new old same whole =
+    ap (λ l. take len (new ++ l)) (drop_all (length new) old (omega arith)) ∙ ap (λ l. take len l) (append-nil new) ∙ take_all len new (omega arith)

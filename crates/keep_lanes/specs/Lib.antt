@@ -1,0 +1,9 @@
+pub mod Losses
+pub mod Allowed
+pub mod Stages
+pub mod Tries
+pub mod Lanes
+pub mod Out
+pub mod Serving
+pub mod Heard
+pub mod code

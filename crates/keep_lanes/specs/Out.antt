@@ -1,0 +1,68 @@
+-- The requests that are out, and the answers that are handed back.
+-- Source: this project's own.
+use Rattle.std.specs.Prelude.{◌≡◌, ℕ, ◌+◌, ◌-◌, ◌^◌, ◌≤◌, ◌<◌, ◌⊎◌, All, List, [], ◌∷◌, ◌++◌, Bool, false, not, nat_le, max, min, map, Option, Some, None, IfSome, if◌then◌else◌}
+use Rattle.std.specs.List.{filter}
+use Rattle.keep_lanes.specs.declared.coming.Coming.{Coming}
+use Rattle.keep_lanes.specs.declared.lanes.Answered.{Answered}
+
+-- a request that is out: the index that it is for, and where it is known what comes of it
+pub record Out : Type 0 where
+  pub index : ℕ
+  pub comes : Option Coming
+
+-- the next one has a greater index, if there is one
+abbrev pub IsBelow : ℕ → List Out → Type 0
+IsBelow index [] = Unit {0}
+IsBelow index (o ∷ os) = index < o.index
+
+-- one more is out; it stands before the first with a greater index
+pub record IsPut (o : Out) (old new : List Out) : Type 0 where
+  pub before : List Out
+  pub behind : List Out
+  pub old_is : old ≡ before ++ behind
+  pub new_is : new ≡ before ++ o ∷ behind
+  pub lower : All (λ x. x.index ≤ o.index) before
+  pub higher : IsBelow o.index behind
+
+-- an answer is for a request that was out, and is what comes of it where that is known
+abbrev pub IsOf : Out → Answered → Type 0
+IsOf o a = (a.index ≡ o.index) × IfSome o.comes (λ c. a.answer ≡ c.answer)
+
+-- each that was out is handed back with its answer or is still out, in their order
+abbrev pub IsParted : List Out → List Answered → List Out → Type 0
+IsParted [] answers left = (answers ≡ []) × (left ≡ [])
+IsParted (o ∷ os) answers left =
+    ((a : Answered) × (later : List Answered) × ((answers ≡ a ∷ later) × (IsOf o a × IsParted os later left)))
+    ⊎ ((rest : List Out) × ((left ≡ o ∷ rest) × IsParted os answers rest))
+
+-- ---- where it is known what comes
+
+abbrev pub lesser : ℕ → Option ℕ → Option ℕ
+lesser n None = Some n
+lesser n (Some m) = Some (min n m)
+
+-- the moment at which the first answer is there
+abbrev pub sooner_at : Option Coming → Option ℕ → Option ℕ
+sooner_at None later = later
+sooner_at (Some c) later = lesser c.at later
+
+abbrev pub first_at : List Out → Option ℕ
+first_at [] = None
+first_at (o ∷ os) = sooner_at o.comes (first_at os)
+
+-- the answers that are there up to this moment are handed back: 5 ms after the first, where that comes in time
+abbrev pub up_to : ℕ → ℕ → Option ℕ → ℕ
+up_to now until None = now
+up_to now until (Some first) = if nat_le first (max now until) then min (max now first + 5) (2 ^ 64 - 1) else now
+
+abbrev pub is_there_at : ℕ → Option Coming → Bool
+is_there_at moment None = false
+is_there_at moment (Some c) = nat_le c.at moment
+
+abbrev pub is_there : ℕ → Out → Bool
+is_there moment o = is_there_at moment o.comes
+
+-- those that are there are handed back, and no others
+pub record AreThere (now until : ℕ) (old : List Out) (answers : List Answered) (new : List Out) : Type 0 where
+  pub left : new ≡ filter (λ o. not (is_there (up_to now until (first_at old)) o)) old
+  pub indices : map (λ (a : Answered). a.index) answers ≡ map (λ (o : Out). o.index) (filter (is_there (up_to now until (first_at old))) old)

@@ -1,0 +1,74 @@
+//! What the answers come to, for who keeps a watch.
+ghost use Rattle.std.specs.Prelude.{◌≡◌, IfOk};
+ghost use Rattle.keep_lanes.specs.Heard.{as_exchanged, heard_with, looked_up, renewed_by};
+
+use crate::loss::{Loss, lost_as};
+use keep_exchange::{ExchangeFault, Terms};
+use keep_moment::Moment;
+use keep_tree::Kind;
+use std::alloc::{AllocError, Global};
+use vault_http::DatedReply;
+use vault_json::Renewed;
+
+/// What an answer comes to.
+#[derive(Debug, Drop)]
+pub enum Heard<T> {
+    /// A 200 that says what was asked, and the reply's date.
+    Told(T, Option<Moment>),
+    /// Status 400, 403, 404 or 405, and the reply's date: these alone mean the request itself (Vault, HTTP API, "HTTP status
+    /// codes").
+    Refused(u16, Option<Moment>),
+    /// Status 429: the broker has too much to do.
+    Busy,
+    /// Anything else, and why.
+    Lost(Loss),
+}
+
+/// What an answer to the renewal of an entry of that kind and credential comes to. The only error is out of memory.
+pub fn hear_renewal(
+    alloc: Global,
+    kind: Kind,
+    id: &[u8],
+    answer: Result<DatedReply, Loss>,
+) -> Result<Heard<Renewed>, AllocError>
+    ensures { IfOk result (λ heard. heard ≡ renewed_by kind id.now answer) }
+{
+    let why = lost_as(&answer);
+    let heard = keep_exchange::hear_renewal(alloc, kind, id, &as_exchanged(answer))?;
+    Ok(heard_with(why, heard))
+}
+
+/// What an answer to the lookup of an entry of that kind comes to. The only error is out of memory.
+pub fn hear_lookup(
+    alloc: Global,
+    kind: Kind,
+    answer: Result<DatedReply, Loss>,
+) -> Result<Heard<Terms>, AllocError>
+    ensures { IfOk result (λ heard. heard ≡ looked_up kind answer) }
+{
+    let why = lost_as(&answer);
+    let heard = keep_exchange::hear_lookup(alloc, kind, &as_exchanged(answer))?;
+    Ok(heard_with(why, heard))
+}
+
+/// The answer of an exchange that has no reply for another reason, which is told beside it.
+fn as_exchanged(answer: Result<DatedReply, Loss>) -> Result<DatedReply, ExchangeFault>
+    ensures { result ≡ as_exchanged answer }
+{
+    match answer {
+        Ok(dated) => Ok(dated),
+        Err(_) => Err(ExchangeFault::ConnectFailed),
+    }
+}
+
+/// The same, with why it was lost.
+fn heard_with<T>(why: Loss, heard: keep_exchange::Heard<T>) -> Heard<T>
+    ensures { result ≡ heard_with why heard }
+{
+    match heard {
+        keep_exchange::Heard::Told(told, date) => Heard::Told(told, date),
+        keep_exchange::Heard::Refused(status, date) => Heard::Refused(status, date),
+        keep_exchange::Heard::Busy => Heard::Busy,
+        keep_exchange::Heard::Lost => Heard::Lost(why),
+    }
+}

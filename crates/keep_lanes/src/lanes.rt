@@ -1,0 +1,98 @@
+ghost use Rattle.std.specs.Prelude.{◌≡◌, ℕ, ◌-◌, ◌<◌, ◌≤◌, List, Option, IfOk, IfSome, OnErr, OnOk, length};
+ghost use Rattle.keep_exchange.specs.Abreast.{IsShort};
+ghost use Rattle.keep_lanes.specs.Out.{AreThere, IsParted, Out};
+ghost use Rattle.keep_lanes.specs.Serving.{Behind, IsLeft, IsSent};
+ghost use Rattle.vault_http.specs.RoundTripRequest.{IsWritable};
+
+use crate::loss::Loss;
+use keep_moment::Moment;
+use std::alloc::{AllocError, Global};
+use vault_http::{DatedReply, Request};
+
+/// The most lanes.
+pub const MOST_WIDTH: u32 = 32;
+
+/// A request, and for whom.
+#[derive(Debug, Drop)]
+pub struct Ask {
+    /// The index of the entry that it is for.
+    pub index: u32,
+    /// How long connect, write and first read may take together, in milliseconds; at most the lanes' time-out counts.
+    pub patience: u64,
+    /// What is sent.
+    pub request: Request,
+}
+
+/// What came of a request.
+#[derive(Debug, Drop)]
+pub struct Answered {
+    /// The index that the request was for.
+    pub index: u32,
+    /// The reply with its date, or why there is none.
+    pub answer: Result<DatedReply, Loss>,
+}
+
+/// Lanes to a broker: so many requests may be out at once, each in a lane of its own.
+///
+/// To contracts they are the requests that are out, by rising index. Of lanes in memory contracts know the broker's table too,
+/// and what comes of each request and when; of those over sockets they know nothing of that.
+pub trait Lanes {
+    /// The table, the faults to come and the count of requests, where they are known.
+    ghost behind: { Self → Option Behind };
+
+    /// The requests that are out.
+    ghost out: { Self → List Out };
+
+    /// How many may be out at once.
+    ghost width: { Self → ℕ };
+
+    /// The time-out of a request, in seconds.
+    ghost seconds: { Self → ℕ };
+
+    /// The port that its requests name.
+    ghost host_port: { Self → ℕ } = { λ _. 8200 };
+
+    /// The port that requests to its broker name in `Host`: the broker's own, and 8200 where it has none.
+    fn port(&self) -> u16
+        ensures { result ≡ host_port self.now };
+
+    /// How many lanes are free.
+    fn free(&self) -> u32
+        ensures { result ≡ width self.now - length (out self.now) };
+
+    /// Takes a free lane for a request of at most 1 MiB, which is asked at `now`, in milliseconds of the elapsed clock, and
+    /// begins to send it. It waits for nothing. In memory it is served at `t`.
+    ///
+    /// The only error is out of memory: then no lane was taken, and nothing was sent; in memory it may have been served.
+    fn send(&mut self, alloc: Global, t: Moment, now: u64, ask: &Ask) -> Result<(), AllocError>
+        requires free { length (out self.old) < width self.old }
+        requires writable { IsWritable ask.now.request }
+        requires short { IsShort ask.now.request }
+        ensures sent { OnOk result (IsSent (Self.seconds self.old) t now ask.now (Self.behind self.old) (Self.out self.old) (Self.behind self.new) (Self.out self.new)) }
+        ensures kept { OnErr result (Self.out self.new ≡ Self.out self.old) }
+        ensures left { OnErr result (IfSome (Self.behind self.old) (λ old. IsLeft t ask.now.request old (Self.behind self.new))) }
+        ensures width { Self.width self.new ≡ Self.width self.old }
+        ensures seconds { Self.seconds self.new ≡ Self.seconds self.old }
+        ensures port { Self.host_port self.new ≡ Self.host_port self.old };
+
+    /// Waits for the first answer, from `now` until a moment of the elapsed clock, and hands back those that are there within
+    /// 5 ms of the first, by rising index, each with the index that its request was for. It hands back none where none came by
+    /// then, and waits no longer once nothing is out. What it hands back is out no more.
+    ///
+    /// The only error is out of memory: all are out as before.
+    fn wait(&mut self, alloc: Global, now: u64, until: u64) -> Result<Vec<Answered>, AllocError>
+        ensures parted { IfOk result (λ answers. IsParted (Self.out self.old) answers.items (Self.out self.new)) }
+        ensures there { IfSome (Self.behind self.old) (λ _. IfOk result (λ answers. AreThere now until (Self.out self.old) answers.items (Self.out self.new))) }
+        ensures kept { OnErr result (Self.out self.new ≡ Self.out self.old) }
+        ensures behind { Self.behind self.new ≡ Self.behind self.old }
+        ensures width { Self.width self.new ≡ Self.width self.old }
+        ensures seconds { Self.seconds self.new ≡ Self.seconds self.old }
+        ensures port { Self.host_port self.new ≡ Self.host_port self.old };
+}
+
+/// How many of so many lanes are free.
+pub(crate) fn free_of(width: u32, out: usize) -> u32
+    ensures { result ≡ width - out }
+{
+    width.saturating_sub(u32::try_from(out).unwrap_or(u32::MAX))
+}

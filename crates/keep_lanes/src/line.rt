@@ -1,0 +1,87 @@
+//! Connections whose calls do not wait, and what tells when one can go on.
+ghost use Rattle.std.specs.Prelude.{◌≡◌, ℕ, ◌<◌, ◌≤◌, List, [], ◌∷◌, ◌++◌, length, take, Option, None, Some, Bool, IfSome, false};
+ghost use Rattle.std.specs.Io.KnownBytes.{Appends, Consumes, IsAtEnd, Keeps};
+ghost use Rattle.keep_lanes.specs.Tries.{IfDone, Log, MatchTried};
+
+/// What a try at a connection comes to.
+#[derive(Clone, Copy, Debug, PartialEq, Eq)]
+pub enum Tried {
+    /// So many bytes were taken or handed out.
+    Done(usize),
+    /// None yet: it would have had to wait.
+    Waits,
+    /// The connection failed.
+    Failed,
+}
+
+/// A connection whose calls do not wait.
+///
+/// One in memory tells contracts its bytes, as a device does; of one outside they know nothing.
+pub trait Line {
+    /// The bytes that it has still to hand out, where they are known.
+    ghost remaining: { Self → Option (List ℕ) } = { λ _. None };
+
+    /// The bytes that it was given, where they are known.
+    ghost written: { Self → Option (List ℕ) } = { λ _. None };
+
+    /// Whether nothing tells when it can go on, so that it has to be tried again and again.
+    ghost restless: { Self → Bool } = { λ _. false };
+
+    /// Takes some bytes from the front of `piece`, at least one where there is one.
+    fn give(&mut self, piece: &[u8]) -> Tried
+        ensures bound { IfDone result (λ n. (n ≤ length piece.now) × (0 < length piece.now → 0 < n)) }
+        ensures bytes { MatchTried result (λ n. Appends (Self.written self.old) (Self.written self.new) (take n piece.now))
+            (Keeps (Self.written self.old) (Self.written self.new)) }
+        ensures remaining { Keeps (Self.remaining self.old) (Self.remaining self.new) };
+
+    /// Reads some bytes into the front of `buf`, none only at the end of the input or where `buf` is empty.
+    fn get(&mut self, buf: &mut [u8]) -> Tried
+        ensures bound { IfDone result (λ n. n ≤ length buf.new) }
+        ensures bytes { MatchTried result
+            (λ n. Consumes (Self.remaining self.old) (Self.remaining self.new) (take n buf.new)
+            × (n ≡ 0 → 0 < length buf.new → IsAtEnd (Self.remaining self.new)))
+            (Keeps (Self.remaining self.old) (Self.remaining self.new)) }
+        ensures written { Keeps (Self.written self.old) (Self.written self.new) };
+
+    /// Whether nothing tells when it can go on.
+    fn is_restless(&self) -> bool
+        ensures { result ≡ restless self.now };
+}
+
+/// What makes connections, and tells which of them can go on.
+///
+/// To contracts one in memory is the log of what was asked of it; of the system they know nothing.
+pub trait Wires {
+    /// Its connections.
+    type Line: Line + Drop;
+
+    /// What was asked of it, where it is known.
+    ghost log: { Self → Option Log } = { λ _. None };
+
+    /// The port that requests to its broker name.
+    ghost host_port: { Self → ℕ } = { λ _. 8200 };
+
+    /// The port that requests to its broker name in `Host`: the broker's own, and 8200 where it has none.
+    fn port(&self) -> u16
+        ensures { result ≡ host_port self.now };
+
+    /// Makes a connection for this index, or begins to. One that cannot be made fails at its first call.
+    fn dial(&mut self, index: u32) -> Self::Line
+        ensures unwritten { IfSome (Self.Line.written result) (λ bytes. bytes ≡ []) }
+        ensures log { IfSome (Self.log self.old) (λ log. Self.log self.new ≡ Some (record log { dials = log.dials ++ index ∷ [] })) }
+        ensures port { Self.host_port self.new ≡ Self.host_port self.old };
+
+    /// Time is counted from here.
+    fn begin(&mut self)
+        ensures log { Self.log self.new ≡ Self.log self.old }
+        ensures port { Self.host_port self.new ≡ Self.host_port self.old };
+
+    /// Waits until a connection can go on, so many milliseconds at most, and says how many have passed since it was begun to
+    /// count.
+    fn wait(&mut self, millis: u64) -> u64
+        ensures log { IfSome (Self.log self.old) (λ log. Self.log self.new ≡ Some (record log { waits = log.waits ++ millis ∷ [] })) }
+        ensures port { Self.host_port self.new ≡ Self.host_port self.old };
+
+    /// Whether the last wait has told that the connection for this index can go on.
+    fn is_ready(&self, index: u32) -> bool;
+}

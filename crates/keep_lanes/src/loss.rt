@@ -1,0 +1,51 @@
+ghost use Rattle.std.specs.Prelude.{◌≡◌};
+ghost use Rattle.keep_lanes.specs.Losses.{loss_of, lost_as};
+
+use thiserror::Error;
+use vault_http::{DatedReply, HttpFault};
+
+/// Why a request has no answer. The words are those of the line `lost`.
+#[derive(Clone, Copy, Debug, PartialEq, Eq, Error)]
+pub enum Loss {
+    /// There was no connection: nobody listens, or it failed before a byte of the request was taken.
+    #[error("connect")]
+    Connect,
+    /// It took longer than it may, at whichever stage.
+    #[error("timeout")]
+    Timeout,
+    /// The connection failed, or was closed before the reply was whole.
+    #[error("closed")]
+    Closed,
+    /// What came is no reply that can be read, or says nothing of what was asked.
+    #[error("reply")]
+    Reply,
+    /// The reply has this status, which is no answer.
+    #[error("{0}")]
+    Status(u16),
+}
+
+/// The loss that a fault of the bytes is: an input that ended too soon was closed, and all others cannot be read.
+pub(crate) fn loss_of(fault: HttpFault) -> Loss
+    ensures { result ≡ loss_of fault }
+{
+    match fault {
+        HttpFault::Truncated | HttpFault::ReadFailed => Loss::Closed,
+        HttpFault::BadHead
+        | HttpFault::BadLength
+        | HttpFault::BadChunk
+        | HttpFault::TooLong
+        | HttpFault::TwoLengths
+        | HttpFault::OutOfMemory => Loss::Reply,
+    }
+}
+
+/// Why an answer that counts as none does so: its own loss, or the reply's status, or where that is 200 its body.
+pub(crate) fn lost_as(answer: &Result<DatedReply, Loss>) -> Loss
+    ensures { result ≡ lost_as answer.now }
+{
+    match answer {
+        Err(loss) => *loss,
+        Ok(dated) if dated.reply.status == 200 => Loss::Reply,
+        Ok(dated) => Loss::Status(dated.reply.status),
+    }
+}

@@ -1,0 +1,209 @@
+//! Lanes over connections, whatever these are.
+ghost use Rattle.std.specs.Prelude.{◌≡◌, ◌++◌, ◌∷◌, ◌*◌, ◌-◌, ◌<◌, [], None, Some, Bool, IfOk, IfSome, IsTrue, OnErr, OnOk, false, length, min, max, vec_len};
+ghost use Rattle.std.specs.List.{list_all, list_any};
+ghost use Rattle.keep_device.specs.declared.limits.TheConstants.{MOST_ROOM};
+ghost use Rattle.keep_lanes.specs.Tries.{KeepsDials};
+ghost use Rattle.keep_lanes.specs.code.Seats.{outs};
+ghost use Rattle.keep_lanes.specs.code.Ways.{Begins, Move, is_over, soonest};
+ghost use Rattle.vault_http.specs.RoundTripRequest.{IsWritable};
+ghost use Rattle.vault_http.specs.Written.{request_text};
+
+use crate::allowance::Allowance;
+use crate::lane::Lane;
+use crate::lanes::{Answered, Ask, Lanes, MOST_WIDTH, free_of};
+use crate::line::{Line, Wires};
+use crate::seats::{Seat, put, take_out};
+use crate::way::Way;
+use keep_device::{MOST_ROOM, zeros};
+use keep_moment::Moment;
+use std::alloc::{AllocError, Global};
+use vault_http::text_of_request;
+
+/// How long the answers that come after the first are waited for, in milliseconds.
+pub(crate) const TOGETHER: u64 = 5;
+
+/// Lanes over the connections that `wires` makes.
+#[derive(Drop)]
+pub struct LanesOver<W: Wires> {
+    wires: W,
+    seconds: u32,
+    width: u32,
+    /// By rising index.
+    out: Vec<Seat<Way<W::Line>>>,
+    /// What reads are offered, once it is made.
+    room: Vec<u8>,
+}
+
+impl<W: Wires> LanesOver<W> {
+    /// So many lanes, at most 32 and at least one, with time-outs of so many seconds. Nothing is out. It takes no memory.
+    pub fn new(alloc: Global, wires: W, seconds: u32, width: u32) -> LanesOver<W>
+        ensures none { ⟦<LanesOver<W> as Lanes>⟧.out result ≡ [] }
+        ensures width { ⟦<LanesOver<W> as Lanes>⟧.width result ≡ max 1 (min width 32) }
+        ensures seconds { ⟦<LanesOver<W> as Lanes>⟧.seconds result ≡ seconds }
+        ensures port { ⟦<LanesOver<W> as Lanes>⟧.host_port result ≡ W.host_port wires }
+    {
+        LanesOver {
+            wires,
+            seconds,
+            width: width.clamp(1, MOST_WIDTH),
+            out: Vec::new(alloc),
+            room: Vec::new(alloc),
+        }
+    }
+
+    /// Waits from `now` for the first answers, until that moment.
+    fn listen(&mut self, alloc: Global, now: u64, until: u64) -> Result<(), AllocError>
+        ensures out { outs (λ _. None) self.new.out.items ≡ outs (λ _. None) self.old.out.items }
+        ensures seconds { self.new.seconds ≡ self.old.seconds }
+        ensures width { self.new.width ≡ self.old.width }
+        ensures port { W.host_port self.new.wires ≡ W.host_port self.old.wires }
+        ensures dials { KeepsDials (W.log self.old.wires) (W.log self.new.wires) }
+    {
+        make_room(alloc, &mut self.room)?;
+        self.wires.begin();
+        let mut time = now;
+        let mut by = until;
+        let mut is_first = true;
+        for _ in 0..u64::MAX {
+            if are_over(&self.out) {
+                break;
+            }
+            if is_first && has_answer(&self.out) {
+                is_first = false;
+                by = time.saturating_add(TOGETHER);
+            }
+            let passed = pass(&mut self.wires, &self.out, time, by);
+            time = time.max(now.saturating_add(passed));
+            go_on(alloc, &self.wires, &mut self.out, &mut self.room, time)?;
+            if time >= by {
+                break;
+            }
+        }
+        Ok(())
+    }
+}
+
+/// Makes the room for reads, if it is not made.
+fn make_room(alloc: Global, room: &mut Vec<u8>) -> Result<(), AllocError>
+    ensures { OnOk result (vec_len room.new ≡ MOST_ROOM) }
+{
+    if room.len() != MOST_ROOM {
+        *room = zeros(alloc, MOST_ROOM)?;
+    }
+    Ok(())
+}
+
+/// Makes a connection for a request, and begins to write it there.
+fn begin<W: Wires>(
+    alloc: Global,
+    wires: &mut W,
+    room: &mut [u8],
+    allowance: Allowance,
+    ask: &Ask,
+) -> Result<Seat<Way<W::Line>>, AllocError>
+    requires room { 0 < length room.old }
+    requires writable { IsWritable ask.now.request }
+    ensures index { IfOk result (λ seat. seat.index ≡ ask.now.index) }
+    ensures begins { IfOk result (λ seat. Begins W.Line.written (request_text ask.now.request) allowance seat.standing) }
+    ensures room { length room.new ≡ length room.old }
+    ensures dialled { IfSome (W.log wires.old) (λ log. OnOk result (W.log wires.new ≡ Some (record log { dials = log.dials ++ ask.now.index ∷ [] }))) }
+    ensures port { W.host_port wires.new ≡ W.host_port wires.old }
+{
+    let text = text_of_request(alloc, &ask.request)?;
+    let line = wires.dial(ask.index);
+    let mut standing = Way::Out(Lane::new(alloc, line, text, allowance));
+    standing.go_on(alloc, room, true, allowance.asked)?;
+    Ok(Seat {
+        index: ask.index,
+        standing,
+    })
+}
+
+/// Whether none is on its way.
+fn are_over<L>(out: &[Seat<Way<L>>]) -> bool
+    ensures { result ≡ list_all (λ seat. is_over seat.standing) out.now }
+{
+    out.iter().all(|seat| seat.standing.is_over())
+}
+
+/// Whether an answer has come.
+fn has_answer<L>(out: &[Seat<Way<L>>]) -> bool
+    ensures { result ≡ list_any (λ seat. is_over seat.standing) out.now }
+{
+    out.iter().any(|seat| seat.standing.is_over())
+}
+
+/// The moment by which the first of them has to be looked at again, and no later than that moment.
+fn soonest<L: Line + Drop>(out: &[Seat<Way<L>>], time: u64, moment: u64) -> u64
+    ensures { result ≡ soonest L.restless time moment out.now }
+{
+    let mut first = moment;
+    for seat in out {
+        first = seat.standing.sooner(time, first);
+    }
+    first
+}
+
+/// Waits at `time` until a connection can go on, but no longer than until one of them has to be looked at, and no longer than
+/// until that moment. It gives the milliseconds that have passed since time was begun to count.
+fn pass<W: Wires>(wires: &mut W, out: &[Seat<Way<W::Line>>], time: u64, by: u64) -> u64
+    ensures waited { IfSome (W.log wires.old) (λ log. W.log wires.new ≡ Some (record log { waits = log.waits ++ (soonest W.Line.restless time by out.now - time) ∷ [] })) }
+    ensures port { W.host_port wires.new ≡ W.host_port wires.old }
+{
+    let millis = soonest(out, time, by).saturating_sub(time);
+    wires.wait(millis)
+}
+
+/// Each of them goes on that may, or has come to its deadline.
+fn go_on<W: Wires>(
+    alloc: Global,
+    wires: &W,
+    out: &mut [Seat<Way<W::Line>>],
+    room: &mut [u8],
+    time: u64,
+) -> Result<(), AllocError>
+    requires room { 0 < length room.old }
+    ensures room { length room.new ≡ length room.old }
+    ensures moves { OnOk result (Move W.Line.written W.Line.remaining time out.old out.new) }
+    ensures out { outs (λ _. None) out.new ≡ outs (λ _. None) out.old }
+{
+    for seat in out.iter_mut() {
+        let is_ready = wires.is_ready(seat.index);
+        seat.standing.go_on(alloc, room, is_ready, time)?;
+    }
+    Ok(())
+}
+
+impl<W: Wires> Lanes for LanesOver<W> {
+    ghost behind = { λ _. None };
+
+    ghost out = { λ lanes. outs (λ _. None) lanes.out.items };
+
+    ghost width = { λ lanes. lanes.width };
+
+    ghost seconds = { λ lanes. lanes.seconds };
+
+    ghost host_port = { λ lanes. W.host_port lanes.wires };
+
+    fn port(&self) -> u16 {
+        self.wires.port()
+    }
+
+    fn free(&self) -> u32 {
+        free_of(self.width, self.out.len())
+    }
+
+    fn send(&mut self, alloc: Global, _t: Moment, now: u64, ask: &Ask) -> Result<(), AllocError> {
+        self.out.reserve(1)?;
+        make_room(alloc, &mut self.room)?;
+        let allowance = Allowance::new(now, ask.patience, self.seconds);
+        let seat = begin(alloc, &mut self.wires, &mut self.room, allowance, ask)?;
+        put(&mut self.out, seat);
+        Ok(())
+    }
+
+    fn wait(&mut self, alloc: Global, now: u64, until: u64) -> Result<Vec<Answered>, AllocError> {
+        self.listen(alloc, now, until)?;
+        take_out(alloc, &mut self.out, now)
+    }
+}

@@ -1,0 +1,80 @@
+//! Those that are out, by rising index, and how their answers are taken out.
+ghost use Rattle.std.specs.Prelude.{◌≡◌, ℕ, ◌<◌, ◌≤◌, All, Bool, List, Option, IfOk, IsTrue, OnErr, drop, filter, length, map, not, take, vec_capacity, vec_len};
+ghost use Rattle.keep_lanes.specs.Out.{IsBelow, IsParted, IsPut};
+ghost use Rattle.keep_lanes.specs.declared.coming.Coming.{Coming};
+ghost use Rattle.keep_lanes.specs.code.Seats.{AreTakenOut, Opens, out_of, outs};
+
+use crate::lanes::Answered;
+use crate::loss::Loss;
+use std::alloc::{AllocError, Global};
+use vault_http::DatedReply;
+
+/// A request that is out, for an index, and how it stands.
+#[derive(Debug, Drop)]
+pub(crate) struct Seat<T> {
+    pub(crate) index: u32,
+    pub(crate) standing: T,
+}
+
+/// How a request that is out stands.
+pub(crate) trait Standing: Drop {
+    /// What comes of it, where it is known.
+    ghost comes: { Self → Option Coming };
+
+    /// Whether its answer is there at a moment.
+    ghost there: { ℕ → Self → Bool };
+
+    fn is_there(&self, moment: u64) -> bool
+        ensures { result ≡ there moment self.now };
+
+    /// The answer, where it is there.
+    fn into_answer(self) -> Option<Result<DatedReply, Loss>>
+        ensures { (moment : ℕ) → IsTrue (there moment self) → Opens (comes self) result };
+}
+
+/// The place before the first with a greater index.
+fn place_for<T>(out: &[Seat<T>], index: u32) -> usize
+    ensures within { result ≤ length out.now }
+    ensures lower { All (λ seat. seat.index ≤ index) (take result out.now) }
+    ensures higher { IsBelow index (outs (λ _. None) (drop result out.now)) }
+{
+    let mut place = 0;
+    while place < out.len() && out[place].index <= index {
+        place += 1;
+    }
+    place
+}
+
+/// Puts one more among those that are out, before the first with a greater index.
+pub(crate) fn put<T: Standing>(out: &mut Vec<Seat<T>>, seat: Seat<T>)
+    requires { vec_len out.old < vec_capacity out.old }
+    ensures { IsPut (out_of T.comes seat) (outs T.comes out.old.items) (outs T.comes out.new.items) }
+{
+    let place = place_for(out, seat.index);
+    out.insert(place, seat).unwrap();
+}
+
+/// Takes out those whose answers are there at this moment, and gives these.
+pub(crate) fn take_out<T: Standing>(
+    alloc: Global,
+    out: &mut Vec<Seat<T>>,
+    moment: u64,
+) -> Result<Vec<Answered>, AllocError>
+    ensures parted { IfOk result (λ answers. IsParted (outs T.comes out.old.items) answers.items (outs T.comes out.new.items)) }
+    ensures there { IfOk result (λ answers. AreTakenOut (T.there moment) out.old.items out.new.items answers.items) }
+    ensures kept { OnErr result (out.new ≡ out.old) }
+{
+    let mut answers = Vec::with_capacity(alloc, out.len())?;
+    let mut at = 0;
+    while at < out.len() {
+        if !out[at].standing.is_there(moment) {
+            at += 1;
+            continue;
+        }
+        let Seat { index, standing } = out.remove(at);
+        if let Some(answer) = standing.into_answer() {
+            answers.push_reserved(Answered { index, answer });
+        }
+    }
+    Ok(answers)
+}
