@@ -1,0 +1,156 @@
+-- A text that is read as a record is the text of that record.
+use Rattle.std.proofs.Common.{◌≡◌, ℕ, Bool, true, false, cond, ◌&&◌, List, [], ◌∷◌, Option, Some, None, bytes_eq, codes, refl, sym, ap, ◌∙◌, ◌⊎◌, inl, inr}
+use Rattle.std.proofs.lemmas.Bool.{and_parts, cases_Bool, cond-true, cond-false}
+use Rattle.std.specs.Cmp.Lexicographic.{bytes_decides}
+use Rattle.std.specs.List.{join_with_byte}
+use Rattle.keep_words.specs.Pieces.{four, keyword, pieces, three, two, words}
+use Rattle.keep_words.proofs.Joined.{joined_back}
+use Rattle.keep_tree.specs.Push.{is_name}
+use Rattle.keep_inventory.specs.declared.need.Need.{Need}
+use Rattle.keep_change.specs.declared.change.Record.{Record}
+use Rattle.keep_change.specs.declared.change.Record.TheVariants.{Made, Settling}
+use Rattle.keep_change.specs.declared.change.What.{What}
+use Rattle.keep_change.specs.declared.change.What.TheVariants as what
+use Rattle.keep_change.specs.Laws.{ReadIsWritten}
+use Rattle.keep_change.specs.Records.{IsRecord, IsWhat, change_words, drop_line, is_word, made_of, need_line, record_of, record_text, replace_line, settling_line, with_need}
+use Rattle.keep_change.specs.Words.{need_of, need_word}
+use Rattle.keep_change.proofs.Spelling.{keyword_back, need_only}
+
+some_same : {A : Type 0} (x y : A) → Some x ≡ Some y → x ≡ y
+some_same x y e = cc
+
+two_is : (ws : List (List ℕ)) (w : List ℕ × List ℕ) → two ws ≡ Some w → ws ≡ w.0 ∷ w.1 ∷ []
+two_is [] w e = cc
+two_is (a ∷ []) w e = cc
+two_is (a ∷ b ∷ []) w e = ap (λ p. p.0 ∷ p.1 ∷ []) (some_same {A = List ℕ × List ℕ} (a, b) w e)
+two_is (a ∷ b ∷ c ∷ ws) w e = cc
+
+three_is : (ws : List (List ℕ)) (w : List ℕ × List ℕ × List ℕ) → three ws ≡ Some w → ws ≡ w.0 ∷ w.1 ∷ w.2 ∷ []
+three_is [] w e = cc
+three_is (a ∷ []) w e = cc
+three_is (a ∷ b ∷ []) w e = cc
+three_is (a ∷ b ∷ c ∷ []) w e = ap (λ p. p.0 ∷ p.1 ∷ p.2 ∷ []) (some_same {A = List ℕ × List ℕ × List ℕ} (a, b, c) w e)
+three_is (a ∷ b ∷ c ∷ d ∷ ws) w e = cc
+
+four_is : (ws : List (List ℕ)) (w : List ℕ × List ℕ × List ℕ × List ℕ) → four ws ≡ Some w → ws ≡ w.0 ∷ w.1 ∷ w.2 ∷ w.3 ∷ []
+four_is [] w e = cc
+four_is (a ∷ []) w e = cc
+four_is (a ∷ b ∷ []) w e = cc
+four_is (a ∷ b ∷ c ∷ []) w e = cc
+four_is (a ∷ b ∷ c ∷ d ∷ []) w e = ap (λ p. p.0 ∷ p.1 ∷ p.2 ∷ p.3 ∷ []) (some_same {A = List ℕ × List ℕ × List ℕ × List ℕ} (a, b, c, d) w e)
+four_is (a ∷ b ∷ c ∷ d ∷ x ∷ ws) w e = cc
+
+-- what stands where a test was passed
+passed : {A : Type 0} (b : Bool) (x y : Option A) (z : A) → cond b x None ≡ Some z → (b ≡ true) × (x ≡ Some z)
+passed true x y z e = (refl, e)
+passed false x y z e = cc
+
+-- a text by its words
+spelled : (text : List ℕ) (ws : List (List ℕ)) → pieces 32 text ≡ ws → text ≡ join_with_byte 32 ws
+spelled text ws e = sym (joined_back 32 text) ∙ ap (join_with_byte 32) e
+
+-- the first of them is the keyword
+first_is : (text word w : List ℕ) (ws : List (List ℕ)) → pieces 32 text ≡ w ∷ ws → bytes_eq (keyword text) word ≡ true → w ≡ word
+first_is text word w ws e key = sym (keyword_back text w ws e) ∙ (bytes_decides (keyword text) word).0 key
+
+made_only : (name was : List ℕ) (w : What) (r : Record) → made_of name was w ≡ Some r → (is_name name ≡ true) × (is_word was ≡ true) × (r ≡ Made (record { name = name; was = was; what = w }))
+unfolding made_of
+made_only name was w r e =
+    let p = passed (is_name name && is_word was) _ None r e in
+    let q = and_parts (is_name name) (is_word was) p.0 in
+    (q.0, q.1, sym (some_same _ _ p.1))
+
+abbrev Written : List ℕ → Record → Type 0
+Written text r = IsRecord r × (text ≡ record_text r)
+
+-- a line of these words writes the change
+change_written : (text name was : List ℕ) (w : What) (r : Record) → text ≡ join_with_byte 32 (change_words name was w) → IsWhat w → made_of name was w ≡ Some r → Written text r
+unfolding record_text
+change_written text name was w r e h made =
+    let p = made_only name was w r made in
+    rw p.2 ((p.0, p.1, h), e)
+
+with_need_only : (name was : List ℕ) (o : Option Need) (r : Record) → with_need name was o ≡ Some r → (u : Need) × (o ≡ Some u) × (made_of name was (what.Need u) ≡ Some r)
+with_need_only name was None r e = cc
+with_need_only name was (Some u) r e = (u, refl, e)
+
+-- the words of a line that has so many
+of_four : (text : List ℕ) (o : Option (List ℕ × List ℕ × List ℕ × List ℕ)) (f : List ℕ × List ℕ × List ℕ × List ℕ → Option Record) (r : Record)
+    → four (pieces 32 text) ≡ o → elim o [ None ↦ None | Some w ↦ f w ] ≡ Some r
+    → (w : List ℕ × List ℕ × List ℕ × List ℕ) × (pieces 32 text ≡ w.0 ∷ w.1 ∷ w.2 ∷ w.3 ∷ []) × (f w ≡ Some r)
+of_four text None f r is e = cc
+of_four text (Some w) f r is e = (w, four_is (pieces 32 text) w is, e)
+
+of_three : (text : List ℕ) (o : Option (List ℕ × List ℕ × List ℕ)) (f : List ℕ × List ℕ × List ℕ → Option Record) (r : Record)
+    → three (pieces 32 text) ≡ o → elim o [ None ↦ None | Some w ↦ f w ] ≡ Some r
+    → (w : List ℕ × List ℕ × List ℕ) × (pieces 32 text ≡ w.0 ∷ w.1 ∷ w.2 ∷ []) × (f w ≡ Some r)
+of_three text None f r is e = cc
+of_three text (Some w) f r is e = (w, three_is (pieces 32 text) w is, e)
+
+of_two : (text : List ℕ) (o : Option (List ℕ × List ℕ)) (f : List ℕ × List ℕ → Option Record) (r : Record)
+    → two (pieces 32 text) ≡ o → elim o [ None ↦ None | Some w ↦ f w ] ≡ Some r
+    → (w : List ℕ × List ℕ) × (pieces 32 text ≡ w.0 ∷ w.1 ∷ []) × (f w ≡ Some r)
+of_two text None f r is e = cc
+of_two text (Some w) f r is e = (w, two_is (pieces 32 text) w is, e)
+
+need_found : (text : List ℕ) (r : Record) → bytes_eq (keyword text) (codes "need") ≡ true → need_line text ≡ Some r → Written text r
+unfolding need_line
+need_found text r key e =
+    let p = of_four text (four (pieces 32 text)) (λ w. with_need w.1 w.2 (need_of w.3)) r refl e in
+    let w = p.0 in
+    let q = with_need_only w.1 w.2 (need_of w.3) r p.2 in
+    let u = q.0 in
+    let n = need_only w.3 u q.1 in
+    let is : text ≡ join_with_byte 32 (codes "need" ∷ w.1 ∷ w.2 ∷ need_word u ∷ []) =
+    spelled text _ p.1 ∙ ap (λ k. join_with_byte 32 (k ∷ w.1 ∷ w.2 ∷ w.3 ∷ [])) (first_is text (codes "need") w.0 _ p.1 key) ∙ ap (λ k. join_with_byte 32 (codes "need" ∷ w.1 ∷ w.2 ∷ k ∷ [])) n.0 in
+    change_written text w.1 w.2 (what.Need u) r is n.1 q.2
+
+replace_found : (text : List ℕ) (r : Record) → bytes_eq (keyword text) (codes "replace") ≡ true → replace_line text ≡ Some r → Written text r
+unfolding replace_line
+replace_found text r key e =
+    let p = of_four text (four (pieces 32 text)) (λ w. cond (is_word w.3) (made_of w.1 w.2 (what.Replace w.3)) None) r refl e in
+    let w = p.0 in
+    let q = passed (is_word w.3) _ None r p.2 in
+    let is : text ≡ join_with_byte 32 (codes "replace" ∷ w.1 ∷ w.2 ∷ w.3 ∷ []) =
+    spelled text _ p.1 ∙ ap (λ k. join_with_byte 32 (k ∷ w.1 ∷ w.2 ∷ w.3 ∷ [])) (first_is text (codes "replace") w.0 _ p.1 key) in
+    change_written text w.1 w.2 (what.Replace w.3) r is q.0 q.1
+
+drop_found : (text : List ℕ) (r : Record) → bytes_eq (keyword text) (codes "drop") ≡ true → drop_line text ≡ Some r → Written text r
+unfolding drop_line
+drop_found text r key e =
+    let p = of_three text (three (pieces 32 text)) (λ w. made_of w.1 w.2 what.Drop) r refl e in
+    let w = p.0 in
+    let is : text ≡ join_with_byte 32 (codes "drop" ∷ w.1 ∷ w.2 ∷ []) =
+    spelled text _ p.1 ∙ ap (λ k. join_with_byte 32 (k ∷ w.1 ∷ w.2 ∷ [])) (first_is text (codes "drop") w.0 _ p.1 key) in
+    change_written text w.1 w.2 what.Drop r is tt p.2
+
+settling_found : (text : List ℕ) (r : Record) → bytes_eq (keyword text) (codes "settling") ≡ true → settling_line text ≡ Some r → Written text r
+unfolding settling_line record_text
+settling_found text r key e =
+    let p = of_two text (two (pieces 32 text)) (λ w. cond (is_word w.1) (Some (Settling w.1)) None) r refl e in
+    let w = p.0 in
+    let q = passed (is_word w.1) _ None r p.2 in
+    let is : text ≡ join_with_byte 32 (codes "settling" ∷ w.1 ∷ []) =
+    spelled text _ p.1 ∙ ap (λ k. join_with_byte 32 (k ∷ w.1 ∷ [])) (first_is text (codes "settling") w.0 _ p.1 key) in
+    rw (sym (some_same _ _ q.1)) (q.0, is)
+
+-- a test that is passed, or what comes after it
+branch : {A : Type 0} (b : Bool) (x y : Option A) (z : A) → cond b x y ≡ Some z → ((b ≡ true) × (x ≡ Some z)) ⊎ (y ≡ Some z)
+branch true x y z e = inl (refl, e)
+branch false x y z e = inr e
+
+pub read_is_written : ReadIsWritten
+unfolding record_of
+read_is_written text r e =
+    elim (branch (bytes_eq (keyword text) (codes "need")) _ _ r e) [
+      | inl p ↦ need_found text r p.0 p.1
+      | inr e2 ↦ elim (branch (bytes_eq (keyword text) (codes "replace")) _ _ r e2) [
+        | inl p ↦ replace_found text r p.0 p.1
+        | inr e3 ↦ elim (branch (bytes_eq (keyword text) (codes "drop")) _ _ r e3) [
+          | inl p ↦ drop_found text r p.0 p.1
+          | inr e4 ↦
+              let p = passed (bytes_eq (keyword text) (codes "settling")) _ None r e4 in
+              settling_found text r p.0 p.1
+        ]
+      ]
+    ]

@@ -1,0 +1,33 @@
+-- Laws of changes and their records. Each is the contract of a public function without a body.
+use Rattle.std.specs.Prelude.{◌≡◌, ℕ, false, List, [], ◌∷◌, ◌++◌, Option, Some, bytes_eq}
+use Rattle.keep_words.specs.Laws.{Lacks}
+use Rattle.keep_change.specs.declared.change.Record.{Record}
+use Rattle.keep_change.specs.declared.change.Record.TheVariants.{Settling}
+use Rattle.keep_change.specs.declared.row.Row.{Row}
+use Rattle.keep_change.specs.Compaction.{compacted}
+use Rattle.keep_change.specs.Records.{IsRecord, record_of, record_text}
+use Rattle.keep_change.specs.Replay.{File, begun, replayed}
+
+-- the text of a record is read as that record
+abbrev pub WrittenIsRead : Type 0
+WrittenIsRead = (r : Record) → IsRecord r → record_of (record_text r) ≡ Some r
+
+-- and no other text is
+abbrev pub ReadIsWritten : Type 0
+ReadIsWritten = (text : List ℕ) (r : Record) → record_of text ≡ Some r → IsRecord r × (text ≡ record_text r)
+
+-- no line feed stands in it
+abbrev pub LineLaw : Type 0
+LineLaw = (r : Record) → IsRecord r → Lacks 10 (record_text r)
+
+-- behind the record that a file is to hold every change, that file alone says what there is, without a note
+abbrev pub SettledLaw : Type 0
+SettledLaw = (f : File) (rs : List Record) → replayed f (rs ++ Settling f.mark ∷ []) ≡ begun f
+
+-- and as long as another file is there, all is as it was
+abbrev pub UnsettledLaw : Type 0
+UnsettledLaw = (f : File) (rs : List Record) (mark : List ℕ) → bytes_eq mark f.mark ≡ false → replayed f (rs ++ Settling mark ∷ []) ≡ replayed f rs
+
+-- the records without those that are void give the same inventory, whatever the file says
+abbrev pub CompactedLaw : Type 0
+CompactedLaw = (f : File) (rs : List Record) → (replayed f (compacted rs)).rows ≡ (replayed f rs).rows

@@ -1,0 +1,9 @@
+pub mod Rows
+pub mod Changes
+pub mod Words
+pub mod Said
+pub mod Replay
+pub mod Records
+pub mod Compaction
+pub mod Listed
+pub mod Laws

@@ -1,0 +1,70 @@
+-- Words: how the parts of a record and of a row are written, and which words are read as them.
+-- Source: FIPS 180-4 (SHA-256), for fingerprints; the words are this project's own.
+use Rattle.std.specs.Prelude.{ℕ, Bool, true, false, if◌then◌else◌, List, [], ◌∷◌, ◌++◌, Option, Some, None, bytes_eq, codes, decimal, option_map}
+use Rattle.hex.specs.Hex.{encode_lower}
+use Rattle.sha2.specs.Sha256.{sha256}
+use Rattle.keep_moment.specs.declared.moment.TheConstants.{LAST}
+use Rattle.keep_words.specs.Numbers.{number_up_to}
+use Rattle.keep_tree.specs.declared.entry.Kind.{Kind}
+use Rattle.keep_tree.specs.declared.entry.Kind.TheVariants.{Token, Lease}
+use Rattle.keep_inventory.specs.declared.need.Need.{Need}
+use Rattle.keep_inventory.specs.declared.need.Need.TheVariants.{Until, Always}
+use Rattle.keep_inventory.specs.declared.terms.Terms.{Terms}
+use Rattle.keep_change.specs.declared.row.Row.{Row}
+
+-- a need: its moment in seconds, or `always`
+abbrev pub need_word : Need → List ℕ
+need_word (Until t) = decimal t
+need_word Always = codes "always"
+
+-- the need of a word
+unfoldable pub need_of : List ℕ → Option Need
+need_of word = if bytes_eq word (codes "always") then Some Always else option_map (λ t. Until t) (number_up_to LAST word)
+
+-- what bytes are known by: their SHA-256 in 64 hexadecimal digits
+unfoldable pub fingerprint : List ℕ → List ℕ
+fingerprint bytes = encode_lower (sha256 bytes)
+
+abbrev pub kind_word : Kind → List ℕ
+kind_word Token = codes "token"
+kind_word Lease = codes "lease"
+
+-- a star, which stands in no name and in no number, where there is none
+abbrev pub name_word : Option (List ℕ) → List ℕ
+name_word None = codes "*"
+name_word (Some name) = name
+
+abbrev pub number_word : Option ℕ → List ℕ
+number_word None = codes "*"
+number_word (Some n) = decimal n
+
+abbrev pub told_word : Bool → List ℕ
+told_word true = codes "told"
+told_word false = codes "open"
+
+abbrev pub renewable_word : Bool → List ℕ
+renewable_word true = codes "renewable"
+renewable_word false = codes "fixed"
+
+-- a path is the last of a row, and may have spaces
+abbrev pub file_end : Option (List ℕ) → List ℕ
+file_end None = []
+file_end (Some path) = 32 ∷ path
+
+-- words, each with a space behind it
+abbrev pub spaced : List (List ℕ) → List ℕ
+spaced [] = []
+spaced (w ∷ ws) = w ++ 32 ∷ spaced ws
+
+abbrev pub who_words : Row → List (List ℕ)
+who_words row = kind_word row.kind ∷ row.name ∷ name_word row.parent ∷ []
+
+abbrev pub life_words : Row → List (List ℕ)
+life_words row = told_word row.is_told ∷ decimal row.terms.issued ∷ decimal row.end ∷ renewable_word row.renewable ∷ []
+
+abbrev pub terms_words : Terms → List (List ℕ)
+terms_words t = number_word t.increment ∷ decimal t.period ∷ decimal t.max_ttl ∷ decimal t.explicit_max ∷ []
+
+-- a row as a line
+unfoldable pub row_text : Row → List ℕ
+row_text row = spaced (who_words row) ++ (spaced (life_words row) ++ (spaced (terms_words row.terms) ++ (need_word row.need ++ 32 ∷ (row.credential ++ file_end row.file))))

@@ -1,0 +1,21 @@
+ghost use Rattle.keep_change.specs.Laws.{CompactedLaw, LineLaw, ReadIsWritten, SettledLaw, UnsettledLaw, WrittenIsRead};
+
+/// The laws that join writing and reading: the text of a record that a command may have made is read as that record, no
+/// other text is read as it, and it is one line.
+pub fn records_are_read_back()
+    ensures found { WrittenIsRead }
+    ensures only { ReadIsWritten }
+    ensures line { LineLaw }
+{}
+
+/// The laws of settling. Once a file with the fingerprint of the last record is in its place, a replay gives what that
+/// file says, and no note; as long as another file is there, the record changes nothing.
+pub fn settling_changes_nothing()
+    ensures settled { SettledLaw }
+    ensures unsettled { UnsettledLaw }
+{}
+
+/// The law that a journal without its void records gives the same inventory as the whole of it, whatever the file says.
+pub fn compaction_changes_nothing()
+    ensures { CompactedLaw }
+{}

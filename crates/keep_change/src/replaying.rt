@@ -1,0 +1,215 @@
+ghost use Rattle.std.specs.Prelude.{◌≡◌, ◌++◌, ◌∷◌, [], IfOk, OnOk};
+ghost use Rattle.keep_inventory.specs.Needs.{has_always};
+ghost use Rattle.keep_change.specs.Replay.{holds, holds_of, is_as_then, is_until, made, overruled, replayed, same_need, step};
+
+use crate::change::{Change, Record, What};
+use crate::fault::ChangeFault;
+use crate::row::Row;
+use crate::rows::Rows;
+use crate::saying::said;
+use keep_inventory::Need;
+use std::alloc::{AllocError, Global};
+use std::marker::Model;
+
+/// Why a change of a journal was not made.
+#[derive(Clone, Copy, Debug, PartialEq, Eq)]
+pub enum Why {
+    /// The file says something else of the word than it did when the change was made.
+    FileWins,
+    /// The change cannot be made.
+    Refused(ChangeFault),
+}
+
+/// A change of a journal that was not made.
+#[derive(Clone, Copy, Debug, PartialEq, Eq)]
+pub struct Note {
+    /// The place of its record, counted from 0.
+    pub at: usize,
+    pub why: Why,
+}
+
+/// The inventory that a file and the records of a journal give together, with a note on each change that was not made.
+#[derive(Debug, Drop)]
+pub struct Replayed {
+    rows: Rows,
+    notes: Vec<Note>,
+}
+
+impl Model for Replayed {
+    ghost use Rattle.keep_change.specs.Replay.{State};
+
+    ghost Value = { State };
+
+    ghost view = { λ r. record { rows = r.rows; notes = r.notes.items } };
+}
+
+impl Replayed {
+    /// The rows of the inventory.
+    pub fn rows(&self) -> &Rows
+        ensures { result.now ≡ self.now.rows }
+    {
+        &self.rows
+    }
+
+    /// The notes, in the order of the records. A change that was not made has none where the inventory is as the change
+    /// would make it, or where its entry was dropped.
+    pub fn notes(&self) -> &[Note]
+        ensures { result.now ≡ self.now.notes }
+    {
+        &self.notes
+    }
+
+    /// Gives the rows, without taking memory.
+    pub fn into_rows(self) -> Rows
+        ensures { result ≡ self.rows }
+    {
+        self.rows
+    }
+
+    // Makes the change at a place of the list, or notes why it cannot be made.
+    #[tactic(auto, unfolding(crate::specs::Replay::made))]
+    fn make(&mut self, at: usize, change: &Change) -> Result<(), AllocError>
+        ensures { OnOk result (self.new ≡ made at self.old change.now) }
+    {
+        match self.rows.change(change.name.list(), change.what.copy()?) {
+            Ok(()) => Ok(()),
+            Err(ChangeFault::NoEntry) => Ok(()),
+            Err(fault) => self.note(at, Why::Refused(fault)),
+        }
+    }
+
+    // Notes that the file wins, unless all is as the change would make it.
+    #[tactic(auto, unfolding(crate::specs::Replay::overruled))]
+    fn overrule(&mut self, at: usize, change: &Change) -> Result<(), AllocError>
+        ensures { OnOk result (self.new ≡ overruled at self.old change.now) }
+    {
+        if holds(&self.rows, change) {
+            return Ok(());
+        }
+        self.note(at, Why::FileWins)
+    }
+
+    fn note(&mut self, at: usize, why: Why) -> Result<(), AllocError>
+        ensures { OnOk result (self.new ≡ record self.old { notes = self.old.notes ++ record { at = at; why = why } ∷ [] }) }
+    {
+        self.notes.push(Note { at, why })?;
+        Ok(())
+    }
+}
+
+/// The inventory that a file gives with the records of a journal, in order: `file` is what the file says, and `mark` the
+/// fingerprint of its bytes. A change is made where the file says of its word what it said when the change was made;
+/// where it says something else, the file wins. Behind a record that this file is to hold all changes before it, the file
+/// alone counts.
+///
+/// The only error is want of memory.
+#[tactic(auto, unfolding(crate::specs::Replay::replayed))]
+pub fn replay(
+    alloc: Global,
+    file: &Rows,
+    mark: &[u8],
+    records: &[Record],
+) -> Result<Replayed, AllocError>
+    ensures { IfOk result (λ r. r ≡ replayed (record { rows = file.now; mark = mark.now }) records.now) }
+{
+    let mut state = begin(alloc, file)?;
+    for (at, record) in records.iter().enumerate() {
+        take(alloc, file, mark, at, record, &mut state)?;
+    }
+    Ok(state)
+}
+
+// The file alone.
+fn begin(alloc: Global, file: &Rows) -> Result<Replayed, AllocError>
+    ensures { IfOk result (λ r. r ≡ record { rows = file.now; notes = [] }) }
+{
+    Ok(Replayed {
+        rows: file.copy(alloc)?,
+        notes: Vec::new(alloc),
+    })
+}
+
+// Takes the record at a place of the list.
+fn take(
+    alloc: Global,
+    file: &Rows,
+    mark: &[u8],
+    at: usize,
+    record: &Record,
+    state: &mut Replayed,
+) -> Result<(), AllocError>
+    ensures { OnOk result (state.new ≡ step (record { rows = file.now; mark = mark.now }) at state.old «record».now) }
+{
+    match record {
+        Record::Settling(settled) => {
+            if settled.list() == mark {
+                *state = begin(alloc, file)?;
+            }
+            Ok(())
+        }
+        Record::Made(change) => {
+            if is_as_then(alloc, file, change)? {
+                state.make(at, change)
+            } else {
+                state.overrule(at, change)
+            }
+        }
+    }
+}
+
+// Whether the file says of the word what it said when the change was made.
+#[tactic(auto, unfolding(crate::specs::Replay::is_as_then))]
+fn is_as_then(alloc: Global, file: &Rows, change: &Change) -> Result<bool, AllocError>
+    ensures { IfOk result (λ same. same ≡ is_as_then file.now change.now) }
+{
+    let word = said(alloc, file, change.name.list(), &change.what)?;
+    Ok(word.list() == change.was.list())
+}
+
+// Whether all is as the change would make it.
+#[tactic(auto, unfolding(crate::specs::Replay::holds))]
+fn holds(rows: &Rows, change: &Change) -> bool
+    ensures { result ≡ holds rows.now change.now }
+{
+    match rows.named(change.name.list()) {
+        None => true,
+        Some(row) => holds_of(row, &change.what),
+    }
+}
+
+fn holds_of(row: &Row, what: &What) -> bool
+    ensures { result ≡ holds_of row.now what.now }
+{
+    match what {
+        What::Need(until) => same_need(&row.need, until),
+        What::Replace(credential) => row.credential.list() == credential.list(),
+        What::Drop => false,
+    }
+}
+
+fn same_need(need: &Need, other: &Need) -> bool
+    ensures { result ≡ same_need need.now other.now }
+{
+    match need {
+        Need::Until(moment) => is_until(moment.get(), other),
+        Need::Always => is_always(other),
+    }
+}
+
+fn is_until(seconds: u64, need: &Need) -> bool
+    ensures { result ≡ is_until seconds need.now }
+{
+    match need {
+        Need::Until(moment) => moment.get() == seconds,
+        Need::Always => false,
+    }
+}
+
+fn is_always(need: &Need) -> bool
+    ensures { result ≡ has_always need.now }
+{
+    match need {
+        Need::Until(_) => false,
+        Need::Always => true,
+    }
+}
