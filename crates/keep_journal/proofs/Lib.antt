@@ -1,0 +1,4 @@
+mod Readings
+mod Steps
+mod Writing
+mod Runs

@@ -1,0 +1,3 @@
+pub mod Records
+pub mod Journals
+pub mod Laws

@@ -1,0 +1,251 @@
+ghost use Rattle.std.specs.Prelude.{◌≡◌, ◌∷◌, [], ◌++◌, ◌≤◌, ◌<◌, ◌+◌, length, IsTrue, IfOk, OnOk, OnErr, List, ℕ, ◌^◌, Some};
+ghost use Rattle.keep_disk.specs.Image.{File};
+ghost use Rattle.keep_disk.specs.State.{IsKept, Touches, LeavesOnly, Tells};
+ghost use Rattle.keep_journal.specs.Records.{IsLine, AreLines, StandsFor, IsBeforeOrAfter};
+ghost use Rattle.keep_journal.specs.Journals.{IsAtRest, IsWhole, Holds, Leaves, Untidy, KeepsOthers, bytes_of, path_of, lines_of};
+
+use crate::records::{CLOSED, OPEN, read_records, tail_of, text_of};
+use keep_disk::{Disk, DiskFault, FILE_MODE, cut_synced, replace, write_synced};
+use keep_moment::Text;
+use std::alloc::Global;
+
+/// The most bytes that a journal's file has: 128 MiB.
+pub const MOST_BYTES: usize = 1 << 27;
+
+/// A journal of records, each a line of text, in a file that holds over a crash at any moment.
+///
+/// A record is written after a closed gate, a byte, and synced; and then the gate is opened by a write of its own, which
+/// is synced too. So no crash leaves a part of a record that counts, and no sum over it has to be trusted. It has no `Debug`: a
+/// record may hold a secret.
+#[derive(Drop)]
+pub struct Journal<'a> {
+    pub(crate) alloc: Global,
+    pub(crate) path: &'a str,
+    pub(crate) lines: Vec<Text>,
+    // Where its closed gate stands.
+    pub(crate) size: usize,
+    // No call has failed since its file was written.
+    pub(crate) is_whole: bool,
+}
+
+impl<'a> Journal<'a> {
+    /// Reads the journal at `path`, and makes one where there is none. What stands after its records is taken away: a record
+    /// of which a crash left a part, which was never acknowledged. It may crash too, at any moment.
+    ///
+    /// `TooLong`: the file has more than 128 MiB.
+    pub fn open<D: Disk>(
+        alloc: Global,
+        disk: &mut D,
+        path: &'a str,
+    ) -> Result<Journal<'a>, DiskFault>
+        // After a restart, what is read is what is on the disk.
+        requires { IsTrue D.is_known → IsKept path.now (D.state disk.old) }
+        ensures read { IfOk result (λ journal. IsTrue D.is_known
+            → StandsFor (bytes_of ((D.state disk.old).seen path.now)) (lines_of journal)) }
+        ensures path { IfOk result (λ journal. path_of journal ≡ path.now) }
+        ensures whole { IfOk result (λ journal. IsTrue D.is_known → IsWhole journal (D.state disk.new)) }
+        ensures held { IfOk result (λ journal. Holds D.is_known journal (D.state disk.new)) }
+
+        // A crash at any moment leaves the same records.
+        ensures any_moment { IsTrue D.is_known → (lines : List (List ℕ)) → StandsFor (bytes_of ((D.state disk.old).seen path.now)) lines
+            → LeavesOnly (D.state disk.old) (D.state disk.new) (Leaves path.now (λ file. StandsFor file lines) (D.state disk.old)) }
+        ensures others { IsTrue D.is_known → KeepsOthers path.now (D.state disk.old) (D.state disk.new) }
+        ensures cause { Tells (D.state disk.old) (D.state disk.new) result }
+    {
+        let Some(text) = disk.read(alloc, path, MOST_BYTES)? else {
+            return Journal::begin(alloc, disk, path);
+        };
+        Journal::recover(alloc, disk, path, text.list())
+    }
+
+    /// The journal with no record, at a path at which there is no file.
+    fn begin<D: Disk>(alloc: Global, disk: &mut D, path: &'a str) -> Result<Journal<'a>, DiskFault>
+        ensures empty { IfOk result (λ journal. lines_of journal ≡ []) }
+        ensures path { IfOk result (λ journal. path_of journal ≡ path.now) }
+        ensures whole { IfOk result (λ journal. IsTrue D.is_known → IsWhole journal (D.state disk.new)) }
+        ensures held { IfOk result (λ journal. Holds D.is_known journal (D.state disk.new)) }
+        ensures any_moment { IsTrue D.is_known → LeavesOnly (D.state disk.old) (D.state disk.new)
+            (Leaves path.now (λ file. StandsFor file []) (D.state disk.old)) }
+        ensures others { IsTrue D.is_known → KeepsOthers path.now (D.state disk.old) (D.state disk.new) }
+        ensures cause { Tells (D.state disk.old) (D.state disk.new) result }
+    {
+        let mut journal = Journal {
+            alloc,
+            path,
+            lines: Vec::new(alloc),
+            size: 0,
+            is_whole: false,
+        };
+        journal.refresh(disk)?;
+        Ok(journal)
+    }
+
+    /// The journal whose file has these bytes.
+    fn recover<D: Disk>(
+        alloc: Global,
+        disk: &mut D,
+        path: &'a str,
+        bytes: &[u8],
+    ) -> Result<Journal<'a>, DiskFault>
+        requires kept { IsTrue D.is_known → IsKept path.now (D.state disk.old) }
+        requires seen { IsTrue D.is_known → (file : File) × ((D.state disk.old).seen path.now ≡ Some file) × (bytes.now ≡ file.bytes) }
+        ensures read { IfOk result (λ journal. StandsFor bytes.now (lines_of journal)) }
+        ensures path { IfOk result (λ journal. path_of journal ≡ path.now) }
+        ensures whole { IfOk result (λ journal. IsTrue D.is_known → IsWhole journal (D.state disk.new)) }
+        ensures held { IfOk result (λ journal. Holds D.is_known journal (D.state disk.new)) }
+        ensures any_moment { IsTrue D.is_known → (lines : List (List ℕ)) → StandsFor bytes.now lines
+            → LeavesOnly (D.state disk.old) (D.state disk.new) (Leaves path.now (λ file. StandsFor file lines) (D.state disk.old)) }
+        ensures others { IsTrue D.is_known → KeepsOthers path.now (D.state disk.old) (D.state disk.new) }
+        ensures cause { Tells (D.state disk.old) (D.state disk.new) result }
+    {
+        let found = read_records(alloc, bytes)?;
+        let journal = Journal {
+            alloc,
+            path,
+            lines: found.lines,
+            size: found.size,
+            is_whole: true,
+        };
+        if found.is_at_rest {
+            return Ok(journal);
+        }
+        journal.mend(disk)?;
+        Ok(journal)
+    }
+
+    /// The records, in their order.
+    pub fn records(&self) -> &[Text]
+        ensures { result.now ≡ lines_of self.now }
+    {
+        &self.lines
+    }
+
+    /// Adds a record. At `Ok` it is acknowledged: from then on each crash leaves a file that has it. After a call that failed,
+    /// the file is written anew first, since nobody knows what the disk keeps of the old one.
+    ///
+    /// `TooLong`: the file would have more than 128 MiB.
+    pub fn put<D: Disk>(&mut self, disk: &mut D, line: Text) -> Result<(), DiskFault>
+        requires line { IsLine line }
+        requires held { Holds D.is_known self.old (D.state disk.old) }
+        ensures acknowledged { OnOk result ((lines_of self.new ≡ lines_of self.old ++ line ∷ [])
+            × (IsTrue D.is_known → IsWhole self.new (D.state disk.new))) }
+        ensures refused { OnErr result (lines_of self.new ≡ lines_of self.old) }
+        ensures path { path_of self.new ≡ path_of self.old }
+        ensures held { Holds D.is_known self.new (D.state disk.new) }
+
+        // A crash at any moment leaves the records, with the new one or without; or the file as it might have been left before.
+        ensures any_moment { IsTrue D.is_known → LeavesOnly (D.state disk.old) (D.state disk.new)
+            (Leaves (path_of self.old) (IsBeforeOrAfter (lines_of self.old) line) (D.state disk.old)) }
+        ensures others { IsTrue D.is_known → KeepsOthers (path_of self.old) (D.state disk.old) (D.state disk.new) }
+        ensures cause { Tells (D.state disk.old) (D.state disk.new) result }
+    {
+        self.lines.reserve(1)?;
+        self.write(disk, &line)?;
+        // There is room for it.
+        self.lines.push(line)?;
+        self.is_whole = true;
+        Ok(())
+    }
+
+    /// Makes sure of the file, and writes a record. That the file is at rest is left for the caller to say, who adds the record to
+    /// those that are held.
+    fn write<D: Disk>(&mut self, disk: &mut D, line: &Text) -> Result<(), DiskFault>
+        requires line { IsLine line.now }
+        requires held { Holds D.is_known self.old (D.state disk.old) }
+        ensures written { OnOk result (IsTrue D.is_known
+            → IsAtRest (path_of self.old) (lines_of self.old ++ line.now ∷ []) self.new.size (D.state disk.new)) }
+        ensures lines { lines_of self.new ≡ lines_of self.old }
+        ensures path { path_of self.new ≡ path_of self.old }
+        ensures held { Holds D.is_known self.new (D.state disk.new) }
+        ensures any_moment { IsTrue D.is_known → LeavesOnly (D.state disk.old) (D.state disk.new)
+            (Leaves (path_of self.old) (IsBeforeOrAfter (lines_of self.old) line.now) (D.state disk.old)) }
+        ensures others { IsTrue D.is_known → KeepsOthers (path_of self.old) (D.state disk.old) (D.state disk.new) }
+        ensures cause { Tells (D.state disk.old) (D.state disk.new) result }
+    {
+        self.refresh(disk)?;
+        let len = line.list().len();
+        if self.size.saturating_add(len).saturating_add(3) > MOST_BYTES {
+            return Err(DiskFault::TooLong);
+        }
+        let tail = tail_of(self.alloc, line.list())?;
+        self.is_whole = false;
+        self.append(disk, line, &tail)?;
+        self.size += len + 2;
+        Ok(())
+    }
+
+    /// Writes a record after the closed gate, and opens the gate.
+    fn append<D: Disk>(&self, disk: &mut D, line: &Text, tail: &[u8]) -> Result<(), DiskFault>
+        requires line { IsLine line.now }
+        requires tail { tail.now ≡ line.now ++ 10 ∷ 45 ∷ [] }
+        requires room { self.now.size < 2 ^ 60 }
+        requires whole { IsTrue D.is_known → IsWhole self.now (D.state disk.old) }
+        ensures acknowledged { OnOk result (IsTrue D.is_known → IsAtRest (path_of self.now) (lines_of self.now ++ line.now ∷ [])
+            (self.now.size + (length line.now + 2)) (D.state disk.new)) }
+        ensures any_moment { IsTrue D.is_known → LeavesOnly (D.state disk.old) (D.state disk.new)
+            (Leaves (path_of self.now) (IsBeforeOrAfter (lines_of self.now) line.now) (D.state disk.old)) }
+        ensures touches { IsTrue D.is_known → Touches (path_of self.now) (D.state disk.old) (D.state disk.new) }
+        ensures cause { Tells (D.state disk.old) (D.state disk.new) result }
+    {
+        write_synced(disk, self.path, self.size + 1, tail)?;
+        write_synced(disk, self.path, self.size, &[OPEN])
+    }
+
+    /// Takes away what stands after the records, and closes the gate there.
+    fn mend<D: Disk>(&self, disk: &mut D) -> Result<(), DiskFault>
+        requires untidy { IsTrue D.is_known → Untidy self.now (D.state disk.old) }
+        ensures whole { OnOk result (IsTrue D.is_known → IsWhole self.now (D.state disk.new)) }
+        ensures any_moment { IsTrue D.is_known → LeavesOnly (D.state disk.old) (D.state disk.new)
+            (Leaves (path_of self.now) (λ file. StandsFor file (lines_of self.now)) (D.state disk.old)) }
+        ensures touches { IsTrue D.is_known → Touches (path_of self.now) (D.state disk.old) (D.state disk.new) }
+        ensures cause { Tells (D.state disk.old) (D.state disk.new) result }
+    {
+        // The cut has to be on the disk first: after a gate that is torn open, what was there would count.
+        cut_synced(disk, self.path, self.size)?;
+        write_synced(disk, self.path, self.size, &[CLOSED])
+    }
+
+    /// Writes the file anew with the records, unless no call has failed since it was written.
+    pub(crate) fn refresh<D: Disk>(&mut self, disk: &mut D) -> Result<(), DiskFault>
+        requires held { Holds D.is_known self.old (D.state disk.old) }
+        ensures whole { OnOk result (IsTrue D.is_known → IsWhole self.new (D.state disk.new)) }
+        ensures lines { lines_of self.new ≡ lines_of self.old }
+        ensures path { path_of self.new ≡ path_of self.old }
+        ensures held { Holds D.is_known self.new (D.state disk.new) }
+        ensures any_moment { IsTrue D.is_known → LeavesOnly (D.state disk.old) (D.state disk.new)
+            (Leaves (path_of self.old) (λ file. StandsFor file (lines_of self.old)) (D.state disk.old)) }
+        ensures others { IsTrue D.is_known → KeepsOthers (path_of self.old) (D.state disk.old) (D.state disk.new) }
+        ensures cause { Tells (D.state disk.old) (D.state disk.new) result }
+    {
+        if self.is_whole {
+            return Ok(());
+        }
+        self.size = write_anew(self.alloc, disk, self.path, &self.lines)?;
+        self.is_whole = true;
+        Ok(())
+    }
+}
+
+/// Makes these records, at rest, the file at `path`, and says where its closed gate stands.
+///
+/// `TooLong`: the file would have more than 128 MiB.
+pub(crate) fn write_anew<D: Disk>(
+    alloc: Global,
+    disk: &mut D,
+    path: &str,
+    lines: &[Text],
+) -> Result<usize, DiskFault>
+    requires lines { AreLines lines.now }
+    ensures written { IfOk result (λ size. IsTrue D.is_known → IsAtRest path.now lines.now size (D.state disk.new)) }
+    ensures any_moment { IsTrue D.is_known → LeavesOnly (D.state disk.old) (D.state disk.new)
+        (Leaves path.now (λ file. StandsFor file lines.now) (D.state disk.old)) }
+    ensures others { IsTrue D.is_known → KeepsOthers path.now (D.state disk.old) (D.state disk.new) }
+    ensures cause { Tells (D.state disk.old) (D.state disk.new) result }
+{
+    let text = text_of(alloc, lines)?;
+    if text.len() > MOST_BYTES {
+        return Err(DiskFault::TooLong);
+    }
+    replace(disk, path, FILE_MODE, &text)?;
+    Ok(text.len() - 1)
+}
