@@ -15,8 +15,9 @@ pub const MOST_BYTES: usize = 1 << 27;
 /// A journal of records, each a line of text, in a file that holds over a crash at any moment.
 ///
 /// A record is written after a closed gate, a byte, and synced; and then the gate is opened by a write of its own, which
-/// is synced too. So no crash leaves a part of a record that counts, and no sum over it has to be trusted.
-#[derive(Debug, Drop)]
+/// is synced too. So no crash leaves a part of a record that counts, and no sum over it has to be trusted. It has no `Debug`: a
+/// record may hold a secret.
+#[derive(Drop)]
 pub struct Journal<'a> {
     pub(crate) alloc: Global,
     pub(crate) path: &'a str,

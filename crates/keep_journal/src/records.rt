@@ -70,7 +70,7 @@ fn first_line(bytes: &[u8]) -> Option<(&[u8], &[u8])>
 }
 
 /// What was read of a journal's file.
-#[derive(Debug, Drop)]
+#[derive(Drop)]
 pub(crate) struct Found {
     /// The records.
     pub(crate) lines: Vec<Text>,
