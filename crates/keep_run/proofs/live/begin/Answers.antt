@@ -39,7 +39,7 @@ returns-in_err-keeper-clause-early g c =
     for_err c.from_residual-in_err-keeper.result c.in_err-keeper.field-0.0 _ c.from_residual-in_err-keeper.ensures
     (planning_ends (g.E.Exchange.host_port c.args.exchange.now) c.args.start c.args.always.now (record { inventory = c.args.inventory; behind = g.E.Exchange.behind c.args.exchange.now }) c.look_all_up.new.inventory (g.E.Exchange.behind c.look_all_up.new.exchange)
     (g.W.Device.seen c.args.out.now) (g.W.Device.seen c.look_all_up.new.out) (g.W.Device.seen c.look_all_up.new.out) g.W.Device.is_in_memory c.in_ok-look_all_up.ensures.looked
-    c.into_parts-forest.result.0 c.in_err-keeper.field-0.0 (c.into_parts-forest.ensures.forest ∙ ap (λ (v : Inventory). v.forest) c.in_ok-need_always.ensures) (stopped_as c.into_parts-forest.result.0 c.args.start c.new-made.result c.in_err-keeper.field-0.0 c.new-made.ensures.refused c.in_err-keeper.ensures.keeper c.in_err-keeper.ensures.stop))
+    c.into_parts-forest.result.0 c.in_err-keeper.field-0.0 (c.into_parts-forest.ensures.forest ∙ ap (λ (v : Inventory). v.forest) c.in_ok-need_always.ensures.needed) (stopped_as c.into_parts-forest.result.0 c.args.start c.new-made.result c.in_err-keeper.field-0.0 c.new-made.ensures.refused c.in_err-keeper.ensures.keeper c.in_err-keeper.ensures.stop))
 
 pub need_always-requires : goal.need_always-requires
 need_always-requires g c =
@@ -70,7 +70,7 @@ returns-in_err-send-clause-early g c =
     for_err c.from_residual-in_err-send.result c.in_err-send.field-0.0 _ c.from_residual-in_err-send.ensures
     (sending_ends (g.E.Exchange.host_port c.args.exchange.now) c.args.start c.args.always.now (record { inventory = c.args.inventory; behind = g.E.Exchange.behind c.args.exchange.now }) c.look_all_up.new.inventory (g.E.Exchange.behind c.look_all_up.new.exchange)
     (g.W.Device.seen c.args.out.now) (g.W.Device.seen c.look_all_up.new.out) (g.W.Device.seen c.send.new.out) g.W.Device.is_in_memory c.in_ok-look_all_up.ensures.looked
-    c.into_parts-forest.result.0 k c.deref.result.now c.in_err-send.field-0.0 (c.into_parts-forest.ensures.forest ∙ ap (λ (v : Inventory). v.forest) c.in_ok-need_always.ensures) (planned_as c.into_parts-forest.result.0 c.args.start c.new-made.result c.in_ok-keeper.keeper c.new-made.ensures.opened c.in_ok-keeper.ensures.keeper c.in_ok-keeper.ensures.stop) lines c.in_err-send.ensures.sent)
+    c.into_parts-forest.result.0 k c.deref.result.now c.in_err-send.field-0.0 (c.into_parts-forest.ensures.forest ∙ ap (λ (v : Inventory). v.forest) c.in_ok-need_always.ensures.needed) (planned_as c.into_parts-forest.result.0 c.args.start c.new-made.result c.in_ok-keeper.keeper c.new-made.ensures.opened c.in_ok-keeper.ensures.keeper c.in_ok-keeper.ensures.stop) lines c.in_err-send.ensures.sent)
 
 pub returns-clause-opened : goal.returns-clause-opened
 returns-clause-opened g c =
@@ -85,7 +85,7 @@ returns-clause-opened g c =
     subst (λ (agent : Agent). IsOpened (g.E.Exchange.host_port c.args.exchange.now) c.args.start c.args.always.now before agent.credentials agent.keeper (g.E.Exchange.behind c.look_all_up.new.exchange) out) (sym c.new.ensures)
     (opens (g.E.Exchange.host_port c.args.exchange.now) c.args.start c.args.always.now (record { inventory = c.args.inventory; behind = g.E.Exchange.behind c.args.exchange.now }) c.look_all_up.new.inventory (g.E.Exchange.behind c.look_all_up.new.exchange)
     (g.W.Device.seen c.args.out.now) (g.W.Device.seen c.look_all_up.new.out) (g.W.Device.seen c.send.new.out) g.W.Device.is_in_memory c.in_ok-look_all_up.ensures.looked
-    c.into_parts-forest.result.0 c.into_parts-forest.result.1 k c.take_shortened-short.new.self c.deref.result.now (c.into_parts-forest.ensures.forest ∙ ap (λ (v : Inventory). v.forest) c.in_ok-need_always.ensures) (c.into_parts-forest.ensures.credentials ∙ ap (λ (v : Inventory). v.credentials) c.in_ok-need_always.ensures ∙ kept_credentials c.look_all_up.new.inventory c.args.always.now c.args.start) (planned_as c.into_parts-forest.result.0 c.args.start c.new-made.result c.in_ok-keeper.keeper c.new-made.ensures.opened c.in_ok-keeper.ensures.keeper c.in_ok-keeper.ensures.stop)
+    c.into_parts-forest.result.0 c.into_parts-forest.result.1 k c.take_shortened-short.new.self c.deref.result.now (c.into_parts-forest.ensures.forest ∙ ap (λ (v : Inventory). v.forest) c.in_ok-need_always.ensures.needed) (c.into_parts-forest.ensures.credentials ∙ ap (λ (v : Inventory). v.credentials) c.in_ok-need_always.ensures.needed ∙ kept_credentials c.look_all_up.new.inventory c.args.always.now c.args.start) (planned_as c.into_parts-forest.result.0 c.args.start c.new-made.result c.in_ok-keeper.keeper c.new-made.ensures.opened c.in_ok-keeper.ensures.keeper c.in_ok-keeper.ensures.stop)
     c.take_shortened-short.ensures.after lines c.in_ok-send.ensures.sent c.in_ok-send.ensures.count)
 
 pub opened-requires : goal.opened-requires
