@@ -3,6 +3,7 @@ replies are written by hand."""
 
 from __future__ import annotations
 
+import os
 import re
 import socket
 import struct
@@ -14,7 +15,9 @@ from pathlib import Path
 from types import TracebackType
 
 TOP = Path(__file__).resolve().parent.parent
-SECONDS = 60
+SLOWER = int(os.environ.get("SLOWER", "1"))
+"""By how much longer than usual everything may take, as tools/yardstick measures it."""
+SECONDS = 60 * SLOWER
 """The longest that one run may take."""
 
 WEB = b'[[token]]\nname = "web"\nissued = 1000\nend = 1060\nincrement = 60\nmax_ttl = 9000\nneed = 1200\n'
@@ -146,7 +149,7 @@ class Agent:
 # ---- a broker by hand
 
 Behave = Callable[[int, socket.socket, bytes], None]
-"""What a broker does with its connection of that number, from 1, behind the request that it has read."""
+"""What a broker does with its connection of that number, from 1, after the request that it has read."""
 
 
 class Peer:

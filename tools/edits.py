@@ -26,7 +26,7 @@ class BadEdit(Exception):
 
 @dataclass(frozen=True)
 class Change:
-    """One text in the place of another in a file, by its path in the crate."""
+    """One text instead of another in a file, by its path in the crate."""
 
     file: str
     old: str
@@ -111,7 +111,7 @@ def edits_of(crate: Path, more: bool = False) -> list[Path]:
 
 def function_at(text: str, place: int) -> str | None:
     """The function in whose text that place of a formatted file stands: `name`, `Type::name`, or of an impl of a trait
-    `TypeTrait::name`, with the trait's parameter behind; None where it stands in none."""
+    `TypeTrait::name`, with the trait's parameter after it; None where it stands in none."""
     found = None
     for header in HEADER.finditer(text, 0, text.find("\n", place)):
         end = text.find(f"\n{header[1]}}}\n", header.end())

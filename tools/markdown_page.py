@@ -57,7 +57,7 @@ def _cells(row: str) -> list[str]:
 
 
 def _row(header: list[str], cells: list[str]) -> Iterator[str]:
-    """A row as an item: its first cell, then the second, and each further one behind its heading."""
+    """A row as an item: its first cell, then the second, and each further one after its heading."""
     yield from [".TP", _set(cells[0]) or "\\&"]
     words = [cells[1], *(f"{head}: {cell}" for head, cell in zip(header[2:], cells[2:], strict=False) if cell)]
     yield _set(". ".join(word for word in words if word)) or "\\&"

@@ -13,13 +13,16 @@ MANY = 500
 """From so many entries on, only those that need a look are drawn, unless all are asked for."""
 LOOKS = 40
 """So many of these."""
+YEAR = 365 * 86_400
+"""For so long from the start an entry is needed whose need is `always`, where no ceiling is known."""
 
 
 @dataclass(frozen=True)
 class Lane:
     """One entry: what it stands under, how deep it is set in, until when it lived, and what happened to it.
 
-    `needed`: its need as the inventory has it, as far as the lines reach.
+    `end` is the beginning where `is_told` says that neither the inventory nor a line tells an end. `need`: the moment until which it
+    is needed, of one that is needed always too; `needed`: that moment, as far as the lines reach.
     """
 
     entry: Entry
@@ -27,13 +30,20 @@ class Lane:
     depth: int
     begin: int
     end: int
+    is_told: bool
+    need: int
     needed: int
     marks: tuple[Mark, ...]
 
     @property
+    def shortfall(self) -> int:
+        """For how long the entry was needed when it had ended."""
+        return max(self.needed - self.end, 0) if self.is_told else 0
+
+    @property
     def falls_short(self) -> bool:
         """Whether the entry was needed when it had ended."""
-        return self.end < self.needed
+        return self.shortfall > 0
 
     def count(self, sign: Sign) -> int:
         """How often that happened."""
@@ -98,7 +108,7 @@ class Chart:
         those that end first."""
         def rank(lane: Lane) -> tuple[int, int, int]:
             wrong = sum(lane.count(sign) for sign in (Sign.REFUSED, Sign.LOST, Sign.SHORT))
-            return min(lane.end - lane.needed, 0), -wrong, lane.end
+            return -lane.shortfall, -wrong, lane.end
         lanes = tuple(replace(lane, depth=0) for lane in sorted(self.lanes, key=rank)[:LOOKS])
         fates = Counter(self.fate(lane) for lane in self.lanes)
         counts = [f"{fates[fate]:,} {words}" for fate, words in (("no", "not kept"), ("so far", "kept so far"), ("yes", "kept")) if fates[fate]]
@@ -111,7 +121,7 @@ class Chart:
         """Whether the lane's need is kept, in a word or two."""
         if lane.falls_short:
             return "no"
-        return "yes" if lane.entry.need <= lane.end else "so far"
+        return "yes" if lane.need <= (lane.end if lane.is_told else 0) else "so far"
 
 
 def _counted(count: int, one: str, more: str) -> str:
@@ -119,26 +129,30 @@ def _counted(count: int, one: str, more: str) -> str:
 
 
 def start_of(inventory: Inventory) -> int:
-    """Where no start is given: the latest issue that comes before every end, which a start mostly is near to."""
-    first_end = min((entry.end for entry in inventory.entries), default=0)
-    return max((entry.issued for entry in inventory.entries if entry.issued <= first_end), default=first_end)
+    """Where no start is given: the latest issue that comes before every end, which a start mostly is near to; 0 where the inventory
+    has no moment."""
+    first_end = min((entry.end for entry in inventory.entries if entry.end is not None), default=0)
+    return max((entry.issued for entry in inventory.entries if entry.issued is not None and entry.issued <= first_end), default=first_end)
 
 
 def chart_of(inventory: Inventory, history: History, start: int) -> Chart:
     """The chart of an inventory and what happened from the start on; of a run that goes on, as far as it went."""
     ends = _ends(inventory, history)
-    latest = [start + 1, history.now, *history.wakes, *ends]
+    needs = [_need(entry, start) for entry in inventory.entries]
+    latest = [start + 1, history.now, *history.wakes, *(end for end in ends if end is not None)]
     if history.is_over:
-        latest += [entry.need for entry in inventory.entries]
+        latest += [need for need, entry in zip(needs, inventory.entries) if entry.need is not None or entry.reach is not None]
     stop = max(latest)
     reached = stop if history.is_over else history.now
     marks: list[list[Mark]] = [[] for _ in inventory.entries]
     for mark in history.marks:
         marks[mark.entry].append(mark)
     lanes = tuple(
-        Lane(entry, _name_over(inventory, entry), depth, max(start, entry.issued), ends[index], min(entry.need, reached), tuple(marks[index]))
+        Lane(entry, _name_over(inventory, entry), depth, begin, begin if end is None else end, end is not None, needs[index],
+             min(needs[index], reached), tuple(marks[index]))
         for index, depth in _in_tree_order(inventory.entries)
-        for entry in (inventory.entries[index],)
+        for entry, end in ((inventory.entries[index], ends[index]),)
+        for begin in (max(start, entry.issued or 0),)
     )
     is_dated = inventory.is_dated or history.begun is not None
     short = sum(1 for lane in lanes if lane.falls_short)
@@ -149,13 +163,21 @@ def _name_over(inventory: Inventory, entry: Entry) -> str | None:
     return None if entry.parent is None else inventory.entries[entry.parent].name
 
 
-def _ends(inventory: Inventory, history: History) -> list[int]:
-    """Until when each entry lived: no longer than its last told end, nor than the entry over it."""
-    own = [history.ends.get(index, entry.end) for index, entry in enumerate(inventory.entries)]
+def _need(entry: Entry, start: int) -> int:
+    """The moment until which the entry is needed: of one that is needed always, as far as any renewal leads it, or for a year."""
+    if entry.need is not None:
+        return entry.need
+    return start + YEAR if entry.reach is None else entry.reach
+
+
+def _ends(inventory: Inventory, history: History) -> list[int | None]:
+    """Until when each entry lived: no longer than its last told end, nor than the entry over it; None where none of that is told."""
+    ends: list[int | None] = []
     for index, entry in enumerate(inventory.entries):
-        if entry.parent is not None:
-            own[index] = min(own[index], own[entry.parent])
-    return own
+        above = None if entry.parent is None else ends[entry.parent]
+        own = history.ends.get(index, entry.end)
+        ends.append(own if own is None or above is None else min(own, above))
+    return ends
 
 
 def _in_tree_order(entries: tuple[Entry, ...]) -> list[tuple[int, int]]:

@@ -73,11 +73,17 @@ def _moment(word: str) -> int:
 
 
 def _chart(asked: argparse.Namespace) -> Chart:
-    inventory = entries.read(Path(asked.inventory).read_text(encoding="utf-8-sig"))
+    inventory = entries.read(Path(asked.inventory).read_text(encoding="utf-8-sig"), asked.inventory)
     near = start_of(inventory) if asked.start is None else asked.start
     told = history.read(_lines(asked.lines), {entry.name: index for index, entry in enumerate(inventory.entries)}, near)
-    start = near if asked.start is not None or told.begun is None else told.begun
-    return chart_of(inventory, told, start).arranged(asked.only_unkept, asked.all)
+    return chart_of(inventory, told, _start(asked.start, told, near)).arranged(asked.only_unkept, asked.all)
+
+
+def _start(asked: int | None, told: history.History, near: int) -> int:
+    """The start that was asked for; else the first moment of a log, what is near to it by the inventory, or the first wake-up."""
+    if asked is not None:
+        return asked
+    return told.begun or near or min(told.wakes, default=0)
 
 
 def _lines(name: str) -> Iterator[str]:

@@ -1,42 +1,42 @@
-"""The entries of an inventory, as far as a drawing shows them.
-
-`leasekeep` judges inventories, and its faults are the ones to go by; what is read here is one that it takes.
-"""
+"""The entries of an inventory, as far as a drawing shows them. What a lookup tells may be left out of it, and a need may be `always`."""
 
 from __future__ import annotations
 
 import tomllib
 from dataclasses import dataclass
-from datetime import datetime
-from enum import Enum
 from typing import Any
 
-SYSTEM_MAX = 2_764_800
-"""The greatest life of an entry in seconds, where the inventory says nothing else."""
+from leasekeep_inventory.dialect import STRICT, Dialect
+from leasekeep_inventory.durations import NEED
+from leasekeep_inventory.inventory import ALWAYS, Kind
+from leasekeep_inventory.inventory import Entry as Written
+from leasekeep_inventory.inventory import Inventory as WrittenInventory
+from leasekeep_inventory.inventory_file import read_inventory
+from leasekeep_inventory.toml_1_0 import older
 
-
-class Kind(Enum):
-    """What an entry is."""
-
-    TOKEN = "token"
-    LEASE = "lease"
+__all__ = ["Entry", "Inventory", "InventoryFault", "Kind", "read"]
+_DRAWN = Dialect(NEED, STRICT.absent_margin, False)
+"""As people have it; and a margin that is not written is that of the planning commands, whose lines are drawn."""
 
 
 class InventoryFault(Exception):
-    """The text is no inventory that can be drawn; `leasekeep ends FILE 0` names its fault."""
+    """The text is no inventory: the first fault, with its line."""
 
 
 @dataclass(frozen=True)
 class Entry:
-    """A token or a lease. Moments are seconds since 1970-01-01T00:00:00Z."""
+    """A token or a lease. Moments are seconds since 1970-01-01T00:00:00Z; `issued` and `end` are None where a lookup is to tell them.
+    A need that is `always` has no moment (None), and `reach` is the moment past which no renewal leads it; None where that is not
+    known, or where there is none."""
 
     name: str
     kind: Kind
     parent: int | None
-    issued: int
-    end: int
-    need: int
+    issued: int | None
+    end: int | None
+    need: int | None
     ceiling: int | None
+    reach: int | None = None
 
 
 @dataclass(frozen=True)
@@ -47,56 +47,47 @@ class Inventory:
     is_dated: bool
 
 
-def read(text: str) -> Inventory:
-    """The entries of an inventory's text. Raises InventoryFault."""
-    try:
-        document = tomllib.loads(text)
-        return _Reader(document).inventory()
-    except (tomllib.TOMLDecodeError, KeyError, TypeError, ValueError, AttributeError) as fault:
-        raise InventoryFault("that is no inventory; `leasekeep ends FILE 0` names its fault, `leasekeepd lint FILE` all of them") from fault
+def read(text: str, path: str = "FILE") -> Inventory:
+    """The entries of an inventory's text, which stands in that file. Raises InventoryFault."""
+    reading = read_inventory(text.encode(), _DRAWN)
+    if reading.inventory is None:
+        first = min(reading.faults, key=lambda fault: fault.line)
+        raise InventoryFault(f"{first.text(path)} (`leasekeepd lint {path}` shows every fault)")
+    written = reading.inventory
+    places = {entry.name: place for place, entry in enumerate(written.entries)}
+    return Inventory(tuple(_entry(written, entry, places) for entry in written.entries), _is_dated(tomllib.loads(older(text).text)))
 
 
-class _Reader:
-    """Reads the tables in their order; a parent stands before its children."""
-
-    def __init__(self, document: dict[str, object]) -> None:
-        self._document = document
-        self._indices: dict[str, int] = {}
-        self._entries: list[Entry] = []
-        self._is_dated = False
-
-    def inventory(self) -> Inventory:
-        system_max = int(self._document.get("system_max", SYSTEM_MAX))  # type: ignore[call-overload]
-        for kind, parent_key in ((Kind.TOKEN, "parent"), (Kind.LEASE, "token")):
-            for table in self._document.get(kind.value, []):  # type: ignore[attr-defined]
-                self._add(kind, table, table.get(parent_key), system_max)
-        return Inventory(tuple(self._entries), self._is_dated)
-
-    def _add(self, kind: Kind, table: dict[str, object], parent: object, system_max: int) -> None:
-        issued = self._moment(table["issued"])
-        entry = Entry(
-            name=str(table["name"]),
-            kind=kind,
-            parent=None if parent is None else self._indices[str(parent)],
-            issued=issued,
-            end=self._moment(table["end"]),
-            need=self._moment(table.get("need", 0)),
-            ceiling=_ceiling(kind, table, issued, system_max),
-        )
-        self._indices[entry.name] = len(self._entries)
-        self._entries.append(entry)
-
-    def _moment(self, value: Any) -> int:
-        if isinstance(value, str):
-            self._is_dated = True
-            return int(datetime.fromisoformat(value.upper()).timestamp() // 1)
-        return int(value)
+def _entry(inventory: WrittenInventory, entry: Written, places: dict[str, int]) -> Entry:
+    is_told, is_always = not entry.lacks_terms, entry.need == ALWAYS
+    return Entry(
+        name=entry.name,
+        kind=entry.kind,
+        parent=None if entry.parent is None else places[entry.parent],
+        issued=entry.issued if is_told else None,
+        end=entry.end if is_told else None,
+        need=None if is_always else entry.need,
+        ceiling=_ceiling(inventory, entry),
+        reach=_reach(inventory, entry) if is_always else None,
+    )
 
 
-def _ceiling(kind: Kind, table: dict[str, Any], issued: int, system_max: int) -> int | None:
-    """The moment that no renewal goes past: the maximum TTL counted from the issue; of a periodic token its explicit one."""
-    explicit = int(table.get("explicit_max_ttl", 0))
-    if kind is Kind.TOKEN and table.get("period", 0):
-        return issued + explicit if explicit else None
-    longest = int(table.get("max_ttl", 0)) or system_max
-    return issued + (min(longest, explicit) if explicit else longest)
+def _ceiling(inventory: WrittenInventory, entry: Written) -> int | None:
+    """The moment that no renewal goes past; None where there is none, or where it is not known when the entry was issued."""
+    return None if entry.lacks_terms else inventory.ceiling(entry, entry.issued, entry.period, entry.explicit_max_ttl)
+
+
+def _reach(inventory: WrittenInventory, entry: Written) -> int | None:
+    """The least moment past which no renewal leads the entry or one that it stands under, as far as these are known."""
+    limits = []
+    for over in inventory.over(entry.name):
+        limit = _ceiling(inventory, over) if over.renewable else over.end
+        if limit is not None and not over.lacks_terms:
+            limits.append(max(limit, over.end))
+    return min(limits, default=None)
+
+
+def _is_dated(document: dict[str, Any]) -> bool:
+    """Whether a moment is written as a date."""
+    tables = [table for kind in Kind for table in document.get(kind.value, [])]
+    return any(isinstance(table.get(key), str) and table[key] != "always" for table in tables for key in ("issued", "end", "need"))

@@ -2,7 +2,8 @@
 
 One line an event: `entry NAME END`, `wake T NAME..`, `told NAME SECS`, `refused NAME STATUS`, `lost NAME`,
 `short NAME NEED`; `next`, `sleep`, `idle`, `planned`, `fault` and `done` change no life. A line of leasekeepd's log has its
-moment in front: what is told there is told of `renew NAME..` before it, and what else the log says is passed over.
+moment in front, and its moments are dates: what is told there is told of `renew NAME..` before it, and what else the log says
+is passed over.
 """
 
 from __future__ import annotations
@@ -12,6 +13,8 @@ from collections.abc import Iterable, Mapping
 from dataclasses import dataclass, field
 from datetime import datetime
 from enum import Enum
+
+from leasekeep_inventory.rfc3339 import read_rfc3339
 
 
 class Sign(Enum):
@@ -54,7 +57,7 @@ class LineFault(Exception):
     """A line that none of them prints."""
 
     def __init__(self, number: int) -> None:
-        super().__init__(f"line {number} is none that rehearse, run or leasekeepd prints of this inventory")
+        super().__init__(f"line {number} is not one that rehearse, run or leasekeepd prints for this inventory")
         self.number = number
 
 
@@ -85,16 +88,16 @@ def read(lines: Iterable[str], indices: Mapping[str, int], start: int) -> Histor
 
 
 def _take(history: History, words: list[str], indices: Mapping[str, int], round_at: int, is_logged: bool) -> int:
-    """Takes one line. `round_at` is the moment of the round of which answers speak; gives that of the lines behind it."""
+    """Takes one line. `round_at` is the moment of the round of which answers speak; gives that of the lines after it."""
     match words:
         case ["wake", moment, *names]:
-            round_at = int(moment)
+            round_at = _moment(moment)
             history.now = max(history.now, round_at)
             history.wakes.append(round_at)
             asked = len([indices[name] for name in names])
             history.requests += 0 if is_logged else asked
         case ["entry", name, end]:
-            history.ends[indices[name]] = int(end)
+            history.ends[indices[name]] = _moment(end)
         case ["told", name, seconds]:
             _renew(history, round_at, indices[name], int(seconds))
         case ["renew", *names]:
@@ -105,12 +108,18 @@ def _take(history: History, words: list[str], indices: Mapping[str, int], round_
         case ["lost", name]:
             history.marks.append(Mark(round_at, indices[name], Sign.LOST))
         case ["short", name, need]:
-            history.marks.append(Mark(history.now, indices[name], Sign.SHORT, int(need)))
+            history.marks.append(Mark(history.now, indices[name], Sign.SHORT, _moment(need)))
         case [word, *_] if word in _QUIET:
             pass
         case _:
             raise ValueError
     return round_at
+
+
+def _moment(word: str) -> int:
+    """The moment of a word: seconds, or a date as logs have it."""
+    date = read_rfc3339(word)
+    return int(word) if date is None else date
 
 
 def _renew(history: History, moment: int, entry: int, seconds: int) -> None:

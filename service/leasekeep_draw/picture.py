@@ -7,7 +7,7 @@ lost answer, a triangle is a need that was shortened. Marks that would fall on t
 
 from __future__ import annotations
 
-from collections.abc import Callable, Iterator
+from collections.abc import Iterator
 from html import escape
 
 from leasekeep_draw import colours, table
@@ -172,13 +172,14 @@ def _lane(lane: Lane, layout: _Layout, row: int, is_dated: bool) -> Iterator[str
         f"{escape(shown)}</text>"
     )
     begin, end = layout.x(lane.begin), layout.x(lane.end)
-    yield _life(entry.kind, begin, middle, max(end - begin, 0.5), bar)
+    if lane.is_told:
+        yield _life(entry.kind, begin, middle, max(end - begin, 0.5), bar)
     if lane.falls_short:
         yield f'<path class="over" d="M{end:.1f} {middle:.1f}H{layout.x(lane.needed):.1f}"/>'
     if entry.ceiling is not None and entry.ceiling <= layout.axis.stop:
         yield f'<path class="ceiling" d="M{layout.x(entry.ceiling):.1f} {top + 2:.1f}v{layout.lane - 4}"/>'
-    if layout.axis.start < entry.need <= layout.axis.stop:
-        yield _flag(layout.x(entry.need), top + layout.lane - 2, layout.lane - 3)
+    if layout.axis.start < lane.need <= layout.axis.stop:
+        yield _flag(layout.x(lane.need), top + layout.lane - 2, layout.lane - 3)
     yield from _marks(lane, layout, middle)
     yield "</g>"
 
@@ -235,9 +236,10 @@ def _sign(kind: Kind, sign: Sign, x: float, middle: float, lane: float) -> str:
 def _words(lane: Lane, is_dated: bool) -> str:
     """What the lane shows, in words."""
     entry = lane.entry
-    need = f", needed until {moment_text(entry.need, is_dated)}" if entry.need else ""
+    need = ", needed always" if entry.need is None else f", needed until {moment_text(entry.need, is_dated)}" if entry.need else ""
+    life = f"lives until {moment_text(lane.end, is_dated)}" if lane.is_told else "no end is told"
     return (
-        f"{entry.name}: lives until {moment_text(lane.end, is_dated)}{need}; "
+        f"{entry.name}: {life}{need}; "
         + ", ".join(f"{lane.count(sign)} × {sign.value}" for sign in Sign if lane.count(sign))
     ).rstrip("; ")
 

@@ -1,4 +1,4 @@
-"""The chart as rows of text: what a picture shows, for who reads instead of looking."""
+"""The chart as rows of text: what a picture shows, for readers who cannot see it."""
 
 from __future__ import annotations
 
@@ -22,8 +22,8 @@ def _row(lane: Lane, chart: Chart) -> tuple[str, ...]:
     return (
         entry.name,
         lane.parent or "-",
-        moment_text(lane.end, is_dated),
-        moment_text(entry.need, is_dated) if entry.need else "-",
+        moment_text(lane.end, is_dated) if lane.is_told else "-",
+        "always" if entry.need is None else moment_text(entry.need, is_dated) if entry.need else "-",
         "-" if entry.ceiling is None else moment_text(entry.ceiling, is_dated),
         *(str(lane.count(sign)) for sign in (Sign.RENEWED, Sign.REFUSED, Sign.LOST, Sign.SHORT)),
         chart.fate(lane),

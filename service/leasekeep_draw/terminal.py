@@ -97,14 +97,15 @@ class _Sheet:
         """Later things stand over earlier ones: wake-ups, life, ceiling, renewals, need, and what went wrong."""
         cells, signs, entry = self._ground.copy(), self._signs, lane.entry
         begin, end = self._place(lane.begin), self._place(lane.end)
-        _fill(cells, begin, max(end, begin + 1), signs.token if entry.kind is Kind.TOKEN else signs.lease)
+        if lane.is_told:
+            _fill(cells, begin, max(end, begin + 1), signs.token if entry.kind is Kind.TOKEN else signs.lease)
         if lane.falls_short:
             _fill(cells, end, self._place(lane.needed), signs.missing)
         if entry.ceiling is not None and entry.ceiling <= self._chart.stop:
             cells[self._place(entry.ceiling)] = signs.ceiling
         self._mark(cells, [mark for mark in lane.marks if mark.sign is Sign.RENEWED])
-        if self._chart.start < entry.need <= self._chart.stop:
-            cells[self._place(entry.need)] = signs.need
+        if self._chart.start < lane.need <= self._chart.stop:
+            cells[self._place(lane.need)] = signs.need
         self._mark(cells, [mark for mark in lane.marks if mark.sign is not Sign.RENEWED])
         name = _name(lane)
         shown = name if len(name) <= self._left else name[: self._left - 1] + "~"

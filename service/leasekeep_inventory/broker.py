@@ -4,13 +4,14 @@ from __future__ import annotations
 
 import asyncio
 import json
+import math
 from dataclasses import dataclass
 from enum import Enum
 from typing import Any, Callable
 
 from .http_client import Request, Response, Transport, TransportFault
 from .inventory import DURATION_MAX, Entry, Inventory, Kind
-from .rfc3339 import LAST, read_rfc3339
+from .rfc3339 import LAST, read_rfc3339, with_fraction
 
 
 class Verdict(Enum):
@@ -23,7 +24,8 @@ class Verdict(Enum):
 
 @dataclass(frozen=True)
 class Facts:
-    """What a lookup tells of an entry."""
+    """What a lookup tells of an entry. `granted`: for how many seconds it was issued, or renewed last; None where that is not
+    told, but only since when (`since`)."""
 
     ttl: int
     issued: int
@@ -31,7 +33,15 @@ class Facts:
     orphan: bool
     renewable: bool
     period: int
+    since: float
+    granted: int | None = None
     never_ends: bool = False
+
+    def whole_ttl(self, now: float, most: int) -> int:
+        """The TTL that it began with, `now` being the moment of the answer. Where it is not told, the time from then to its end, at
+        most `most`. (The TTL that is told is rounded down.)"""
+        since = math.ceil(now + self.ttl - self.since)
+        return min(max(since, self.ttl), most) if self.granted is None else self.granted
 
 
 @dataclass(frozen=True)
@@ -128,13 +138,14 @@ def read_token_lookup(body: bytes, _secret: str) -> Facts | None:
         created = data.get("creation_time")
         if type(created) is not int or not 0 <= created <= LAST:
             return None
-        ttl = _duration(data, "ttl")
+        ttl, creation = _duration(data, "ttl"), _duration(data, "creation_ttl", 0)
         # A token about to end has ttl 0 too, but tells when it expires; one that never ends was made with ttl 0.
-        never = ttl == 0 and data.get("expire_time") is None and _duration(data, "creation_ttl", 0) == 0 \
-            and "expire_time" in data
+        never = ttl == 0 and data.get("expire_time") is None and creation == 0 and "expire_time" in data
+        renewed = data.get("last_renewal_time")
         return Facts(
             ttl, created, _duration(data, "explicit_max_ttl", 0), _flag(data, "orphan"), _flag(data, "renewable"),
-            _duration(data, "period", 0), never)
+            _duration(data, "period", 0), max(created, renewed) if type(renewed) is int and renewed <= LAST else created,
+            creation or None, never)
     except _Unreadable:
         return None
 
@@ -148,6 +159,15 @@ def read_lease_lookup(body: bytes, lease_id: str) -> Facts | None:
         issued = read_rfc3339(issue) if isinstance(issue, str) else None
         if data.get("id") != lease_id or issued is None:
             return None
-        return Facts(_duration(data, "ttl"), issued, 0, False, _flag(data, "renewable"), 0)
+        began, expires = (_precise(data.get(key)) for key in ("last_renewal", "expire_time"))
+        since = _precise(issue) if began is None else began
+        granted = None if expires is None or since is None else round(expires - since)
+        return Facts(_duration(data, "ttl"), issued, 0, False, _flag(data, "renewable"), 0, since or issued,
+                     granted if granted is not None and 0 < granted <= DURATION_MAX else None)
     except _Unreadable:
         return None
+
+
+def _precise(value: Any) -> float | None:
+    """The moment of a date with its fraction; None where it is none."""
+    return with_fraction(value) if isinstance(value, str) else None

@@ -1,143 +1,164 @@
-"""`leasekeepd inventory`: a whole inventory from a short list and lookups at the broker.
+"""`leasekeepd inventory`: fills what lookups at the broker tell into a list of entries, and keeps everything else of its text.
 
-The short list is TOML: the tables of an inventory as it is served, without what a lookup tells (issued, end, renewable,
-period, explicit_max_ttl). `secret_file` may stand for `secret`, and `lease_id_file` for `lease_id`.
+The list is an inventory as it is served. A lookup tells `issued`, `end` and `renewable`, of a token also `period` and
+`explicit_max_ttl` and whether it is an orphan; and an `increment` that is not written is what the entry was issued for.
 """
 
 from __future__ import annotations
 
+import codecs
 import math
-import tomllib
-from dataclasses import replace
+from dataclasses import dataclass, replace
 from pathlib import Path
 from typing import Any, Callable
 
 from .broker import Broker, Facts, Verdict
 from .dialect import SERVED
-from .inventory import ALWAYS, Entry, Inventory, Kind, entry_text, toml_string
-from .inventory_file import KEYS, judge, read_tables
-from .rfc3339 import date_text
+from .filling import Moment, Page, Value
+from .findings import Finding, Severity
+from .inventory import Entry, Inventory, Kind
+from .inventory_file import Reading, judge, read_inventory
+from .refusals import open_to_others, without_credential
 from .secret_files import SecretFault, read_secret
 from .toml_text import decoded
-
-_FILES = {"secret_file": "secret", "lease_id_file": "lease_id"}
-_PLACEHOLDER_INCREMENT = 1
-_TOP = ("system_max", "margin", "token", "lease")
-_YEAR = 365 * 86400
-"""For so long an entry without a ceiling is planned, where its need is "always"."""
+from .tree import shown
 
 
 class DiscoverFault(Exception):
-    """A short list that leads to no inventory: its words say why, line by line, and hold no secret."""
+    """A list that leads to no inventory: its findings say why, each with its line, and hold no secret."""
+
+    def __init__(self, findings: list[Finding]) -> None:
+        super().__init__("\n".join(finding.text("list") for finding in findings))
+        self.findings = sorted(findings, key=lambda finding: finding.line)
 
 
-def read_short_list(path: Path) -> Inventory:
-    """The entries of the short list, with placeholders where a lookup is to tell; DiscoverFault where it is faulty."""
-    try:
-        top = tomllib.loads(decoded(path.read_bytes()))
-    except OSError as error:
-        raise DiscoverFault(f"{path}: {error.strerror}") from None
-    except (ValueError, RecursionError):
-        raise DiscoverFault(f"{path}: is not a TOML document in UTF-8") from None
-    unknown = [key for key in top if key not in _TOP]
-    if unknown:
-        raise DiscoverFault(f"{path}: {unknown[0]} is no key of a short list; the keys are {', '.join(_TOP)}")
-    numbers = {"margin": SERVED.absent_margin, "system_max": Inventory().system_max}
-    for key, form in (("margin", SERVED.margin), ("system_max", SERVED.system_max)):
-        numbers[key] = form.read(top.get(key, numbers[key]))
-        if numbers[key] is None:
-            raise DiscoverFault(f"{path}: {key} is not {form.expected}; {form.mend(top[key])}")
-    entries = []
-    for kind in Kind:
-        tables = top.get(kind.value, [])
-        if not isinstance(tables, list) or not all(isinstance(table, dict) for table in tables):
-            raise DiscoverFault(f"{path}: {kind.value} is no array of tables [[{kind.value}]]")
-        entries += [_entry(path, kind, place, table) for place, table in enumerate(tables, 1)]
-    return Inventory(tuple(entries), numbers["margin"], numbers["system_max"])
+@dataclass(frozen=True)
+class Listed:
+    """A list without a fault: its bytes, its reading, and its inventory with what its files of secrets hold."""
+
+    data: bytes
+    reading: Reading
+    inventory: Inventory
+
+    def finding(self, severity: Severity, name: str, key: str, problem: str, mend: str) -> Finding:
+        return Finding(severity, self.reading.line_of(name, key), shown(name), key, problem, mend)
 
 
-def _entry(path: Path, kind: Kind, place: int, table: dict[str, Any]) -> Entry:
-    label = f"{path}: {kind.value} {place}"
-    table = dict(table)
-    for key, of in _FILES.items():
-        if key in table and of in KEYS[kind]:
-            table[of] = _credential_in(path.parent / str(table.pop(key)), label, key)
-    credential = table.get("secret" if kind is Kind.TOKEN else "lease_id")
-    if credential is None:
-        raise DiscoverFault(f"{label}: a {'secret or secret_file' if kind is Kind.TOKEN else 'lease_id'} is missing")
-    filled = {"issued": 0, "end": 0, **table}
-    filled.setdefault("increment", _PLACEHOLDER_INCREMENT)
-    reading, entries = read_tables(_toml(kind, filled).encode())
-    if reading.faults:
-        words = "; ".join(f"{fault.key} {fault.problem}; {fault.mend}" for fault in reading.faults)
-        raise DiscoverFault(f"{label}: {words}")
-    return entries[0]
+@dataclass(frozen=True)
+class Filled:
+    """The text of the list with what was told, and what is doubtful about it."""
+
+    data: bytes
+    doubts: list[Finding]
 
 
-def _credential_in(file: Path, label: str, key: str) -> str:
-    try:
-        return read_secret(file)
-    except SecretFault as fault:
-        raise DiscoverFault(f"{label}: {key}: {file} {fault}") from None
+def read_list(data: bytes, mode: int, folder: Path) -> Listed:
+    """The list that the bytes write; DiscoverFault where it is faulty, or where others may read or write it. Files of secrets are
+    below the folder."""
+    reading = read_inventory(data, SERVED)
+    faults = reading.faults + open_to_others(mode) + without_credential(reading)
+    secrets = dict[str, str]()
+    for entry in reading.sound.entries:
+        if entry.credential_file is not None:
+            try:
+                secrets[entry.name] = read_secret(folder / entry.credential_file)
+            except SecretFault as fault:
+                key = "secret_file" if entry.kind is Kind.TOKEN else "lease_id_file"
+                faults.append(Finding(Severity.FAULT, reading.line_of(entry.name, key), shown(entry.name), key, str(fault),
+                                      "write the secret into it, or correct the path"))
+    if faults or reading.inventory is None:
+        raise DiscoverFault(faults)
+    inventory = reading.inventory.mapped(lambda entry: replace(entry, credential=secrets.get(entry.name, entry.credential)))
+    return Listed(data, reading, inventory)
 
 
-def _toml(kind: Kind, table: dict[str, Any]) -> str:
-    lines = [f"{toml_string(key)} = {_value(value)}" for key, value in table.items()]
-    return "\n".join([f"[[{kind.value}]]", *lines, ""])
-
-
-def _value(value: Any) -> str:
-    if isinstance(value, str):
-        return toml_string(value)
-    return str(value).lower() if isinstance(value, (bool, int)) else "[]"
-
-
-async def discover(broker: Broker, wall: Callable[[], float], wanted: Inventory) -> str:
-    """The text of the inventory, with what each lookup tells; DiscoverFault where one fails. `wall` reads the wall clock."""
-    faults, entries, found = list[str](), list[Entry](), list[tuple[Entry, Facts]]()
-    for entry in wanted.entries:
-        heard = await broker.look_up(wanted, entry)
+async def discover(broker: Broker, wall: Callable[[], float], listed: Listed) -> Filled:
+    """The list with what each lookup tells; DiscoverFault where one fails, or where what is told makes a faulty inventory. `wall`
+    reads the wall clock."""
+    faults, doubts = list[Finding](), list[Finding]()
+    told = dict[str, dict[str, Value]]()
+    for entry in listed.inventory.entries:
+        key = "secret" if entry.kind is Kind.TOKEN else "lease_id"
+        heard = await broker.look_up(listed.inventory, entry)
         if heard.verdict is not Verdict.GOOD or heard.facts is None:
-            faults.append(f"{entry.name}: its lookup: {heard.why}")
+            mend = "issue it afresh, or take it out" if heard.verdict is Verdict.REFUSED else "look at the broker or the proxy"
+            faults.append(listed.finding(Severity.FAULT, entry.name, key, f"its lookup: {heard.why}", mend))
         elif heard.facts.never_ends:
-            faults.append(f"{entry.name}: never ends (ttl 0) and needs no keeping: take it out, and write its"
-                          " children without a parent")
+            faults.append(listed.finding(Severity.FAULT, entry.name, key, "never ends (ttl 0) and needs no keeping",
+                                         "take it out, and write its children without a parent"))
         else:
-            entries.append(_filled(wanted, entry, heard.facts, math.floor(wall())))
-            found.append((entry, heard.facts))
+            told[entry.name] = _told(listed, entry, heard.facts, wall())
+            doubts += _doubts(listed, entry, heard.facts)
     if faults:
-        raise DiscoverFault("\n".join(faults))
-    inventory = Inventory(tuple(entries), wanted.margin, wanted.system_max)
-    faults = [f"{fault.entry} {fault.key}: {fault.problem}; {fault.mend}" for fault in judge(inventory)]
+        raise DiscoverFault(faults)
+    assert listed.reading.inventory is not None
+    expected = listed.reading.inventory.mapped(lambda entry: _with(entry, told[entry.name], listed.reading))
+    faults = [replace(fault, line=listed.reading.line_of(fault.entry, fault.key)) for fault in judge(expected)]
     if faults:
-        raise DiscoverFault("\n".join(faults))
-    year = math.floor(wall()) + _YEAR
-    strict = inventory.mapped(lambda entry: replace(entry, need=inventory.reach(entry, year)) if entry.need == ALWAYS else entry)
-    texts = [_noted(entry, filled, facts) for (entry, facts), filled in zip(found, strict.entries)]
-    head = f"# By leasekeepd inventory, {date_text(wall())}\nsystem_max = {wanted.system_max}\n" \
-           f"margin = {wanted.margin}\n"
-    return "\n".join([head, *texts])
+        raise DiscoverFault(faults)
+    return Filled(_written(listed, told, expected), doubts)
 
 
-def _filled(wanted: Inventory, entry: Entry, facts: Facts, now: int) -> Entry:
-    increment = entry.increment
-    if increment == _PLACEHOLDER_INCREMENT:
-        increment = None if facts.period else max(facts.ttl, wanted.margin + 1)
-    parent = None if facts.orphan and entry.kind is Kind.TOKEN else entry.parent
-    return replace(entry, issued=facts.issued, end=now + facts.ttl, renewable=facts.renewable, increment=increment,
-                   period=facts.period, explicit_max_ttl=facts.explicit_max, parent=parent)
+def _told(listed: Listed, entry: Entry, facts: Facts, now: float) -> dict[str, Value]:
+    """What is to be written anew: each key whose value is another one, or which is not written."""
+    end = math.floor(now) + facts.ttl
+    told: dict[str, Value] = {}
+    if entry.lacks_terms or entry.issued != facts.issued:
+        told["issued"] = Moment(facts.issued)
+    if entry.lacks_terms or entry.end != end:
+        told["end"] = Moment(end)
+    if entry.renewable != facts.renewable:
+        told["renewable"] = facts.renewable
+    if not facts.period and listed.reading.lacks(entry.name, "increment"):
+        told["increment"] = facts.whole_ttl(now, listed.inventory.max_ttl_of(entry))
+    if entry.period != facts.period:
+        told["period"] = facts.period
+    if entry.explicit_max_ttl != facts.explicit_max:
+        told["explicit_max_ttl"] = facts.explicit_max
+    if facts.orphan and entry.kind is Kind.TOKEN and entry.parent is not None:
+        told["parent"] = None
+    return told
 
 
-def _noted(entry: Entry, filled: Entry, facts: Facts) -> str:
-    notes = []
-    if entry.increment == _PLACEHOLDER_INCREMENT and not facts.period:
-        notes.append("# increment: the TTL that is left; write what a renewal is to ask for")
-    if entry.need == ALWAYS:
-        notes.append("# need: always; this is its ceiling, or a year from now")
+def _with(entry: Entry, told: dict[str, Value], reading: Reading) -> Entry:
+    """The entry as it has to be read once that is written."""
+    changes: dict[str, Any] = {key: value.seconds if isinstance(value, Moment) else value for key, value in told.items()}
+    if "increment" not in changes and reading.lacks(entry.name, "increment"):
+        changes["increment"] = None
+    return replace(entry, **changes)
+
+
+def _doubts(listed: Listed, entry: Entry, facts: Facts) -> list[Finding]:
+    def doubt(key: str, problem: str, mend: str) -> Finding:
+        return listed.finding(Severity.DOUBT, entry.name, key, problem, mend)
+    doubts = []
     if facts.orphan and entry.parent is not None and entry.kind is Kind.TOKEN:
-        notes.append(f"# the broker says orphan: its parent {entry.parent} is left out")
+        doubts.append(doubt("parent", f"is {shown(entry.parent)}, and the broker says that it is an orphan", "the line is left out"))
     if entry.max_ttl is None and not facts.period:
-        notes.append("# max_ttl: no lookup tells it; absent, it is system_max")
+        doubts.append(doubt("max_ttl", "is not written, and no lookup tells it", "write that of its role or its mount, unless it is system_max"))
     if not facts.renewable:
-        notes.append("# it cannot be renewed")
-    return "".join(note + "\n" for note in notes) + entry_text(filled)
+        doubts.append(doubt("renewable", "the broker says that it cannot be renewed", "issue it afresh before its end"))
+    return doubts
+
+
+def _written(listed: Listed, told: dict[str, dict[str, Value]], expected: Inventory) -> bytes:
+    """The text with all of that; DiscoverFault where it would not be read as what is expected."""
+    page, faults = Page(decoded(listed.data), listed.reading.lines), list[Finding]()
+    for name, values in told.items():
+        row = listed.reading.row(name)
+        if row is None or not page.write(row.head, row.place, values):
+            faults.append(_unwritable(listed, name))
+    data = (codecs.BOM_UTF8 if listed.data.startswith(codecs.BOM_UTF8) else b"") + page.text.encode()
+    if not faults:
+        again = read_inventory(data, SERVED)
+        found = {entry.name: entry for entry in again.sound.entries}
+        faults = [_unwritable(listed, entry.name) for entry in expected.entries if found.get(entry.name) != entry]
+        faults = faults or again.faults
+    if faults:
+        raise DiscoverFault(faults)
+    return data
+
+
+def _unwritable(listed: Listed, name: str) -> Finding:
+    return listed.finding(Severity.FAULT, name, "", "is written in a way that nothing can be filled into",
+                          "write its table under a head of its own, and each key on a line of its own")

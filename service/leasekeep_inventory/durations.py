@@ -1,4 +1,4 @@
-"""Durations and needs as people write them, in the inventory that `leasekeepd` serves: "90m", "30d", "always"."""
+"""Durations and needs as people write them: "90m", "30d", "always"."""
 
 from __future__ import annotations
 
@@ -8,7 +8,7 @@ from typing import Any
 
 from .inventory import ALWAYS
 from .rfc3339 import LAST, date_text
-from .values import Form, moment
+from .values import DURATION, INCREMENT, MARGIN, SYSTEM_MAX_FORM, Form, moment
 
 _ALWAYS_WORD = "always"
 _LIKE_ALWAYS = ("forever", "infinite", "infinity", "max", "maximum", "unlimited", "never")
@@ -67,7 +67,7 @@ def _unit(word: str) -> str | None:
     return near[0] if near else None
 
 
-def in_words(form: Form) -> Form:
+def _in_words(form: Form) -> Form:
     """The form of a number of seconds that may also be written as a text."""
     def read(value: Any) -> Any:
         if not isinstance(value, str):
@@ -88,19 +88,20 @@ def in_words(form: Form) -> Form:
     return Form(f'{form.expected}, or a text such as "90m", "1h", "30d"', read, mend)
 
 
-def _need() -> Form:
-    strict = moment(LAST)
+def _need(has_always: bool) -> Form:
+    form = moment(LAST)
+    written = f' or "{_ALWAYS_WORD}" (`leasekeepd need NAME +6h` counts from now)' if has_always else ""
 
     def read(value: Any) -> Any:
-        return ALWAYS if value == _ALWAYS_WORD else strict.read(value)
+        return ALWAYS if has_always and value == _ALWAYS_WORD else form.read(value)
 
     def mend(value: Any) -> str:
         if isinstance(value, str) and _is_like_always(value):
-            return f'did you mean "{_ALWAYS_WORD}"?'
+            return f'did you mean "{_ALWAYS_WORD}"?' if has_always else "leasekeepd alone knows such a need: write a moment"
         if isinstance(value, str) and meant_duration(value.strip().removeprefix("+")) is not None:
-            return f'a need is a moment: write a date or "{_ALWAYS_WORD}" (`leasekeepd need NAME +6h` counts from now)'
-        return strict.mend(value)
-    return Form(f'{strict.expected}, or "{_ALWAYS_WORD}"', read, mend)
+            return f"a need is a moment: write a date{written}"
+        return form.mend(value)
+    return Form(f'{form.expected}, or "{_ALWAYS_WORD}"' if has_always else form.expected, read, mend)
 
 
 def _is_like_always(text: str) -> bool:
@@ -108,15 +109,5 @@ def _is_like_always(text: str) -> bool:
     return bool(difflib.get_close_matches(word, (_ALWAYS_WORD, *_LIKE_ALWAYS), 1, 0.75))
 
 
-def _strict_need() -> Form:
-    form = moment(LAST)
-
-    def mend(value: Any) -> str:
-        if value == _ALWAYS_WORD:
-            return "leasekeepd alone knows that word: write a moment"
-        return form.mend(value)
-    return Form(form.expected, form.read, mend)
-
-
-NEED = _need()
-STRICT_NEED = _strict_need()
+DURATION_TEXT, INCREMENT_TEXT, SYSTEM_MAX_TEXT, MARGIN_TEXT = map(_in_words, (DURATION, INCREMENT, SYSTEM_MAX_FORM, MARGIN))
+NEED, STRICT_NEED = _need(True), _need(False)

@@ -63,7 +63,7 @@ class Entry:
 
 @dataclass(frozen=True)
 class Inventory:
-    """Entries, all tokens first, each behind the one that it stands under."""
+    """Entries, all tokens first, each after the one that it stands under."""
 
     entries: tuple[Entry, ...] = ()
     margin: int = 1

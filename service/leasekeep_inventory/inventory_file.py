@@ -8,6 +8,7 @@ from functools import cached_property
 from typing import Any, Iterator
 
 from .dialect import SERVED, STRICT, Dialect
+from .durations import DURATION_TEXT, INCREMENT_TEXT, MARGIN_TEXT, SYSTEM_MAX_TEXT
 from .findings import Finding, Severity
 from .inventory import END_MAX, SYSTEM_MAX, Entry, Inventory, Kind
 from .near import Near, Slip
@@ -19,10 +20,12 @@ from .values import ABOVE, CREDENTIAL_FORM, FILE_FORM, FLAG, NAME, NAME_FORM, Fo
 LIMIT = 1 << 20
 _COMMON = ("name", "issued", "end", "renewable", "increment", "max_ttl", "need")
 KEYS = {
-    Kind.TOKEN: (*_COMMON, "parent", "period", "explicit_max_ttl", "secret"),
-    Kind.LEASE: (*_COMMON, "token", "lease_id"),
+    Kind.TOKEN: (*_COMMON, "parent", "period", "explicit_max_ttl", "secret", "secret_file"),
+    Kind.LEASE: (*_COMMON, "token", "lease_id", "lease_id_file"),
 }
 TOP = ("system_max", "margin", "token", "lease")
+ABSENT_INCREMENT = 3600
+"""What is asked for where neither an increment nor a period is written."""
 
 
 @dataclass
@@ -55,6 +58,10 @@ class Reading:
         row = self._by_name.get(name) if name else None
         return self.lines.of_key(row.head, row.place, key) if row else self.lines.of_key("", 0, key)
 
+    def row(self, name: str) -> Row | None:
+        """The first table of that name."""
+        return self._by_name.get(name)
+
     def lacks(self, name: str, key: str) -> bool:
         """Whether the table of the entry of that name, with a head of its own, has no such key."""
         row = self._by_name.get(name)
@@ -69,7 +76,7 @@ class _Table:
                  ) -> None:
         self.reading, self.near, self.values = reading, near, values
         self.head, self.place, self.kind = head, place, kind
-        self.slips: dict[str, str | None] = {}
+        self.slips: dict[str, str] = {}
         named = values.get("name")
         if isinstance(named, str) and NAME.fullmatch(named):
             self.label = shown(named)
@@ -92,15 +99,19 @@ class _Table:
     def slip(self, key: str, slip: Slip) -> None:
         """Takes the key for the one that was meant, also in what is said of its line."""
         if slip.meant is not None and slip.meant not in self.slips:
-            self.slips[slip.meant] = key if slip.has_its_value else None
+            self.slips[slip.meant] = key
             lines = self.reading.lines
             lines.keys.setdefault((self.head, self.place, slip.meant), lines.of_key(self.head, self.place, key))
+
+    def has(self, key: str) -> bool:
+        """Whether the key is there, or a slip that was meant to be it."""
+        return key in self.values or key in self.slips
 
     def take(self, key: str, form: Form, absent: Any = None, must: bool = False) -> Any:
         """The key's value as the form reads it; a fault, and `absent`, where it is missing or no such value."""
         written = key if key in self.values else self.slips.get(key)
         if written is None:
-            if must and key not in self.slips:
+            if must:
                 self.fault(key, "is missing", f"add {key}: {form.expected}")
             return absent
         value = form.read(self.values[written])
@@ -118,8 +129,8 @@ def read_inventory(data: bytes, dialect: Dialect = STRICT) -> Reading:
     near = Near()
     table = _Table(reading, near, "", 0, None, top)
     _unknown_tops(table)
-    system_max = table.take("system_max", dialect.system_max)
-    margin = table.take("margin", dialect.margin)
+    system_max = table.take("system_max", SYSTEM_MAX_TEXT)
+    margin = table.take("margin", MARGIN_TEXT)
     is_written = "margin" in top or "margin" in table.slips
     reading.margin = margin if is_written else dialect.absent_margin
     reading.has_margin = is_written
@@ -203,28 +214,26 @@ def _tables_of(table: _Table, head: str, kind: Kind) -> list[dict[str, Any]]:
 
 def _row(table: _Table, kind: Kind) -> Row:
     before, dialect = len(table.reading.findings), table.reading.dialect
-    is_whole = dialect.absent_increment is None
     is_token = kind is Kind.TOKEN
     key = "secret" if is_token else "lease_id"
     file_key = f"{key}_file"
-    table.unknown((*KEYS[kind], file_key) if dialect.has_files else KEYS[kind])
+    table.unknown(KEYS[kind])
     name = table.take("name", NAME_FORM, must=True)
     above = table.take("parent" if is_token else "token", ABOVE, must=not is_token)
-    issued = table.take("issued", moment(LAST), 0, must=is_whole)
-    end = table.take("end", moment(END_MAX), 0, must=is_whole)
+    issued = table.take("issued", moment(LAST), 0, must=dialect.has_terms or "end" in table.values)
+    end = table.take("end", moment(END_MAX), 0, must=dialect.has_terms or "issued" in table.values)
     renewable = table.take("renewable", FLAG, True)
-    period = table.take("period", dialect.duration, 0) if is_token else 0
-    wants_increment = not is_token or (table.values.get("period", 0) == 0 and "period" not in table.slips)
-    increment = table.take("increment", dialect.increment, must=is_whole and wants_increment)
-    if not period and "increment" not in table.values and "increment" not in table.slips:
-        increment = dialect.absent_increment
-    max_ttl = table.take("max_ttl", dialect.duration)
-    explicit = table.take("explicit_max_ttl", dialect.duration, 0) if is_token else 0
+    period = table.take("period", DURATION_TEXT, 0) if is_token else 0
+    increment = table.take("increment", INCREMENT_TEXT)
+    if not period and not table.has("increment"):
+        increment = ABSENT_INCREMENT
+    max_ttl = table.take("max_ttl", DURATION_TEXT)
+    explicit = table.take("explicit_max_ttl", DURATION_TEXT, 0) if is_token else 0
     need = table.take("need", dialect.need, 0)
     credential = table.take(key, CREDENTIAL_FORM)
-    has_credential = key in table.values or key in table.slips
+    has_credential = table.has(key)
     file = None
-    if dialect.has_files and (file_key in table.values or file_key in table.slips):
+    if table.has(file_key):
         file = table.take(file_key, FILE_FORM)
         if has_credential:
             table.fault(file_key, f"stands beside {key}", "write one of the two")

@@ -43,6 +43,7 @@ def lint(data: bytes, mode: int, timeout: int, now: float, names_are_secrets: bo
     if reading.inventory is not None:
         is_past = _doubt_the_whole(reading.inventory, doubts, now)
     _doubt_margin(reading, doubts, timeout, now)
+    _doubt_files(reading, doubts)
     for entry in reading.sound.entries:
         _doubt_entry(reading.sound, entry, doubts, now)
         _doubt_time(entry, doubts, now, is_past)
@@ -89,7 +90,7 @@ def _doubt_margin(reading: Reading, doubts: _Doubts, timeout: int, now: float) -
 
 def _fullest_round(inventory: Inventory, now: float) -> int:
     """How many entries may be renewed in one wake-up: those that are needed, since any of them may fall due at once
-    behind an outage."""
+    after an outage."""
     return sum(inventory.carried[entry.name] > now and entry.renewable for entry in inventory.entries)
 
 
@@ -113,12 +114,24 @@ def _doubt_entry(inventory: Inventory, entry: Entry, doubts: _Doubts, now: float
         doubts.doubt(name, "increment", "has no effect next to a period", "remove one of the two")
 
 
+def _doubt_files(reading: Reading, doubts: _Doubts) -> None:
+    """Entries of one kind that name the same file: a credential is that of one entry."""
+    first: dict[tuple[Kind, str], Entry] = {}
+    for entry in reading.sound.entries:
+        if entry.credential_file is not None:
+            other = first.setdefault((entry.kind, entry.credential_file), entry)
+            if other is not entry:
+                key = "secret_file" if entry.kind is Kind.TOKEN else "lease_id_file"
+                doubts.doubt(entry.name, key, f"is that of line {reading.line_of(other.name, key)} ({shown(other.name)}) too",
+                             "it is not kept: write each entry once, and one file for each")
+
+
 def _doubt_file(entry: Entry, file: Path, doubts: _Doubts) -> None:
     key = "secret_file" if entry.kind is Kind.TOKEN else "lease_id_file"
     try:
         read_secret(file)
     except SecretFault as fault:
-        doubts.doubt(entry.name, key, str(fault), "it is not kept, nor what is under it, until the file holds its secret")
+        doubts.doubt(entry.name, key, str(fault), "neither it nor what is under it is kept until the file holds its secret")
     if is_open_to_others(file):
         doubts.doubt(entry.name, key, "may be read or written by others", "chmod o-rwx the file: it holds a secret")
 

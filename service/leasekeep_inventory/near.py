@@ -11,7 +11,6 @@ from .inventory import Kind
 _MOST = 200
 """So many slips get a guess: more are no slips, and each guess takes some time."""
 _LONGEST = 40
-_FILES = ("secret_file", "lease_id_file")
 _MEANT = {
     "token": "parent", "parent": "token", "secret": "lease_id", "lease_id": "secret", "id": "secret", "ttl": "increment",
     "creation_time": "issued", "issue_time": "issued", "expire_time": "end", "lease_duration": "increment", "until": "need",
@@ -23,13 +22,11 @@ _MEANT = {
 
 @dataclass(frozen=True)
 class Slip:
-    """A key that is none: which one it was probably meant to be, what is wrong with it and how to mend it; and whether its
-    value is one for the key that was meant."""
+    """A key that is none: which one it was probably meant to be, what is wrong with it and how to mend it."""
 
     meant: str | None
     problem: str
     mend: str
-    has_its_value: bool = True
 
 
 class Near:
@@ -41,10 +38,6 @@ class Near:
 
     def key(self, key: str, known: tuple[str, ...], table: dict[str, Any], kind: Kind | None) -> Slip:
         """What a key is that is none of these."""
-        if key in _FILES and not any(file in known for file in _FILES):
-            meant = "lease_id" if kind is Kind.LEASE else "secret"
-            return Slip(meant, "is a key for leasekeepd alone",
-                        f"write {meant}, or make the inventory with `leasekeepd inventory`", has_its_value=False)
         free = [word for word in known if word not in table]
         guess = self._guess(key, free)
         if guess is None:

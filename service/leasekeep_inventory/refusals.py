@@ -12,25 +12,36 @@ from .room import TIMEOUTS_IN_MARGIN, Room
 
 def refusals(reading: Reading, timeout: int, names_are_secrets: bool, mode: int) -> list[Finding]:
     """Why an inventory may not be served, besides what its reading found."""
-    found = []
-
-    def refuse(line: int, label: str, key: str, problem: str, mend: str) -> None:
-        found.append(Finding(Severity.FAULT, line, label, key, problem, mend))
-    if mode & (stat.S_IROTH | stat.S_IWOTH):
-        refuse(0, "", "", f"others may read or write this file (mode {mode:04o})", "chmod o-rwx it: it holds secrets")
+    found = open_to_others(mode)
     if reading.inventory is not None and len(inventory_text(reading.inventory)) > LIMIT:
-        refuse(0, "", "", f"this file is over {LIMIT} bytes as `leasekeep` is handed it", "split the inventory")
+        found.append(_fault(0, "", "", f"this file is over {LIMIT} bytes as `leasekeep` is handed it", "split the inventory"))
     margin = reading.margin
     if margin is not None and margin < TIMEOUTS_IN_MARGIN * timeout:
-        refuse(reading.line_of("", "margin"), "", "margin",
-               f"is {margin} s, under four times the time-out of {timeout} s", room_of(reading).for_timeout(timeout, margin))
+        found.append(_fault(reading.line_of("", "margin"), "", "margin", f"is {margin} s, under four times the time-out of {timeout} s",
+                            room_of(reading).for_timeout(timeout, margin)))
+    return found if names_are_secrets else found + without_credential(reading, " (--names-are-secrets allows this, for trials)")
+
+
+def open_to_others(mode: int) -> list[Finding]:
+    """The fault of a file of that mode, if others may read or write it."""
+    if mode & (stat.S_IROTH | stat.S_IWOTH):
+        return [_fault(0, "", "", f"others may read or write this file (mode {mode:04o})", "chmod o-rwx it: it holds secrets")]
+    return []
+
+
+def without_credential(reading: Reading, unless: str = "") -> list[Finding]:
+    """The faults of tables without a credential; `unless` is said after what to do."""
+    found = []
     for row in reading.rows:
-        if not row.has_credential and not names_are_secrets:
+        if not row.has_credential:
             key = "secret" if row.kind is Kind.TOKEN else "lease_id"
-            refuse(reading.lines.of_key(row.head, row.place, key), row.label, key,
-                   "is missing; the entry's name would be sent to Vault as the credential",
-                   f"add {key} (--names-are-secrets allows this, for trials)")
+            found.append(_fault(reading.lines.of_key(row.head, row.place, key), row.label, key,
+                                "is missing; the entry's name would be sent to Vault as the credential", f"add {key}{unless}"))
     return found
+
+
+def _fault(line: int, label: str, key: str, problem: str, mend: str) -> Finding:
+    return Finding(Severity.FAULT, line, label, key, problem, mend)
 
 
 def room_of(reading: Reading) -> Room:

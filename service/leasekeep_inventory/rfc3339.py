@@ -5,6 +5,7 @@ from __future__ import annotations
 import calendar
 import math
 import re
+from dataclasses import dataclass
 from datetime import datetime, timedelta, timezone
 
 LAST = 253402300799
@@ -31,8 +32,14 @@ def read_rfc3339(text: str) -> int | None:
     return seconds if 0 <= seconds <= LAST else None
 
 
+def with_fraction(text: str) -> float | None:
+    """The moment that the text writes, with its fraction to the microsecond; None where `read_rfc3339` reads none."""
+    match, whole = _FORM.fullmatch(text), read_rfc3339(text)
+    return None if match is None or whole is None else whole + float((match[7] or ".0")[:7])
+
+
 def date_mend(text: str) -> str:
-    """What to write in the place of a text that `read_rfc3339` does not read."""
+    """What to write instead of a text that `read_rfc3339` does not read."""
     match = _FORM.fullmatch(text)
     if match is None:
         return "write day, T, hours:minutes:seconds, and Z or an offset such as +01:00"
@@ -46,6 +53,16 @@ def date_mend(text: str) -> str:
         if int(match[group]) > most:
             return f"{words} are 00 to {most}, and this one is {match[group]}"
     return "write a moment from 1970-01-01T00:00:00Z to 9999-12-31T23:59:59Z"
+
+
+@dataclass(frozen=True)
+class At:
+    """A moment that is shown as a date, or past the last date as its seconds."""
+
+    seconds: int
+
+    def __str__(self) -> str:
+        return date_text(self.seconds) if self.seconds <= LAST else str(self.seconds)
 
 
 def date_text(moment: float) -> str:

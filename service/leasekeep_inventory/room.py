@@ -9,7 +9,7 @@ from .inventory import MARGIN_MAX
 
 TIMEOUTS_IN_MARGIN = 4
 PART_OF_STEP = 3, 4
-"""The part of a step that a margin may be at most, else a renewal is due almost as soon as the last one came."""
+"""The greatest part of a step that a margin may be: with more, a renewal would be due almost as soon as the last one came."""
 
 
 def margin_for(step: int) -> int:

@@ -33,7 +33,7 @@ def read_secret(path: Path) -> str:
         raise SecretFault(f"cannot be read: {getattr(error, 'strerror', None) or 'no such name'}") from None
     text = (data or b"").decode("latin-1").strip()
     if not CREDENTIAL.fullmatch(text):
-        raise SecretFault("holds no secret of 1 to 256 printable ASCII characters" if data is not None else "is no file")
+        raise SecretFault("holds no secret of 1 to 256 printable ASCII characters" if data is not None else "is not a regular file")
     return text
 
 

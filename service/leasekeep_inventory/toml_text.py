@@ -8,9 +8,11 @@ import tomllib
 from dataclasses import dataclass, field
 from typing import Any
 
+from .toml_1_0 import Older, older
+
 _HEAD = re.compile(r"\s*\[(\[?)\s*[\"']?([A-Za-z0-9_-]+)[\"']?\s*(\.[^\]]*)?\]")
 _KEY = re.compile(r"\s*[\"']?([A-Za-z0-9_-]+)[\"']?\s*=")
-_PLACE = re.compile(r" \(at (?:line (\d+), column \d+|end of document)\)\Z")
+_PLACE = re.compile(r" \(at (?:line (\d+), column (\d+)|end of document)\)\Z")
 _QUOTED = re.compile(r"'([^']*)'|\"([^\"]*)\"")
 _HARMLESS = re.compile(r"[^A-Za-z0-9]*|.|\\.|\\x..|token|lease|margin|system_max", re.DOTALL)
 """What the parser may quote: signs, single characters, and words that are no secret. A key may be one, in the wrong place."""
@@ -79,19 +81,20 @@ def parsed(text: str, lines: Lines) -> dict[str, Any] | SyntaxFault:
     """The document's top level, or why it is none."""
     if (long := _LONG_KEY.search(text)) is not None:
         return SyntaxFault(text.count("\n", 0, long.start()) + 1, "a key has hundreds of parts", "write each key as one word")
+    document = older(text)
     try:
-        return tomllib.loads(text)
+        return tomllib.loads(document.text)
     except RecursionError:
         return SyntaxFault(0, f"{_NO_TOML}: lists or tables are nested too deep", "an inventory has no list in a list")
     except tomllib.TOMLDecodeError as error:
-        return _syntax(str(error), text, lines)
+        return _syntax(str(error), text, document, lines)
     except ValueError:
         return SyntaxFault(0, f"{_NO_TOML}: a number has thousands of digits", "write a number of at most 19 digits")
 
 
-def _syntax(said: str, text: str, lines: Lines) -> SyntaxFault:
+def _syntax(said: str, text: str, document: Older, lines: Lines) -> SyntaxFault:
     place = _PLACE.search(said)
-    line = int(place[1]) if place and place[1] else text.rstrip("\n").count("\n") + 1
+    line = document.line(int(place[1]), int(place[2])) if place and place[1] else text.rstrip("\n").count("\n") + 1
     if said.startswith("Cannot overwrite a value") and lines.twice is not None:
         first, line = lines.twice
         return SyntaxFault(line, f"a key occurs twice in one table, on line {first} too", "remove one of them")

@@ -47,10 +47,15 @@ class Row:
                    entry.credential is not None, None, entry.step, entry)
 
     @property
+    def is_written(self) -> bool:
+        """Whether its credential is written, and not the name of a file."""
+        return self.has_credential and self.file is None
+
+    @property
     def secret(self) -> str | None:
-        """What is sent for it: the name, where no credential is written; None where that is not known. Two of one file are
-        alike. (No credential has a blank.)"""
-        return f"file {self.file}" if self.file else self.credential if self.has_credential else self.name
+        """What stands for its credential: the name, where none is written or where it stands in a file; None where that is not
+        known."""
+        return self.credential if self.is_written else self.name
 
 
 def judge_rows(rows: list[Row], whole: Inventory, margin: int | None, lines: Lines) -> list[Finding]:
@@ -117,9 +122,9 @@ class _Judge:
         if row.secret is None:
             return
         other = credentials.setdefault((row.kind, row.secret), row)
-        if other is not row and (row.has_credential or other.has_credential):
-            key = ("secret" if row.kind is Kind.TOKEN else "lease_id") + ("_file" if row.file else "")
-            where = self._on(other, key if other.has_credential else "name")
+        if other is not row and (row.is_written or other.is_written):
+            key = "secret" if row.kind is Kind.TOKEN else "lease_id"
+            where = self._on(other, key if other.is_written else "name")
             yield key, f"occurs twice: {where} has it too", "write each entry once"
 
     def _above(self, at: int, row: Row) -> Iterator[tuple[str, str, str]]:

@@ -12,13 +12,12 @@ from .rfc3339 import LAST, date_mend, read_rfc3339
 
 NAME = re.compile(r"[A-Za-z0-9\-_./]{1,64}", re.ASCII)
 CREDENTIAL = re.compile(r"[!-~]{1,256}", re.ASCII)
-_UNITS = {"ms": 0.001, "s": 1, "m": 60, "min": 60, "h": 3600, "d": 86400}
-_DURATION_WORD = re.compile(r"(\d{1,12})(ms|s|min|m|h|d)", re.ASCII)
+PATH_MAX = 4096
 
 
 @dataclass(frozen=True)
 class Form:
-    """What a key's value has to be: in words, as `read` takes it (None: it is none), and what to write in the place of
+    """What a key's value has to be: in words, as `read` takes it (None: it is none), and what to write instead of
     a value that is none. The words of `mend` never hold the value of a text."""
 
     expected: str
@@ -48,17 +47,13 @@ def moment(most: int) -> Form:
     def mend(value: Any) -> str:
         if isinstance(value, date):
             return "a date has to be in quotes"
-        if isinstance(value, str) and not value.isdigit() and not _DURATION_WORD.fullmatch(value):
+        if isinstance(value, str) and not value.isdigit():
             return date_mend(value)
         return _number_mend(value, 0, most)
     return Form('a whole number of seconds since 1970, or a date such as "2026-11-22T09:00:00Z"', read, mend)
 
 
 def _number_mend(value: Any, least: int, most: int) -> str:
-    if isinstance(value, str) and (word := _DURATION_WORD.fullmatch(value)):
-        seconds = int(int(word[1]) * _UNITS[word[2]])
-        allowed = f"write {seconds}" if least <= seconds <= most else f"that is {seconds}, and {least} to {most} are allowed"
-        return f"durations are whole seconds without quotes: {allowed}"
     if isinstance(value, str) and value.isascii() and value.isdigit():
         return "write it without quotes"
     if isinstance(value, float) and value.is_integer() and least <= value <= most:
@@ -90,6 +85,18 @@ def text(form: re.Pattern[str], most: int, expected: str) -> Form:
     return Form(expected, read, mend)
 
 
+def _path() -> Form:
+    """A path of 1 to 4,096 bytes of UTF-8 without a control character."""
+    form = text(re.compile(r"[^\x00-\x1f\x7f]+"), PATH_MAX, "the path of a file")
+
+    def is_long(value: Any) -> bool:
+        return isinstance(value, str) and len(value.encode()) > PATH_MAX
+
+    def mend(value: Any) -> str:
+        return f"it has {len(value.encode())} bytes: write {PATH_MAX} or less" if is_long(value) else form.mend(value)
+    return Form(form.expected, lambda value: None if is_long(value) else form.read(value), mend)
+
+
 def _flag_mend(value: Any) -> str:
     if isinstance(value, str) and value.lower() in ("true", "false"):
         return f"write {value.lower()} without quotes"
@@ -116,5 +123,5 @@ MARGIN = whole(1, MARGIN_MAX, f"1 to {MARGIN_MAX} seconds")
 FLAG = Form("true or false", lambda value: value if isinstance(value, bool) else None, _flag_mend)
 NAME_FORM = text(NAME, 64, "1 to 64 letters, digits, '-', '_', '.', '/'")
 ABOVE = text(NAME, 64, "the name of an earlier token")
-FILE_FORM = text(re.compile(r"[^\x00-\x1f\x7f]{1,4096}"), 4096, "the path of a file")
+FILE_FORM = _path()
 CREDENTIAL_FORM = text(CREDENTIAL, 256, "1 to 256 printable ASCII characters without a space")

@@ -34,7 +34,7 @@ _WORD = {What.NEED: "until", What.REPLACE: "credential", What.ADD: "table"}
 
 
 class ChangeFault(Exception):
-    """A change that cannot be made, with words for who asked. They hold no secret."""
+    """A change that cannot be made, with words for the one who asked. They hold no secret."""
 
 
 @dataclass(frozen=True)
@@ -129,7 +129,7 @@ def only_entry(table: str) -> Entry:
     if reading.faults:
         raise ChangeFault("; ".join(finding.text("standard input") for finding in reading.faults))
     if len(entries) != 1:
-        raise ChangeFault(f"one table [[token]] or [[lease]] is wanted, and {len(entries)} came")
+        raise ChangeFault(f"give one table [[token]] or [[lease]]: there are {len(entries)}")
     return entries[0]
 
 

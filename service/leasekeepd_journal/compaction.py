@@ -10,7 +10,7 @@ from .credentials import Credentials
 
 def compacted(changes: list[Change]) -> list[Change]:
     """The changes without those that later ones make void: a need or a credential that is given again beside the same words of
-    the file, what was added and dropped again behind a drop that stays, and all about a name that the file does not have,
+    the file, what was added and dropped again after a drop that stays, and all about a name that the file does not have,
     where that was dropped again. A replay gives the same inventory on every file, except where another entry of the file has
     a credential that `replace` brought, or where a change would go past a limit of size or number."""
     compaction = _Compaction(changes)
@@ -26,7 +26,7 @@ class _Compaction:
         self.void: set[int] = set()
         self._changes = changes
         self._given: dict[tuple[What, str, str], int] = {}  # The last need and the last credential beside those words.
-        self._since: dict[tuple[str, str], list[int]] = {}  # Adds behind the last drop, of an absent name everything.
+        self._since: dict[tuple[str, str], list[int]] = {}  # Adds after the last drop, of an absent name everything.
         self._kept: dict[tuple[str, str], int] = {}  # The last drop that stays.
         self._parents: dict[int, str] = {}
         self._under: dict[str, list[int]] = {}  # Adds below a name.
@@ -96,7 +96,7 @@ class _Compaction:
         self._rounds[rounds] = place
 
     def _is_used(self, name: str, adds: list[int]) -> bool:
-        """Whether another change, behind the first of these adds of the name, turns out otherwise without them."""
+        """Whether another change, after the first of these adds of the name, turns out otherwise without them."""
         if not adds:
             return False
         under = self._under.get(name, [])
@@ -107,7 +107,7 @@ class _Compaction:
 
     def _rounds_since(self, kept: int) -> int | None:
         """A drop is refused where entries are under its own, and a later one may come through when they are dropped. So it
-        is kept behind drops of other names: as many rounds of them as a tree may have levels. None where it never comes
+        is kept after drops of other names: as many rounds of them as a tree may have levels. None where it never comes
         through and the one that is kept did not."""
         rounds = next((number for number, last in enumerate(self._rounds) if last > kept), None)
         return None if rounds is None or rounds + 1 >= self._most_rounds else rounds + 1

@@ -30,7 +30,7 @@ class Draft:
         return self._entries.get(name)
 
     def inventory(self) -> Inventory:
-        """The inventory with every change so far: tokens, then leases, what was added behind the others."""
+        """The inventory with every change so far: tokens, then leases, what was added after the others."""
         ordered = sorted(self._entries.values(), key=lambda entry: entry.kind is Kind.LEASE)
         return Inventory(tuple(ordered), self._whole.margin, self._whole.system_max)
 
@@ -66,7 +66,7 @@ class Draft:
         if entry.credential is None and entry.credential_file is None and not self._names_are_secrets:
             raise ChangeFault(f"{entry.name} has no {'secret' if entry.kind is Kind.TOKEN else 'lease_id'}")
         if len(self._entries) >= MAX_ENTRIES:
-            raise ChangeFault(f"there are {MAX_ENTRIES} entries, and there may be no more")
+            raise ChangeFault(f"there are {MAX_ENTRIES} entries already, and no more are allowed")
         over, above = [entry], self._entries.get(entry.parent or "")
         while above is not None:
             over.append(above)
@@ -82,7 +82,7 @@ class Draft:
                               + ("is not added" if before is None else "keeps its own"))
         grown = len(entry_text(after)) - (len(entry_text(before)) if before else -1)
         if self._size + grown > LIMIT:
-            raise ChangeFault(f"the inventory would be over {LIMIT} bytes, and no program reads so much")
+            raise ChangeFault(f"the inventory would be over {LIMIT} bytes, more than any program reads")
         if before is not None:
             del self._credentials[before.kind, before.secret]
             self._size -= len(entry_text(before)) + 1

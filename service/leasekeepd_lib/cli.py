@@ -15,7 +15,7 @@ from typing import Sequence
 
 from leasekeep_inventory.broker import Broker
 from leasekeep_inventory.dialect import SERVED, STRICT
-from leasekeep_inventory.discover import DiscoverFault, discover, read_short_list
+from leasekeep_inventory.discover import DiscoverFault, Filled, discover, read_list
 from leasekeep_inventory.http_client import Address, HttpTransport
 from leasekeep_inventory.inventory import MARGIN_MAX
 from leasekeep_inventory.inventory_file import LIMIT
@@ -68,7 +68,7 @@ def _program() -> str:
 def _number(word: str, least: int, most: int, what: str) -> int:
     """The whole number that the word writes, between these two."""
     if not (word.isascii() and word.isdigit() and len(word) < 10 and least <= int(word) <= most):
-        raise argparse.ArgumentTypeError(f"that is no number of {what} from {least} to {most}, such as {max(least, 5)}: {word}")
+        raise argparse.ArgumentTypeError(f"that is not a number of {what} from {least} to {most}, such as {max(least, 5)}: {word}")
     return int(word)
 
 
@@ -94,7 +94,7 @@ def _standby(word: str) -> EtcdAddress:
 def _alert(word: str) -> str:
     program = shutil.which(word)
     if program is None:
-        raise argparse.ArgumentTypeError(f"no program can be run there: {word}")
+        raise argparse.ArgumentTypeError(f"that is not a program that can be run: {word}")
     return program
 
 
@@ -141,22 +141,31 @@ def _parser() -> argparse.ArgumentParser:
     linted.add_argument("file", type=Path, metavar="FILE")
     linted.add_argument("--timeout", type=_timeout, default=5, metavar="SECONDS", help="the time-out of serve")
     linted.add_argument("--strict", action="store_true",
-                        help="judge FILE as `leasekeep` reads it: whole seconds, moments, and no key left to a lookup")
+                        help="judge FILE as the commands of `leasekeep` do, which take no need that is always, and no end that is"
+                        " left to a lookup")
     linted.add_argument("--names-are-secrets", action="store_true",
                         help="accept entries without a secret or lease_id, as serve does with this option")
-    found = commands.add_parser("inventory", help="make an inventory from a short list and lookups at the broker")
-    found.add_argument("file", type=Path, metavar="LIST")
-    found.add_argument("address", type=_address, metavar="PORT|SOCKET")
-    found.add_argument("--timeout", type=_timeout, default=5, metavar="SECONDS")
+    found = commands.add_parser(
+        "inventory", help="print an inventory with what lookups at the broker tell",
+        description="Looks up each entry of LIST, and prints LIST with what the broker tells of it: issued, end, renewable, period and"
+        " explicit_max_ttl, and an increment where none is written. Everything else stays as it is written: secret_file, always,"
+        " durations, comments.",
+        epilog="Faults and doubts go to standard error, each with its line. Exit status: 0 done, 1 a faulty LIST, one that others may"
+        " read, or a lookup that failed, 2 the command line.")
+    found.add_argument("file", type=Path, metavar="LIST", help="an inventory, without what a lookup tells or with it")
+    found.add_argument("address", type=_address, metavar="PORT|SOCKET",
+                       help="the broker: a port of 127.0.0.1, or the path of a UNIX socket")
+    found.add_argument("--timeout", type=_timeout, default=5, metavar="SECONDS",
+                       help="the longest that a lookup may take (1 to 60, default: 5)")
     return parser
 
 
 def _add_serve(commands: "argparse._SubParsersAction[argparse.ArgumentParser]", runtime: argparse.ArgumentParser,
                ) -> None:
     serving = commands.add_parser(
-        "serve", parents=[runtime], help="keep what FILE says alive",
-        description="Keeps what FILE says alive: starts `leasekeep watch`, hands in the time, sleeps until it is told, and"
-        " logs what it prints. SIGTERM ends it, SIGHUP reads FILE again.",
+        "serve", parents=[runtime], help="keep the entries of FILE alive",
+        description="Keeps the entries of FILE alive: runs `leasekeep watch`, tells it the time, sleeps as long as it says, and"
+        " logs what it prints. SIGTERM ends it, SIGHUP makes it read FILE again.",
         epilog="It refuses a FILE that is faulty or that others may read, a token without secret, a lease without lease_id,"
         " and a margin of less than four times the time-out: exit 1. `leasekeepd lint FILE` shows all of these beforehand.")
     serving.add_argument("file", type=Path, metavar="FILE", help="the inventory")
@@ -178,8 +187,8 @@ def _add_serve(commands: "argparse._SubParsersAction[argparse.ArgumentParser]", 
     serving.add_argument("--name", default="", metavar="NAME",
                        help="this agent's name, for --spread and --standby (default: the machine's name and the state folder)")
     serving.add_argument("--spread", type=_spread, default=0, metavar="SECONDS",
-                       help="wake up earlier, and start later where nothing is due, by a fixed part of so many seconds, which"
-                       " follows from the name: so that many agents of one broker form no herd (default: 0, at most the margin)")
+                       help="wake up earlier, and start later if nothing is due, by a share of SECONDS that depends on the name,"
+                       " so that many agents of one broker do not wake up together (default: 0, at most the margin)")
     serving.add_argument("--standby", type=_standby, metavar="ETCD",
                        help="serve only while no other leasekeepd of this fleet does: etcd:http://[USER@]HOST:PORT/PREFIX")
     serving.add_argument("--standby-password", type=Path, metavar="FILE", help="the file of USER's password at etcd")
@@ -200,13 +209,21 @@ def main(words: Sequence[str] | None = None) -> int:
     return _client(arguments)
 
 
-def _lint(arguments: argparse.Namespace) -> int:
+def _bytes_of(arguments: argparse.Namespace) -> tuple[bytes, int] | None:
+    """The file's bytes, as far as one may have, and its mode; None where it cannot be read, which is said."""
     try:
         with open(arguments.file, "rb") as file:
-            data, mode = file.read(LIMIT + 1), stat.S_IMODE(os.fstat(file.fileno()).st_mode)
+            return file.read(LIMIT + 1), stat.S_IMODE(os.fstat(file.fileno()).st_mode)
     except OSError as error:
-        print(f"leasekeepd: lint: {arguments.file}: {error.strerror}", file=sys.stderr)
+        print(f"leasekeepd: {arguments.command}: {arguments.file}: {error.strerror}", file=sys.stderr)
+        return None
+
+
+def _lint(arguments: argparse.Namespace) -> int:
+    read = _bytes_of(arguments)
+    if read is None:
         return EXIT_COMMAND_LINE
+    data, mode = read
     now = SystemClock().wall()
     found = lint(data, mode, arguments.timeout, now, arguments.names_are_secrets, STRICT if arguments.strict else SERVED,
                  arguments.file.parent)
@@ -226,17 +243,24 @@ def _count(number: int, word: str) -> str:
 
 
 def _inventory(arguments: argparse.Namespace) -> int:
-    clock = SystemClock()
+    read = _bytes_of(arguments)
+    if read is None:
+        return EXIT_COMMAND_LINE
+    data, mode = read
 
-    async def discovered() -> str:
+    async def discovered() -> Filled:
         broker = Broker(HttpTransport(arguments.address), arguments.timeout)
-        return await discover(broker, clock.wall, read_short_list(arguments.file))
+        return await discover(broker, SystemClock().wall, read_list(data, mode, arguments.file.parent))
     try:
-        sys.stdout.write(asyncio.run(discovered()))
+        filled = asyncio.run(discovered())
     except DiscoverFault as fault:
-        for line in str(fault).splitlines():
-            print(f"leasekeepd: inventory: {line}", file=sys.stderr)
+        for finding in fault.findings:
+            print(finding.text(str(arguments.file)), file=sys.stderr)
         return EXIT_FAULT
+    for finding in filled.doubts:
+        print(finding.text(str(arguments.file)), file=sys.stderr)
+    sys.stdout.buffer.write(filled.data)
+    sys.stdout.flush()
     return 0
 
 

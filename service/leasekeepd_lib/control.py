@@ -93,7 +93,7 @@ class ControlServer:
 
     async def _answer(self, words: list[str] | None, who: str) -> list[str]:
         if words is None:
-            return ["error: one line of JSON is wanted: an array of words"]
+            return ["error: send one line of JSON: an array of words"]
         try:
             return ["ok", *await self._handle(words, who)]
         except ChangeFault as fault:
@@ -121,7 +121,7 @@ async def _read_words(reader: asyncio.StreamReader) -> list[str] | None:
 
 
 class ControlFault(Exception):
-    """A command that was not done, with words for who gave it."""
+    """A command that was not done, with words for the one who gave it."""
 
 
 def send_command(path: Path, words: list[str]) -> list[str]:

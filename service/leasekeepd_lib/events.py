@@ -9,7 +9,7 @@ from dataclasses import dataclass
 from enum import Enum
 from typing import Callable, Protocol
 
-from leasekeep_inventory.rfc3339 import date_text
+from leasekeep_inventory.rfc3339 import At, date_text
 
 from .child import kill_session, start_process
 from .clock import Clock
@@ -34,18 +34,18 @@ class Sink(Protocol):
 
 @dataclass(frozen=True)
 class LineForm:
-    """How an event becomes a line."""
+    """How an event becomes a line. A moment among its words is a date for people, and its seconds in JSON."""
 
     clock: Clock
     as_json: bool = False
 
     def line(self, level: Level, word: str, *words: object) -> str:
-        moment, texts = date_text(self.clock.wall()), [str(part) for part in words]
+        moment = date_text(self.clock.wall())
         if self.as_json:
-            record = {"moment": moment, "level": level.value, "event": word, "words": texts}
-            return json.dumps(record) + "\n"
+            texts = [str(part.seconds if isinstance(part, At) else part) for part in words]
+            return json.dumps({"moment": moment, "level": level.value, "event": word, "words": texts}) + "\n"
         mark = "" if level is Level.INFO else f"{level.value}: "
-        return f"{moment} {mark}{' '.join([word, *texts])}\n"
+        return f"{moment} {mark}{' '.join([word, *map(str, words)])}\n"
 
 
 class Log:

@@ -15,7 +15,7 @@ def unkept(entries: list[EntryStatus], now: float, is_alive: bool) -> list[str]:
     """A line for each entry that is needed, by itself or by one under it, and not kept; and one where the part of the service
     that keeps them gives no sign of life. None where all is well: a request that is tried again is, as long as the entry
     lives."""
-    found = [] if is_alive else ["leasekeepd: it answers, and the part of it that keeps the entries gives no sign of life"]
+    found = [] if is_alive else ["leasekeepd: it answers, but the part that keeps the entries does not"]
     for entry in entries:
         why = _why(entry) if entry.carried > now else None
         if why is not None:
@@ -28,7 +28,7 @@ def _why(entry: EntryStatus) -> str | None:
     """Why the entry is not kept; None where it is."""
     match entry.state:
         case State.GONE:
-            return "gone: the broker knows it no more, or denies it"
+            return "gone: the broker does not know it, or refuses to look it up"
         case State.ENDED:
             return f"ended: at {date_text(entry.end or 0)}"
         case State.SHORT:

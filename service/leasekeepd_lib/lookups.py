@@ -50,7 +50,7 @@ class Lookups:
             await process.end()
 
     async def _told(self, process: Child, name: str) -> Looked:
-        """What is told of the entry: in the first slice, or behind its token's where only one request goes out at once."""
+        """What is told of the entry: in the first slice, or after its token's where only one request goes out at once."""
         while True:
             await process.write_line(clock_line(self._clock))
             looked, last = await _answer(process, name)

@@ -63,7 +63,7 @@ class Service:
     def _hear(self, line: WatchLine) -> None:
         level = self.standings.level_of(line)
         if level is not None:
-            self._log.say(level, line.said.word, *line.words)
+            self._log.say(level, line.said.word, *line.logged)
         self.standings.hear(line)
 
     def load(self) -> None:
@@ -112,11 +112,11 @@ class Service:
             self._take(inventory)
 
     def _wait_at_start(self) -> None:
-        """Lets the first process wait for this agent's part of the spread, where no entry's time comes by then."""
+        """Lets the first process wait for this agent's part of the spread, if no entry is due before then."""
         known, part = self._around.ends.known(self._handed()), self._around.start_part
         if part and may_wait(self._handed(), known, part, self._clock.wall(), self._clock.elapsed()):
             self.watch.hold(part)
-            self._log.info("start", "waits for", part, "s: nothing comes to its time by then")
+            self._log.info("start", "waits for", part, "s: no entry is due before then")
             for line in known:
                 self.standings.hear(read_watch_line(line.replace("known", "end", 1)))
 
@@ -167,7 +167,7 @@ class Service:
             await asyncio.sleep(REPORTS_EVERY)
 
     def _is_alive(self) -> bool:
-        """Whether the watch has given a sign of life of late."""
+        """Whether the watch has given a sign of life recently."""
         beat = self.watch.last_beat
         return beat is None or asyncio.get_running_loop().time() - beat < ALIVE_WITHIN
 
@@ -199,7 +199,7 @@ class Service:
             case ["drop", name]:
                 end = next((one.end for one in self._entries() if one.name == name), None)
                 await self._change(Change(What.DROP, name), who)
-                return [f"{name} is kept no more{'' if end is None else f', and ends at {date_text(end)}'}"]
+                return [f"{name} is no longer kept{'' if end is None else f', and ends at {date_text(end)}'}"]
             case ["settle"]:
                 return await self._settle(who)
         raise ChangeFault("the commands are: need NAME WHEN, replace NAME, add, drop NAME, status, health, settle")
@@ -275,7 +275,7 @@ class Service:
             raise ChangeFault(f"{looked.refused}: {name} keeps the old one")
         await self._change(change, who)
         if looked.missing:
-            return [f"it could not be looked up ({looked.missing}), and is taken"]
+            return [f"it could not be looked up ({looked.missing}), but is used"]
         return [f"{name} has a new {'secret' if entry.kind is Kind.TOKEN else 'lease id'}"]
 
     async def _settle(self, who: str) -> list[str]:

@@ -45,7 +45,7 @@ class Source:
         try:
             mode = os.fstat(handle).st_mode
             if not stat.S_ISREG(mode):
-                raise OSError(errno.EINVAL, "is no ordinary file")
+                raise OSError(errno.EINVAL, "is not a regular file")
             with open(handle, "rb", closefd=False) as file:
                 return file.read(LIMIT + 1), stat.S_IMODE(mode)
         finally:

@@ -1,4 +1,4 @@
-"""Agents that wake up apart: each by its own fixed part of a spread before its time, so that many of them form no herd."""
+"""Agents that wake up apart: each by its own fixed part of a spread before its time, so that they do not all ask at once."""
 
 from __future__ import annotations
 

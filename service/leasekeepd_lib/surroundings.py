@@ -35,6 +35,6 @@ class Surroundings:
     part: int = 0
     """Seconds by which this agent wakes up earlier."""
     start_part: int = 0
-    """Seconds for which its start waits where nothing comes to its time by then."""
+    """Seconds for which its start waits if no entry is due before then."""
     writing: asyncio.Lock = field(default_factory=asyncio.Lock)
     """Whoever reads or writes file and journal has it."""

@@ -28,7 +28,7 @@ LAST_WRITE = 0.5
 TICK = 0.001
 """The clocks are handed in by the millisecond: nothing is gained by sleeping less."""
 NAP = 1.0
-"""Seconds that it sleeps at once: a sleep counts no suspension, which is noticed behind each."""
+"""Seconds that it sleeps at once: a sleep counts no suspension, which is noticed after each."""
 
 
 class WatchLauncher(Protocol):

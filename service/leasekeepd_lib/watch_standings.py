@@ -138,7 +138,7 @@ class Standings:
         return standing.trouble == "gone" or (standing.end is not None and standing.end <= self._clock.elapsed())
 
     def _time(self, entry: Entry) -> int | None:
-        """When the entry comes to its time; None where it is not needed, has ended, or nobody has told its end."""
+        """When the entry is due; None where it is not needed, has ended, or nobody has told its end."""
         standing = self._kept(entry)
         if standing.end is None or standing.never_ends or self._is_over(standing) or self._inventory.carried[entry.name] <= self.moment():
             return None

@@ -81,7 +81,7 @@ class Etcd:
             return Kept(base64.b64decode(kept[0].get("value", ""), validate=True), int(kept[0]["create_revision"]),
                         int(kept[0]["mod_revision"]))
         except (ValueError, KeyError, TypeError, AttributeError, IndexError):
-            raise EtcdFault("etcd answers something else") from None
+            raise EtcdFault("etcd's answer cannot be read") from None
 
     def put(self, key: str, value: bytes, conditions: list[Condition], lease: int = 0) -> int | None:
         """Writes the key where every condition holds, and the revision of that; None where one does not. The key goes with
@@ -160,7 +160,7 @@ def _ending(sock: socket.socket, seconds: float) -> Iterator[None]:
 
 
 def _read(data: bytes) -> dict[str, Any]:
-    """The object that the reply holds. (Of a stream the first; and etcd 3.4 writes a trailer of HTTP behind some.)"""
+    """The object that the reply holds. (Of a stream the first; and etcd 3.4 writes a trailer of HTTP after some.)"""
     try:
         told, _ = json.JSONDecoder().raw_decode(data.decode("utf-8").lstrip())
     except (ValueError, RecursionError):
@@ -171,14 +171,14 @@ def _read(data: bytes) -> dict[str, Any]:
 def _object(told: dict[str, Any], key: str) -> dict[str, Any]:
     inner = told.get(key)
     if not isinstance(inner, dict):
-        raise EtcdFault("etcd answers something else")
+        raise EtcdFault("etcd's answer cannot be read")
     return inner
 
 
 def _number(told: dict[str, Any], key: str, absent: int | None = None) -> int:
     value = told.get(key, absent)
     if not isinstance(value, (str, int)) or not re.fullmatch(r"\d{1,19}", str(value)):
-        raise EtcdFault("etcd answers something else")
+        raise EtcdFault("etcd's answer cannot be read")
     return int(value)
 
 

@@ -77,6 +77,6 @@ def standing_by(arguments: argparse.Namespace, around: Surroundings, clock: Cloc
 def _tell_of_old_changes(journal: Path, around: Surroundings, log: Log) -> None:
     try:
         if around.storage.read(journal):
-            log.alert("journal", f"{journal} holds changes of a time without --standby: they are not served")
+            log.alert("journal", f"{journal} holds changes that were made without --standby: they are not served")
     except OSError:
         pass

@@ -176,7 +176,7 @@ class Standby:
     async def _be_alone(self) -> None:
         """Looks everything up, and renews what is within half a margin of its end: what another leader keeps is never so
         near. Begins anew a few times in a margin, so that what it believes is never old."""
-        self._log.alert("lead", "alone: etcd does not answer, and what nobody renews in time is renewed here")
+        self._log.alert("lead", "alone: etcd does not answer; what no other machine renews in time is renewed here")
         journal, ends = self._last or (self._sharing.own(), self._ends(b""))
         while True:
             pause = asyncio.create_task(asyncio.sleep(max(1.0, self._margin / ALONE_PARTS)))

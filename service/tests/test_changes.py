@@ -99,7 +99,7 @@ class WatchedStorage(Storage):
 
 
 class FullStorage(Storage):
-    """A disk that is full behind some bytes."""
+    """A disk that is full after some bytes."""
 
     def __init__(self) -> None:
         self.is_full = False
@@ -210,7 +210,7 @@ class Journals(InRoom):
                         wanted = await self.next_state(room, states[-1], command)
                         self.assertIn(after, (states[-1], wanted), f"step {steps}, {command}")
                         self.assertEqual(room.state(), after)
-                        # What is changed behind the kill holds too.
+                        # What is changed after the kill holds too.
                         await room.service().command(["need", "app", "1033333"], WHO)
                         self.assertEqual(room.state(), {**after, "app": (1_033_333, after["app"][1])})
                         break
@@ -408,7 +408,7 @@ class Refused(InRoom):
             self.assertEqual(room.state(), meaning(INVENTORY))
             room.vault.faults = [Fault(0, 2e9, Act.REFUSE)]
             self.assertEqual(await service.command(["replace", "web", "s.later"], WHO),
-                             ["it could not be looked up (the broker gave no answer to its lookup), and is taken"])
+                             ["it could not be looked up (the broker gave no answer to its lookup), but is used"])
             self.assertEqual(room.state()["web"][1], "s.later")
             room.vault.faults.clear()
             self.assertEqual(await service.command(["replace", "web", "s.web"], WHO), ["web has a new secret"])
@@ -439,7 +439,7 @@ class Refused(InRoom):
                 (["replace", "web", "a b"], "1 to 256 printable"),
                 (["replace", "web", "s.app"], "another entry has that credential already"),
                 (["add", "x"], "is not a TOML document"),
-                (["add", ""], "one table [[token]] or [[lease]] is wanted, and 0 came"),
+                (["add", ""], "give one table [[token]] or [[lease]]: there are 0"),
                 (["add", TABLE.replace("fresh", "web")], "an entry is named web already"),
                 (["add", TABLE.replace('"app"', '"nobody"')], "names no token of this inventory"),
                 (["add", TABLE.replace("600", '"1 hour"')], 'did you mean "1h"?'),
@@ -608,7 +608,7 @@ class Files(InRoom):
                 make(room.file)
                 room.output.truncate(0)
                 await service.reload()
-                self.assertIn(f"alert: file {room.file}: is no ordinary file\n", room.output.getvalue())
+                self.assertIn(f"alert: file {room.file}: is not a regular file\n", room.output.getvalue())
                 self.assertEqual((meaning(service.inventory), room.state()), (meaning(INVENTORY), meaning(INVENTORY)))
                 with self.assertRaises(OSError):
                     await service.command(["settle"], WHO)

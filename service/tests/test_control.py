@@ -16,10 +16,11 @@ from typing import Any, Callable, Coroutine
 from unittest import mock
 
 from leasekeepd_lib.control import CLIENTS_MOST, ControlFault, ControlServer, send_command
+from trial.programs import SLOWER
 
 from .model.world import simulate
 
-ONE_LINE = b"error: one line of JSON"
+ONE_LINE = b"error: send one line of JSON"
 
 
 class Sockets(unittest.TestCase):
@@ -78,7 +79,7 @@ class Sockets(unittest.TestCase):
             began = time.monotonic()
             for length in (70_000, 1 << 20):
                 self.assertIn((await self.raw(b'["' + b"x" * length))[:len(ONE_LINE)], (ONE_LINE, b""))
-            self.assertLess(time.monotonic() - began, 4.0)
+            self.assertLess(time.monotonic() - began, 4.0 * SLOWER)
             self.assertTrue((await self.raw(b'["' + b"x" * 65_000 + b'"]\n')).startswith(b"ok\nxxx"))
             self.given.clear()
             self.assertEqual(await asyncio.to_thread(send_command, self.path, ["need", "web", "+6h"]), ["need web +6h"])

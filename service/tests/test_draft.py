@@ -15,6 +15,7 @@ from leasekeepd_journal.compaction import compacted
 from leasekeepd_journal.draft import Draft, changed, replay
 from leasekeepd_journal.journal import Journal
 from leasekeepd_lib.source import SourceFault
+from trial.programs import SLOWER
 
 from .test_changes import BEGAN, INVENTORY, TABLE, InRoom, Room, meaning, token
 from .test_journal import Unsynced
@@ -79,19 +80,19 @@ class Large(InRoom):
                        for place in range(1000)]
             began = time.process_time()
             inventory, notes = replay(whole, changes, False)
-            self.assertLess(time.process_time() - began, 1.5, what)
+            self.assertLess(time.process_time() - began, 1.5 * SLOWER, what)
             self.assertEqual((notes, len(inventory.entries)), ([], 3096 if what == "drop" else 4096))
         table = TABLE.replace('"app"', '"e5"')
         changes = [Change(What.ADD, f"f{place}", table=table.replace("fresh", f"f{place}")) for place in range(1000)]
         began = time.process_time()
         inventory, notes = replay(half, changes, False)
-        self.assertLess(time.process_time() - began, 3.0)
+        self.assertLess(time.process_time() - began, 3.0 * SLOWER)
         self.assertEqual((notes, len(inventory.entries)), ([], 3048))
 
     def test_no_more_entries_and_bytes_than_a_program_reads(self) -> None:
         full = estate(4096)
         add = Change(What.ADD, "fresh", table=TABLE.replace('"app"', '"e5"'))
-        with self.assertRaisesRegex(ChangeFault, "there are 4096 entries, and there may be no more"):
+        with self.assertRaisesRegex(ChangeFault, "there are 4096 entries already, and no more are allowed"):
             changed(full, add, False)
         self.assertEqual(len(changed(estate(4095), add, False).entries), 4096)
         long = replace(full.entries[0], credential="x" * 256)

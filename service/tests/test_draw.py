@@ -2,13 +2,13 @@
 
 from __future__ import annotations
 
-import math
 import re
 import subprocess
 import sys
 import tempfile
 import unittest
 import xml.etree.ElementTree as tree
+from dataclasses import replace
 from pathlib import Path
 
 SERVICE = Path(__file__).resolve().parent.parent
@@ -18,7 +18,9 @@ from leasekeep_draw import entries, history, picture, table, terminal  # noqa: E
 from leasekeep_draw.axis import Axis  # noqa: E402
 from leasekeep_draw.chart import Chart, chart_of, start_of  # noqa: E402
 from leasekeep_draw.history import Sign  # noqa: E402
+from trial.programs import SLOWER  # noqa: E402
 
+SPACED = "{http://www.w3.org/2000/svg}"
 FAMILY = """
 [[token]]
 name = "T"
@@ -79,15 +81,113 @@ class Reading(unittest.TestCase):
         self.assertEqual((inventory.entries[0].issued, inventory.entries[0].end), (1000, 1060))
 
     def test_faults(self) -> None:
-        for text in ("[[token", "[[token]]\nname = 'a'\n", "token = 5\n", FAMILY.replace('token = "T"', 'token = "X"')):
-            with self.subTest(text=text), self.assertRaisesRegex(entries.InventoryFault, "leasekeepd lint FILE"):
-                entries.read(text)
+        for text, expected in (("[[token", "f.toml:1: fault: "), ("[[token]]\nname = 'a'\nend = 1\n", "f.toml:1: fault: a issued: is missing"),
+                               ("token = 5\n", "f.toml:1: fault: token: is not an array"), ("margin = '1 m'\n", 'did you mean "1m"'),
+                               (FAMILY.replace('token = "T"', 'token = "X"'), "f.toml:19: fault: L token: names no token")):
+            with self.subTest(text=text), self.assertRaisesRegex(entries.InventoryFault, f"{expected}.*`leasekeepd lint f.toml` shows every"):
+                entries.read(text, "f.toml")
 
     def test_lines_that_nobody_prints(self) -> None:
         for line in ("wake", "told nobody 5", "told T x", "wake 5 nobody", "", "entry T"):
             with self.subTest(line=line), self.assertRaises(history.LineFault) as caught:
                 family("wake 1059 T\n" + line + "\n")
             self.assertEqual(caught.exception.number, 2)
+
+
+OPEN = """margin = "20s"
+
+[[token]]
+name = "app"
+secret_file = "app.token"
+max_ttl = "30d"
+need = "always"
+
+[[token]]
+name = "pay"
+issued = 1000
+end = 1060
+period = "1m"
+explicit_max_ttl = "1h"
+need = "always"
+
+[[lease]]
+name = "db"
+token = "app"
+increment = "1h30m"
+need = 90000
+"""
+"""As people have it: durations with units, files, needs without an end, and tables without what a lookup tells."""
+
+
+class Open(unittest.TestCase):
+    def drawn(self, lines: str, text: str = OPEN) -> Chart:
+        inventory = entries.read(text)
+        indices = {entry.name: index for index, entry in enumerate(inventory.entries)}
+        return chart_of(inventory, history.read(lines.splitlines(keepends=True), indices, 1000), 1000)
+
+    def test_what_is_read(self) -> None:
+        app, pay, db = entries.read(OPEN).entries
+        self.assertEqual((app.issued, app.end, app.need, app.ceiling, app.reach), (None, None, None, None, None))
+        self.assertEqual((pay.issued, pay.end, pay.need, pay.ceiling, pay.reach), (1000, 1060, None, 4600, 4600))
+        self.assertEqual((db.parent, db.end, db.need), (0, None, 90_000))
+        self.assertFalse(entries.read(OPEN).is_dated)
+        self.assertTrue(entries.read(OPEN.replace("90000", '"1970-01-02T00:00:00Z"')).is_dated)
+
+    def test_an_always_is_as_far_as_any_renewal_leads(self) -> None:
+        """The least ceiling above it, or the end of what cannot be renewed; and a year where there is none."""
+        told = OPEN.replace('max_ttl = "30d"', "issued = 1000\nend = 2000\nmax_ttl = 9000")
+        for text, reaches in ((told, (10_000, 4600)), (told.replace("issued = 1000\nend = 2000", "issued = 1000\nend = 2000\nrenewable = false"),
+                                                      (2000, 4600)),
+                              (told.replace('name = "pay"', 'name = "pay"\nparent = "app"').replace('explicit_max_ttl = "1h"', ""), (10_000, 10_000)),
+                              (told.replace('explicit_max_ttl = "1h"', ""), (10_000, None))):
+            self.assertEqual(tuple(entry.reach for entry in entries.read(text).entries[:2]), reaches)
+        lanes = {lane.entry.name: lane.need for lane in self.drawn("").lanes}
+        self.assertEqual(lanes, {"app": 1000 + 365 * 86_400, "db": 90_000, "pay": 4600})
+
+    def test_ends_that_no_line_tells(self) -> None:
+        chart = self.drawn("wake 1040 pay\ntold pay 60\nnext 1080\n")
+        self.assertEqual([(row[0], row[2], row[3], row[4], row[-1]) for row in table.rows(chart)], [
+            ("app", "-", "always", "-", "so far"), ("db", "-", "90000", "-", "so far"), ("pay", "1100", "always", "4600", "so far")])
+        self.assertEqual(chart.title, "3 entries, 1 wake-up, 1 request so far: every need is kept")
+        root = tree.fromstring(picture.svg(chart))
+        lives = [len([one for one in group if one.get("class") == "life"]) for group in root.iter(f"{SPACED}g")
+                 if group.find(f"{SPACED}title") is not None]
+        self.assertEqual(lives, [0, 0, 1])
+        self.assertIn("app: no end is told, needed always", "".join(root.itertext()))
+        for signs in (terminal.UNICODE, terminal.ASCII):
+            rows = [line for line in terminal.text(chart, 60, signs).splitlines() if line.startswith(("app", "pay"))]
+            self.assertEqual([signs.token * 2 in row for row in rows], [False, True])
+
+    def test_ends_that_a_line_tells(self) -> None:
+        chart = self.drawn("entry app 3000\nentry db 5000\nwake 1040 pay\nnext none\n")
+        self.assertEqual([(lane.entry.name, lane.begin, lane.end) for lane in chart.lanes], [("app", 1000, 3000), ("db", 1000, 3000), ("pay", 1000, 1060)])
+        self.assertEqual(chart.stop, 90_000)  # (Not a year: nothing is known of how far it can be kept.)
+        self.assertEqual([row[-1] for row in table.rows(chart)], ["no", "no", "no"])
+
+    def test_a_need_that_is_always_is_kept_at_its_ceiling(self) -> None:
+        lines = "wake 1040 pay\ntold pay 3560\nshort pay 4600\nnext none\n"
+        only = "margin = 20\n" + OPEN[OPEN.index("[[token]]\nname = \"pay\""):OPEN.index("[[lease]]")]
+        chart = self.drawn(lines, only)
+        self.assertEqual([row[-1] for row in table.rows(chart)], ["yes"])
+        self.assertEqual((chart.stop, chart.title), (4600, "1 entry, 1 wake-up, 1 request: every need is kept"))
+
+    def test_a_start_where_the_inventory_has_no_moment(self) -> None:
+        with tempfile.TemporaryDirectory() as folder:
+            file, lines = Path(folder) / "f.toml", Path(folder) / "lines"
+            file.write_text('[[token]]\nname = "app"\nsecret = "s"\nneed = "always"\n')
+            lines.write_text("wake 5000 app\ntold app 60\nnext 5059\n")
+            ran = subprocess.run([sys.executable, str(SERVICE / "leasekeep-draw"), str(file), str(lines), "--ascii", "--width", "60"],
+                                 capture_output=True, text=True, timeout=60 * SLOWER)
+            self.assertEqual((ran.returncode, ran.stderr), (0, ""))
+            self.assertEqual(ran.stdout.splitlines()[1].split()[0], "5000")
+
+    def test_a_document_of_toml_1_1(self) -> None:
+        inventory = entries.read('token = [{\n name = "\\x61", # a\n issued = "1970-01-01T00:16:40Z", end = 2000,\n}]\n')
+        self.assertEqual(([entry.name for entry in inventory.entries], inventory.is_dated), (["a"], True))
+
+    def test_the_margin_that_is_not_written_is_that_of_the_plan(self) -> None:
+        """An increment of 2 is read without one, though the service would not take it."""
+        self.assertEqual(len(entries.read('[[token]]\nname = "a"\nissued = 1\nend = 9\nincrement = 2\n').entries), 1)
 
 
 class Lanes(unittest.TestCase):
@@ -133,6 +233,14 @@ class Lanes(unittest.TestCase):
         self.assertEqual(marks, [(1099, Sign.RENEWED), (1010, Sign.RENEWED), (1110, Sign.SHORT), (1099, Sign.LOST)])
         self.assertEqual((chart.requests, chart.is_over, chart.stop), (3, False, 1199))
 
+    def test_the_moments_of_a_log_are_dates(self) -> None:
+        """(They were seconds once.)"""
+        log = ("1970-01-01T00:16:49Z entry T {}\n1970-01-01T00:17:30Z wake {} T\n1970-01-01T00:17:30Z renew T\n"
+               "1970-01-01T00:17:31Z told T 100\n1970-01-01T00:17:40Z warning: short L {}\n")
+        dated = family(log.format("1970-01-01T00:18:20Z", "1970-01-01T00:17:30Z", "1970-01-01T00:17:51Z"))
+        self.assertEqual(dated, family(log.format(1100, 1050, 1071)))
+        self.assertEqual((dated.wakes, [mark.number for lane in dated.lanes for mark in lane.marks]), ((1050,), [1150, 1071]))
+
     def test_what_says_that_a_run_is_over(self) -> None:
         for line in ("next none", "idle", "done 1 1"):
             self.assertTrue(family(f"{line}\n").is_over)
@@ -155,9 +263,9 @@ class Pictures(unittest.TestCase):
         self.assertIn("lives until  need", root.findtext(f"{spaced}desc") or "")
 
     def test_names_are_escaped(self) -> None:
-        # (no inventory that leasekeep reads has such a name)
-        text = FAMILY.replace('name = "U"', 'name = "<U&>"')
-        inventory = entries.read(text)
+        # (no inventory has such a name)
+        read = entries.read(FAMILY)
+        inventory = replace(read, entries=tuple(replace(entry, name=entry.name.replace("U", "<U&>")) for entry in read.entries))
         root = tree.fromstring(picture.svg(chart_of(inventory, history.History(), 1000)))
         self.assertIn("<U&>", "".join(root.itertext()))
 
@@ -196,9 +304,6 @@ class Pictures(unittest.TestCase):
         self.assertEqual([moment for moment, _ in axis.ticks(5)], [1000, 1050, 1100, 1150, 1200])
         dated = Axis(0, 7200, 100.0, True)
         self.assertEqual([words for _, words in dated.ticks(3)], ["01-01 00:00", "01-01 01:00", "01-01 02:00"])
-
-
-SPACED = "{http://www.w3.org/2000/svg}"
 
 
 def many(count: int, short: int = 3) -> Chart:
@@ -321,7 +426,7 @@ class Command(unittest.TestCase):
             file.flush()
             return subprocess.run(
                 [sys.executable, str(SERVICE / "leasekeep-draw"), file.name, *words],
-                input=given, capture_output=True, text=True, timeout=30, check=False,
+                input=given, capture_output=True, text=True, timeout=30 * SLOWER, check=False,
             )
 
     def test_exits(self) -> None:
@@ -333,7 +438,7 @@ class Command(unittest.TestCase):
     def test_its_man_page_begins_with_what_it_is_for(self) -> None:
         ran = subprocess.run(
             [sys.executable, str(SERVICE.parent / "tools" / "man"), str(SERVICE / "leasekeep-draw"), "leasekeep-draw"],
-            capture_output=True, text=True, timeout=30, check=True,
+            capture_output=True, text=True, timeout=30 * SLOWER, check=True,
         )
         self.assertIn("\n.SH NAME\nleasekeep-draw \\- Draws the lives and renewals", ran.stdout)
 
@@ -343,7 +448,7 @@ class Command(unittest.TestCase):
             file.flush()
             ran = subprocess.run(
                 [sys.executable, str(SERVICE / "leasekeep-draw"), file.name], input=LINES, stdout=full,
-                stderr=subprocess.PIPE, text=True, timeout=30, check=False,
+                stderr=subprocess.PIPE, text=True, timeout=30 * SLOWER, check=False,
             )
         self.assertEqual((ran.returncode, ran.stderr.count("\n")), (6, 1))
 
@@ -352,7 +457,7 @@ class Words(unittest.TestCase):
     """The command line."""
 
     def ran(self, *words: str) -> subprocess.CompletedProcess[str]:
-        return subprocess.run([sys.executable, str(SERVICE / "leasekeep-draw"), *words], capture_output=True, text=True, timeout=60)
+        return subprocess.run([sys.executable, str(SERVICE / "leasekeep-draw"), *words], capture_output=True, text=True, timeout=60 * SLOWER)
 
     def test_a_start_is_whole_seconds(self) -> None:
         for word in ("2026-11-22T09:00:00Z", "1000.5", "-1", "253402300800", "9" * 40, "now"):

@@ -19,7 +19,7 @@ COUNT = 4096
 def estate(count: int) -> str:
     """Tokens that end one after the other, needed until 5000; the last three end before that."""
     return "".join(
-        f'[[token]]\nname = "t{place}"\nissued = 1000\nend = {6000 + place if place < count - 3 else 3000 - place}\n'
+        f'[[token]]\nname = "t{place}"\nissued = 1000\nend = {6000 + place if place < count - 3 else 2000 + count - place}\n'
         f"increment = 100\nneed = {5000 if place < count - 3 else 2500}\n" for place in range(count))
 
 

@@ -18,6 +18,7 @@ from typing import Any
 
 from leasekeepd_standby.etcd_client import Condition, Etcd, EtcdAddress, EtcdFault, Kept
 from leasekeepd_standby.leadership import Leadership
+from trial.programs import SLOWER
 
 from .test_leadership import LoopClock, at_once
 
@@ -121,7 +122,7 @@ class Replies(unittest.TestCase):
             began = time.monotonic()
             with self.assertRaisesRegex(EtcdFault, "does not answer"):
                 client.get("a")
-            self.assertLess(time.monotonic() - began, 5.0)
+            self.assertLess(time.monotonic() - began, 5.0 * SLOWER)
 
     def test_a_reply_that_drips(self) -> None:
         """Each byte comes in time, and the whole never does."""
@@ -138,7 +139,7 @@ class Replies(unittest.TestCase):
                 began = time.monotonic()
                 with self.assertRaises(EtcdFault):
                     Etcd(EtcdAddress("127.0.0.1", place.getsockname()[1], "x"), 0.3).grant(15)
-                self.assertLess(time.monotonic() - began, 3.0)
+                self.assertLess(time.monotonic() - began, 3.0 * SLOWER)
 
     def test_a_user(self) -> None:
         client = self.client(told(token="T1"), told(), (401, b'{"error":"invalid auth token"}'), told(token="T2"), told(), user="keeper")
@@ -229,7 +230,7 @@ class Real(unittest.TestCase):
         lease, seconds = etcd.grant(3)
         etcd.put("k", b"v", [], lease)
         while etcd.get("k") is not None:
-            self.assertLess(time.monotonic() - began, 30)
+            self.assertLess(time.monotonic() - began, 30 * SLOWER)
             time.sleep(0.1)
         self.assertGreaterEqual(time.monotonic() - began, seconds - 0.2)
 

@@ -15,12 +15,13 @@ from leasekeepd_journal.draft import changed, replay
 from leasekeepd_journal.journal import Journal
 from leasekeepd_journal.storage import Storage
 from leasekeepd_lib.book import NOTES_MOST
+from trial.programs import SLOWER
 
 from .test_changes import InRoom, Room, meaning
 
 RECORDS = 100_000
 OWN = 2000
-SECONDS = 30.0
+SECONDS = 30.0 * SLOWER
 """For a busy machine; none takes more than a few on one that is not. What was quadratic took minutes."""
 
 

@@ -18,7 +18,7 @@ from pathlib import Path
 
 from leasekeep_draw.command import _parser as draw_parser
 from leasekeepd_lib.cli import _parser as daemon_parser
-from trial.programs import find_program
+from trial.programs import SLOWER, find_program
 
 TOP = Path(__file__).resolve().parents[2]
 MAN = TOP / "tools" / "man"
@@ -128,10 +128,10 @@ class Help(unittest.TestCase):
         if shell == "bash":
             script = (f"source {file}; COMP_WORDS=(\"$@\"); COMP_CWORD=$(($# - 1)); _leasekeepd 2>/dev/null;"
                       " printf '%s\\n' \"${COMPREPLY[@]}\"")
-            ran = subprocess.run(["bash", "-c", script, "_", *words], capture_output=True, text=True, timeout=60, cwd=self.folder)
+            ran = subprocess.run(["bash", "-c", script, "_", *words], capture_output=True, text=True, timeout=60 * SLOWER, cwd=self.folder)
         else:
             ran = subprocess.run(["fish", "--no-config", "-c", f"source {file}; complete -C '{' '.join(words)}'"], capture_output=True,
-                                 text=True, timeout=60, cwd=self.folder, env={**os.environ, "HOME": str(self.folder)})
+                                 text=True, timeout=60 * SLOWER, cwd=self.folder, env={**os.environ, "HOME": str(self.folder)})
         self.assertEqual(ran.stderr, "")
         return sorted(line.split("\t")[0] for line in ran.stdout.splitlines())
 
@@ -172,7 +172,7 @@ class Help(unittest.TestCase):
             os.close(terminal)
             os.waitpid(child, 0)
 
-    def read_until(self, terminal: int, wanted: str, seconds: float = 30.0) -> str:
+    def read_until(self, terminal: int, wanted: str, seconds: float = 30.0 * SLOWER) -> str:
         """What comes until that has come, or the time is up."""
         shown, end = "", time.monotonic() + seconds
         while wanted not in shown and time.monotonic() < end:

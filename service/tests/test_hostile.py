@@ -11,11 +11,12 @@ from pathlib import Path
 from typing import Callable, Iterator
 
 from leasekeep_inventory.broker import read_lease_lookup, read_token_lookup
-from leasekeep_inventory.discover import DiscoverFault, read_short_list
+from leasekeep_inventory.discover import DiscoverFault, read_list
 from leasekeep_inventory.http_client import MOST, Response, read_response
 from leasekeep_inventory.inventory_file import read_inventory
 from leasekeep_inventory.lint import lint
 from leasekeepd_lib.watch_lines import WatchLineFault, read_watch_line
+from trial.programs import SLOWER
 
 CASES = 1500
 DIGITS = b"9" * 5000
@@ -132,18 +133,16 @@ class Hostile(unittest.TestCase):
             began = time.process_time()
             (fault,) = read_inventory(("\n" + text % (part * 30_000)).encode()).faults
             self.assertEqual((fault.line, fault.problem), (2, "a key has hundreds of parts"))
-            self.assertLess(time.process_time() - began, 2.0)
+            self.assertLess(time.process_time() - began, 2.0 * SLOWER)
         secret = INVENTORY.replace(b"s.app", b"a." * 127 + b"a")
         self.assertEqual(read_inventory(secret).faults, [])
 
     def test_short_lists(self) -> None:
         with tempfile.TemporaryDirectory() as folder:
-            file = Path(folder) / "list"
             (Path(folder) / "id").write_text("db/1\n")
             for text in cases((SHORT, SHORT.partition(b"[[")[0]), 4):
-                file.write_bytes(text)
                 try:
-                    read_short_list(file)
+                    read_list(text, 0o600, Path(folder))
                 except DiscoverFault as fault:
                     self.assertNotIn("s.app", str(fault))
 

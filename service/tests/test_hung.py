@@ -53,7 +53,7 @@ class Hung(Scenario):
 
 class Silences(InStage):
     def noticed(self, inventory: Inventory, *said: str) -> float:
-        """Seconds until another process is started in the place of one that says so much and nothing more."""
+        """Seconds until another process is started instead of one that says so much and nothing more."""
         script: Script = [[(clock(1_000_000), [*said, None])], [(clock(0), [None])]]
 
         async def scene(stage: WatchStage) -> None:

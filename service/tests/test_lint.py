@@ -1,4 +1,4 @@
-"""`lint` and `inventory`."""
+"""`lint`."""
 
 from __future__ import annotations
 
@@ -12,21 +12,17 @@ import time
 import unittest
 from pathlib import Path
 
-from leasekeep_inventory.broker import Broker
 from leasekeep_inventory.dialect import SERVED, STRICT, Dialect
-from leasekeep_inventory.discover import DiscoverFault, discover, read_short_list
+from leasekeep_inventory.discover import read_list
 from leasekeep_inventory.inventory import Entry, Inventory, Kind, inventory_text
-from leasekeep_inventory.inventory_file import read_inventory
 from leasekeep_inventory.lint import lint
 from leasekeepd_journal.changes import only_entry
 from leasekeepd_journal.storage import Storage
 from leasekeepd_lib.source import Source
 from leasekeepd_lib.widest import widest_margin
-from trial.programs import find_program
+from trial.programs import SLOWER, find_program
 
 from .model.stage import fleet
-from .model.vault import Vault, VaultTransport
-from .model.world import World, simulate
 
 LEASEKEEPD = Path(__file__).resolve().parents[1] / "leasekeepd"
 NOW = 1_000_000.0
@@ -74,16 +70,17 @@ class Lint(unittest.TestCase):
             (old("1050000", "1764000000000", 1), 0o600, "are these milliseconds? write 1764000000"),
             (old("1050000", "33000000000", 1), 0o600, "f:7: doubt: app need: is past the year 3000; are these mill"),
             (old("increment = 900", "increment = 9000000", 1), 0o600, "f:6: doubt: app increment: is 9000000 s, over"),
-            (old("increment = 900", 'increment = "1h"', 1), 0o600,
-             "f:6: fault: app increment: is not a whole number of seconds, 0 to 4294967295; durations are whole seconds"
-             " without quotes: write 3600"),
+            (old("increment = 900", 'increment = "1 hour"', 1), 0o600,
+             'f:6: fault: app increment: is not a whole number of seconds, 0 to 4294967295, or a text such as "90m", "1h", "30d";'
+             ' did you mean "1h"?'),
+            (old("end = 1000900", 'end = "1h"', 1), 0o600, "write day, T, hours:minutes:seconds, and Z or an offset"),
             (old("increment = 900", 'increment = "900"', 1), 0o600, "write it without quotes"),
             (old("increment = 900", "increment = 900.0", 1), 0o600, "write 900"),
             (old("1050000", "1970-01-13T00:00:00Z", 1), 0o600, "a date has to be in quotes"),
             (old("1050000", '"1970-01-13 00:00:00Z"', 1), 0o600, "write day, T, hours:minutes:seconds, and Z or an offset"),
             (old('1050000\nlease_id', '0\nlease_id'), 0o600,
              "f:16: doubt: db need: is not set, here or under it; it is not renewed: add the moment until which"),
-            (old("increment = 900\n", "", 1), 0o600, "f:2: fault: app increment: is missing; add increment:"),
+            (old("increment = 900\n", "", 1), 0o600, "f:2: doubt: app increment: is not written: 3600 s are asked for"),
             (old('name = "app"', 'nam = "app"'), 0o600, "f:3: fault: token 1 nam: is not a key of this table"),
             (old('token = "app"', 'token = "nobody"'), 0o600, "f:12: fault: db token: names no token of this inventory"),
             (old('secret = "hvs.app-secret"\n', ""), 0o600, "f:2: fault: app secret: is missing; the entry's name would be sent to Vault as the credential"),
@@ -147,7 +144,7 @@ class Slips(unittest.TestCase):
             self.assertTrue(line.startswith(start), f"{line!r} does not begin with {start!r}")
 
     def test_a_bad_table_is_no_fault_of_those_under_it(self) -> None:
-        self.told(table("token", "top").replace("900\nneed", '"1h"\nneed') + table("token", "mid", 'parent = "top"')
+        self.told(table("token", "top").replace("900\nneed", '"1 h"\nneed') + table("token", "mid", 'parent = "top"')
                   + table("lease", "low", 'token = "mid"'), "f:6: fault: top increment: ")
 
     def test_entries_that_stand_under_each_other(self) -> None:
@@ -239,18 +236,18 @@ class Slips(unittest.TestCase):
     def test_what_is_allowed_is_said(self) -> None:
         good = table("token", "a")
         for text, expected in (
-            ("margin = 7200\n" + good, "f:1: fault: margin: is not 1 to 3600 seconds; write 3600 or less"),
-            ('margin = "2h"\n' + good, "durations are whole seconds without quotes: that is 7200, and 1 to 3600 are allowed"),
+            ("margin = 7200\n" + good, "f:1: fault: margin: is not 1 to 3600 seconds, or a text such as"
+             ' "90m", "1h", "30d"; write 3600 or less'),
+            ('margin = "2h"\n' + good, "that is 7200 s: write 3600 or less"),
             ("margin = 20\n" + good + 'renewable = "false"\n', "f:9: fault: a renewable: is not true or false; write false without"),
             ("margin = 20\n" + good.replace("= 1050000", "= -1"), "f:7: fault: a need: is not a whole number of seconds since 1970, or"
              ' a date such as "2026-11-22T09:00:00Z"; write 0 or more'),
             ("margin = 20\n" + good + "max_ttl = 5000000000\n", "f:9: fault: a max_ttl: is not a whole number of seconds, 0 to"
-             " 4294967295; write 4294967295 or less"),
+             ' 4294967295, or a text such as "90m", "1h", "30d"; write 4294967295 or less'),
             ("margin = 20\n" + good.replace("= 1050000", '= "2026-13-01T00:00:00Z"'), "months are 01 to 12, and this one is 13"),
             ("margin = 20\n" + good.replace("= 1050000", '= "2026-02-29T00:00:00Z"'), "days of 2026-02 are 01 to 28, and this one is 29"),
             ("margin = 20\n" + good.replace("= 1050000", '= "2026-02-28T24:00:00Z"'), "hours are 00 to 23, and this one is 24"),
-            ("margin = 20\n" + good + 'secret_file = "f"\n', "f:9: fault: a secret_file: is a key for leasekeepd alone; write secret, or make"
-             " the inventory with `leasekeepd inventory`"),
+            ("margin = 20\n" + good + 'secret_file = "f"\n', "f:9: fault: a secret_file: stands beside secret; write one of the two"),
             ("margin = 20\n" + good.replace('"a"', '"a b"'), "f:3: fault: token 1 name: is not 1 to 64 letters, digits, '-', '_', '.',"
              " '/'; its character 2 is a space"),
         ):
@@ -311,7 +308,7 @@ class Slips(unittest.TestCase):
         linted("".join(f"key{number} = 1\n" for number in range(60000)))
         linted("".join(table("token", f"t{number}", f'parent = "t{number + 1}"')[:-1] + "\n" for number in range(4000)))
         linted("".join(table("token", f"t{number}", f'parent = "nobody{number}"') for number in range(4000)))
-        self.assertLess(time.monotonic() - begun, 25)
+        self.assertLess(time.monotonic() - begun, 25 * SLOWER)
 
 
 class ByteOrderMark(unittest.TestCase):
@@ -336,9 +333,8 @@ class ByteOrderMark(unittest.TestCase):
         self.assertEqual(only_entry("\ufeff" + table("token", "a")).name, "a")
 
     def test_a_short_list(self) -> None:
-        file = self.folder / "short.toml"
-        file.write_text("\ufeff" + '[[token]]\nname = "a"\nsecret = "s.a"\n', "utf-8")
-        self.assertEqual([entry.name for entry in read_short_list(file).entries], ["a"])
+        data = ("\ufeff" + '[[token]]\nname = "a"\nsecret = "s.a"\n').encode()
+        self.assertEqual([entry.name for entry in read_list(data, 0o600, self.folder).inventory.entries], ["a"])
 
     def test_draw(self) -> None:
         file = self.folder / "inventory.toml"
@@ -362,74 +358,6 @@ class Words(unittest.TestCase):
                 self.assertEqual((ran.returncode, ran.stderr), (status, f"{file}: {said}\n"), ran.stdout)
 
 
-SHORT = """margin = 30
-[[token]]
-name = "app"
-secret_file = "app.secret"
-need = "1970-01-13T00:00:00Z"
-
-[[token]]
-name = "job"
-parent = "app"
-secret = "s.job"
-
-[[lease]]
-name = "db"
-token = "app"
-lease_id = "db/creds/1"
-increment = 600
-max_ttl = 86400
-need = 1050000
-"""
-
-
-class Discovered(unittest.TestCase):
-    def setUp(self) -> None:
-        self.folder = Path(tempfile.mkdtemp())
-        self.addCleanup(shutil.rmtree, self.folder, True)
-        (self.folder / "app.secret").write_text("hvs.app-secret\n")
-        self.list = self.folder / "short.toml"
-
-    def discovered(self, text: str, **real: dict[str, object]) -> str:
-        self.list.write_text(text)
-
-        async def go() -> str:
-            world = World()
-            vault = Vault(world)
-            whole = GOOD + '[[token]]\nname = "job"\nissued = 999000\nend = 1000900\nincrement = 9\nsecret = "s.job"\n'
-            inventory = read_inventory(whole.replace("margin = 20", "margin = 1").encode()).inventory
-            assert inventory is not None
-            vault.load(inventory, **real)
-            return await discover(Broker(VaultTransport(vault), 5.0), world.wall, read_short_list(self.list))
-        return simulate(go())
-
-    def test_a_short_list_becomes_an_inventory(self) -> None:
-        text = self.discovered(SHORT, app={"period": 1200, "explicit_max": 99_000})
-        inventory = read_inventory(text.encode()).inventory or Inventory()
-        app, job, db = inventory.entries
-        self.assertEqual((app.issued, app.end, app.period, app.explicit_max_ttl, app.secret, app.need),
-                         (999_000, 1_000_900, 1200, 99_000, "hvs.app-secret", 1_036_800))
-        self.assertEqual((job.parent, job.increment), (None, 900))
-        self.assertEqual((db.parent, db.increment, db.max_ttl, db.secret), ("app", 600, 86400, "db/creds/1"))
-        self.assertIn("# the broker says orphan: its parent app is left out", text)
-        self.assertIn("# max_ttl: no lookup tells it", text)
-
-    def test_faults(self) -> None:
-        for text, expected in (
-            (SHORT.replace("s.job", "s.nobody"), "job: its lookup: status 403"),
-            (SHORT.replace("app.secret", "none"), "token 1: secret_file: "),
-            (SHORT.replace('secret = "s.job"', ""), "token 2: a secret or secret_file is missing"),
-            (SHORT.replace("max_ttl", "max_tll"), "lease 1: max_tll is not a key of this table"),
-            (SHORT.replace("margin", "magrin"), "magrin is no key of a short list"),
-            ("=", "is not a TOML document"),
-        ):
-            with self.subTest(expected=expected):
-                with self.assertRaises(DiscoverFault) as caught:
-                    self.discovered(text)
-                self.assertIn(expected, str(caught.exception))
-                self.assertNotIn("hvs.app-secret", str(caught.exception))
-
-
 class Widest(unittest.TestCase):
     def told(self, margin: int, program: str) -> str:
         now = int(time.time())
@@ -439,7 +367,7 @@ class Widest(unittest.TestCase):
             file = Path(folder) / "inventory.toml"
             file.touch(0o600)
             file.write_text(inventory_text(Inventory(tuple(entries), margin)))
-            ran = subprocess.run([str(LEASEKEEPD), "lint", str(file)], capture_output=True, text=True, timeout=60,
+            ran = subprocess.run([str(LEASEKEEPD), "lint", str(file)], capture_output=True, text=True, timeout=60 * SLOWER,
                                  env={**os.environ, "PATH": f"{Path(program).parent}:{os.environ['PATH']}"})
             self.assertEqual((ran.returncode, ran.stderr), (0, f"{file}: 0 faults, 0 doubts\n"))
             return ran.stdout.replace(str(file), "f")

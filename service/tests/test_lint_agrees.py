@@ -13,21 +13,29 @@ from pathlib import Path
 from leasekeep_inventory.dialect import STRICT
 from leasekeep_inventory.findings import Finding, Severity
 from leasekeep_inventory.lint import lint
-from trial.programs import find_program
+from trial.programs import SLOWER, find_program
 
 CASES = int(os.environ.get("CASES", "100"))
 SEED = int(os.environ.get("SEED", "1"))
 NOW = 1500.0
 NAMES = "abcdefgh"
 KEYS = ("name", "parent", "issued", "end", "renewable", "increment", "period", "max_ttl", "explicit_max_ttl", "need", "secret", "token",
-        "lease_id", "nam", "secret_file", "margin")
+        "lease_id", "nam", "secret_file", "lease_id_file", "margin")
 VALUES = ('"a"', '"b"', '"c"', "1000", "2000", "0", "-1", "true", "false", '"true"', '"2026-11-22T09:00:00Z"', '"2026-13-01T00:00:00Z"',
           "2026-11-22T09:00:00Z", "1.5", "4294967295", "4294967296", "253402300799", "253402300800", "257697268094", "257697268095",
-          '"x y"', '""', "[]", "60", "61", "3", '"hvs.x"', '"é"', "{}", "{a=1}")
-
-
-RARE = ("increment = 0", "increment = 0\nperiod = 0", "period = 60", "period = 0")
-"""Steps that chance seldom writes, of a token."""
+          '"x y"', '""', "[]", "60", "61", "3", '"hvs.x"', '"é"', "{}", "{a=1}", '"always"', '"Always"', '"forever"',
+          '"\\u0001"', '"\\u007F"', '"\\u0080"', f'"{"é" * 2048}"', f'"{"é" * 2048}a"')
+DURATIONS = ("1h", "90m", "1h30m", "30m1h", "1h1h", "90", "1 hour", "1H", "1.5h", "-1h", "0s", "1s", "59s", "3601s", "49710d6h28m15s",
+             "49710d6h28m16s", "0000000099s", "00000000099s", "1d1h1m1s", "s", "", "1h ", "é")
+OF_SECONDS = ("system_max", "margin", "increment", "period", "max_ttl", "explicit_max_ttl")
+RARE = ("increment = 0", "increment = 0\nperiod = 0", "period = 60", "period = 0", 'period = "0s"', 'period = "1m"', "", 'need = "always"',
+        'secret_file = "f"', 'secret_file = "f"\nsecret = "s"', 'secret_file = ""\nsecret = ""', 'secret_file = "f"\nperiod = 60')
+"""Keys of a token that chance seldom writes together; each is tried with and without issue and end."""
+TERMS = 'name = "a", issued = 1000, end = 2000'
+WHOLE = (f"token = [{{{TERMS},}}]\n", f"token = [{{\n{TERMS}\n, # a\n}},\n]\n", f"token = [{{{TERMS},,}}]\n", f"token = [{{{TERMS}, need =\n1}}]\n",
+         f"token = {{{TERMS}}}\n", "token = [{}]\n", "lease = [\n]\n", '[[token]]\nname = "\\x61\\e"\n', '[[token]]\nname = "\\x6"\n',
+         f'token = [{{{TERMS}, secret = "\\x41\\u0042", }}]\n', "[[token]]\n" + TERMS.replace(", ", "\n").replace('"a"', '"\\x61"') + "\n")
+"""Documents of TOML 1.1, and what is nearly one."""
 
 
 def a_table(chance: random.Random, kind: str, name: str, tokens: str) -> str:
@@ -44,8 +52,13 @@ def a_table(chance: random.Random, kind: str, name: str, tokens: str) -> str:
         key = chance.choice(KEYS)
         if chance.random() < 0.3:
             values.pop(key, None)
+        elif key in OF_SECONDS and chance.random() < 0.5:
+            values[key] = f'"{chance.choice(DURATIONS)}"'
         else:
             values[key] = chance.choice(VALUES)
+    if chance.random() < 0.03:
+        values.pop("issued", None)
+        values.pop("end", None)
     head = kind if chance.random() < 0.97 else f"{kind}s"
     return f"[[{head}]]\n" + "".join(f"{key} = {value}\n" for key, value in values.items())
 
@@ -53,7 +66,8 @@ def a_table(chance: random.Random, kind: str, name: str, tokens: str) -> str:
 def an_inventory(chance: random.Random) -> str:
     text = "\ufeff" if chance.random() < 0.1 else ""
     if chance.random() < 0.5:
-        text += f"margin = {chance.choice((1, 20, 60, 99, 100, 3600, 3601, 0, -1))}\n"
+        numbers = (1, 20, 60, 99, 100, 3600, 3601, 0, -1)
+        text += f"margin = {chance.choice(numbers)}\n" if chance.random() < 0.8 else f'margin = "{chance.choice(DURATIONS)}"\n'
     if chance.random() < 0.1:
         text += f"{chance.choice(('system_max', 'system_max', 'sytem_max', 'foo'))} = {chance.choice((1, 0, 100, 4294967296))}\n"
     tokens = ""
@@ -80,11 +94,13 @@ class Agreement(unittest.TestCase):
         chance = random.Random(SEED)
         with tempfile.TemporaryDirectory() as folder:
             file = Path(folder) / "inventory.toml"
-            rare = [f'margin = 20\n[[token]]\nname = "a"\nissued = 1000\nend = 2000\n{keys}\n' for keys in RARE]
+            rare = [f'margin = 20\n[[token]]\nname = "a"\n{terms}{keys}\n' for keys in RARE
+                    for terms in ("issued = 1000\nend = 2000\n", "", "issued = 1000\n", "end = 2000\n", "issued = 0\nend = 0\n")]
+            rare += WHOLE
             for case in range(CASES):
                 text = rare[case] if case < len(rare) else an_inventory(chance)
                 file.write_text(text, "utf-8")
-                ran = subprocess.run([program, "ends", str(file), "0"], capture_output=True, text=True, timeout=120)
+                ran = subprocess.run([program, "ends", str(file), "0"], capture_output=True, text=True, timeout=120 * SLOWER)
                 found = [one for one in lint(text.encode(), 0o600, 1, NOW, True, STRICT)
                          if one.severity is Severity.FAULT and "under four times the time-out" not in one.problem]
                 said = [one.text("f") for one in found]

@@ -100,7 +100,7 @@ class Asked(unittest.TestCase):
         self.play(scene)
 
     def test_one_request_at_a_time(self) -> None:
-        """The lease is asked behind its token."""
+        """The lease is asked after its token."""
         async def scene(room: Room) -> None:
             room.launcher.set_width(1)
             self.assertEqual(await room.look_up("db"), Looked())
@@ -189,14 +189,14 @@ class Said(unittest.TestCase):
 
     def test_silence_and_words_that_are_none(self) -> None:
         for lines, said, took in (((), "leasekeep watch says nothing", 25.0), (("begin start",), "leasekeep watch says nothing", 25.0),
-                                  (("hello",), "leasekeep watch printed a line that is none of its own", 0.0),
+                                  (("hello",), "leasekeep watch printed an unknown line", 0.0),
                                   (("wait 5",), "leasekeep watch asks nothing", 0.0)):
             with self.subTest(lines=lines):
                 looked, process, seconds = self.look_up(APP, ALL, *lines)
                 self.assertEqual((looked, process.ended, seconds), (Looked(missing=said), 1, took))
 
     def test_a_lease_whose_token_waits_for_its_file(self) -> None:
-        """The token's name would be sent in the place of its secret."""
+        """The token's name would be sent instead of its secret."""
         waiting = ALL.mapped(lambda entry: replace(entry, credential=None, credential_file="f") if entry.name == "app" else entry)
         looked, process, _ = self.look_up(DB, waiting)
         self.assertEqual((looked, process.handed_in), (Looked(missing="app waits for its file"), []))

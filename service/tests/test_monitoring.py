@@ -17,6 +17,7 @@ from shutil import which
 from typing import Any
 
 from leasekeep_inventory.inventory import Entry, Kind
+from trial.programs import SLOWER
 
 from .test_process import SERVICE, Daemon, WithBroker
 from .test_status import EXPECTED
@@ -172,7 +173,7 @@ class InPrometheus(WithBroker):
                  "--web.listen-address=127.0.0.1:0"], stdout=output, stderr=output)
         self.addCleanup(process.wait)
         self.addCleanup(process.kill)
-        end = time.monotonic() + 30
+        end = time.monotonic() + 30 * SLOWER
         while not (listens := PORT_WORDS.search(log.read_text())):
             self.assertLess(time.monotonic(), end, log.read_text())
             time.sleep(0.1)
@@ -190,7 +191,7 @@ class InPrometheus(WithBroker):
         self.inventory = type(self.inventory)((*self.inventory.entries, gone), 12)
         daemon: Daemon = self.daemon("--metrics", str(metrics), environment={"WATCHDOG_USEC": "1500000"})
         daemon.wait_for("alert: gone nobody")
-        end = time.monotonic() + 40
+        end = time.monotonic() + 40 * SLOWER
         while not (fired := {(alert["labels"]["alertname"], alert["labels"].get("entry")) for alert in
                              self.asked("alerts")["alerts"] if alert["state"] == "firing"
                              if alert["labels"]["alertname"] != "LeasekeepdDown"}):

@@ -19,7 +19,7 @@ MANY = Inventory(tuple(replace(WEB, name=f"e{place}", credential=f"s.e{place}") 
 
 class Queue(InStage):
     def test_needs_of_one_name_are_one(self) -> None:
-        """The last, in the place of the first."""
+        """The last one instead of the first."""
         script: Script = [[(clock(1_000_000), ["look e0", "entry e0 1060", "clock"]), ("need e1 1301", ["planned", "clock"]),
                            ("need e0 1303", ["planned", "clock"]), (clock(1_000_000), ["wait 9000000"])]]
 

@@ -34,12 +34,12 @@ class Said(InRoom):
                 (["add", TABLE.replace("fresh", "other").replace("need = 1080000\n", "")], "other is kept from now on: it has no need"),
                 (["need", "fresh", "always"], "fresh is needed always"),
                 (["replace", "web", "s.web2"], "web has a new secret"),
-                (["drop", "fresh"], "fresh is kept no more"),
+                (["drop", "fresh"], "fresh is no longer kept"),
             ):
                 self.assertEqual(await service.command(words, WHO), [said])
             await room.world.until(BEGAN + 6)
             service.standings.hear(read_watch_line(f"end web {int((room.world.elapsed() + 500) * 1000)} yes"))
-            self.assertEqual(await service.command(["drop", "web"], WHO), ["web is kept no more, and ends at 1970-01-12T13:55:06Z"])
+            self.assertEqual(await service.command(["drop", "web"], WHO), ["web is no longer kept, and ends at 1970-01-12T13:55:06Z"])
             with self.assertRaises(ChangeFault):
                 await service.command(["drop", "web"], WHO)
         self.in_room(work)
@@ -175,10 +175,10 @@ class Words(unittest.TestCase):
 
     def test_a_number_that_is_none(self) -> None:
         for words, expected in (
-            (("lint", "f", "--timeout", "6s"), "argument --timeout: that is no number of seconds from 1 to 60, such as 5: 6s"),
-            (("serve", "f", "1", "--timeout", "0"), "argument --timeout: that is no number of seconds from 1 to 60, such as 5: 0"),
-            (("serve", "f", "1", "--width", "33"), "argument --width: that is no number of requests from 1 to 32, such as 5: 33"),
-            (("serve", "f", "1", "--spread", "-1"), "argument --spread: that is no number of seconds from 0 to 3600, such as 5: -1"),
+            (("lint", "f", "--timeout", "6s"), "argument --timeout: that is not a number of seconds from 1 to 60, such as 5: 6s"),
+            (("serve", "f", "1", "--timeout", "0"), "argument --timeout: that is not a number of seconds from 1 to 60, such as 5: 0"),
+            (("serve", "f", "1", "--width", "33"), "argument --width: that is not a number of requests from 1 to 32, such as 5: 33"),
+            (("serve", "f", "1", "--spread", "-1"), "argument --spread: that is not a number of seconds from 0 to 3600, such as 5: -1"),
             (("serve", "f", "8200x"), "argument PORT|SOCKET: that is neither a port from 1 to 65535 nor a path with a / in it: 8200x"),
         ):
             self.assertTrue(self.refused(*words).endswith(expected), self.refused(*words))

@@ -47,7 +47,7 @@ class Outlets(unittest.TestCase):
         while not data.endswith(ending):
             ready, _, _ = select.select((self.reader,), (), (), 10)
             if not ready:
-                raise AssertionError(f"no {ending!r} comes behind {data[-80:]!r}")
+                raise AssertionError(f"no {ending!r} comes after {data[-80:]!r}")
             data += os.read(self.reader, 1 << 20)
         return data
 
@@ -75,7 +75,7 @@ class Outlets(unittest.TestCase):
         outlet.finish(10)
         outlet.write("last\n")
         reading.join(10)
-        # The dropped ones are told in their place: behind what was taken, before what comes next.
+        # The dropped ones are told in their place: after what was taken, before what comes next.
         self.assertEqual(found[0][size:], (line * 1024 + "dropped 6\nlast\n").encode())
 
     def test_a_descriptor_that_another_made_not_to_block(self) -> None:

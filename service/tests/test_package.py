@@ -13,7 +13,7 @@ import tempfile
 import unittest
 from pathlib import Path
 
-from trial.programs import find_program
+from trial.programs import SLOWER, find_program
 
 TOP = Path(__file__).resolve().parents[2]
 VERSION = (TOP / "VERSION").read_text().strip()
@@ -43,10 +43,10 @@ class Package(unittest.TestCase):
         cls.addClassCleanup(shutil.rmtree, cls.folder, True)
         built = programs(cls.folder / "programs")
         said = subprocess.run([str(TOP / "scripts" / "package"), "--built", str(built), str(cls.folder / "out")], check=True,
-                              capture_output=True, text=True, timeout=600).stdout
+                              capture_output=True, text=True, timeout=600 * SLOWER).stdout
         cls.deb, cls.tar = (Path(line) for line in said.splitlines())
         cls.root = cls.folder / "root"
-        subprocess.run(["dpkg-deb", "-R", str(cls.deb), str(cls.root)], check=True, timeout=60)
+        subprocess.run(["dpkg-deb", "-R", str(cls.deb), str(cls.root)], check=True, timeout=60 * SLOWER)
 
     def test_what_is_in_it(self) -> None:
         for file, mode in (
@@ -86,17 +86,17 @@ class Package(unittest.TestCase):
 
     def test_its_fields(self) -> None:
         shown = subprocess.run(["dpkg-deb", "-f", str(self.deb), "Package", "Version", "Depends"], check=True, capture_output=True,
-                               text=True, timeout=60).stdout
+                               text=True, timeout=60 * SLOWER).stdout
         self.assertIn(f"Package: leasekeep\nVersion: {VERSION}\n", shown)
         self.assertIn("python3 (>= 3.11)", shown)
         self.assertIn("libc6", shown)
 
     def test_the_programs_run_from_where_they_are_unpacked(self) -> None:
         environment = {"PATH": os.environ["PATH"], "HOME": str(self.folder)}
-        subprocess.run(["tar", "-xzf", str(self.tar), "-C", str(self.folder)], check=True, timeout=60)
+        subprocess.run(["tar", "-xzf", str(self.tar), "-C", str(self.folder)], check=True, timeout=60 * SLOWER)
         for folder in (self.root / "usr/bin", self.folder / f"leasekeep-{VERSION}" / "bin"):
             for program in ("leasekeep", "minibroker", "leasekeepd", "leasekeep-draw"):
-                ran = subprocess.run([str(folder / program), "--version"], capture_output=True, text=True, timeout=60, env=environment)
+                ran = subprocess.run([str(folder / program), "--version"], capture_output=True, text=True, timeout=60 * SLOWER, env=environment)
                 self.assertEqual((ran.returncode, ran.stdout), (0, f"{program} {VERSION}\n"), ran.stderr)
 
     def test_the_archive_is_for_usr_local(self) -> None:
@@ -118,7 +118,7 @@ class Package(unittest.TestCase):
 
     def test_its_scripts_are_taken_by_the_shell(self) -> None:
         for script in ("postinst", "prerm", "postrm"):
-            checked = subprocess.run(["sh", "-n", str(self.root / "DEBIAN" / script)], capture_output=True, text=True, timeout=60)
+            checked = subprocess.run(["sh", "-n", str(self.root / "DEBIAN" / script)], capture_output=True, text=True, timeout=60 * SLOWER)
             self.assertEqual((checked.returncode, checked.stderr), (0, ""))
 
 

@@ -19,7 +19,7 @@ from leasekeep_inventory.http_client import (
 )
 from leasekeep_inventory.inventory import Entry, Inventory, Kind, inventory_text
 from leasekeep_inventory.inventory_file import read_inventory
-from leasekeep_inventory.rfc3339 import read_rfc3339
+from leasekeep_inventory.rfc3339 import At, read_rfc3339
 from leasekeepd_lib import events
 from leasekeepd_lib.child import ChildExit, LaunchFault, start_child
 from leasekeepd_lib.events import Alerts, Level, LineForm, Log
@@ -45,7 +45,7 @@ class FixedClock:
 class Events(unittest.TestCase):
     def test_forms(self) -> None:
         for as_json, expected in (
-            (False, "1970-01-01T00:16:40Z told web 60\n1970-01-01T00:16:40Z warning: short web 1060\n"),
+            (False, "1970-01-01T00:16:40Z told web 60\n1970-01-01T00:16:40Z warning: short web 1970-01-01T00:17:40Z\n"),
             (True, '{"moment": "1970-01-01T00:16:40Z", "level": "info", "event": "told", "words": ["web", "60"]}\n'
                    '{"moment": "1970-01-01T00:16:40Z", "level": "warning", "event": "short", "words": ["web", "1060"]}'
                    "\n"),
@@ -53,7 +53,7 @@ class Events(unittest.TestCase):
             stream = io.StringIO()
             log = Log(LineForm(FixedClock(), as_json), stream)
             log.info("told", "web", 60)
-            log.warn("short", "web", 1060)
+            log.warn("short", "web", At(1060))
             self.assertEqual(stream.getvalue(), expected)
             stream.truncate(0)
             stream.seek(0)

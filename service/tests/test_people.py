@@ -7,9 +7,7 @@ import tempfile
 import unittest
 from pathlib import Path
 
-from leasekeep_inventory.broker import Broker
 from leasekeep_inventory.dialect import SERVED, STRICT, Dialect
-from leasekeep_inventory.discover import DiscoverFault, discover, read_short_list
 from leasekeep_inventory.durations import duration_text, meant_duration, read_duration
 from leasekeep_inventory.inventory import ALWAYS, Inventory, inventory_text
 from leasekeep_inventory.inventory_file import read_inventory
@@ -17,9 +15,6 @@ from leasekeep_inventory.lint import lint
 from leasekeepd_journal.changes import only_entry
 from leasekeepd_journal.storage import Storage
 from leasekeepd_lib.source import Source, SourceFault
-
-from .model.vault import Vault, VaultTransport
-from .model.world import World, simulate
 
 NOW = 1_000_000.0
 SHORT = """margin = "1m"
@@ -115,9 +110,20 @@ class Read(unittest.TestCase):
         self.assertEqual(inventory_of(SHORT.replace('margin = "1m"\n', "")).margin, 60)
         self.assertEqual(read_inventory(b"").margin, 1)
 
-    def test_leasekeep_reads_none_of_it(self) -> None:
+    def test_issue_and_end_are_both_written_or_neither(self) -> None:
+        for written, missing in (("issued = 1000", "end"), ("end = 2000", "issued"), ('end = "x"', "issued")):
+            faults = read_inventory(SHORT.replace('max_ttl = "30d"', written).encode(), SERVED).faults
+            self.assertEqual([fault.key for fault in faults if fault.problem == "is missing"], [missing])
+            self.assertEqual({fault.line for fault in faults}, {2, 4} if '"x"' in written else {2})
+        self.assertEqual(inventory_of(SHORT.replace('max_ttl = "30d"', "issued = 1000\nend = 2000")).entries[0].end, 2000)
+
+    def test_leasekeep_plans_for_nothing_that_is_left_open(self) -> None:
         keys = [fault.key for fault in read_inventory(SHORT.encode()).faults]
-        self.assertEqual(keys, ["margin", "issued", "end", "increment", "max_ttl", "need", "issued", "end", "increment", "max_ttl"])
+        self.assertEqual(keys, ["issued", "end", "need", "issued", "end"])
+        text = SHORT.replace("[[token]]", "[[token]]\nissued = 1\nend = 2").replace("[[lease]]", "[[lease]]\nissued = 1\nend = 2")
+        reading = read_inventory(text.replace('"always"', "3").replace('secret = "', 'secret_file = "').encode())
+        assert reading.inventory is not None
+        self.assertEqual([(entry.increment, entry.max_ttl) for entry in reading.inventory.entries], [(3600, 2592000), (5400, 86400)])
 
     def test_what_leasekeep_is_handed_is_strict(self) -> None:
         reading = read_inventory(inventory_text(inventory_of(SHORT)).encode(), STRICT)
@@ -183,62 +189,15 @@ class Lint(unittest.TestCase):
 
     def test_strictly(self) -> None:
         faults = [line for line in linted(SHORT, STRICT) if ": fault: " in line]
-        self.assertIn("f:4: fault: app max_ttl: is not a whole number of seconds, 0 to 4294967295; durations are whole seconds without"
-                      " quotes: write 2592000", faults)
+        self.assertNotIn("max_ttl", "\n".join(faults))
         self.assertIn('f:5: fault: app need: is not a whole number of seconds since 1970, or a date such as "2026-11-22T09:00:00Z";'
-                      " leasekeepd alone knows that word: write a moment", faults)
+                      " leasekeepd alone knows such a need: write a moment", faults)
+        self.assertIn('; a need is a moment: write a date', "\n".join(linted(SHORT.replace("always", "30d"), STRICT)))
         self.assertIn("f:2: fault: app issued: is missing; add issued: a whole number of seconds since 1970, or a date such as"
                       ' "2026-11-22T09:00:00Z"', faults)
 
 
-class Strict(unittest.TestCase):
-    """`leasekeepd inventory` writes what `leasekeep` reads."""
-
-    def discovered(self, text: str, **real: dict[str, object]) -> str:
-        folder = Path(tempfile.mkdtemp())
-        self.addCleanup(shutil.rmtree, folder, True)
-        file = folder / "short.toml"
-        file.write_text(text)
-
-        async def go() -> str:
-            world = World()
-            vault = Vault(world)
-            vault.load(inventory_of(SHORT.replace("[[lease]]", "[[lease]]\nissued = 999000\nend = 1000900")
-                                    .replace("[[token]]", "[[token]]\nissued = 999000\nend = 1000900")), **real)
-            return await discover(Broker(VaultTransport(vault), 5.0), world.wall, read_short_list(file))
-        return simulate(go())
-
-    def test_it_is_strict(self) -> None:
-        inventory = read_inventory(self.discovered(SHORT).encode(), STRICT).inventory
-        assert inventory is not None
-        app, db = inventory.entries
-        self.assertEqual((inventory.margin, app.issued, app.end, app.max_ttl), (60, 999_000, 1_000_900, 2592000))
-        self.assertEqual((db.increment, db.max_ttl, db.need), (5400, 86400, 1796083200))
-
-    def test_always_is_the_ceiling_the_end_or_a_year(self) -> None:
-        need = '"2026-12-01T00:00:00Z"'
-        cases: tuple[tuple[str, dict[str, dict[str, object]], tuple[int, int]], ...] = (
-            (SHORT, {}, (999_000 + 2592000, 1796083200)),
-            (SHORT.replace(need, '"always"'), {}, (999_000 + 2592000, 999_000 + 86400)),
-            (SHORT, {"app": {"period": 3600}}, (1_000_000 + 365 * 86400, 1796083200)),
-            (SHORT, {"app": {"period": 3600, "explicit_max": 50_000}}, (1_049_000, 1796083200)),
-            (SHORT, {"app": {"renewable": False}}, (1_000_900, 1796083200)),
-            (SHORT.replace(need, '"always"'), {"app": {"renewable": False}}, (1_000_900, 1_000_900)))
-        for text, real, expected in cases:
-            with self.subTest(real=real):
-                found = self.discovered(text, **real)
-                inventory = read_inventory(found.encode(), STRICT).inventory
-                assert inventory is not None, found
-                self.assertEqual(tuple(entry.need for entry in inventory.entries), expected)
-                self.assertIn("# need: always; this is its ceiling, or a year from now\n", found)
-
-    def test_faults_say_how_to_mend_them(self) -> None:
-        for slip, expected in ((('"1m"', '"1 minute"'), 'margin is not 1 to 3600 seconds, or a text such as "90m", "1h", "30d"; did you'
-                                                        ' mean "1m"?'),
-                               (("always", "forever"), 'token 1: need is not .*; did you mean "always"?')):
-            with self.assertRaisesRegex(DiscoverFault, expected):
-                self.discovered(SHORT.replace(*slip))
-
+class Words(unittest.TestCase):
     def test_the_word_is_one_number(self) -> None:
         self.assertEqual(ALWAYS, 253402300799)
 

@@ -15,7 +15,7 @@ from pathlib import Path
 from typing import cast
 
 from leasekeep_inventory.inventory import Entry, Inventory, Kind, inventory_text
-from trial.programs import find_program
+from trial.programs import SLOWER, find_program
 
 from .model.server import RealWorld, VaultServer
 from .model.vault import Vault
@@ -24,7 +24,7 @@ from .model.world import World
 PLANNED = " next "
 """The next wake-up is told."""
 
-BUSY = 1.0
+BUSY = 1.0 * SLOWER
 """Seconds that a busy machine may add."""
 
 SERVICE = Path(__file__).resolve().parents[1]
@@ -55,7 +55,7 @@ class Daemon:
     def text(self) -> str:
         return (self.folder / "log").read_text()
 
-    def wait_for(self, words: str, seconds: float = 40.0, times: int = 1) -> None:
+    def wait_for(self, words: str, seconds: float = 40.0 * SLOWER, times: int = 1) -> None:
         end = time.monotonic() + seconds
         while len(re.findall(words, self.text())) < times:
             if time.monotonic() > end or self.process.poll() is not None:
@@ -64,16 +64,16 @@ class Daemon:
 
     def command(self, *words: str, given: str = "") -> subprocess.CompletedProcess[str]:
         return subprocess.run([str(SERVICE / "leasekeepd"), words[0], "--runtime", str(self.folder / "run"),
-                               *words[1:]], input=given, capture_output=True, text=True, timeout=20)
+                               *words[1:]], input=given, capture_output=True, text=True, timeout=20 * SLOWER)
 
     def terminate(self) -> int:
         self.process.terminate()
-        return self.process.wait(15)
+        return self.process.wait(15 * SLOWER)
 
     def kill(self) -> None:
         """Ends it as a crash would."""
         self.process.kill()
-        self.process.wait(15)
+        self.process.wait(15 * SLOWER)
         self.log.close()
 
 
@@ -151,7 +151,7 @@ class Process(WithBroker):
         daemon.wait_for("file was read anew")
         daemon.wait_for("begin start", times=2)
         second = self.daemon()
-        self.assertEqual(second.process.wait(15), 1)
+        self.assertEqual(second.process.wait(15 * SLOWER), 1)
         self.assertIn("another leasekeepd serves with this folder", daemon.text())
         began = time.monotonic()
         self.assertEqual(daemon.terminate(), 0)
@@ -178,7 +178,7 @@ class Process(WithBroker):
         path.write_text(inventory_text(refused))
         path.chmod(0o644)
         daemon = self.daemon()
-        self.assertEqual(daemon.process.wait(15), 1)
+        self.assertEqual(daemon.process.wait(15 * SLOWER), 1)
         self.assertIn("others may read or write this file (mode 0644)", daemon.text())
         self.assertIn("is 3 s, under four times the time-out of 1 s", daemon.text())
 

@@ -1,4 +1,4 @@
-"""Random scenarios: faults within the margin, one behind the other. Nothing that is needed may be lost.
+"""Random scenarios: faults within the margin, one after the other. Nothing that is needed may be lost.
 
 SCENARIOS=N python3 -m unittest tests.test_random_scenarios tries N of them; FIRST=S begins at seed S.
 """
@@ -33,7 +33,7 @@ class Plot:
 
     def bearable(self, latency: float) -> float:
         """The longest outage, kill or suspension that is to be survived by the formula of docs/watch.md, less a second:
-        everything is looked up behind a kill, eight at a time."""
+        everything is looked up after a kill, eight at a time."""
         rounds = 2 * math.ceil(len(self.inventory.entries) / 8) * latency
         pause = max(1.0, min(30.0, rounds / 15))
         return self.margin - (TIMEOUT + 0.14) - 2 * latency - rounds - pause - 1.0
@@ -137,7 +137,7 @@ async def act_out(seed: int) -> tuple[Stage, list[str]]:
 
 
 def too_soon(stage: Stage) -> list[tuple[str, float]]:
-    """The requests less than a second behind another one of the same entry, but for a renewal right behind its own lookup. (A new
+    """The requests less than a second after another one of the same entry, but for a renewal right after its own lookup. (A new
     process knows of no request that another made.)"""
     last: dict[str, tuple[float, str]] = {}
     found = []

@@ -80,7 +80,7 @@ class Read(InFolder):
                 read_secret(self.folder / "app.token")
             self.assertEqual(str(caught.exception), "holds no secret of 1 to 256 printable ASCII characters")
         os.mkfifo(self.folder / "pipe")
-        for name, why in (("none", "cannot be read: No such file or directory"), ("pipe", "is no file"), (".", "is no file"),
+        for name, why in (("none", "cannot be read: No such file or directory"), ("pipe", "is not a regular file"), (".", "is not a regular file"),
                           ("a\0b", "cannot be read: no such name")):
             with self.subTest(name), self.assertRaisesRegex(SecretFault, why):
                 read_secret(self.folder / name)
@@ -202,7 +202,9 @@ class InTheInventory(InFolder):
             (LIST.replace("secret_file", "secretfile"), "f:6: fault: app secretfile: is not a key of this table; did you mean secret_file?"),
             (LIST.replace("secret_file", "lease_id_file"), "f:6: fault: app lease_id_file: is not a key of this table; did you mean"
              " secret_file?"),
-            (LIST.replace('secret = "hvs.job"', 'secret_file = "app.token"'), "f:11: fault: job secret_file: occurs twice: line 6 (app) has it too"),
+            (LIST.replace('"app.token"', f'"{"é" * 2049}"'), "f:6: fault: app secret_file: is not the path of a file; it has 4098 bytes:"
+             " write 4096 or less"),
+            (LIST.replace("hvs.job", "app"), "f:11: fault: job secret: occurs twice: line 3 (app) has it too"),
         ):
             with self.subTest(expected):
                 found = [finding.text("f") for finding in lint(text.encode(), 0o600, 5, 1000.0)]
@@ -210,13 +212,24 @@ class InTheInventory(InFolder):
                 self.assertEqual(len(faults), 1, faults)
                 self.assertTrue(faults[0].startswith(expected), faults)
 
+    def test_a_path_of_as_many_bytes_as_there_may_be(self) -> None:
+        entry = self.inventory(LIST.replace('"app.token"', f'"{"é" * 2048}"')).find("app")
+        self.assertEqual(entry and entry.credential_file, "é" * 2048)
+
+    def test_two_that_name_one_file_are_doubted(self) -> None:
+        """`leasekeep` opens no file: so it is no fault."""
+        found = [finding.text("f") for finding in lint(LIST.replace('secret = "hvs.job"', 'secret_file = "app.token"').encode(), 0o600, 5, 1000.0)]
+        self.assertIn("f:11: doubt: job secret_file: is that of line 6 (app) too; it is not kept: write each entry once, and one file for"
+                      " each", found)
+        self.assertNotIn(": fault: ", "\n".join(found))
+
     def test_doubts(self) -> None:
         self.write("app.token", "hvs.app")
         (self.folder / "app.token").chmod(0o644)
         found = [finding.text("f") for finding in lint(LIST.encode(), 0o600, 5, 1000.0, folder=self.folder)]
         self.assertIn("f:6: doubt: app secret_file: may be read or written by others; chmod o-rwx the file: it holds a secret", found)
-        self.assertIn("f:18: doubt: db lease_id_file: cannot be read: No such file or directory; it is not kept, nor what is under it,"
-                      " until the file holds its secret", found)
+        self.assertIn("f:18: doubt: db lease_id_file: cannot be read: No such file or directory; neither it nor what is under it is"
+                      " kept until the file holds its secret", found)
         self.assertNotIn("hvs.app", "\n".join(found))
 
 

@@ -56,7 +56,7 @@ secret = "s.web"
 
 
 class Talking:
-    """In the place of `leasekeep watch`: waits by ten seconds, and says what the test wants said."""
+    """Stands for `leasekeep watch`: waits by ten seconds, and says what the test wants said."""
 
     def __init__(self, says: list[str]) -> None:
         self._says = says
@@ -194,7 +194,7 @@ class Served(unittest.TestCase):
                 self.assertEqual(len(room.launcher.inventories) - begun, 1)
                 serving.cancel()
                 await asyncio.gather(serving, return_exceptions=True)
-            self.assertEqual(room.said("start"), ["start waits for 17 s: nothing comes to its time by then"])
+            self.assertEqual(room.said("start"), ["start waits for 17 s: no entry is due before then"])
         self.play(scene, part=17)
 
     def test_the_day_s_lookups_come_by_its_part_earlier_where_nothing_is_due(self) -> None:
@@ -251,12 +251,12 @@ class Served(unittest.TestCase):
             room.launcher.says += [f"entry app {int(room.world.wall() + 8e4)}", f"end app {int((room.world.elapsed() + 8e4) * 1000)} yes", f"short app {reach}",
                                    f"short web {reach}"]
             await room.after(30)
-            self.assertEqual(room.said("short"), ["warning: short web 1087000"])
+            self.assertEqual(room.said("short"), ["warning: short web 1970-01-13T13:56:40Z"])
             self.assertNotIn("app short", "\n".join(await room.service.command(["status"], WHO)))
             await room.after(540)
             self.assertEqual(len(room.said("short")), 1)
             await room.after(60)
-            self.assertEqual(room.said("short"), ["warning: short web 1087000", "warning: short app 1087000"])
+            self.assertEqual(room.said("short"), ["warning: short web 1970-01-13T13:56:40Z", "warning: short app 1970-01-13T13:56:40Z"])
             self.assertIn("app short", "\n".join(await room.service.command(["status"], WHO)))
         self.play(scene)
 
@@ -267,7 +267,7 @@ class Served(unittest.TestCase):
             await room.after(30)
             self.assertEqual(room.said("short"), [])
             await room.service.command(["need", "app", str(reach + 1)], WHO)
-            self.assertEqual(room.said("short"), [f"warning: short app {reach}"])
+            self.assertEqual(room.said("short"), ["warning: short app 1970-01-17T13:46:40Z"])
             await room.service.command(["need", "web", "always"], WHO)
             room.launcher.says += [f"short web {reach}"]
             await room.after(30)

@@ -13,6 +13,7 @@ from unittest import mock
 from leasekeepd_lib.aside import LaterFile, aside
 from leasekeepd_lib.known_ends import KnownEnds
 from leasekeepd_lib.service import Service
+from trial.programs import SLOWER
 
 from .model.stage import Stage, fleet
 from .model.stalling import StallingStorage
@@ -185,7 +186,7 @@ class Aside(unittest.TestCase):
             stuck.cancel()
         began = time.monotonic()
         asyncio.run(go())
-        self.assertLess(time.monotonic() - began, 10)
+        self.assertLess(time.monotonic() - began, 10 * SLOWER)
 
     def test_where_no_thread_can_be_started(self) -> None:
         async def go() -> None:

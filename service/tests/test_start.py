@@ -21,6 +21,7 @@ from leasekeepd_lib.events import LineForm, Log
 from leasekeepd_lib.outlet import Outlet
 from leasekeepd_lib.service import Service
 from leasekeepd_lib.serving import _Serving
+from trial.programs import SLOWER
 
 from .test_process import BUSY, PLANNED, SERVICE, WithBroker, write_inventory
 
@@ -42,7 +43,7 @@ class Started(WithBroker):
     def renewals(self) -> int:
         return self.server.vault.count("renew")
 
-    def wait_for_renewals(self, more: int, seconds: float = 40.0) -> None:
+    def wait_for_renewals(self, more: int, seconds: float = 40.0 * SLOWER) -> None:
         """Waits until the broker has granted so many more."""
         wanted, end = self.renewals() + more, time.monotonic() + seconds
         while self.renewals() < wanted:
@@ -75,7 +76,7 @@ class Started(WithBroker):
         return str(path), self.folder / "alert.log"
 
     def wait_for_file(self, path: Path, words: str) -> None:
-        end = time.monotonic() + 40
+        end = time.monotonic() + 40 * SLOWER
         while not path.exists() or words not in path.read_text():
             self.assertLess(time.monotonic(), end, f"no {words!r} in {path.read_text() if path.exists() else path}")
             time.sleep(0.05)
@@ -105,7 +106,7 @@ class Output(Started):
         self.wait_for_renewals(1)
         began = time.monotonic()
         process.terminate()
-        self.assertEqual(process.wait(15), 0)
+        self.assertEqual(process.wait(15 * SLOWER), 0)
         self.assertLess(time.monotonic() - began, 1.0 + 2 * BUSY)
 
     def test_what_was_dropped_is_told_to_a_reader_that_comes_back(self) -> None:
@@ -136,7 +137,7 @@ class Output(Started):
         # (Else what is opened next would be written to as the log.)
         self.assertEqual([os.readlink(f"/proc/{process.pid}/fd/{number}") for number in range(3)], ["/dev/null"] * 3)
         status = subprocess.run([str(SERVICE / "leasekeepd"), "status", "--runtime", str(self.folder / "run")],
-                                capture_output=True, text=True, timeout=20)
+                                capture_output=True, text=True, timeout=20 * SLOWER)
         self.assertIn("app kept end ", status.stdout)
         for name in ("state/lock", "run/lock"):
             self.assertEqual((self.folder / name).read_bytes(), b"")
@@ -179,7 +180,7 @@ class Missing(Started):
         daemon = self.daemon()
         daemon.wait_for(PLANNED)
         second = self.started(self.words("--state", str(self.folder / "other")), stdout=subprocess.PIPE)
-        said, _ = second.communicate(timeout=20)
+        said, _ = second.communicate(timeout=20 * SLOWER)
         self.assertIn(f"alert: start {self.folder}/run: another leasekeepd serves with this folder\n", said.decode())
         self.assertEqual(second.returncode, 1)
         self.assertEqual(daemon.command("status").returncode, 0)
@@ -194,7 +195,7 @@ class Missing(Started):
         self.file.write_text("margin = x\n")
         self.file.chmod(0o600)
         daemon = self.daemon("--alert", program)
-        self.assertEqual(daemon.process.wait(15), 1)
+        self.assertEqual(daemon.process.wait(15 * SLOWER), 1)
         self.assertIn(f"file {self.file}:1: fault: ", alerted.read_text())
         self.assertIn("start there is no good copy of the file: nothing is served\n", alerted.read_text())
         alerted.unlink()
@@ -211,10 +212,10 @@ class Missing(Started):
         return text
 
     def test_what_the_command_line_names_must_be_there(self) -> None:
-        for words, said in ((("--alert", "/nowhere/alert"), "argument --alert: no program can be run there: /nowhere/alert"),
-                            (("--alert", str(self.folder)), "argument --alert: no program can be run there"),
+        for words, said in ((("--alert", "/nowhere/alert"), "argument --alert: that is not a program that can be run: /nowhere/alert"),
+                            (("--alert", str(self.folder)), "argument --alert: that is not a program that can be run"),
                             (("--group", "no such group"), "argument --group: no group is named no such group")):
-            refused = subprocess.run(self.words(*words), capture_output=True, text=True, timeout=20)
+            refused = subprocess.run(self.words(*words), capture_output=True, text=True, timeout=20 * SLOWER)
             self.assertEqual(refused.returncode, 2)
             self.assertIn(said, refused.stderr)
 
@@ -240,17 +241,17 @@ class Early(Started):
             self.wait_for_file(log, "file was read anew")
             self.wait_for_renewals(1)
             process.terminate()
-            self.assertEqual(process.wait(15), 0)
+            self.assertEqual(process.wait(15 * SLOWER), 0)
             process = self.starting(output.fileno())
             process.terminate()
-            self.assertEqual(process.wait(15), 0)
+            self.assertEqual(process.wait(15 * SLOWER), 0)
 
     def test_who_changed_what_is_told(self) -> None:
         daemon = self.daemon()
         daemon.wait_for(PLANNED)
         client = subprocess.Popen([str(SERVICE / "leasekeepd"), "need", "--runtime", str(self.folder / "run"), "db", "+1h"],
                                   stdout=subprocess.DEVNULL)
-        self.assertEqual(client.wait(20), 0)
+        self.assertEqual(client.wait(20 * SLOWER), 0)
         daemon.wait_for(rf" need db \S+Z by uid {os.getuid()} pid {client.pid}\n")
 
 

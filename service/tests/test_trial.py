@@ -11,12 +11,12 @@ import unittest
 from pathlib import Path
 
 from leasekeep_inventory.http_client import Address, HttpTransport, Request, TransportFault
-from trial.programs import find_program
+from trial.programs import SLOWER, find_program
 from trial.proxy import Proxy, make_authority, make_certificate
 from trial.relay import Relay
 from trial.stage import Trial, short_leases
 
-LONGEST = 30.0
+LONGEST = 30.0 * SLOWER
 SCRIPTS = Path(__file__).resolve().parent
 
 

@@ -10,6 +10,8 @@ import tempfile
 import unittest
 from pathlib import Path
 
+from trial.programs import SLOWER
+
 TOP = Path(__file__).resolve().parents[2]
 UNIT = TOP / "service" / "leasekeep.service"
 SYSUSERS = TOP / "service" / "leasekeep.sysusers"
@@ -27,7 +29,7 @@ class Unit(unittest.TestCase):
         unit.write_text(UNIT.read_text().replace("ExecStart=/usr/local/bin/leasekeepd",
                                                  f"ExecStart={TOP}/service/leasekeepd"))
         said = subprocess.run(["systemd-analyze", "verify", "--man=no", str(unit)], capture_output=True, text=True,
-                              timeout=60)
+                              timeout=60 * SLOWER)
         about_it = [line for line in (said.stdout + said.stderr).splitlines() if "leasekeep" in line]
         self.assertEqual((said.returncode, about_it), (0, []))
 
@@ -48,7 +50,7 @@ class Unit(unittest.TestCase):
     def test_how_exposed_it_is(self) -> None:
         """At most 1.5 of 10, as systemd counts (before: 1.7)."""
         said = subprocess.run(["systemd-analyze", "security", "--offline=true", "--threshold=15", str(UNIT)], capture_output=True,
-                              text=True, timeout=60)
+                              text=True, timeout=60 * SLOWER)
         self.assertEqual(said.returncode, 0, said.stdout[-300:])
 
     def test_its_user_and_folders_are_made(self) -> None:
@@ -65,7 +67,7 @@ class Unit(unittest.TestCase):
 def install(folder: Path, *words: str) -> str:
     """What install says, its files below the folder."""
     environment = {**os.environ, "DESTDIR": str(folder), "HOME": "/home/nobody"}
-    return subprocess.run([str(TOP / "scripts" / "install"), *words], check=True, capture_output=True, text=True, timeout=300,
+    return subprocess.run([str(TOP / "scripts" / "install"), *words], check=True, capture_output=True, text=True, timeout=300 * SLOWER,
                           env=environment).stdout
 
 
@@ -95,7 +97,7 @@ class Installed(unittest.TestCase):
     @unittest.skipIf(shutil.which("systemd-sysusers") is None or os.getuid() != 0, "systemd or root is missing")
     def test_systemd_makes_user_and_folders(self) -> None:
         for program, words in (("systemd-sysusers", ()), ("systemd-tmpfiles", ("--create",))):
-            made = subprocess.run([program, f"--root={self.folder}", *words, "leasekeep.conf"], capture_output=True, text=True, timeout=60)
+            made = subprocess.run([program, f"--root={self.folder}", *words, "leasekeep.conf"], capture_output=True, text=True, timeout=60 * SLOWER)
             self.assertEqual(made.returncode, 0, made.stderr)
         users = [line.split(":") for line in (self.folder / "etc/passwd").read_text().splitlines()]
         number, group = next((int(user[2]), int(user[3])) for user in users if user[0] == "leasekeep")
@@ -106,19 +108,19 @@ class Installed(unittest.TestCase):
 
     def test_the_program(self) -> None:
         program = str(self.local / "bin" / "leasekeepd")
-        helped = subprocess.run([program, "serve", "--help"], capture_output=True, text=True, timeout=60)
+        helped = subprocess.run([program, "serve", "--help"], capture_output=True, text=True, timeout=60 * SLOWER)
         self.assertEqual(helped.returncode, 0, helped.stderr)
         self.assertIn("FILE PORT|SOCKET", helped.stdout)
-        said = subprocess.run([program, "--version"], capture_output=True, text=True, timeout=60)
+        said = subprocess.run([program, "--version"], capture_output=True, text=True, timeout=60 * SLOWER)
         self.assertEqual(said.stdout, f"leasekeepd {(TOP / 'VERSION').read_text()}")
         with tempfile.TemporaryDirectory() as room:
             file = Path(room) / "inventory.toml"
             file.touch(0o600)
             file.write_text("margin = 1\n")
-            linted = subprocess.run([program, "lint", str(file)], capture_output=True, text=True, timeout=60)
+            linted = subprocess.run([program, "lint", str(file)], capture_output=True, text=True, timeout=60 * SLOWER)
             self.assertEqual(linted.returncode, 1)
             self.assertIn("there are no entries", linted.stdout)
-            nobody = subprocess.run([program, "status", "--runtime", room], capture_output=True, text=True, timeout=60)
+            nobody = subprocess.run([program, "status", "--runtime", room], capture_output=True, text=True, timeout=60 * SLOWER)
             self.assertEqual(nobody.stderr, f"leasekeepd: status: {room}/control.sock: No such file or directory; no leasekeepd "
                                             "serves there (--runtime FOLDER names another place)\n")
             self.assertEqual(nobody.returncode, 1)
@@ -135,7 +137,7 @@ class Installed(unittest.TestCase):
             copy = Path(room) / "copy"
             shutil.copytree(self.folder, copy, symlinks=True)
             (copy / "usr/local/bin/mine").write_text("")
-            subprocess.run([str(TOP / "scripts" / "uninstall"), "/usr/local"], check=True, capture_output=True, timeout=60,
+            subprocess.run([str(TOP / "scripts" / "uninstall"), "/usr/local"], check=True, capture_output=True, timeout=60 * SLOWER,
                            env={**os.environ, "DESTDIR": str(copy)})
             left = [str(file.relative_to(copy)) for file in (copy / "usr").rglob("*") if not file.is_dir()]
             self.assertEqual(left, ["usr/local/bin/mine"])

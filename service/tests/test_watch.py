@@ -47,7 +47,7 @@ def clock(wall: int, elapsed: int | None = None) -> str:
 
 class Clocks(InStage):
     def test_the_worked_example(self) -> None:
-        """Both clocks are handed in at once behind `clock`, and at its moment behind `wait`."""
+        """Both clocks are handed in at once after `clock`, and at its moment after `wait`."""
         script: Script = [[
             (clock(1_000_000), ["begin start", "look web", "entry web 1060", "end web 1060000 yes", "clock"]),
             (clock(1_000_000), ["next 1059 web", "wait 1001000"]), (clock(1_001_000), ["wait 1059000"]),
@@ -236,8 +236,8 @@ class Endings(InStage):
         """The first takes over at once, those that follow it quickly by pauses; a good stretch forgets them. (With that margin, a
         sixteenth of what is left is half a minute.)"""
         endings: tuple[tuple[list[Any], str], ...] = (
-            ([6], "leasekeep watch ended"), (["hello"], "a line that is none of its own"),
-            (["fault clock-back"], "none of its own"), (["end db 5 yes"], "an entry that it was not given"))
+            ([6], "leasekeep watch ended"), (["hello"], "an unknown line"),
+            (["fault clock-back"], "an unknown line"), (["end db 5 yes"], "an entry that it was not given"))
         for ending, why in endings:
             with self.subTest(ending=ending):
                 shutil.rmtree(self.folder)

@@ -17,6 +17,14 @@ class Lines(unittest.TestCase):
             self.assertEqual(str(line), text)
             self.assertEqual(line.said.ends_answer, text.startswith(("clock", "wait")))
 
+    def test_moments_are_dates_in_the_log_and_nothing_else_is(self) -> None:
+        for text, logged in (("wake 1059 web 60", "1970-01-01T00:17:39Z web 60"), ("entry 1060 1060", "1060 1970-01-01T00:17:40Z"),
+                             ("top web 253402300799", "web 9999-12-31T23:59:59Z"), ("top web 253402300800", "web 253402300800"),
+                             ("short web 0", "web 1970-01-01T00:00:00Z"), ("next 1059 none", "1970-01-01T00:17:39Z none"),
+                             ("next none", "none"), ("told web 60", "web 60"), ("refused web 403", "web 403"), ("gone web 404", "web 404"),
+                             ("end web 1060000 yes", "web 1060000 yes"), ("back", "")):
+            self.assertEqual(" ".join(map(str, read_watch_line(text).logged)), logged)
+
     def test_what_it_never_prints(self) -> None:
         for text in ("", " ", "clock 5", "clock ", "wait", "wait x", "wait -1", "wait 01", "wait 5 ", "wait  5", "wait 5 6",
                      "begin", "begin again", "wake web", "wake 5 ", "look", "entry web", "told web x", "lost a b", "lost",

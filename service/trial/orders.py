@@ -24,7 +24,7 @@ _LINE = re.compile(r"(\S+) [a-z]+ end \S+ need (\S+) .*")
 
 
 class Orders:
-    """Gives needs, additions and drops, one after the other, and looks at what the leader shows behind each. `leader` tells the
+    """Gives needs, additions and drops, one after the other, and looks at what the leader shows after each. `leader` tells the
     control socket of who leads, and a word that is another one once another leads; `spare` are entries to add and drop."""
 
     def __init__(self, leader: Callable[[], Awaitable[tuple[Path, str] | None]], sockets: list[Path], kept: list[Entry],
@@ -63,7 +63,7 @@ class Orders:
             self._may_be[name] = {value}
 
     def _change(self) -> tuple[str, list[str], str]:
-        """A change that no other is like: its entry's name, its words, and what `status` shows behind it."""
+        """A change that no other is like: its entry's name, its words, and what `status` shows after it."""
         self._number += 1
         if self._chance.random() < OF_NEEDS:
             entry = self._chance.choice(self._kept)

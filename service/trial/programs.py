@@ -9,12 +9,14 @@ import sys
 from pathlib import Path
 
 TOP = Path(__file__).resolve().parents[2]
-BUILD_SECONDS = 600
+SLOWER = int(os.environ.get("SLOWER", "1"))
+"""How much longer than usual everything may take (tools/yardstick)."""
+BUILD_SECONDS = 600 * SLOWER
 
 
 def _has(program: str, words: list[str], shown: str) -> bool:
     try:
-        helped = subprocess.run([program, *words], capture_output=True, text=True, timeout=10)
+        helped = subprocess.run([program, *words], capture_output=True, text=True, timeout=10 * SLOWER)
     except (OSError, subprocess.SubprocessError):
         return False
     return helped.returncode == 0 and shown in helped.stdout

@@ -1,7 +1,9 @@
-//! Exchanges with a broker, in memory and over real sockets, in one thread, and with a peer that does not answer.
+//! Exchanges with a broker, in memory and over real sockets, in one thread, and with a peer that does not answer; and how long
+//! they wait, over a network that is none.
 
 use crate::inventories::WEB;
 use crate::moments::moment;
+use crate::network::{Books, Network, Peer};
 use http::Method;
 use keep_exchange::{
     Exchange, ExchangeFault, MemoryExchange, SelfServed, TcpExchange, UnixExchange, can_carry,
@@ -9,12 +11,13 @@ use keep_exchange::{
 use keep_inventory::read;
 use keep_moment::Text;
 use mini_broker::{Fault, Table};
-use std::alloc::Global;
+use std::alloc::{AllocError, Global};
 use std::fs;
 use std::io::Read;
-use std::net::{IpAddr, Ipv4Addr, OpenListener, SocketAddr, TcpListener};
+use std::net::{IpAddr, Ipv4Addr, Net, OpenListener, SocketAddr, TcpListener};
 use std::os::unix::net::UnixListener;
 use std::process::Abort;
+use std::rc::Rc;
 use std::test::Fail;
 use std::time::Duration;
 use vault_http::{Counted, Device, HttpFault, Reply, Request, read_all};
@@ -132,6 +135,104 @@ fn waits_for_no_silent_peer(rt: HostRuntime) -> Result<(), Fail> {
     drop(listener);
     let mut nobody = TcpExchange::new(&rt, port);
     fails_with(&rt, &mut nobody, ExchangeFault::ConnectFailed, 1)
+}
+
+/// The books of a network with such a peer, which is to be sent the first renewal and may grant it.
+fn books_of(alloc: Global, peer: Peer) -> Result<Rc<Books>, AllocError> {
+    Ok(Rc::new(alloc, Books::new(peer, &WIRE[..172], &WIRE[172..]))?)
+}
+
+/// With so many connections asked for, reads made and milliseconds waited in all, each connection having taken the request, once.
+fn has_cost<R: Abort>(rt: &R, books: &Books, connects: u32, reads: u32, millis: u64) {
+    let here = SocketAddr::new(IpAddr::V4(Ipv4Addr::LOCALHOST), 4321);
+    assert!(rt; books.connects() == connects);
+    assert!(rt; books.place() == Some(here));
+    assert!(rt; books.reads() == reads);
+    assert!(rt; books.waited() == Duration::from_millis(millis));
+    assert!(rt; !books.goes_wrong());
+}
+
+/// A peer that says nothing is waited for once, and then for a quarter of a second; and a new event line has the longest time
+/// again.
+fn is_silent<R: AllocGlobal + Abort, N: Net>(
+    rt: &R,
+    network: &N,
+    books: &Books,
+) -> Result<(), Fail> {
+    let mut exchange = TcpExchange::patient(network, 4321, Duration::from_secs(5));
+    let late = ExchangeFault::Http(HttpFault::ReadFailed);
+    fails_with(rt, &mut exchange, late, 1)?;
+    has_cost(rt, books, 1, 1, 5000);
+    fails_with(rt, &mut exchange, late, 2)?;
+    fails_with(rt, &mut exchange, late, 3)?;
+    has_cost(rt, books, 3, 3, 5500);
+    exchange.begin_line();
+    fails_with(rt, &mut exchange, late, 4)?;
+    has_cost(rt, books, 4, 4, 10500);
+    assert!(rt; books.written() == 4 * 172);
+    Ok(())
+}
+
+/// The same of one that takes no connection.
+fn is_absent<R: AllocGlobal + Abort, N: Net>(
+    rt: &R,
+    network: &N,
+    books: &Books,
+) -> Result<(), Fail> {
+    let mut exchange = TcpExchange::patient(network, 4321, Duration::from_secs(5));
+    fails_with(rt, &mut exchange, ExchangeFault::ConnectFailed, 1)?;
+    has_cost(rt, books, 1, 0, 5000);
+    fails_with(rt, &mut exchange, ExchangeFault::ConnectFailed, 2)?;
+    has_cost(rt, books, 2, 0, 5250);
+    Ok(())
+}
+
+/// A connection that is refused at once shortens nothing, and a reply brings the longest time back.
+fn comes_back<R: AllocGlobal + Abort, N: Net>(
+    rt: &R,
+    network: &N,
+    books: &Books,
+) -> Result<(), Fail> {
+    let mut exchange = TcpExchange::patient(network, 4321, Duration::from_secs(5));
+    let late = ExchangeFault::Http(HttpFault::ReadFailed);
+    fails_with(rt, &mut exchange, ExchangeFault::ConnectFailed, 1)?;
+    has_cost(rt, books, 1, 0, 0);
+    books.becomes(Peer::Silent);
+    fails_with(rt, &mut exchange, late, 2)?;
+    has_cost(rt, books, 2, 1, 5000);
+    books.becomes(Peer::Answers);
+    is_renewed(rt, &mut exchange)?;
+    assert!(rt; books.connects() == 3);
+    let reads = books.reads();
+    books.becomes(Peer::Silent);
+    fails_with(rt, &mut exchange, late, 3)?;
+    has_cost(rt, books, 4, reads.saturating_add(1), 10000);
+    Ok(())
+}
+
+/// The network of these books.
+fn network_of(books: &Rc<Books>) -> Result<Network, AllocError> {
+    Ok(Network {
+        books: books.clone()?,
+    })
+}
+
+#[test]
+fn waits_short_for_who_was_silent(rt: HostRuntime) -> Result<(), Fail> {
+    let books = books_of(rt.alloc(), Peer::Silent)?;
+    is_silent(&rt, &network_of(&books)?, &books)
+}
+
+#[test]
+fn waits_short_for_who_takes_no_connection(rt: HostRuntime) -> Result<(), Fail> {
+    let books = books_of(rt.alloc(), Peer::Absent)?;
+    is_absent(&rt, &network_of(&books)?, &books)
+}
+
+#[test]
+fn waits_long_again_after_a_reply(rt: HostRuntime) -> Result<(), Fail> {
+    let books = books_of(rt.alloc(), Peer::Closed)?;
+    comes_back(&rt, &network_of(&books)?, &books)
 }
 
 #[test]

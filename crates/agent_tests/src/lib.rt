@@ -15,6 +15,8 @@ pub mod inventories;
 #[cfg(test)]
 mod live;
 pub mod moments;
+#[cfg(test)]
+mod network;
 pub mod outcomes;
 #[cfg(test)]
 mod rehearsals;

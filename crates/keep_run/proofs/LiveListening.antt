@@ -11,7 +11,6 @@ use Rattle.keep_inventory.specs.Answers.{Fails}
 use Rattle.keep_inventory.specs.declared.fault.InvFault.{InvFault}
 use Rattle.keep_inventory.specs.declared.fault.InvFault.TheVariants as faults
 use Rattle.keep_inventory.specs.Inventory.{read_served}
-use Rattle.keep_inventory.specs.Inventories.{Inventory}
 use Rattle.keep_inventory.specs.Served.{Served}
 use Rattle.keep_start.specs.Start.{marks}
 use Rattle.keep_report.specs.declared.exit.Exit.{Exit}
@@ -175,26 +174,6 @@ module _ (port : ℕ) (bytes : List ℕ) (start : ℕ) (before : Option Behind) 
     by_result (Err (stops.Moments fault)) h = (v, read, inr (final, h, refl))
     by_result (Err (stops.FaultWord i)) h = (v, read, inr (final, h, refl))
     by_result (Err (stops.Inventory fault)) h = absurd h.ends.1
-
-  -- ---- by the names that the code has
-
-  pub early_named :
-      (result : Result (Unit {0}) Stop) (stop : Stop) (v : Served) (inventory : Inventory) (always : List Bool) (j : Bool) (x : Seen) (out : Change) (new : Option Behind) → read_served bytes ≡ Ok v → inventory ≡ v.inventory →
-      always ≡ marks v.notes → IsErr result × IsErrAnd result (λ (q : Stop). q ≡ stop) → EndsEarly port start always (record { inventory = inventory; behind = before }) stop out new → LivesTo port bytes start before result (change j x x) out new
-  early_named result stop v inventory always j x out new read is marked err early =
-      early_lives result stop v j x out new read err
-      (subst (λ (i : Inventory). EndsEarly port start (marks v.notes) (record { inventory = i; behind = before }) stop out new) is
-      (subst (λ (bs : List Bool). EndsEarly port start bs (record { inventory = inventory; behind = before }) stop out new) marked early))
-
-  pub listened_named :
-      (now : ℕ) (v : Served) (inventory : Inventory) (always : List Bool) (cs : List (List ℕ)) (keeper : State) (middle : Option Behind) (a b c : Seen) (k : Bool) (result : Result (Unit {0}) Stop) (final : World) (fed : Change) → read_served bytes ≡ Ok v →
-      inventory ≡ v.inventory → always ≡ marks v.notes → now ≡ port → IsOpened port start always (record { inventory = inventory; behind = before }) cs keeper middle (change k a b) → Listens now cs (both keeper middle) result final fed (change k b c) →
-      LivesTo port bytes start before result fed (change k a c) final.behind
-  listened_named now v inventory always cs keeper middle a b c k result final fed read is marked same opened listens =
-      listened_lives now v cs keeper middle a b c k result final fed read same
-      (subst (λ (i : Inventory). IsOpened port start (marks v.notes) (record { inventory = i; behind = before }) cs keeper middle (change k a b)) is
-      (subst (λ (bs : List Bool). IsOpened port start bs (record { inventory = inventory; behind = before }) cs keeper middle (change k a b)) marked opened))
-      listens
 
   -- ---- by exit
 

@@ -39,7 +39,7 @@ TIMEOUT = 5.0
 REAL_TIMEOUT = 60
 """The time-out of the process's sockets in real time: that of the scenario is the broker's matter."""
 SHORT, HASTY = 0.25, 0.02
-"""Patience with entries whose time has just come while the broker is away, and behind one that took all its time."""
+"""Patience with entries whose time has just come while the broker is away, and after one that took all its time."""
 
 
 class StageChild:

@@ -18,7 +18,8 @@ from .world import World
 
 @dataclass
 class Secret:
-    """A token or lease of the broker. `ceiling` is the real one, `grants` what a renewal really gives at most."""
+    """A token or lease of the broker. `ceiling` is the real one, `grants` what a renewal really gives at most; `lasts` is what it was
+    issued for, or of a lease renewed for last, where lookups tell that too."""
 
     name: str
     kind: Kind
@@ -30,6 +31,7 @@ class Secret:
     explicit_max: int = 0
     renewable: bool = True
     grants: int | None = None
+    lasts: int | None = None
     ended: float | None = None
     renewals: int = 0
 
@@ -209,12 +211,16 @@ class Vault:
         return max(math.floor(row.end - self.now()), 0)
 
     def _token_facts(self, row: Secret) -> dict[str, Any]:
-        return {"ttl": self._left(row), "creation_time": math.floor(row.issued), "renewable": row.renewable,
-                "explicit_max_ttl": row.explicit_max, "orphan": row.parent is None, "period": row.period}
+        facts = {"ttl": self._left(row), "creation_time": math.floor(row.issued), "renewable": row.renewable,
+                 "explicit_max_ttl": row.explicit_max, "orphan": row.parent is None, "period": row.period}
+        return facts if row.lasts is None else {**facts, "creation_ttl": row.lasts}
 
     def _lease_facts(self, row: Secret, lease_id: str) -> dict[str, Any]:
-        return {"id": lease_id, "issue_time": date_text(row.issued), "renewable": row.renewable,
-                "ttl": self._left(row)}
+        facts = {"id": lease_id, "issue_time": date_text(row.issued), "renewable": row.renewable, "ttl": self._left(row)}
+        if row.lasts is None:
+            return facts
+        renewed = row.end - row.lasts
+        return {**facts, "expire_time": date_text(row.end), "last_renewal": date_text(renewed) if renewed > row.issued else None}
 
     def _renew(self, row: Secret, increment: int) -> tuple[int, int]:
         if not row.renewable:
