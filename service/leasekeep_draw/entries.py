@@ -7,7 +7,6 @@ from dataclasses import dataclass
 from typing import Any
 
 from leasekeep_inventory.dialect import STRICT, Dialect
-from leasekeep_inventory.durations import NEED
 from leasekeep_inventory.inventory import ALWAYS, Kind
 from leasekeep_inventory.inventory import Entry as Written
 from leasekeep_inventory.inventory import Inventory as WrittenInventory
@@ -15,7 +14,7 @@ from leasekeep_inventory.inventory_file import read_inventory
 from leasekeep_inventory.toml_1_0 import older
 
 __all__ = ["Entry", "Inventory", "InventoryFault", "Kind", "read"]
-_DRAWN = Dialect(NEED, STRICT.absent_margin, False)
+_DRAWN = Dialect(STRICT.absent_margin, False)
 """As people have it; and a margin that is not written is that of the planning commands, whose lines are drawn."""
 
 

@@ -1,22 +1,18 @@
-"""The two ways to write an inventory: with nothing left open, so that `leasekeep` can plan, and as `leasekeepd` serves it."""
+"""The two ways to write an inventory: with each end told, so that `leasekeep` can plan, and as `leasekeepd` serves it."""
 
 from __future__ import annotations
 
 from dataclasses import dataclass
 
-from .durations import NEED, STRICT_NEED
-from .values import Form
-
 
 @dataclass(frozen=True)
 class Dialect:
-    """The form of a need, and the margin where none is written; and whether `issued` and `end` have to be written: else both
-    may be left out, and a lookup tells them."""
+    """The margin where none is written, and whether `issued` and `end` have to be written: else both may be left out, and a
+    lookup tells them."""
 
-    need: Form
     absent_margin: int
     has_terms: bool
 
 
-STRICT = Dialect(STRICT_NEED, 1, True)
-SERVED = Dialect(NEED, 60, False)
+STRICT = Dialect(1, True)
+SERVED = Dialect(60, False)

@@ -88,20 +88,20 @@ def _in_words(form: Form) -> Form:
     return Form(f'{form.expected}, or a text such as "90m", "1h", "30d"', read, mend)
 
 
-def _need(has_always: bool) -> Form:
+def _need() -> Form:
     form = moment(LAST)
-    written = f' or "{_ALWAYS_WORD}" (`leasekeepd need NAME +6h` counts from now)' if has_always else ""
+    written = f' or "{_ALWAYS_WORD}" (`leasekeepd need NAME +6h` counts from now)'
 
     def read(value: Any) -> Any:
-        return ALWAYS if has_always and value == _ALWAYS_WORD else form.read(value)
+        return ALWAYS if value == _ALWAYS_WORD else form.read(value)
 
     def mend(value: Any) -> str:
         if isinstance(value, str) and _is_like_always(value):
-            return f'did you mean "{_ALWAYS_WORD}"?' if has_always else "leasekeepd alone knows such a need: write a moment"
+            return f'did you mean "{_ALWAYS_WORD}"?'
         if isinstance(value, str) and meant_duration(value.strip().removeprefix("+")) is not None:
             return f"a need is a moment: write a date{written}"
         return form.mend(value)
-    return Form(f'{form.expected}, or "{_ALWAYS_WORD}"' if has_always else form.expected, read, mend)
+    return Form(f'{form.expected}, or "{_ALWAYS_WORD}"', read, mend)
 
 
 def _is_like_always(text: str) -> bool:
@@ -110,4 +110,4 @@ def _is_like_always(text: str) -> bool:
 
 
 DURATION_TEXT, INCREMENT_TEXT, SYSTEM_MAX_TEXT, MARGIN_TEXT = map(_in_words, (DURATION, INCREMENT, SYSTEM_MAX_FORM, MARGIN))
-NEED, STRICT_NEED = _need(True), _need(False)
+NEED = _need()

@@ -8,7 +8,7 @@ from functools import cached_property
 from typing import Any, Iterator
 
 from .dialect import SERVED, STRICT, Dialect
-from .durations import DURATION_TEXT, INCREMENT_TEXT, MARGIN_TEXT, SYSTEM_MAX_TEXT
+from .durations import DURATION_TEXT, INCREMENT_TEXT, MARGIN_TEXT, NEED, SYSTEM_MAX_TEXT
 from .findings import Finding, Severity
 from .inventory import END_MAX, SYSTEM_MAX, Entry, Inventory, Kind
 from .near import Near, Slip
@@ -229,7 +229,7 @@ def _row(table: _Table, kind: Kind) -> Row:
         increment = ABSENT_INCREMENT
     max_ttl = table.take("max_ttl", DURATION_TEXT)
     explicit = table.take("explicit_max_ttl", DURATION_TEXT, 0) if is_token else 0
-    need = table.take("need", dialect.need, 0)
+    need = table.take("need", NEED, 0)
     credential = table.take(key, CREDENTIAL_FORM)
     has_credential = table.has(key)
     file = None

@@ -241,7 +241,7 @@ class Slips(unittest.TestCase):
             ('margin = "2h"\n' + good, "that is 7200 s: write 3600 or less"),
             ("margin = 20\n" + good + 'renewable = "false"\n', "f:9: fault: a renewable: is not true or false; write false without"),
             ("margin = 20\n" + good.replace("= 1050000", "= -1"), "f:7: fault: a need: is not a whole number of seconds since 1970, or"
-             ' a date such as "2026-11-22T09:00:00Z"; write 0 or more'),
+             ' a date such as "2026-11-22T09:00:00Z", or "always"; write 0 or more'),
             ("margin = 20\n" + good + "max_ttl = 5000000000\n", "f:9: fault: a max_ttl: is not a whole number of seconds, 0 to"
              ' 4294967295, or a text such as "90m", "1h", "30d"; write 4294967295 or less'),
             ("margin = 20\n" + good.replace("= 1050000", '= "2026-13-01T00:00:00Z"'), "months are 01 to 12, and this one is 13"),
