@@ -42,13 +42,13 @@ use Rattle.keep_run.proofs.Written.{untouched_appends}
 -- ---- the forest is one
 
 -- two answers, both inventories, with one forest
-record AreAlike (answer other : Result Inventory InvFault) : Type 0 where
-  inventory : Inventory
-  reads : answer ≡ Ok inventory
-  other_inventory : Inventory
-  other_reads : other ≡ Ok other_inventory
-  forest : IsForest inventory.forest
-  same : inventory.forest ≡ other_inventory.forest
+pub record AreAlike (answer other : Result Inventory InvFault) : Type 0 where
+  pub inventory : Inventory
+  pub reads : answer ≡ Ok inventory
+  pub other_inventory : Inventory
+  pub other_reads : other ≡ Ok other_inventory
+  pub forest : IsForest inventory.forest
+  pub same : inventory.forest ≡ other_inventory.forest
 
 -- from a start on
 alike_at : (s : ℕ) (bytes other : List ℕ) → DifferInSecrets bytes other → AreAlike (inventory_at s bytes) (inventory_at s other)
