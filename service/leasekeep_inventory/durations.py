@@ -90,6 +90,7 @@ def _in_words(form: Form) -> Form:
 
 def _need() -> Form:
     form = moment(LAST)
+    written = f' or "{_ALWAYS_WORD}" (`leasekeepd need NAME +6h` counts from now)'
 
     def read(value: Any) -> Any:
         return ALWAYS if value == _ALWAYS_WORD else form.read(value)
@@ -98,7 +99,7 @@ def _need() -> Form:
         if isinstance(value, str) and _is_like_always(value):
             return f'did you mean "{_ALWAYS_WORD}"?'
         if isinstance(value, str) and meant_duration(value.strip().removeprefix("+")) is not None:
-            return f'a need is a moment: write a date or "{_ALWAYS_WORD}" (`leasekeepd need NAME +6h` counts from now)'
+            return f"a need is a moment: write a date{written}"
         return form.mend(value)
     return Form(f'{form.expected}, or "{_ALWAYS_WORD}"', read, mend)
 
