@@ -197,7 +197,9 @@ impl World {
         let now = self.now;
         for way in &self.ways {
             if way.at <= now {
-                let output = self.watch.step(alloc, answer(way.entry, way.operation, way.reply))?;
+                let output = self
+                    .watch
+                    .step(alloc, answer(way.entry, way.operation, way.reply))?;
                 if output.notes.top.is_some() {
                     self.tops = self.tops.saturating_add(1);
                 }

@@ -4,7 +4,9 @@ use crate::tokens::{Token, clock, looked, renewed, told, watch_of};
 use std::alloc::Global;
 use std::process::Abort;
 use std::test::Fail;
-use watch_machine::{Command, End, Event, Operation, Patience, Reply, WIDTH_MAX, Watch, WatchFault, Why};
+use watch_machine::{
+    Command, End, Event, Operation, Patience, Reply, WIDTH_MAX, Watch, WatchFault, Why,
+};
 
 // It is needed until 1200, with a step of 60 seconds.
 const WEB: Token = Token {
@@ -28,10 +30,19 @@ fn asks(command: &Command, operation: Operation) -> bool {
 }
 
 // Nothing goes out, and nothing is to be done before that.
-fn waits<R: Abort>(rt: &R, alloc: Global, watch: &mut Watch, at: u64, until: u64) -> Result<(), Fail> {
+fn waits<R: Abort>(
+    rt: &R,
+    alloc: Global,
+    watch: &mut Watch,
+    at: u64,
+    until: u64,
+) -> Result<(), Fail> {
     let output = watch.step(alloc, clock(at))?;
     let waits = match &output.command {
-        Command::Go { requests, until: to } => requests.list().is_empty() && *to == until,
+        Command::Go {
+            requests,
+            until: to,
+        } => requests.list().is_empty() && *to == until,
         Command::Taken => false,
     };
     assert!(rt; waits, "at {at}");
@@ -39,7 +50,12 @@ fn waits<R: Abort>(rt: &R, alloc: Global, watch: &mut Watch, at: u64, until: u64
 }
 
 // The next time of the only entry, by the broker's clock.
-fn next_is<R: Abort>(rt: &R, alloc: Global, watch: &mut Watch, second: Option<u64>) -> Result<(), Fail> {
+fn next_is<R: Abort>(
+    rt: &R,
+    alloc: Global,
+    watch: &mut Watch,
+    second: Option<u64>,
+) -> Result<(), Fail> {
     let next = watch.next(alloc)?;
     let at = match next {
         None => None,
@@ -50,10 +66,19 @@ fn next_is<R: Abort>(rt: &R, alloc: Global, watch: &mut Watch, second: Option<u6
 }
 
 // A round opens in this second, which asks the only entry to be renewed; its grant leads to that end.
-fn opens<R: Abort>(rt: &R, alloc: Global, watch: &mut Watch, second: u32, end: u64) -> Result<(), Fail> {
+fn opens<R: Abort>(
+    rt: &R,
+    alloc: Global,
+    watch: &mut Watch,
+    second: u32,
+    end: u64,
+) -> Result<(), Fail> {
     let wake = watch.step(alloc, clock(u64::from(second) * 1000))?;
     assert!(rt; wake.notes.round.is_some(), "a round at {second}");
-    assert!(rt; asks(&wake.command, Operation::Renew), "a renewal at {second}");
+    assert!(rt;
+        asks(&wake.command, Operation::Renew),
+        "a renewal at {second}"
+    );
     let taken = watch.step(alloc, renewed(0, told(60)))?;
     assert!(rt; taken.notes.top.is_none());
     if watch.forest().len() > 0 {
@@ -99,7 +124,13 @@ fn refusals_leave_it_as_it_was(rt: HostRuntime) -> Result<(), Fail> {
     // while the request is out, clocks, needs and beginnings come as they like; a clock before the last one is taken as that
     waits(&rt, alloc, &mut watch, 1_000_000, 1_001_000)?;
     waits(&rt, alloc, &mut watch, 900_000, 1_001_000)?;
-    watch.step(alloc, Event::Need { entry: 0, until: 1200 })?;
+    watch.step(
+        alloc,
+        Event::Need {
+            entry: 0,
+            until: 1200,
+        },
+    )?;
     watch.step(alloc, looked(0, told(60)))?;
     assert!(rt; watch.step(alloc, looked(0, told(60))).err() == Some(WatchFault::NotAsked));
     waits(&rt, alloc, &mut watch, 1_000_000, 1_001_000)

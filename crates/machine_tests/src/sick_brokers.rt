@@ -13,7 +13,13 @@ const HOUR: Token = Token {
 };
 
 // So many entries end at this moment, and so many at that.
-fn ends_of(alloc: Global, first: usize, at: u64, other: usize, then: u64) -> Result<Vec<u64>, Fail> {
+fn ends_of(
+    alloc: Global,
+    first: usize,
+    at: u64,
+    other: usize,
+    then: u64,
+) -> Result<Vec<u64>, Fail> {
     let mut ends = Vec::new(alloc);
     for _ in 0..first {
         ends.push(at)?;
@@ -32,9 +38,18 @@ fn short_grants_are_no_ceiling(rt: HostRuntime) -> Result<(), Fail> {
         let ends = ends_of(alloc, 80, 1_600_000, 0, 0)?;
         let mut world = World::of(alloc, 60, HOUR, 8, well(delay, 600), ends)?;
         world.run(alloc, 1_540_300)?;
-        world.watch.step(alloc, Event::Need { entry: 79, until: 900_001 })?;
+        world.watch.step(
+            alloc,
+            Event::Need {
+                entry: 79,
+                until: 900_001,
+            },
+        )?;
         world.run(alloc, 6_000_000)?;
-        assert!(rt; world.lost() == 0 && world.tops == 0, "replies of {delay} ms");
+        assert!(rt;
+            world.lost() == 0 && world.tops == 0,
+            "replies of {delay} ms"
+        );
     }
     Ok(())
 }
@@ -56,7 +71,13 @@ fn who_is_asked_along_waits(rt: HostRuntime) -> Result<(), Fail> {
     }
     world.run(alloc, 1_559_000)?;
     for entry in 90..100u32 {
-        world.watch.step(alloc, Event::Need { entry, until: 900_000 })?;
+        world.watch.step(
+            alloc,
+            Event::Need {
+                entry,
+                until: 900_000,
+            },
+        )?;
         let next = world.now.saturating_add(500);
         world.run(alloc, next)?;
     }
