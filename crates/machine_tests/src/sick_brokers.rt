@@ -54,7 +54,7 @@ fn short_grants_are_no_ceiling(rt: HostRuntime) -> Result<(), Fail> {
     Ok(())
 }
 
-// An outage of 19 seconds, where 38 are survived: behind it ten entries are needed anew, and each opens a round that asks along
+// An outage of 19 seconds, where 38 are survived: after it ten entries are needed anew, and each opens a round that asks along
 // entries whose end is an hour away.
 #[test]
 fn who_is_asked_along_waits(rt: HostRuntime) -> Result<(), Fail> {

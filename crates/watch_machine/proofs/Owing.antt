@@ -25,7 +25,7 @@ module _ (g : Forest) (xs : List Track) (c : Clocks) (needs : List CarriedNeed) 
       let within : i < length g.entries = subst (λ n. i < n) beside below in
       ap₂ (λ n w. owing c.at (called_by c.dated n w) (track_in xs i)) (has i within) (wrote.need i within))
 
-  -- the tracks of a beginning, and what is carried behind it
+  -- the tracks of a beginning, and what is carried after it
   pub owed_are :
       (v : Forest) (written : List CarriedNeed) (new : List Track) → Sees v g xs c needs → IsCarried g 0 written →
       new ≡ each (λ i. owing c.at (called_by c.dated (load_at needs i).need (load_at written i).need)) xs → new ≡ owing_all g c xs

@@ -64,7 +64,7 @@ view_both v w g h i e f is is' same view = subst (λ x. IsView x h) (sym is) (su
   shapes = map-set shape v.entries i e ∙ ap (λ xs. set xs i (shape e)) view.shapes ∙ ap (set (map shape g.entries) i) same ∙ sym (map-set shape g.entries i f);
 }))
 
--- one write behind another of the same entry
+-- one write after another of the same entry
 pub set_again :
     (v u w : Forest) (i : ℕ) (e : Entry) (f : Entry → Entry) → i < length v.entries → u ≡ record v { entries = set v.entries i e } →
     w ≡ record u { entries = set u.entries i (f (entry_at u.entries i)) } → w ≡ record v { entries = set v.entries i (f e) }

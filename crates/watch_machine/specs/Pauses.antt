@@ -7,7 +7,7 @@ use Rattle.watch_machine.specs.declared.track.Track.{Track}
 use Rattle.watch_machine.specs.declared.track.Try.{Try}
 use Rattle.watch_machine.specs.Clocks.{ms}
 
--- the milliseconds from at to an end, where that is ahead. An unknown end counts as so much ahead behind a loss
+-- the milliseconds from at to an end, where that is ahead. An unknown end counts as so much ahead after a loss
 abbrev pub left_to : ℕ → ℕ → End → Bool → Option ℕ
 left_to at twice Unknown lost = if lost then Some twice else None
 left_to at twice (At end) lost = if nat_lt at (ms end) then Some (ms end - at) else None

@@ -8,7 +8,7 @@ use crate::track::{End, Track, Try};
 /// Five minutes, the longest pause.
 pub const LONGEST: Millis = 300_000;
 
-/// The milliseconds from `at` to an end, where that is ahead. An unknown end counts as so much ahead behind a loss.
+/// The milliseconds from `at` to an end, where that is ahead. An unknown end counts as so much ahead after a loss.
 fn left_to(at: Millis, twice: Millis, end: End, lost: bool) -> Option<Millis>
     requires { IsEnd end }
     ensures { result ≡ left_to at twice end lost }

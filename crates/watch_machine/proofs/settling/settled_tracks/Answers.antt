@@ -1,4 +1,4 @@
--- Each track is settled behind those before it.
+-- Each track is settled after those before it.
 use Rattle.std.proofs.Common.{◌∙◌, ◌++◌, ◌∷◌, [], ap, arith, length, map, slice_index_or, subst, sym}
 use Rattle.std.proofs.lemmas.List.{get_or_default}
 use Rattle.std.proofs.lemmas.List.Elements.{All-push}
