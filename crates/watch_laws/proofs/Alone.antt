@@ -1,0 +1,208 @@
+-- Alone: an entry has one request out at most, and none where it is not marked as out. For the law of sparing.
+use Rattle.std.proofs.Common.{◌≡◌, ◌≢◌, ◌⊎◌, ◌∙◌, ℕ, zero, suc, ◌-◌, ◌<◌, ◌≤◌, Bool, true, false, cond, not, ◌==◌, if◌then◌else◌, List, [], ◌∷◌, Option, Some, None, Result, Ok, Err, filter, length, map, refl, sym, ap, subst, arith, inl, inr}
+use Rattle.std.proofs.lemmas.Bool.{cases_Bool, eqb-true}
+use Rattle.std.proofs.lemmas.Bool.Decides.{nat_tests}
+use Rattle.std.proofs.lemmas.List.{get_or-set_other, length-append}
+use Rattle.std.proofs.lemmas.List.Elements.{filter-append}
+use Rattle.std.specs.List.{list_any}
+use Rattle.watch_machine.specs.declared.command.Command.{Command}
+use Rattle.watch_machine.specs.declared.command.Command.TheVariants.{Go, Taken}
+use Rattle.watch_machine.specs.declared.command.Output.{Output}
+use Rattle.watch_machine.specs.declared.command.Request.{Request}
+use Rattle.watch_machine.specs.declared.event.Event.{Event}
+use Rattle.watch_machine.specs.declared.event.Event.TheVariants.{Clock, Looked, Renewed, Need, Begin, Known}
+use Rattle.watch_machine.specs.declared.event.Operation.TheVariants.{Look, Renew}
+use Rattle.watch_machine.specs.declared.event.Reply.{Reply}
+use Rattle.watch_machine.specs.declared.event.Terms.{Terms}
+use Rattle.watch_machine.specs.declared.fault.WatchFault.{WatchFault}
+use Rattle.watch_machine.specs.declared.lanes.Out.{Out}
+use Rattle.watch_machine.specs.declared.lanes.Presence.{Presence}
+use Rattle.watch_machine.specs.declared.track.Track.{Track}
+use Rattle.watch_machine.specs.Answers.{answers_all, heard, lane_freed, noted, replied, silent, without}
+use Rattle.watch_machine.specs.Clocks.{sec}
+use Rattle.watch_machine.specs.History.{Turn}
+use Rattle.watch_machine.specs.Lines.{is_due}
+use Rattle.watch_machine.specs.Looked.{looked}
+use Rattle.watch_machine.specs.Press.{pressed}
+use Rattle.watch_machine.specs.Refusal.{request_out}
+use Rattle.watch_machine.specs.Renewed.{renewed}
+use Rattle.watch_machine.specs.Round.{asked_by as round_of}
+use Rattle.watch_machine.specs.Sending.{out_at, sent}
+use Rattle.watch_machine.specs.Settling.{is_real}
+use Rattle.watch_machine.specs.State.{State, no_track, track_at, track_in}
+use Rattle.watch_machine.specs.Step.{Step, StepCommand, StepLooked, StepRenewed, known, readied}
+use Rattle.watch_machine.proofs.Cases.{if_both, if_cases, not_both}
+use Rattle.watch_laws.proofs.Clocking.{refused_stays}
+use Rattle.watch_laws.proofs.Going.{Goes, counts, entry_by, goes, named_of, one_sent, request_at, skips, some_named, times}
+use Rattle.watch_laws.proofs.Spacing.{after_flag, free_of, looked_other, looked_out, mid_flag, passed_over, readied_out, went}
+use Rattle.watch_laws.proofs.Tracking.{set_kept}
+
+-- how many requests of an entry are out
+abbrev pub lanes_of : ℕ → List Out → ℕ
+lanes_of i out = length (filter (λ q. q.entry == i) out)
+
+abbrev pub flag : Bool → ℕ
+flag b = if b then 1 else 0
+
+pub record IsAlone (s : State) : Type 0 where
+  pub once : (i : ℕ) → lanes_of i s.out ≤ flag (track_at s i).out
+
+-- those that remain
+fewer : (i e : ℕ) (out : List Out) → lanes_of i (without e out) ≤ lanes_of i out
+unfolding without
+fewer i e [] = omega arith
+fewer i e (q ∷ out) =
+    let rest = fewer i e out in
+    let p : Out → Bool = λ o. o.entry == i in
+    if_cases (λ (os : List Out). length (filter p os) ≤ lanes_of i (q ∷ out)) (not (q.entry == e)) (q ∷ filter (λ o. not (o.entry == e)) out) (filter (λ o. not (o.entry == e)) out)
+    (λ kept. if_both_le (p q) q (filter p (filter (λ o. not (o.entry == e)) out)) (filter p out) rest)
+    (λ gone. if_cases (λ (os : List Out). lanes_of i (filter (λ o. not (o.entry == e)) out) ≤ length os) (p q) (q ∷ filter p out) (filter p out) (λ e'. omega (arith, rest)) (λ e'. rest)) where
+      if_both_le : (b : Bool) (o : Out) (xs ys : List Out) → length xs ≤ length ys → length (if b then o ∷ xs else xs) ≤ length (if b then o ∷ ys else ys)
+      if_both_le true o xs ys h = omega (arith, h)
+      if_both_le false o xs ys h = h
+
+none_left : (i : ℕ) (out : List Out) → lanes_of i (without i out) ≡ 0
+unfolding without
+none_left i [] = refl
+none_left i (q ∷ out) =
+    let p : Out → Bool = λ o. o.entry == i in
+    let rest = none_left i out in
+    elim (cases_Bool (p q)) [
+      | inl here ↦ ap (λ b. length (filter p (cond (not b) (q ∷ filter (λ o. not (o.entry == i)) out) (filter (λ o. not (o.entry == i)) out)))) here ∙ rest
+      | inr other ↦
+          ap (λ b. length (filter p (cond (not b) (q ∷ filter (λ o. not (o.entry == i)) out) (filter (λ o. not (o.entry == i)) out)))) other
+          ∙ ap (λ b. length (cond b (q ∷ filter p (filter (λ o. not (o.entry == i)) out)) (filter p (filter (λ o. not (o.entry == i)) out)))) other ∙ rest
+    ]
+
+heard_same : (i : ℕ) (out : List Out) → lanes_of i (map heard out) ≡ lanes_of i out
+heard_same i [] = refl
+heard_same i (q ∷ out) = by (q.entry == i) (heard_same i out) where
+  by : (b : Bool) → length (filter (λ (o : Out). o.entry == i) (map heard out)) ≡ length (filter (λ (o : Out). o.entry == i) out) →
+      length (cond b (heard q ∷ filter (λ (o : Out). o.entry == i) (map heard out)) (filter (λ (o : Out). o.entry == i) (map heard out))) ≡ length (cond b (q ∷ filter (λ (o : Out). o.entry == i) out) (filter (λ (o : Out). o.entry == i) out))
+  by true h = ap (λ n. suc n) h
+  by false h = h
+
+replied_lanes : (s : State) (q : Out) (reply : Reply) (i : ℕ) → lanes_of i (replied s q reply).out ≤ lanes_of i (without q.entry s.out)
+replied_lanes s q reply i =
+    let free = lane_freed s q in
+    let same = heard_same i (without q.entry s.out) in
+    if_both (λ (t : State). lanes_of i t.out ≤ lanes_of i (without q.entry s.out)) (is_real reply) (answers_all free) (if q.heard then free else silent free)
+    (if_both (λ (t : State). lanes_of i t.out ≤ lanes_of i (without q.entry s.out)) s.presence.away _ _ (omega (arith, same)) (omega (arith, same)))
+    (if_both (λ (t : State). lanes_of i t.out ≤ lanes_of i (without q.entry s.out)) q.heard free (silent free) (omega arith)
+    (if_both (λ (t : State). lanes_of i t.out ≤ lanes_of i (without q.entry s.out)) s.presence.away _ _ (omega arith) (omega arith)))
+
+-- those that go out
+sent_lanes : (p : Presence) (now at : ℕ) (xs : List Track) (i : ℕ) (is : List ℕ) → lanes_of i (map (out_at at) (map (request_at p now xs) is)) ≡ times i is
+sent_lanes p now at xs i [] = refl
+sent_lanes p now at xs i (j ∷ js) =
+    let rest = sent_lanes p now at xs i js in
+    let r = request_at p now xs j in
+    let e = entry_by p now xs j in
+    let tail = filter (λ (o : Out). o.entry == i) (map (out_at at) (map (request_at p now xs) js)) in
+    elim (cases_Bool (j == i)) [
+      | inl same ↦ (let more = counts i j js same in
+          ap (λ b. length (cond b (out_at at r ∷ tail) tail)) (ap (λ n. n == i) e ∙ same) ∙ (let n : length (out_at at r ∷ tail) ≡ times i (j ∷ js) = omega (arith, more, rest) in n))
+      | inr other ↦ ap (λ b. length (cond b (out_at at r ∷ tail) tail)) (ap (λ n. n == i) e ∙ other) ∙ rest ∙ sym (skips i j js other)
+    ]
+
+sent_alone : (s : State) (requests : List Request) (lanes : ℕ) → Goes s.presence s.clocks.at s.tracks lanes requests → IsAlone s → IsAlone (sent s requests)
+sent_alone s requests lanes h alone = record {
+  once = λ i.
+      let p = s.presence in
+      let at = s.clocks.at in
+      let new = sent s requests in
+      let more = filter-append (λ (q : Out). q.entry == i) s.out (map (out_at at) requests) in
+      let all = ap length more ∙ length-append (filter (λ (q : Out). q.entry == i) s.out) (filter (λ (q : Out). q.entry == i) (map (out_at at) requests)) in
+      let there = ap (λ rs. lanes_of i (map (out_at at) rs)) h.requests_are ∙ sent_lanes p (sec at) at s.tracks i h.entries in
+      let before = alone.once i in
+      elim (one_sent p (sec at) at s.tracks i h.entries (h.once i)) as (λ _. lanes_of i new.out ≤ flag (track_at new i).out) [
+        | inl none ↦
+            let same = ap (λ (x : Track). flag x.out) (passed_over s requests i (ap (list_any (λ (r : Request). r.entry == i)) h.requests_are ∙ none.1)) in
+            let few = h.once i in
+            elim (cases_one (times i h.entries) few) as (λ _. lanes_of i new.out ≤ flag (track_at new i).out) [
+              | inl zero' ↦ omega (arith, all, there, before, same, zero')
+              | inr some ↦ absurd (not_both (some_named p (sec at) at s.tracks i h.entries some) none.1)
+            ]
+        | inr one ↦
+            let due = named_of (λ j. (j < length s.tracks) × (is_due p at (track_in s.tracks j) ≡ true)) i h.entries h.due one.1.1 in
+            let free = ap flag (free_of p at (track_at s i) due.1).0 in
+            let marked = ap (λ (x : Track). flag x.out) (went s requests i (ap (list_any (λ (r : Request). r.entry == i)) h.requests_are ∙ one.1.0) due.0) in
+            let count = one.1.1 in
+            omega (arith, all, there, before, free, marked, count)
+      ];
+} where
+  cases_one : (n : ℕ) → n ≤ 1 → (n ≡ 0) ⊎ (1 ≤ n)
+  cases_one zero h' = inl refl
+  cases_one (suc n) h' = inr (omega arith)
+
+-- a clock
+mid_alone : (old : State) (wall elapsed : ℕ) (round : List ℕ) → IsAlone old → IsAlone (pressed (readied old wall elapsed) round)
+mid_alone old wall elapsed round alone = record {
+  once = λ i.
+      let same = ap flag (mid_flag old wall elapsed round i) in
+      let out = ap (lanes_of i) (readied_out old wall elapsed) in
+      let before = alone.once i in
+      omega (arith, same, out, before);
+}
+
+commanded : (s new : State) (command : Command) → IsAlone s → StepCommand s command new → IsAlone new
+commanded s new (Go requests until) alone h =
+    subst IsAlone (sym h.0.1) (sent_alone s requests (s.width - length s.out) (goes s.presence s.clocks.at s.tracks (s.width - length s.out) requests h.0.0) alone)
+commanded s new Taken alone h = absurd h
+
+-- an answer
+answered : (old mid new : State) (q : Out) (reply : Reply) → new ≡ replied mid q reply → mid.out ≡ old.out → ((i : ℕ) → q.entry ≢ i → track_at mid i ≡ track_at old i) → IsAlone old → IsAlone new
+answered old mid new q reply is out other alone = record {
+  once = λ i.
+      let less = replied_lanes mid q reply i in
+      let that = ap (λ (x : State). lanes_of i x.out) is in
+      let same = ap (λ os. lanes_of i (without q.entry os)) out in
+      elim (cases_Bool (q.entry == i)) [
+        | inl here ↦
+            let none = none_left i old.out in
+            let these = ap (λ n. lanes_of i (without n old.out)) (eqb-true q.entry i here) in
+            omega (arith, less, that, same, none, these)
+        | inr different ↦
+            let apart : q.entry ≢ i = λ e. not_both (subst (λ n. (n == i) ≡ true) (sym e) (same_index' i)) different in
+            let kept = ap flag (after_flag old mid new q reply i is out (other i) apart) in
+            let few = fewer i q.entry old.out in
+            let before = alone.once i in
+            omega (arith, less, that, same, kept, few, before)
+      ];
+} where
+  same_index' : (n : ℕ) → (n == n) ≡ true
+  same_index' n = grind (arith, nat_tests)
+
+looked_alone : (old new : State) (found : Option Out) (reply : Reply) (terms : Terms) (output : Output) → StepLooked old found reply terms output new → IsAlone old → IsAlone new
+looked_alone old new None reply terms output step alone = absurd step
+looked_alone old new (Some q) reply terms output step alone =
+    let s = noted old q reply in
+    answered old (looked s q reply terms) new q reply step.1 (looked_out s q reply terms) (λ i. looked_other s q reply terms i) alone
+
+renewed_alone : (old new : State) (found : Option Out) (reply : Reply) (output : Output) → StepRenewed old found reply output new → IsAlone old → IsAlone new
+renewed_alone old new None reply output step alone = absurd step
+renewed_alone old new (Some q) reply output step alone =
+    let s = noted old q reply in
+    answered old (renewed s q reply) new q reply step.1 refl (λ i apart. get_or-set_other s.tracks q.entry i _ no_track (λ e. apart (sym e))) alone
+
+known_flag : (s : State) (j end : ℕ) (renewable : Bool) (i : ℕ) → (track_at (known s j end renewable) i).out ≡ (track_at s i).out
+known_flag s j end renewable i = set_kept (λ (y x : Track). y.out ≡ x.out) (λ x. refl) s.tracks j _ refl i
+
+step_alone : (old new : State) (event : Event) (output : Output) → Step old event output new → IsAlone old → IsAlone new
+step_alone old new (Clock wall elapsed) output step alone =
+    commanded (pressed (readied old wall elapsed) (round_of step.round)) new output.command (mid_alone old wall elapsed (round_of step.round) alone) step.command
+step_alone old new (Looked j reply terms) output step alone = looked_alone old new (request_out old.out j Look) reply terms output step alone
+step_alone old new (Renewed j reply) output step alone = renewed_alone old new (request_out old.out j Renew) reply output step alone
+step_alone old new (Need j until) output step alone = subst IsAlone (sym step.1) (record { once = alone.once })
+step_alone old new Begin output step alone = subst IsAlone (sym step.1) (record { once = alone.once })
+step_alone old new (Known j end renewable) output step alone =
+    subst IsAlone (sym step.1) (record {
+      once = λ i.
+          let same = ap flag (known_flag old j end renewable i) in
+          let before = alone.once i in
+          omega (arith, same, before);
+    })
+
+pub turn_alone : (old new : State) (event : Event) (result : Result Output WatchFault) → Turn old event result new → IsAlone old → IsAlone new
+turn_alone old new event (Ok output) turn alone = step_alone old new event output turn.1 alone
+turn_alone old new event (Err fault) turn alone = subst IsAlone (sym (refused_stays old new event fault turn)) alone

@@ -1,0 +1,449 @@
+-- Sparing: while the broker is away, the later tries that go out until the hold is set anew are all out at once. For the law of sparing.
+use Rattle.std.proofs.Common.{◌≡◌, ◌⊎◌, ◌∙◌, ℕ, suc, ◌+◌, ◌-◌, ◌<◌, ◌≤◌, Bool, true, false, cond, max, not, ◌&&◌, ◌||◌, ◌==◌, if◌then◌else◌, List, [], ◌∷◌, ◌++◌, Option, Some, None, Result, Ok, Err, filter, is_none, length, map, refl, sym, ap, subst, arith, inl, inr}
+use Rattle.std.proofs.Math.Nat.{le-max_left, le-max_right}
+use Rattle.std.proofs.lemmas.Bool.{and_from, and_parts, cases_Bool, cond-false, cond-true, or_right}
+use Rattle.std.proofs.lemmas.Bool.Decides.{nat_tests}
+use Rattle.std.proofs.lemmas.List.{length-append, length-map}
+use Rattle.std.proofs.lemmas.List.Elements.{All-head, All-tail, filter-append}
+use Rattle.std.proofs.lemmas.List.Sums.{count_by-le-length, length-filter}
+use Rattle.std.specs.List.{All, find, list_any}
+use Rattle.watch_machine.specs.declared.command.Command.{Command}
+use Rattle.watch_machine.specs.declared.command.Command.TheVariants.{Go, Taken}
+use Rattle.watch_machine.specs.declared.command.Output.{Output}
+use Rattle.watch_machine.specs.declared.command.Request.{Request}
+use Rattle.watch_machine.specs.declared.event.Event.{Event}
+use Rattle.watch_machine.specs.declared.event.Event.TheVariants.{Clock, Looked, Renewed, Need, Begin, Known}
+use Rattle.watch_machine.specs.declared.event.Operation.{Operation}
+use Rattle.watch_machine.specs.declared.event.Operation.TheVariants.{Look, Renew}
+use Rattle.watch_machine.specs.declared.event.Reply.{Reply}
+use Rattle.watch_machine.specs.declared.event.Reply.TheVariants.{Told, Refused, Busy, Lost}
+use Rattle.watch_machine.specs.declared.event.Terms.{Terms}
+use Rattle.watch_machine.specs.declared.fault.WatchFault.{WatchFault}
+use Rattle.watch_machine.specs.declared.lanes.Answer.{Answer}
+use Rattle.watch_machine.specs.declared.lanes.Out.{Out}
+use Rattle.watch_machine.specs.declared.lanes.Presence.{Presence}
+use Rattle.watch_machine.specs.declared.notes.Why.{Why}
+use Rattle.watch_machine.specs.declared.track.Track.{Track}
+use Rattle.watch_machine.specs.declared.track.Try.{Try}
+use Rattle.watch_machine.specs.Answers.{answers_all, back_track, heard, is_back, is_gone, lane_freed, noted, replied, silent, without}
+use Rattle.watch_machine.specs.Beginning.{begun}
+use Rattle.watch_machine.specs.Clocks.{sec}
+use Rattle.watch_machine.specs.History.{History, Turn, Turned}
+use Rattle.watch_machine.specs.Lines.{is_due, is_due_try, is_first, later_at, ready}
+use Rattle.watch_machine.specs.Looked.{looked}
+use Rattle.watch_machine.specs.Press.{pressed}
+use Rattle.watch_machine.specs.Refusal.{is_same, request_out}
+use Rattle.watch_machine.specs.Renewed.{renewed}
+use Rattle.watch_machine.specs.Round.{asked_by as round_of}
+use Rattle.watch_machine.specs.Sending.{out_at, sent, sent_in, sent_track}
+use Rattle.watch_machine.specs.Settling.{count_after, held_back, hold_after, is_real, is_silent, presence_after, settled, timed}
+use Rattle.watch_machine.specs.State.{State, attempt_at, each, opened, track_at, track_in}
+use Rattle.watch_machine.specs.Step.{Step, StepClock, StepCommand, StepLooked, StepRenewed, known, needed, readied, why}
+use Rattle.watch_machine.proofs.Cases.{if_both, not_both, value_is}
+use Rattle.watch_machine.proofs.Within.{out_entry}
+use Rattle.watch_laws.specs.Absence.{AllAway, NoneSets, Sets, SparedLaw, is_later, is_later_try, laters}
+use Rattle.watch_laws.specs.Load.{asked_by, requests_of}
+use Rattle.watch_laws.specs.Turns.{after_all}
+use Rattle.watch_laws.proofs.Answering.{looked_rest}
+use Rattle.watch_laws.proofs.Alone.{IsAlone, flag, lanes_of, turn_alone}
+use Rattle.watch_laws.proofs.Clocking.{begun_some, clock_rises, readied_clocks, readied_width, refused_stays}
+use Rattle.watch_laws.proofs.Going.{Goes, entry_by, goes, request_at}
+use Rattle.watch_laws.proofs.Holding.{looked_presence, ready_presence}
+use Rattle.watch_laws.proofs.Spacing.{looked_out, readied_out}
+use Rattle.watch_laws.proofs.Tracking.{each_kept}
+use Rattle.watch_laws.proofs.Width.{Fits, turn_fits}
+
+-- how many of those that are out have heard of no answer
+abbrev unheard : List Out → ℕ
+unheard out = length (filter (λ q. not q.heard) out)
+
+-- what is not there is not taken away
+none_gone : (i : ℕ) (out : List Out) → lanes_of i out ≡ 0 → without i out ≡ out
+unfolding without
+none_gone i [] none = refl
+none_gone i (q ∷ out) none =
+    let rest = filter (λ (o : Out). o.entry == i) out in
+    elim (cases_Bool (q.entry == i)) [
+      | inl here ↦ absurd (let some : lanes_of i (q ∷ out) ≡ length (q ∷ rest) = ap (λ b. length (cond b (q ∷ rest) rest)) here in omega (arith, some, none))
+      | inr other ↦
+          let left : lanes_of i out ≡ 0 = sym (ap (λ b. length (cond b (q ∷ rest) rest)) other) ∙ none in
+          ap (λ b. cond (not b) (q ∷ filter (λ (o : Out). not (o.entry == i)) out) (filter (λ (o : Out). not (o.entry == i)) out)) other ∙ ap (λ os. q ∷ os) (none_gone i out left)
+    ]
+
+found_lane : (i : ℕ) (operation : Operation) (out : List Out) (q : Out) → find (λ (o : Out). o.entry == i && is_same o.operation operation) out ≡ Some q → 1 ≤ lanes_of i out
+found_lane i operation [] q found = absurd cc
+found_lane i operation (o ∷ out) q found =
+    let rest = filter (λ (p : Out). p.entry == i) out in
+    elim (cases_Bool (o.entry == i)) [
+      | inl here ↦ (let some : lanes_of i (o ∷ out) ≡ length (o ∷ rest) = ap (λ b. length (cond b (o ∷ rest) rest)) here in omega (arith, some))
+      | inr other ↦
+          let next : find (λ (p : Out). p.entry == i && is_same p.operation operation) out ≡ Some q =
+          sym (ap (λ b. cond (b && is_same o.operation operation) (Some o) (find (λ (p : Out). p.entry == i && is_same p.operation operation) out)) other) ∙ found in
+          let there = found_lane i operation out q next in
+          let same : lanes_of i (o ∷ out) ≡ length rest = ap (λ b. length (cond b (o ∷ rest) rest)) other in
+          omega (arith, there, same)
+    ]
+
+-- an answer to a request that has heard leaves those that have not
+rid_heard :
+    (i : ℕ) (operation : Operation) (out : List Out) (q : Out) → request_out out i operation ≡ Some q → q.heard ≡ true → lanes_of i out ≤ 1 → unheard (without i out) ≡ unheard out
+unfolding request_out without
+rid_heard i operation [] q found hears once = absurd cc
+rid_heard i operation (o ∷ out) q found hears once =
+    let rest = filter (λ (p : Out). p.entry == i) out in
+    let left = filter (λ (p : Out). not (p.entry == i)) out in
+    let after = find (λ (p : Out). p.entry == i && is_same p.operation operation) out in
+    let silent' = filter (λ (p : Out). not p.heard) out in
+    elim (cases_Bool (o.entry == i)) as (λ _. unheard (filter (λ (p : Out). not (p.entry == i)) (o ∷ out)) ≡ unheard (o ∷ out)) [
+      | inl here ↦
+          let some : lanes_of i (o ∷ out) ≡ length (o ∷ rest) = ap (λ b. length (cond b (o ∷ rest) rest)) here in
+          let none : lanes_of i out ≡ 0 = omega (arith, some, once) in
+          let gone : filter (λ (p : Out). not (p.entry == i)) (o ∷ out) ≡ left = ap (λ b. cond (not b) (o ∷ left) left) here in
+          elim (cases_Bool (is_same o.operation operation)) as (λ _. unheard (filter (λ (p : Out). not (p.entry == i)) (o ∷ out)) ≡ unheard (o ∷ out)) [
+            | inl same ↦
+                let is : o ≡ q = value_is o q (sym (cond-true (o.entry == i && is_same o.operation operation) (Some o) after (and_from (o.entry == i) (is_same o.operation operation) here same)) ∙ found) in
+                let heard' : o.heard ≡ true = ap (λ (p : Out). p.heard) is ∙ hears in
+                ap unheard gone ∙ ap unheard (none_gone i out none) ∙ sym (ap (λ b. length (cond (not b) (o ∷ silent') silent')) heard')
+            | inr different ↦
+                let next : after ≡ Some q = sym (ap (λ b. cond b (Some o) after) (ap (λ b. b && is_same o.operation operation) here ∙ different)) ∙ found in
+                let there = found_lane i operation out q next in
+                absurd (omega (arith, there, none))
+          ]
+      | inr other ↦
+          let next : after ≡ Some q = sym (ap (λ b. cond (b && is_same o.operation operation) (Some o) after) other) ∙ found in
+          let same : lanes_of i (o ∷ out) ≡ length rest = ap (λ b. length (cond b (o ∷ rest) rest)) other in
+          let kept : filter (λ (p : Out). not (p.entry == i)) (o ∷ out) ≡ o ∷ left = ap (λ b. cond (not b) (o ∷ left) left) other in
+          let fewer = rid_heard i operation out q next hears (omega (arith, same, once)) in
+          ap unheard kept ∙ by (not o.heard) o (filter (λ (p : Out). not p.heard) left) silent' fewer
+    ] where
+      by : (b : Bool) (p : Out) (xs ys : List Out) → length xs ≡ length ys → length (cond b (p ∷ xs) xs) ≡ length (cond b (p ∷ ys) ys)
+      by true p xs ys h = ap (λ n. suc n) h
+      by false p xs ys h = h
+
+-- what goes out has heard of none
+new_unheard : (at : ℕ) (rs : List Request) → unheard (map (out_at at) rs) ≡ length rs
+new_unheard at [] = refl
+new_unheard at (r ∷ rs) = ap (λ n. suc n) (new_unheard at rs)
+
+-- n later tries have gone out: the hold is over, and either a request had no answer since the last clock or they are all out
+record IsOver (n : ℕ) (s : State) : Type 0 where
+  begun : is_none s.begun ≡ false
+  over : s.presence.hold ≤ s.clocks.at
+  rest : (list_any is_silent s.answers ≡ true) ⊎ (n ≤ unheard s.out)
+
+-- or none has
+record Spares (width n : ℕ) (s : State) : Type 0 where
+  few : n ≤ width
+  all : (n ≡ 0) ⊎ IsOver n s
+
+-- a later try that goes out finds the hold over
+due_over : (p : Presence) (at : ℕ) (x : Track) → is_due p at x ≡ true → is_later_try x.attempt ≡ true → p.hold ≤ at
+unfolding is_due ready
+due_over p at x due later = by x.attempt (and_parts (not x.out) (is_due_try p at x x.attempt) due).1 later where
+  not_so : (b : Bool) → not b ≡ true → b ≡ false
+  not_so true h = absurd cc
+  not_so false h = refl
+
+  by : (o : Option Try) → is_due_try p at x o ≡ true → is_later_try o ≡ true → p.hold ≤ at
+  by None h l = absurd cc
+  by (Some t) h l =
+      let first : is_first t ≡ false = not_so (is_first t) l in
+      let held = le-max_left p.hold (later_at p.away x t) in
+      let free = le-max_right p.free (if is_first t then t.at else max p.hold (later_at p.away x t)) in
+      let is = cond-false (is_first t) t.at (max p.hold (later_at p.away x t)) first in
+      let now : max p.free (if is_first t then t.at else max p.hold (later_at p.away x t)) ≤ at = grind (arith, nat_tests) in
+      omega (arith, held, free, is, now)
+
+some_later : (p : Presence) (at : ℕ) (xs : List Track) (s : State) (is : List ℕ) → ((j : ℕ) → attempt_at s j ≡ (track_in xs j).attempt) → All (λ i. (i < length xs) × (is_due p at (track_in xs i) ≡ true)) is →
+    (length (filter (is_later s) (map (request_at p (sec at) xs) is)) ≡ 0) ⊎ (p.hold ≤ at)
+some_later p at xs s [] same all = inl refl
+some_later p at xs s (j ∷ js) same all =
+    let r = request_at p (sec at) xs j in
+    let rest = filter (is_later s) (map (request_at p (sec at) xs) js) in
+    let e = ap (λ k. is_later_try (attempt_at s k)) (entry_by p (sec at) xs j) ∙ ap is_later_try (same j) in
+    let here = All-head (λ i. (i < length xs) × (is_due p at (track_in xs i) ≡ true)) j js all in
+    elim (cases_Bool (is_later_try (track_in xs j).attempt)) [
+      | inl later ↦ inr (due_over p at (track_in xs j) here.1 later)
+      | inr first ↦
+          elim (some_later p at xs s js same (All-tail (λ i. (i < length xs) × (is_due p at (track_in xs i) ≡ true)) j js all)) [
+            | inl none ↦ inl (ap (λ b. length (cond b (r ∷ rest) rest)) (e ∙ first) ∙ none)
+            | inr over ↦ inr over
+          ]
+    ]
+
+-- the requests that go out at a clock
+goes_spares :
+    (width n : ℕ) (s : State) (requests : List Request) (lanes : ℕ) → is_none s.begun ≡ false → s.answers ≡ [] → s.width ≡ width → lanes ≡ s.width - length s.out → length s.out ≤ width →
+    ((n ≡ 0) ⊎ ((s.presence.hold ≤ s.clocks.at) × (n ≤ unheard s.out))) → Goes s.presence s.clocks.at s.tracks lanes requests →
+    Spares width (length (filter (is_later (sent s requests)) requests) + n) (sent s requests)
+goes_spares width n s requests lanes begun' answers wide free fits so h =
+    let new = sent s requests in
+    let p = s.presence in
+    let at = s.clocks.at in
+    let same : (j : ℕ) → attempt_at new j ≡ (track_in s.tracks j).attempt =
+    λ j. each_kept (λ y x. y.attempt ≡ x.attempt) refl (sent_in at requests) s.tracks
+    (λ k x. if_both (λ (y : Track). y.attempt ≡ x.attempt) (list_any (λ (r : Request). r.entry == k) requests) (sent_track at x) x refl refl) j in
+    let these = some_later p at s.tracks new h.entries same h.due in
+    let count = ap (λ rs. length (filter (is_later new) rs)) h.requests_are in
+    let filtered = length-filter (is_later new) requests in
+    let most = count_by-le-length (is_later new) requests in
+    let many = ap length h.requests_are ∙ length-map h.entries _ in
+    let lanes' = h.few in
+    let split = ap length (filter-append (λ (q : Out). not q.heard) s.out (map (out_at at) requests)) ∙ length-append (filter (λ (q : Out). not q.heard) s.out) (filter (λ (q : Out). not q.heard) (map (out_at at) requests)) in
+    let added = new_unheard at requests in
+    let some = length-filter (λ (q : Out). not q.heard) s.out in
+    let less = count_by-le-length (λ (q : Out). not q.heard) s.out in
+    let total = length (filter (is_later new) requests) + n in
+    record {
+      few = elim so as (λ _. total ≤ width) [
+        | inl none ↦ omega (arith, none, filtered, most, many, lanes', free, wide, fits)
+        | inr all ↦ (let u = all.1 in omega (arith, u, some, less, filtered, most, many, lanes', free, wide, fits))
+      ];
+      all = elim so as (λ _. (total ≡ 0) ⊎ IsOver total new) [
+        | inl none ↦
+            elim these as (λ _. (total ≡ 0) ⊎ IsOver total new) [
+              | inl quiet ↦ inl (omega (arith, none, count, quiet))
+              | inr over ↦ inr (record { begun = begun'; over = over; rest = inr (omega (arith, none, filtered, most, split, added)) })
+            ]
+        | inr all ↦ (let u = all.1 in inr (record { begun = begun'; over = all.0; rest = inr (omega (arith, u, filtered, most, split, added)) }))
+      ];
+    }
+
+-- a clock that does not set the hold
+kept_hold :
+    (margin at : ℕ) (xs : List Track) (answers : List Answer) (p : Presence) → list_any is_silent answers ≡ false → (presence_after margin at xs answers p).hold ≡ p.hold
+unfolding presence_after held_back
+kept_hold margin at xs answers p quiet =
+    ap (λ (q : Presence). q.hold)
+    (cond-false (p.away && list_any is_silent answers) (record p { count = count_after at p; hold = hold_after margin at xs p }) p (right p.away (list_any is_silent answers) quiet)) where
+      right : (a b : Bool) → b ≡ false → a && b ≡ false
+      right true b h = h
+      right false b h = refl
+
+begun_answers : (s : State) (w : Option Why) → (begun s w).answers ≡ s.answers
+begun_answers s None = refl
+begun_answers s (Some w) = refl
+
+readied_answers : (s : State) (wall elapsed : ℕ) → (readied s wall elapsed).answers ≡ []
+unfolding readied
+readied_answers s wall elapsed = begun_answers (settled (timed s wall elapsed)) (why s wall elapsed)
+
+commanded :
+    (width n : ℕ) (s new : State) (command : Command) → is_none s.begun ≡ false → s.answers ≡ [] → Fits width s →
+    ((n ≡ 0) ⊎ ((s.presence.hold ≤ s.clocks.at) × (n ≤ unheard s.out))) → StepCommand s command new →
+    Spares width (length (filter (is_later new) (asked_by command)) + n) new
+commanded width n s new (Go requests until) begun' answers fits so h =
+    let going = goes s.presence s.clocks.at s.tracks (s.width - length s.out) requests h.0.0 in
+    subst (λ (x : State). Spares width (length (filter (is_later x) requests) + n) x) (sym h.0.1)
+    (goes_spares width n s requests (s.width - length s.out) begun' answers fits.0 refl fits.1 so going)
+commanded width n s new Taken begun' answers fits so h = absurd h
+
+-- the clock of a command is that of its state
+same_clock : (s new : State) (command : Command) → StepCommand s command new → new.clocks ≡ s.clocks
+same_clock s new (Go requests until) h = ap (λ (x : State). x.clocks) h.0.1
+same_clock s new Taken h = absurd h
+
+clock_spares :
+    (width n : ℕ) (old new : State) (wall elapsed : ℕ) (output : Output) → StepClock old wall elapsed output new → Fits width old → old.presence.away ≡ true →
+    (Sets old (record { event = Clock wall elapsed; result = Ok output; state = new }) → ⊥) → Spares width n old →
+    Spares width (length (filter (is_later new) (asked_by output.command)) + n) new
+clock_spares width n old new wall elapsed output step fits away never h =
+    let ready = readied old wall elapsed in
+    let mid = pressed ready (round_of step.round) in
+    let at = (timed old wall elapsed).clocks.at in
+    let clock : mid.clocks.at ≡ at = ap (λ c. c.at) (readied_clocks old wall elapsed) in
+    let now : new.clocks.at ≡ mid.clocks.at = ap (λ c. c.at) (same_clock mid new output.command step.command) in
+    let presence = ready_presence old wall elapsed in
+    let out = readied_out old wall elapsed in
+    let fits' : Fits width mid = (readied_width old wall elapsed ∙ fits.0, (let l = fits.1 in let e = ap length out in omega (arith, l, e))) in
+    commanded width n mid new output.command (begun_some old wall elapsed) (readied_answers old wall elapsed) fits'
+    (elim h.all as (λ _. (n ≡ 0) ⊎ ((mid.presence.hold ≤ mid.clocks.at) × (n ≤ unheard mid.out))) [
+      | inl none ↦ inl none
+      | inr over ↦
+          let rises = clock_rises old wall elapsed over.begun in
+          let past = over.over in
+          elim (cases_Bool (list_any is_silent old.answers)) as (λ _. (n ≡ 0) ⊎ ((mid.presence.hold ≤ mid.clocks.at) × (n ≤ unheard mid.out))) [
+            | inl silent' ↦ absurd (never (record { clock = refl; taken = refl; away = away; silent = silent'; over = omega (arith, rises, past, clock, now) }))
+            | inr quiet ↦
+                let hold = ap (λ (p : Presence). p.hold) presence ∙ kept_hold old.forest.margin at old.tracks old.answers old.presence quiet in
+                elim over.rest as (λ _. (n ≡ 0) ⊎ ((mid.presence.hold ≤ mid.clocks.at) × (n ≤ unheard mid.out))) [
+                  | inl silent' ↦ absurd (not_both silent' quiet)
+                  | inr all ↦ (let e = ap unheard out in inr (omega (arith, rises, past, clock, hold), omega (arith, all, e)))
+                ]
+          ]
+    ]) step.command
+
+-- an answer after which the broker is still away
+or_more : (a b c : Bool) → (b ≡ true → c ≡ true) → a || b ≡ true → a || c ≡ true
+or_more true b c more h = refl
+or_more false b c more h = more h
+
+any_left : (p : Answer → Bool) (xs ys : List Answer) → list_any p xs ≡ true → list_any p (xs ++ ys) ≡ true
+any_left p [] ys h = absurd cc
+any_left p (x ∷ xs) ys h = or_more (p x) (list_any p xs) (list_any p (xs ++ ys)) (any_left p xs ys) h
+
+any_last : (p : Answer → Bool) (xs : List Answer) (a : Answer) → p a ≡ true → list_any p (xs ++ a ∷ []) ≡ true
+any_last p [] a h = ap (λ b. b || false) h
+any_last p (x ∷ xs) a h = or_right (p x) (list_any p (xs ++ a ∷ [])) (any_last p xs a h)
+
+real_back : (s : State) (q : Out) (reply : Reply) → s.presence.away ≡ true → is_real reply ≡ true → (replied s q reply).presence.away ≡ false
+real_back s q reply away real =
+    let free = lane_freed s q in
+    ap (λ (t : State). t.presence.away) (cond-true (is_real reply) (answers_all free) (if q.heard then free else silent free) real)
+    ∙ ap (λ (t : State). t.presence.away) (cond-true s.presence.away (record free { out = map heard free.out; tracks = each (λ i. back_track) s.tracks; presence = is_back s.presence }) (record free { out = map heard free.out }) away)
+
+lost_frees : (s : State) (q : Out) (reply : Reply) → s.presence.away ≡ true → is_real reply ≡ false → replied s q reply ≡ lane_freed s q
+lost_frees s q reply away lost =
+    let free = lane_freed s q in
+    cond-false (is_real reply) (answers_all free) (if q.heard then free else silent free) lost
+    ∙ if_both (λ (t : State). t ≡ free) q.heard free (silent free) refl (cond-true s.presence.away free (record free { presence = is_gone s.presence }) away)
+
+-- it leaves all that have gone out, or it tells of none
+answer_spares :
+    (width n : ℕ) (old mid new : State) (q : Out) (reply : Reply) (i : ℕ) (operation : Operation) → request_out old.out i operation ≡ Some q → q.entry ≡ i → new ≡ replied mid q reply →
+    mid.out ≡ old.out → mid.answers ≡ (noted old q reply).answers → mid.presence ≡ old.presence → mid.clocks ≡ old.clocks → mid.begun ≡ old.begun → old.presence.away ≡ true →
+    new.presence.away ≡ true → IsAlone old → Spares width n old → Spares width n new
+answer_spares width n old mid new q reply i operation found entry is out answers presence clocks begun' away still alone h =
+    elim (cases_Bool (is_real reply)) as (λ _. Spares width n new) [
+      | inl real ↦ absurd (not_both still (ap (λ (x : State). x.presence.away) is ∙ real_back mid q reply (ap (λ (p : Presence). p.away) presence ∙ away) real))
+      | inr lost ↦
+          let freed : new ≡ lane_freed mid q = is ∙ lost_frees mid q reply (ap (λ (p : Presence). p.away) presence ∙ away) lost in
+          let a : Answer = record { since = q.since; heard = q.heard; reply = reply } in
+          let these : new.answers ≡ old.answers ++ a ∷ [] = ap (λ (x : State). x.answers) freed ∙ answers in
+          let left : new.out ≡ without i old.out = ap (λ (x : State). x.out) freed ∙ ap (λ k. without k mid.out) entry ∙ ap (without i) out in
+          record {
+            few = h.few;
+            all = elim h.all as (λ _. (n ≡ 0) ⊎ IsOver n new) [
+              | inl none ↦ inl none
+              | inr over ↦
+                  let past = over.over in
+                  let hold = ap (λ (x : State). x.presence.hold) freed ∙ ap (λ (p : Presence). p.hold) presence in
+                  let clock = ap (λ (x : State). x.clocks.at) freed ∙ ap (λ c. c.at) clocks in
+                  inr (record {
+                    begun = ap (λ (x : State). is_none x.begun) freed ∙ ap is_none begun' ∙ over.begun;
+                    over = omega (arith, past, hold, clock);
+                    rest = elim over.rest as (λ _. (list_any is_silent new.answers ≡ true) ⊎ (n ≤ unheard new.out)) [
+                      | inl silent' ↦ inl (ap (list_any is_silent) these ∙ any_left is_silent old.answers (a ∷ []) silent')
+                      | inr all ↦
+                          elim (cases_Bool q.heard) as (λ _. (list_any is_silent new.answers ≡ true) ⊎ (n ≤ unheard new.out)) [
+                            | inl hears ↦
+                                let once = alone.once i in
+                                let low = one_at_most (track_at old i).out in
+                                let same = ap unheard left ∙ rid_heard i operation old.out q found hears (omega (arith, once, low)) in
+                                inr (omega (arith, all, same))
+                            | inr unheard' ↦ inl (ap (list_any is_silent) these ∙ any_last is_silent old.answers a (and_from (not (is_real reply)) (not q.heard) (ap not lost) (ap not unheard')))
+                          ]
+                    ];
+                  })
+            ];
+          }
+    ] where
+      one_at_most : (b : Bool) → flag b ≤ 1
+      one_at_most true = omega arith
+      one_at_most false = omega arith
+
+looked_answers : (s : State) (q : Out) (reply : Reply) (terms : Terms) → (looked s q reply terms).answers ≡ s.answers
+looked_answers s q (Told seconds renewable date) terms = refl
+looked_answers s q (Refused status date) terms = refl
+looked_answers s q Busy terms = refl
+looked_answers s q Lost terms = refl
+
+looked_spares :
+    (width n : ℕ) (old new : State) (found : Option Out) (j : ℕ) (reply : Reply) (terms : Terms) (output : Output) → request_out old.out j Look ≡ found → StepLooked old found reply terms output new →
+    old.presence.away ≡ true → new.presence.away ≡ true → IsAlone old → Spares width n old → Spares width n new
+looked_spares width n old new None j reply terms output is step away still alone h = absurd step
+looked_spares width n old new (Some q) j reply terms output is step away still alone h =
+    let s = noted old q reply in
+    let rest = looked_rest s q reply terms in
+    answer_spares width n old (looked s q reply terms) new q reply j Look is (out_entry old.out j Look q is) step.1 (looked_out s q reply terms) (looked_answers s q reply terms)
+    (looked_presence s q reply terms) (ap (λ (x : State). x.clocks) rest) (ap (λ (x : State). x.begun) rest) away still alone h
+
+renewed_spares :
+    (width n : ℕ) (old new : State) (found : Option Out) (j : ℕ) (reply : Reply) (output : Output) → request_out old.out j Renew ≡ found → StepRenewed old found reply output new →
+    old.presence.away ≡ true → new.presence.away ≡ true → IsAlone old → Spares width n old → Spares width n new
+renewed_spares width n old new None j reply output is step away still alone h = absurd step
+renewed_spares width n old new (Some q) j reply output is step away still alone h =
+    answer_spares width n old (renewed (noted old q reply) q reply) new q reply j Renew is (out_entry old.out j Renew q is) step.1 refl refl refl refl refl away still alone h
+
+-- nothing goes out but at a clock
+quiet : (width n : ℕ) (output out : Output) (new : State) → output ≡ out → asked_by out.command ≡ [] → Spares width n new → Spares width (length (filter (is_later new) (asked_by output.command)) + n) new
+quiet width n output out new is none h =
+    let zero' : length (filter (is_later new) (asked_by output.command)) ≡ 0 = ap (λ (x : Output). length (filter (is_later new) (asked_by x.command))) is ∙ ap (λ rs. length (filter (is_later new) rs)) none in
+    subst (λ m. Spares width m new) (let e : n ≡ length (filter (is_later new) (asked_by output.command)) + n = omega (arith, zero') in e) h
+
+looked_quiet : (output : Output) (old new : State) (found : Option Out) (reply : Reply) (terms : Terms) (width n : ℕ) → StepLooked old found reply terms output new → Spares width n new → Spares width (length (filter (is_later new) (asked_by output.command)) + n) new
+looked_quiet output old new None reply terms width n step h = absurd step
+looked_quiet output old new (Some q) reply terms width n step h = quiet width n output _ new step.0 refl h
+
+renewed_quiet : (output : Output) (old new : State) (found : Option Out) (reply : Reply) (width n : ℕ) → StepRenewed old found reply output new → Spares width n new → Spares width (length (filter (is_later new) (asked_by output.command)) + n) new
+renewed_quiet output old new None reply width n step h = absurd step
+renewed_quiet output old new (Some q) reply width n step h = quiet width n output _ new step.0 refl h
+
+left_spares : (width n : ℕ) (old new : State) → new.out ≡ old.out → new.answers ≡ old.answers → new.presence ≡ old.presence → new.clocks ≡ old.clocks → new.begun ≡ old.begun → Spares width n old → Spares width n new
+left_spares width n old new out answers presence clocks begun' h = record {
+  few = h.few;
+  all = elim h.all as (λ _. (n ≡ 0) ⊎ IsOver n new) [
+    | inl none ↦ inl none
+    | inr over ↦
+        let past = over.over in
+        let hold = ap (λ (p : Presence). p.hold) presence in
+        let clock = ap (λ c. c.at) clocks in
+        inr (record {
+          begun = ap is_none begun' ∙ over.begun;
+          over = omega (arith, past, hold, clock);
+          rest = elim over.rest as (λ _. (list_any is_silent new.answers ≡ true) ⊎ (n ≤ unheard new.out)) [
+            | inl silent' ↦ inl (ap (list_any is_silent) answers ∙ silent')
+            | inr all ↦ (let e = ap unheard out in inr (omega (arith, all, e)))
+          ];
+        })
+  ];
+}
+
+step_spares :
+    (width n : ℕ) (old new : State) (event : Event) (output : Output) → Step old event output new → Fits width old → IsAlone old → old.presence.away ≡ true → new.presence.away ≡ true →
+    (Sets old (record { event = event; result = Ok output; state = new }) → ⊥) → Spares width n old → Spares width (length (filter (is_later new) (asked_by output.command)) + n) new
+step_spares width n old new (Clock wall elapsed) output step fits alone away still never h = clock_spares width n old new wall elapsed output step fits away never h
+step_spares width n old new (Looked j reply terms) output step fits alone away still never h =
+    looked_quiet output old new (request_out old.out j Look) reply terms width n step (looked_spares width n old new (request_out old.out j Look) j reply terms output refl step away still alone h)
+step_spares width n old new (Renewed j reply) output step fits alone away still never h =
+    renewed_quiet output old new (request_out old.out j Renew) reply width n step (renewed_spares width n old new (request_out old.out j Renew) j reply output refl step away still alone h)
+step_spares width n old new (Need j until) output step fits alone away still never h =
+    quiet width n output _ new step.0 refl (subst (Spares width n) (sym step.1) (left_spares width n old (needed old j until) refl refl refl refl refl h))
+step_spares width n old new Begin output step fits alone away still never h =
+    quiet width n output _ new step.0 refl (subst (Spares width n) (sym step.1) (left_spares width n old (record old { asked = true }) refl refl refl refl refl h))
+step_spares width n old new (Known j end renewable) output step fits alone away still never h =
+    quiet width n output _ new step.0 refl (subst (Spares width n) (sym step.1) (left_spares width n old (known old j end renewable) refl refl refl refl refl h))
+
+turn_spares :
+    (width n : ℕ) (old new : State) (event : Event) (result : Result Output WatchFault) → Turn old event result new → Fits width old → IsAlone old → old.presence.away ≡ true → new.presence.away ≡ true →
+    (Sets old (record { event = event; result = result; state = new }) → ⊥) → Spares width n old → Spares width (length (filter (is_later new) (requests_of result)) + n) new
+turn_spares width n old new event (Ok output) turn fits alone away still never h = step_spares width n old new event output turn.1 fits alone away still never h
+turn_spares width n old new event (Err fault) turn fits alone away still never h =
+    subst (λ m. Spares width m new) (let e : n ≡ 0 + n = omega arith in e) (subst (Spares width n) (sym (refused_stays old new event fault turn)) h)
+
+ran :
+    (turns : List Turned) (width n : ℕ) (old : State) → History old turns → Fits width old → IsAlone old → old.presence.away ≡ true → AllAway turns → NoneSets old turns → Spares width n old →
+    laters turns + n ≤ width
+ran [] width n old h fits alone away all none spares = let few = spares.few in omega (arith, few)
+ran (turn ∷ turns) width n old h fits alone away all none spares =
+    let here = length (filter (is_later turn.state) (requests_of turn.result)) in
+    let rest =
+    ran turns width (here + n) turn.state h.1 (turn_fits width old turn.state turn.event turn.result h.0 fits) (turn_alone old turn.state turn.event turn.result h.0 alone) all.0 all.1 none.1
+    (turn_spares width n old turn.state turn.event turn.result h.0 fits alone away all.0 none.0 spares) in
+    omega (arith, rest)
+
+-- what holds after the turns before
+reached :
+    (before turns : List Turned) (width : ℕ) (old : State) → History old (before ++ turns) → Fits width old → IsAlone old →
+    Fits width (after_all old before) × (IsAlone (after_all old before) × History (after_all old before) turns)
+reached [] turns width old h fits alone = (fits, (alone, h))
+reached (turn ∷ before) turns width old h fits alone =
+    reached before turns width turn.state h.1 (turn_fits width old turn.state turn.event turn.result h.0 fits) (turn_alone old turn.state turn.event turn.result h.0 alone)
+
+pub spared : SparedLaw
+spared g width before turns run away all none =
+    let s = opened g width in
+    let there = reached before turns width s run (refl, omega arith) (record { once = λ i. omega arith }) in
+    let end = after_all s before in
+    let few = ran turns width 0 end there.1.1 there.0 there.1.0 away all none (record { few = omega arith; all = inl refl }) in
+    omega (arith, few)

@@ -1,0 +1,350 @@
+-- Topping: what every turn keeps of the last grants of an entry. For the law of the top.
+use Rattle.std.proofs.Common.{◌≡◌, ◌≢◌, ◌∙◌, ℕ, ◌+◌, ◌-◌, ◌<◌, ◌≤◌, Bool, true, false, not, ◌&&◌, ◌||◌, ◌==◌, if◌then◌else◌, List, [], ◌∷◌, ◌++◌, Option, Some, None, Result, Ok, Err, length, map, min, nat_le, nat_lt, refl, sym, ap, subst, arith, inl, inr}
+use Rattle.std.proofs.lemmas.Bool.{and_parts, cases_Bool, cond-true, cond-false, eqb-true}
+use Rattle.std.proofs.lemmas.Bool.Decides.{nat_tests}
+use Rattle.std.proofs.lemmas.List.{append-nil, get_or-map, get_or-set_other, get_or-set_same, length-map}
+use Rattle.std.specs.List.{list_any}
+use Rattle.keep_tree.specs.declared.entry.Entry.{Entry}
+use Rattle.keep_tree.specs.Forest.{entry_at, no_entry}
+use Rattle.watch_machine.specs.declared.command.Output.{Output}
+use Rattle.watch_machine.specs.declared.command.Request.{Request}
+use Rattle.watch_machine.specs.declared.event.Event.{Event}
+use Rattle.watch_machine.specs.declared.event.Event.TheVariants.{Clock, Looked, Renewed, Need, Begin, Known}
+use Rattle.watch_machine.specs.declared.event.Operation.TheVariants.{Look, Renew}
+use Rattle.watch_machine.specs.declared.event.Reply.{Reply}
+use Rattle.watch_machine.specs.declared.event.Reply.TheVariants.{Told, Refused, Busy, Lost}
+use Rattle.watch_machine.specs.declared.event.Terms.{Terms}
+use Rattle.watch_machine.specs.declared.fault.WatchFault.{WatchFault}
+use Rattle.watch_machine.specs.declared.lanes.Out.{Out}
+use Rattle.watch_machine.specs.declared.notes.Why.{Why}
+use Rattle.watch_machine.specs.declared.track.End.{End}
+use Rattle.watch_machine.specs.declared.track.End.TheVariants.{Unknown, At, Never}
+use Rattle.watch_machine.specs.declared.track.Grant.{Grant}
+use Rattle.watch_machine.specs.declared.track.Track.{Track}
+use Rattle.watch_machine.specs.Answers.{back_track, noted, replied}
+use Rattle.watch_machine.specs.Beginning.{begun, is_called, owing, owing_lookup, soon, sooner, untopped, untopped_track}
+use Rattle.watch_machine.specs.Clocks.{sec}
+use Rattle.watch_machine.specs.History.{History, Turn, Turned}
+use Rattle.watch_machine.specs.Looked.{looked, told_state, told_track, untold_track}
+use Rattle.watch_machine.specs.Press.{asked_in, asked_track, dropped, is_fresh, press, pressed, pressed_alone, pressed_track}
+use Rattle.watch_machine.specs.Margins.{has_come}
+use Rattle.watch_machine.specs.Refusal.{request_out}
+use Rattle.watch_machine.specs.Renewed.{from_try, granted_from, is_no_further, renewed, renewed_track, track_renewed, ungranted_track}
+use Rattle.watch_machine.specs.Round.{asked_by}
+use Rattle.watch_machine.specs.Sending.{sent, sent_in, sent_track}
+use Rattle.watch_machine.specs.Settling.{settled, settled_track, timed}
+use Rattle.watch_machine.specs.State.{State, entry_of, fresh_track, no_track, opened, track_at, track_in}
+use Rattle.watch_machine.specs.Step.{Step, StepClock, StepLooked, StepRenewed, readied, why}
+use Rattle.watch_machine.specs.Wanted.{believed, is_open, need_of, wants}
+use Rattle.watch_machine.proofs.Cases.{if_both, not_both}
+use Rattle.watch_machine.proofs.Within.{out_entry}
+use Rattle.watch_machine.proofs.Written.{each_length}
+use Rattle.watch_laws.specs.Tops.{EndNoFurther, Granted, ToppedLaw, grant_by, grant_of, grant_told, grants}
+use Rattle.watch_laws.specs.Turns.{after_all}
+use Rattle.watch_laws.proofs.Clocking.{refused_stays, sent_by}
+use Rattle.watch_laws.proofs.Tracking.{back_kept, each_kept, looked_count, renewed_count, set_count, set_kept}
+
+-- the grant is the same, and no top is new
+abbrev Lower : Track → Track → Type 0
+Lower y x = (y.grant ≡ x.grant) × (y.top ≡ true → x.top ≡ true)
+
+lower_same : (x : Track) → Lower x x
+lower_same x = (refl, λ top. top)
+
+lower_both : (z y x : Track) → Lower z y → Lower y x → Lower z x
+lower_both z y x h k = (h.0 ∙ k.0, λ top. k.1 (h.1 top))
+
+-- the parts of a clock
+settled_lower : (margin at : ℕ) (x : Track) → Lower (settled_track margin at x) x
+unfolding settled_track
+settled_lower margin at x = (refl, λ top. top)
+
+untopped_lower : (x : Track) → Lower (untopped_track x) x
+untopped_lower x = (refl, λ top. absurd cc)
+
+owing_lower : (at : ℕ) (called : Bool) (x : Track) → Lower (owing at called x) x
+unfolding owing
+owing_lower at called x =
+    if_both (λ y. Lower y x) (called && is_open (sec at) x) (owing_lookup at x) x
+    (if_both (λ y. Lower y x) x.out (record x { owes = true }) (record x { owes = true; attempt = Some (sooner (soon at x) x.attempt) }) (refl, λ top. top) (refl, λ top. top)) (lower_same x)
+
+pressed_lower : (margin : ℕ) (e : Entry) (need at : ℕ) (x : Track) → Lower (pressed_track margin e need at x) x
+unfolding pressed_track
+pressed_lower margin e need at x =
+    if_both (λ y. Lower y x) (is_fresh margin e x need (sec at)) (record x { attempt = Some (press at false x) }) (if wants x need || x.out then x else record x { attempt = dropped x x.attempt })
+    (refl, λ top. top) (if_both (λ y. Lower y x) (wants x need || x.out) x (record x { attempt = dropped x x.attempt }) (lower_same x) (refl, λ top. top))
+
+asked_lower : (margin : ℕ) (e : Entry) (at : ℕ) (round : List ℕ) (i : ℕ) (x : Track) → Lower (asked_in margin e at round i x) x
+unfolding asked_track
+asked_lower margin e at round i x =
+    if_both (λ y. Lower y x) (list_any (λ j. j == i) round) (asked_track margin e at x) x
+    (if_both (λ y. Lower y x) x.out x (record x { attempt = Some (press at (not (has_come margin e x (sec at))) x) }) (lower_same x) (refl, λ top. top)) (lower_same x)
+
+sent_lower : (at : ℕ) (requests : List Request) (i : ℕ) (x : Track) → Lower (sent_in at requests i x) x
+sent_lower at requests i x = if_both (λ y. Lower y x) (list_any (λ (r : Request). r.entry == i) requests) (sent_track at x) x (refl, λ top. top) (lower_same x)
+
+begun_lower : (s : State) (w : Option Why) (i : ℕ) → Lower (track_at (begun s w) i) (track_at s i)
+begun_lower s None i = lower_same (track_at s i)
+begun_lower s (Some w) i =
+    let xs = untopped s.tracks in
+    lower_both (track_at (begun s (Some w)) i) (track_in xs i) (track_at s i)
+    (each_kept Lower (lower_same no_track) (λ j. owing s.clocks.at (is_called s.forest xs s.clocks j)) xs (λ j x. owing_lower s.clocks.at (is_called s.forest xs s.clocks j) x) i)
+    (each_kept Lower (lower_same no_track) (λ j. untopped_track) s.tracks (λ j x. untopped_lower x) i)
+
+readied_lower : (s : State) (wall elapsed i : ℕ) → Lower (track_at (readied s wall elapsed) i) (track_at s i)
+unfolding readied
+readied_lower s wall elapsed i =
+    let t = timed s wall elapsed in
+    lower_both (track_at (begun (settled t) (why s wall elapsed)) i) (track_at (settled t) i) (track_at s i) (begun_lower (settled t) (why s wall elapsed) i)
+    (each_kept Lower (lower_same no_track) (λ j. settled_track t.forest.margin t.clocks.at) s.tracks (λ j x. settled_lower t.forest.margin t.clocks.at x) i)
+
+mid_lower : (s : State) (round : List ℕ) (requests : List Request) (i : ℕ) → Lower (track_at (sent (pressed s round) requests) i) (track_at s i)
+mid_lower s round requests i =
+    let c = s.clocks in
+    let g = s.forest in
+    let alone = pressed_alone g c s.tracks in
+    let mid = pressed s round in
+    lower_both (track_at (sent mid requests) i) (track_at mid i) (track_at s i) (each_kept Lower (lower_same no_track) (sent_in c.at requests) mid.tracks (λ j x. sent_lower c.at requests j x) i)
+    (lower_both (track_at mid i) (track_in alone i) (track_at s i)
+    (each_kept Lower (lower_same no_track) (λ j. asked_in g.margin (entry_at g.entries j) c.at round j) alone (λ j x. asked_lower g.margin (entry_at g.entries j) c.at round j x) i)
+    (each_kept Lower (lower_same no_track) (λ j. pressed_track g.margin (entry_at g.entries j) (need_of g.entries s.tracks c j) c.at) s.tracks (λ j x. pressed_lower g.margin (entry_at g.entries j) (need_of g.entries s.tracks c j) c.at x) i))
+
+clock_lower : (old new : State) (wall elapsed : ℕ) (output : Output) (i : ℕ) → StepClock old wall elapsed output new → Lower (track_at new i) (track_at old i)
+clock_lower old new wall elapsed output i step =
+    let ready = readied old wall elapsed in
+    let is = sent_by (pressed ready (asked_by step.round)) new output.command step.command in
+    subst (λ (x : State). Lower (track_at x i) (track_at old i)) (sym is.1)
+    (lower_both (track_at (sent (pressed ready (asked_by step.round)) is.0) i) (track_at ready i) (track_at old i) (mid_lower ready (asked_by step.round) is.0 i) (readied_lower old wall elapsed i))
+
+-- as many tracks
+begun_count : (s : State) (w : Option Why) → length (begun s w).tracks ≡ length s.tracks
+begun_count s None = refl
+begun_count s (Some w) = each_length _ (untopped s.tracks) ∙ each_length (λ j. untopped_track) s.tracks
+
+readied_count : (s : State) (wall elapsed : ℕ) → length (readied s wall elapsed).tracks ≡ length s.tracks
+unfolding readied
+readied_count s wall elapsed = begun_count (settled (timed s wall elapsed)) (why s wall elapsed) ∙ each_length _ s.tracks
+
+clock_count : (old new : State) (wall elapsed : ℕ) (output : Output) → StepClock old wall elapsed output new → length new.tracks ≡ length old.tracks
+clock_count old new wall elapsed output step =
+    let ready = readied old wall elapsed in
+    let mid = pressed ready (asked_by step.round) in
+    let is = sent_by mid new output.command step.command in
+    ap (λ (x : State). length x.tracks) is.1 ∙ each_length (sent_in mid.clocks.at is.0) mid.tracks ∙ each_length _ (pressed_alone ready.forest ready.clocks ready.tracks) ∙ each_length _ ready.tracks
+    ∙ readied_count old wall elapsed
+
+-- the answer to a lookup
+told_lower : (since seconds : ℕ) (renewable endless : Bool) (x : Track) → Lower (told_track since seconds renewable endless x) x
+unfolding told_track
+told_lower since seconds renewable endless x = (refl, λ top. top)
+
+untold_lower : (at : ℕ) (heard : Bool) (reply : Reply) (x : Track) → Lower (untold_track at heard reply x) x
+unfolding untold_track
+untold_lower at heard reply x = (refl, λ top. top)
+
+looked_lower : (s : State) (r : Out) (reply : Reply) (terms : Terms) (i : ℕ) → Lower (track_at (looked s r reply terms) i) (track_at s i)
+looked_lower s r (Told seconds renewable date) terms i =
+    let mid = told_state s r.entry r.since seconds renewable terms in
+    lower_both (track_at (looked s r (Told seconds renewable date) terms) i) (track_at mid i) (track_at s i) (set_kept Lower lower_same mid.tracks r.entry _ (refl, λ top. top) i)
+    (set_kept Lower lower_same s.tracks r.entry (told_track r.since seconds renewable terms.endless (track_at s r.entry)) (told_lower r.since seconds renewable terms.endless (track_at s r.entry)) i)
+looked_lower s r (Refused status date) terms i = set_kept Lower lower_same s.tracks r.entry _ (untold_lower s.clocks.at r.heard (Refused status date) (track_at s r.entry)) i
+looked_lower s r Busy terms i = set_kept Lower lower_same s.tracks r.entry _ (untold_lower s.clocks.at r.heard Busy (track_at s r.entry)) i
+looked_lower s r Lost terms i = set_kept Lower lower_same s.tracks r.entry _ (untold_lower s.clocks.at r.heard Lost (track_at s r.entry)) i
+
+-- all but the try is the same
+abbrev Alike : Track → Track → Type 0
+Alike y x = Lower y x × (y.end ≡ x.end)
+
+after_alike : (s : State) (r : Out) (reply : Reply) (i : ℕ) → Alike (track_at (replied s r reply) i) (track_at s i)
+unfolding back_track
+after_alike s r reply i = back_kept Alike (λ x. (lower_same x, refl)) (λ x. ((refl, λ top. top), refl)) s r reply i
+
+-- the last of some grants is the one that is kept
+abbrev told_grant : Grant → Granted
+told_grant g = record { seconds = g.seconds; from = sec g.from }
+
+abbrev EndIn : List Granted → Option Grant → Type 0
+EndIn gs None = Unit {0}
+EndIn gs (Some g) = (earlier : List Granted) × (gs ≡ earlier ++ told_grant g ∷ [])
+
+record Kept (gs : List Granted) (x : Track) : Type 0 where
+  last : EndIn gs x.grant
+  topped : x.top ≡ true → EndNoFurther gs
+
+lower_kept : (gs : List Granted) (y x : Track) → Lower y x → Kept gs x → Kept gs y
+lower_kept gs y x h k = record { last = subst (EndIn gs) (sym h.0) k.last; topped = λ top. k.topped (h.1 top) }
+
+-- a grant
+append_two : (xs : List Granted) (y z : Granted) → (xs ++ y ∷ []) ++ z ∷ [] ≡ xs ++ y ∷ z ∷ []
+append_two [] y z = refl
+append_two (x ∷ xs) y z = ap (λ ys. x ∷ ys) (append_two xs y z)
+
+further : (step seconds from' : ℕ) (before : Option Grant) (end : End) (gs : List Granted) → EndIn gs before → is_no_further step seconds from' before end ≡ true → EndNoFurther (gs ++ told_grant (record { seconds = seconds; from = from' }) ∷ [])
+further step seconds from' None end gs last top = absurd cc
+further step seconds from' (Some b) Unknown gs last top = absurd cc
+further step seconds from' (Some b) Never gs last top = absurd cc
+further step seconds from' (Some b) (At end) gs last top =
+    let apart = and_parts (nat_le (sec b.from + 2) (sec from')) _ top in
+    let rest = and_parts (nat_lt b.seconds step) _ apart.1 in
+    let low = and_parts (nat_lt seconds step) _ rest.1 in
+    let this = told_grant (record { seconds = seconds; from = from' }) in
+    let two : sec b.from + 2 ≤ sec from' = (let a = apart.0 in grind (arith, nat_tests)) in
+    let most : sec from' + seconds ≤ min end (sec b.from + b.seconds) + 1 = (let l = low.1 in grind (arith, nat_tests)) in (
+      last.0,
+      (
+        told_grant b,
+        (
+          this,
+          (
+            ap (λ ys. ys ++ this ∷ []) last.1 ∙ append_two last.0 (told_grant b) this,
+            record { apart = omega (arith, two); no_further = omega (arith, most) },
+          ),
+        ),
+      ),
+    )
+
+granted_kept : (step at seconds : ℕ) (renewable : Bool) (from' : ℕ) (x : Track) (gs : List Granted) → Kept gs x → Kept (gs ++ told_grant (record { seconds = seconds; from = from' }) ∷ []) (granted_from step at seconds renewable from' x)
+unfolding granted_from
+granted_kept step at seconds renewable from' x gs k = record { last = (gs, refl); topped = λ top. further step seconds from' x.grant x.end gs k.last top }
+
+granted_end : (step at seconds : ℕ) (renewable : Bool) (from' : ℕ) (x : Track) → believed (granted_from step at seconds renewable from' x).end ≡ sec from' + seconds
+unfolding granted_from
+granted_end step at seconds renewable from' x = refl
+
+-- the answer to a renewal: of the entry itself
+ungranted_lower : (at : ℕ) (heard : Bool) (reply : Reply) (x : Track) → Lower (ungranted_track at heard reply x) x
+unfolding ungranted_track
+ungranted_lower at heard reply x = (refl, λ top. top)
+
+none_more : (gs : List Granted) (x : Track) → Kept gs x → Kept (gs ++ []) x
+none_more gs x k = subst (λ ys. Kept ys x) (sym (append-nil gs)) k
+
+own_renewed :
+    (s new : State) (r : Out) (reply : Reply) (i : ℕ) (gs : List Granted) → i < length s.tracks → r.entry ≡ i → Alike (track_at new i) (track_at (renewed s r reply) i) → Kept gs (track_at s i) →
+    Kept (gs ++ grant_told i new reply) (track_at new i)
+unfolding renewed_track
+own_renewed s new r (Told seconds renewable date) i gs within own alike k =
+    let g = s.forest in
+    let step = (entry_of s r.entry).step in
+    let x = track_at s r.entry in
+    let from' = from_try g.margin step seconds s.clocks.at r.since x.attempt in
+    let made = granted_from step s.clocks.at seconds renewable from' x in
+    let there : track_at (renewed s r (Told seconds renewable date)) i ≡ made =
+    subst (λ j. track_at (renewed s r (Told seconds renewable date)) j ≡ made) own (get_or-set_same s.tracks r.entry made no_track (omega (arith, own, within))) in
+    let this = told_grant (record { seconds = seconds; from = from' }) in
+    let here = granted_kept step s.clocks.at seconds renewable from' x gs (subst (λ j. Kept gs (track_at s j)) (sym own) k) in
+    let kept = lower_kept (gs ++ this ∷ []) (track_at new i) made (subst (λ y. Lower (track_at new i) y) there alike.0) here in
+    let end : believed (track_at new i).end ≡ sec from' + seconds = ap believed (alike.1 ∙ ap (λ (y : Track). y.end) there) ∙ granted_end step s.clocks.at seconds renewable from' x in
+    let counts : believed (track_at new i).end - seconds ≡ sec from' = omega (arith, end) in
+    subst (λ n. Kept (gs ++ record { seconds = seconds; from = n } ∷ []) (track_at new i)) (sym counts) kept
+own_renewed s new r (Refused status date) i gs within own alike k =
+    none_more gs (track_at new i) (lower_kept gs (track_at new i) (track_at s i) (lower_both (track_at new i) (track_at (renewed s r (Refused status date)) i) (track_at s i) alike.0
+    (set_kept Lower lower_same s.tracks r.entry _ (ungranted_lower s.clocks.at r.heard (Refused status date) (track_at s r.entry)) i)) k)
+own_renewed s new r Busy i gs within own alike k =
+    none_more gs (track_at new i) (lower_kept gs (track_at new i) (track_at s i) (lower_both (track_at new i) (track_at (renewed s r Busy) i) (track_at s i) alike.0
+    (set_kept Lower lower_same s.tracks r.entry _ (ungranted_lower s.clocks.at r.heard Busy (track_at s r.entry)) i)) k)
+own_renewed s new r Lost i gs within own alike k =
+    none_more gs (track_at new i) (lower_kept gs (track_at new i) (track_at s i) (lower_both (track_at new i) (track_at (renewed s r Lost) i) (track_at s i) alike.0
+    (set_kept Lower lower_same s.tracks r.entry _ (ungranted_lower s.clocks.at r.heard Lost (track_at s r.entry)) i)) k)
+
+same_index : (i : ℕ) → (i == i) ≡ true
+same_index i = grind (arith, nat_tests)
+
+-- or of another
+renewed_kept :
+    (old new : State) (o : Option Out) (j i : ℕ) (reply : Reply) (output : Output) (gs : List Granted) → request_out old.out j Renew ≡ o → StepRenewed old o reply output new →
+    i < length old.tracks → Kept gs (track_at old i) → Kept (gs ++ grant_by i new (Renewed j reply)) (track_at new i)
+renewed_kept old new None j i reply output gs is step within k = absurd step
+renewed_kept old new (Some r) j i reply output gs is step within k =
+    let s = noted old r reply in
+    let mid = renewed s r reply in
+    let entry = out_entry old.out j Renew r is in
+    let alike = subst (λ (x : State). Alike (track_at x i) (track_at mid i)) (sym step.1) (after_alike mid r reply i) in
+    elim (cases_Bool (j == i)) [
+      | inl same ↦
+          subst (λ ys. Kept (gs ++ ys) (track_at new i)) (sym (cond-true (j == i) (grant_told i new reply) [] same))
+          (own_renewed s new r reply i gs within (entry ∙ eqb-true j i same) alike k)
+      | inr other ↦
+          let apart : i ≢ r.entry = λ e. not_both (subst (λ n. (n == i) ≡ true) (e ∙ entry) (same_index i)) other in
+          let left : track_at mid i ≡ track_at s i = get_or-set_other s.tracks r.entry i (track_renewed s r reply) no_track apart in
+          subst (λ ys. Kept (gs ++ ys) (track_at new i)) (sym (cond-false (j == i) (grant_told i new reply) [] other))
+          (none_more gs (track_at new i) (lower_kept gs (track_at new i) (track_at s i) (subst (λ y. Lower (track_at new i) y) left alike.0) k))
+    ]
+
+looked_kept :
+    (old new : State) (o : Option Out) (i : ℕ) (reply : Reply) (terms : Terms) (output : Output) → StepLooked old o reply terms output new → Lower (track_at new i) (track_at old i)
+looked_kept old new None i reply terms output step = absurd step
+looked_kept old new (Some r) i reply terms output step =
+    let s = noted old r reply in
+    let mid = looked s r reply terms in
+    subst (λ (x : State). Lower (track_at x i) (track_at old i)) (sym step.1)
+    (lower_both (track_at (replied mid r reply) i) (track_at mid i) (track_at old i) (after_alike mid r reply i).0 (looked_lower s r reply terms i))
+
+-- a step, and a turn
+quiet_kept : (old new : State) (i : ℕ) (gs : List Granted) → Lower (track_at new i) (track_at old i) → Kept gs (track_at old i) → Kept (gs ++ []) (track_at new i)
+quiet_kept old new i gs low k = none_more gs (track_at new i) (lower_kept gs (track_at new i) (track_at old i) low k)
+
+step_kept :
+    (old new : State) (event : Event) (output : Output) (i : ℕ) (gs : List Granted) → Step old event output new → i < length old.tracks → Kept gs (track_at old i) →
+    Kept (gs ++ grant_by i new event) (track_at new i)
+step_kept old new (Clock wall elapsed) output i gs step within k = quiet_kept old new i gs (clock_lower old new wall elapsed output i step) k
+step_kept old new (Looked j reply terms) output i gs step within k = quiet_kept old new i gs (looked_kept old new (request_out old.out j Look) i reply terms output step) k
+step_kept old new (Renewed j reply) output i gs step within k = renewed_kept old new (request_out old.out j Renew) j i reply output gs refl step within k
+step_kept old new (Need j until) output i gs step within k =
+    quiet_kept old new i gs (subst (λ (x : State). Lower (track_at x i) (track_at old i)) (sym step.1) (lower_same (track_at old i))) k
+step_kept old new Begin output i gs step within k = quiet_kept old new i gs (subst (λ (x : State). Lower (track_at x i) (track_at old i)) (sym step.1) (lower_same (track_at old i))) k
+step_kept old new (Known j end renewable) output i gs step within k =
+    quiet_kept old new i gs (subst (λ (x : State). Lower (track_at x i) (track_at old i)) (sym step.1) (set_kept Lower lower_same old.tracks j _ (refl, λ top. top) i)) k
+
+looked_many : (old new : State) (o : Option Out) (reply : Reply) (terms : Terms) (output : Output) → StepLooked old o reply terms output new → length new.tracks ≡ length old.tracks
+looked_many old new None reply terms output step = absurd step
+looked_many old new (Some r) reply terms output step = ap (λ (x : State). length x.tracks) step.1 ∙ looked_count old r reply terms
+
+renewed_many : (old new : State) (o : Option Out) (reply : Reply) (output : Output) → StepRenewed old o reply output new → length new.tracks ≡ length old.tracks
+renewed_many old new None reply output step = absurd step
+renewed_many old new (Some r) reply output step = ap (λ (x : State). length x.tracks) step.1 ∙ renewed_count old r reply
+
+step_count : (old new : State) (event : Event) (output : Output) → Step old event output new → length new.tracks ≡ length old.tracks
+step_count old new (Clock wall elapsed) output step = clock_count old new wall elapsed output step
+step_count old new (Looked j reply terms) output step = looked_many old new (request_out old.out j Look) reply terms output step
+step_count old new (Renewed j reply) output step = renewed_many old new (request_out old.out j Renew) reply output step
+step_count old new (Need j until) output step = ap (λ (x : State). length x.tracks) step.1
+step_count old new Begin output step = ap (λ (x : State). length x.tracks) step.1
+step_count old new (Known j end renewable) output step = ap (λ (x : State). length x.tracks) step.1 ∙ set_count old j _
+
+pub turn_count : (old new : State) (event : Event) (result : Result Output WatchFault) → Turn old event result new → length new.tracks ≡ length old.tracks
+turn_count old new event (Ok output) turn = step_count old new event output turn.1
+turn_count old new event (Err fault) turn = ap (λ (x : State). length x.tracks) (refused_stays old new event fault turn)
+
+turn_kept :
+    (old new : State) (event : Event) (result : Result Output WatchFault) (i : ℕ) (gs : List Granted) → Turn old event result new → i < length old.tracks → Kept gs (track_at old i) →
+    Kept (gs ++ grant_of i new event result) (track_at new i)
+turn_kept old new event (Ok output) i gs turn within k = step_kept old new event output i gs turn.1 within k
+turn_kept old new event (Err fault) i gs turn within k =
+    none_more gs (track_at new i) (subst (λ (x : State). Kept gs (track_at x i)) (sym (refused_stays old new event fault turn)) k)
+
+append_three : (xs ys zs : List Granted) → (xs ++ ys) ++ zs ≡ xs ++ (ys ++ zs)
+append_three [] ys zs = refl
+append_three (x ∷ xs) ys zs = ap (λ rest. x ∷ rest) (append_three xs ys zs)
+
+ran :
+    (turns : List Turned) (old : State) (i : ℕ) (gs : List Granted) → History old turns → i < length old.tracks → Kept gs (track_at old i) →
+    Kept (gs ++ grants i turns) (track_at (after_all old turns) i)
+ran [] old i gs h within k = none_more gs (track_at old i) k
+ran (turn ∷ turns) old i gs h within k =
+    let here = turn_kept old turn.state turn.event turn.result i gs h.0 within k in
+    let count = turn_count old turn.state turn.event turn.result h.0 in
+    let rest = ran turns turn.state i (gs ++ grant_of i turn.state turn.event turn.result) h.1 (omega (arith, count, within)) here in
+    subst (λ ys. Kept ys (track_at (after_all turn.state turns) i)) (append_three gs (grant_of i turn.state turn.event turn.result) (grants i turns)) rest
+
+first_track : (es : List Entry) (i : ℕ) → i < length es → track_in (map fresh_track es) i ≡ fresh_track (entry_at es i)
+unfolding entry_at
+first_track es i within = get_or-map fresh_track es i no_entry no_track within
+
+pub topped : ToppedLaw
+topped g width turns run i within top =
+    let s = opened g width in
+    let fresh : track_at s i ≡ fresh_track (entry_at g.entries i) = first_track g.entries i within in
+    let none : Kept [] (track_at s i) = subst (Kept []) (sym fresh) (record { last = tt; topped = λ yes'. absurd cc }) in
+    let count = length-map g.entries fresh_track in
+    (ran turns s i [] run (omega (arith, count, within)) none).topped top

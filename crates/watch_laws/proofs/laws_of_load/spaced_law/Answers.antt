@@ -1,0 +1,6 @@
+-- spaced_law: the law as it is proved in Spacing.
+use Rattle.watch_laws.proofs.Spacing.{spaced}
+use Rattle.watch_laws.proofs.laws_of_load.spaced_law.Goals as goal
+
+pub returns : goal.returns
+returns c = spaced

@@ -1,0 +1,6 @@
+-- width_law: the law as it is proved in Width.
+use Rattle.watch_laws.proofs.Width.{width}
+use Rattle.watch_laws.proofs.laws_of_load.width_law.Goals as goal
+
+pub returns : goal.returns
+returns c = width

@@ -1,0 +1,6 @@
+-- retry_law: the law as it is proved in Retrying.
+use Rattle.watch_laws.proofs.Retrying.{retried}
+use Rattle.watch_laws.proofs.laws_of_waiting.retry_law.Goals as goal
+
+pub returns : goal.returns
+returns c = retried

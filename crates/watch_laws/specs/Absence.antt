@@ -1,0 +1,73 @@
+-- Absence: how the broker is spared while it is away. Each law is the contract of a public function without a body.
+-- Source: this project's own.
+use Rattle.std.specs.Prelude.{◌≡◌, ℕ, ◌+◌, ◌≤◌, Bool, true, false, not, List, [], ◌∷◌, ◌++◌, Option, Some, None, Result, Ok, Err, filter, length}
+use Rattle.std.specs.List.{list_any}
+use Rattle.keep_tree.specs.Forest.{Forest}
+use Rattle.watch_machine.specs.declared.command.Output.{Output}
+use Rattle.watch_machine.specs.declared.command.Request.{Request}
+use Rattle.watch_machine.specs.declared.event.Event.{Event}
+use Rattle.watch_machine.specs.declared.event.Event.TheVariants.{Clock, Looked, Renewed, Need, Begin, Known}
+use Rattle.watch_machine.specs.declared.fault.WatchFault.{WatchFault}
+use Rattle.watch_machine.specs.declared.track.Try.{Try}
+use Rattle.watch_machine.specs.History.{History, IsRun, Turned}
+use Rattle.watch_machine.specs.Lines.{is_first}
+use Rattle.watch_machine.specs.Settling.{is_silent}
+use Rattle.watch_machine.specs.State.{State, attempt_at, opened}
+use Rattle.watch_laws.specs.Load.{requests_of}
+use Rattle.watch_laws.specs.Turns.{after_all}
+
+-- the broker is away after each turn
+abbrev pub AllAway : List Turned → Type 0
+AllAway [] = Unit {0}
+AllAway (turn ∷ turns) = (turn.state.presence.away ≡ true) × AllAway turns
+
+-- a clock that was taken
+abbrev pub is_clock : Event → Bool
+is_clock (Clock wall elapsed) = true
+is_clock (Looked i reply terms) = false
+is_clock (Renewed i reply) = false
+is_clock (Need i until) = false
+is_clock Begin = false
+is_clock (Known i end renewable) = false
+
+abbrev pub is_taken : Result Output WatchFault → Bool
+is_taken (Ok output) = true
+is_taken (Err fault) = false
+
+-- a clock sets the hold anew: the broker is away, a request had no answer since the last clock, and the hold so far is over
+pub record Sets (old : State) (turn : Turned) : Type 0 where
+  pub clock : is_clock turn.event ≡ true
+  pub taken : is_taken turn.result ≡ true
+  pub away : old.presence.away ≡ true
+  pub silent : list_any is_silent old.answers ≡ true
+  pub over : old.presence.hold ≤ turn.state.clocks.at
+
+-- while the broker is away, two settings of the hold are a second apart or more
+abbrev pub HeldLaw : Type 0
+HeldLaw =
+    (old : State) (first next : Turned) (between : List Turned) → History old (first ∷ (between ++ next ∷ [])) → AllAway (first ∷ between) → Sets old first →
+    Sets (after_all first.state between) next → first.state.clocks.at + 1000 ≤ next.state.clocks.at
+
+-- a request is a later try: one that failed before, or that only owes a lookup
+abbrev pub is_later_try : Option Try → Bool
+is_later_try None = false
+is_later_try (Some t) = not (is_first t)
+
+abbrev pub is_later : State → Request → Bool
+is_later s r = is_later_try (attempt_at s r.entry)
+
+-- how many later tries go out
+abbrev pub laters : List Turned → ℕ
+laters [] = 0
+laters (turn ∷ turns) = length (filter (is_later turn.state) (requests_of turn.result)) + laters turns
+
+-- no turn sets the hold
+abbrev pub NoneSets : State → List Turned → Type 0
+NoneSets old [] = Unit {0}
+NoneSets old (turn ∷ turns) = (Sets old turn → ⊥) × NoneSets turn.state turns
+
+-- while the broker is away, no more later tries than the width go out until the hold is set anew
+abbrev pub SparedLaw : Type 0
+SparedLaw =
+    (g : Forest) (width : ℕ) (before turns : List Turned) → IsRun g width (before ++ turns) → (after_all (opened g width) before).presence.away ≡ true → AllAway turns →
+    NoneSets (after_all (opened g width) before) turns → laters turns ≤ width

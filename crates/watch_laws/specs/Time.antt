@@ -1,0 +1,82 @@
+-- Time: nobody is renewed too early. Each law is the contract of a public function without a body.
+use Rattle.std.specs.Prelude.{◌≡◌, ◌==◌, ℕ, ◌<◌, Bool, true, false, ◌&&◌, ◌||◌, if◌then◌else◌, List, [], ◌∷◌, Option, Some, None, Result, Ok, Err, length}
+use Rattle.std.specs.List.{list_any}
+use Rattle.keep_tree.specs.Forest.{Forest}
+use Rattle.watch_machine.specs.declared.command.Output.{Output}
+use Rattle.watch_machine.specs.declared.command.Request.{Request}
+use Rattle.watch_machine.specs.declared.event.Event.{Event}
+use Rattle.watch_machine.specs.declared.event.Event.TheVariants.{Clock, Looked, Renewed, Need, Begin, Known}
+use Rattle.watch_machine.specs.declared.event.Operation.TheVariants.{Renew}
+use Rattle.watch_machine.specs.declared.event.Reply.{Reply}
+use Rattle.watch_machine.specs.declared.event.Reply.TheVariants.{Told, Refused, Busy, Lost}
+use Rattle.watch_machine.specs.declared.fault.WatchFault.{WatchFault}
+use Rattle.watch_machine.specs.History.{IsRun, Turned}
+use Rattle.watch_machine.specs.Margins.{has_come, is_in_plan}
+use Rattle.watch_machine.specs.Refusal.{is_same}
+use Rattle.watch_machine.specs.State.{State, entry_of, second, track_at}
+use Rattle.watch_machine.specs.Wanted.{is_alive, is_wanted}
+use Rattle.watch_laws.specs.Load.{requests_of}
+
+-- the time of i has come
+abbrev pub is_come : State → ℕ → Bool
+is_come s i = has_come s.forest.margin (entry_of s i) (track_at s i) (second s)
+
+-- a round that opened names i
+abbrev pub is_named : Option (List ℕ) → ℕ → Bool
+is_named None i = false
+is_named (Some asked) i = list_any (λ j. j == i) asked
+
+-- an answer of i leaves a reason to renew it: as told its time has come, or it failed. s is the state after it
+abbrev pub reason_answered : State → ℕ → Reply → Bool
+reason_answered s i (Told seconds renewable date) = is_come s i
+reason_answered s i (Refused status date) = true
+reason_answered s i Busy = true
+reason_answered s i Lost = true
+
+abbrev pub reason_taken : ℕ → Bool → Event → Output → State → Bool
+reason_taken i before (Clock wall elapsed) output s = before || (is_come s i || is_named output.notes.round i)
+reason_taken i before (Looked j reply terms) output s = if j == i then reason_answered s i reply else before
+reason_taken i before (Renewed j reply) output s = if j == i then reason_answered s i reply else before
+reason_taken i before (Need j until) output s = before
+reason_taken i before Begin output s = before
+reason_taken i before (Known j end renewable) output s = before
+
+-- there is a reason to renew i after a turn, where there was one before or not: since the answer that told it last, a clock found
+-- that its time had come, a round named it, or it failed
+abbrev pub reason : ℕ → Bool → Event → Result Output WatchFault → State → Bool
+reason i before event (Ok output) s = reason_taken i before event output s
+reason i before event (Err fault) s = before
+
+-- a renewal of i goes out
+abbrev pub renews : ℕ → List Request → Bool
+renews i requests = list_any (λ r. r.entry == i && is_same r.operation Renew) requests
+
+-- each renewal of i has a reason
+abbrev pub AllReasoned : ℕ → Bool → List Turned → Type 0
+AllReasoned i before [] = Unit {0}
+AllReasoned i before (turn ∷ turns) =
+    (renews i (requests_of turn.result) ≡ true → reason i before turn.event turn.result turn.state ≡ true) × AllReasoned i (reason i before turn.event turn.result turn.state) turns
+
+-- no entry is renewed before its time, but in a round, or after a failure
+abbrev pub EarlyLaw : Type 0
+EarlyLaw = (g : Forest) (width : ℕ) (turns : List Turned) → IsRun g width turns → (i : ℕ) → AllReasoned i false turns
+
+-- an entry that opens a round: it is wanted, in the plan, its time has come, and its end is ahead
+pub record IsOpener (s : State) (i : ℕ) : Type 0 where
+  pub within : i < length s.forest.entries
+  pub wanted : is_wanted s i ≡ true
+  pub in_plan : is_in_plan s.forest.margin (entry_of s i) (track_at s i) ≡ true
+  pub come : is_come s i ≡ true
+  pub alive : is_alive (second s) (track_at s i) ≡ true
+
+abbrev pub round_of : Result Output WatchFault → Option (List ℕ)
+round_of (Ok output) = output.notes.round
+round_of (Err fault) = None
+
+abbrev pub RoundsOpened : List Turned → Type 0
+RoundsOpened [] = Unit {0}
+RoundsOpened (turn ∷ turns) = ((asked : List ℕ) → round_of turn.result ≡ Some asked → (i : ℕ) × IsOpener turn.state i) × RoundsOpened turns
+
+-- no round opens before the least time of an entry that is wanted and in the plan
+abbrev pub RoundLaw : Type 0
+RoundLaw = (g : Forest) (width : ℕ) (turns : List Turned) → IsRun g width turns → RoundsOpened turns

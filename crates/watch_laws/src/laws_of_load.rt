@@ -1,0 +1,17 @@
+ghost use Rattle.watch_laws.specs.Load.{LoadLaw, SpacedLaw, WidthLaw};
+
+/// The law of the second between: whatever events come, two requests of an entry are a second apart by the clocks at which they go
+/// out, but for the renewal right after its own lookup.
+pub fn spaced_law()
+    ensures { SpacedLaw }
+{}
+
+/// The law of load: in any `x` seconds an entry is asked at most `2 (x + 1)` times.
+pub fn load_law()
+    ensures { LoadLaw }
+{}
+
+/// The law of the width: no more requests are out than the watch's width.
+pub fn width_law()
+    ensures { WidthLaw }
+{}

@@ -1,0 +1,22 @@
+//! The laws of the Watch: what holds of every list of events that the machine of `watch_machine` is handed, in words that do not
+//! name its steps. Each law is a statement in `specs/` and the contract of a public function without a body, so the check proves
+//! it.
+//!
+//! `History.IsRun` of `watch_machine` says what a list of events gives. Begin with `specs/Turns`.
+#![tactic(auto)]
+
+mod laws_of_absence;
+mod laws_of_beginnings;
+mod laws_of_load;
+mod laws_of_needs;
+mod laws_of_time;
+mod laws_of_tops;
+mod laws_of_waiting;
+
+pub use laws_of_absence::{held_law, spared_law};
+pub use laws_of_beginnings::few_law;
+pub use laws_of_load::{load_law, spaced_law, width_law};
+pub use laws_of_needs::needed_law;
+pub use laws_of_time::{early_law, round_law};
+pub use laws_of_tops::{ceiling_law, topped_law};
+pub use laws_of_waiting::{minded_law, owed_law, retry_law};
