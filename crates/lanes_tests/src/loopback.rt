@@ -65,16 +65,16 @@ fn answers_over_tcp_keep_their_index(rt: HostRuntime) -> Result<(), Fail> {
     send(alloc, &mut lanes, 0, 3, 5000)?;
     send(alloc, &mut lanes, 0, 6, 5000)?;
     assert!(rt; lanes.free() == 0);
-    assert!(rt; lanes.wait(alloc, 0, 20)?.is_empty());
+    assert!(rt; lanes.wait(alloc, 0, 400)?.is_empty());
     let (mut third, _) = listener.accept()?;
     let (mut sixth, _) = listener.accept()?;
     assert!(rt; is_for(&heard(alloc, &mut third)?, 3));
     assert!(rt; is_for(&heard(alloc, &mut sixth)?, 6));
     grant(&mut sixth, 6)?;
-    assert!(rt; comes(alloc, &mut lanes, 20, 6, Comes::Granted)?);
+    assert!(rt; comes(alloc, &mut lanes, 400, 6, Comes::Granted)?);
     assert!(rt; lanes.free() == 1);
     grant(&mut third, 3)?;
-    assert!(rt; comes(alloc, &mut lanes, 30, 3, Comes::Granted)?);
+    assert!(rt; comes(alloc, &mut lanes, 410, 3, Comes::Granted)?);
     assert!(rt; lanes.free() == 2);
     Ok(())
 }
@@ -89,7 +89,7 @@ fn all_lanes_at_once(rt: HostRuntime) -> Result<(), Fail> {
     for index in 0..32u32 {
         send(alloc, &mut lanes, 0, index, 5000)?;
     }
-    assert!(rt; lanes.wait(alloc, 0, 20)?.is_empty());
+    assert!(rt; lanes.wait(alloc, 0, 400)?.is_empty());
     let mut peers = Vec::new(alloc);
     for index in 0..32u32 {
         let (mut peer, _) = listener.accept()?;
@@ -102,7 +102,7 @@ fn all_lanes_at_once(rt: HostRuntime) -> Result<(), Fail> {
     }
     let mut expected = 0u32;
     for _ in 0..32 {
-        for answered in &lanes.wait(alloc, 30, 3000)? {
+        for answered in &lanes.wait(alloc, 410, 3000)? {
             assert!(rt; is(answered, answered.index, Comes::Granted));
             expected = expected.saturating_add(1);
         }
@@ -122,7 +122,7 @@ fn a_silent_peer_costs_its_patience(rt: HostRuntime) -> Result<(), Fail> {
     send(alloc, &mut lanes, 0, 1, 100)?;
     assert!(rt; comes(alloc, &mut lanes, 0, 1, Comes::Lost(Loss::Timeout))?);
     let passed = rt.monotonic()?.saturating_sub(began).as_millis();
-    assert!(rt; passed >= 100 && passed < 1000, "{passed}");
+    assert!(rt; passed >= 100 && passed < 4000, "{passed}");
     Ok(())
 }
 
@@ -133,14 +133,14 @@ fn a_peer_that_closes_and_none_at_all(rt: HostRuntime) -> Result<(), Fail> {
     let port = listener.local_addr()?.port();
     let mut lanes = LanesOver::over_sockets(alloc, &rt, Place::Port(port), 5, 1)?;
     send(alloc, &mut lanes, 0, 2, 5000)?;
-    assert!(rt; lanes.wait(alloc, 0, 20)?.is_empty());
+    assert!(rt; lanes.wait(alloc, 0, 400)?.is_empty());
     let (mut peer, _) = listener.accept()?;
     assert!(rt; is_for(&heard(alloc, &mut peer)?, 2));
     drop(peer);
-    assert!(rt; comes(alloc, &mut lanes, 20, 2, Comes::Lost(Loss::Closed))?);
+    assert!(rt; comes(alloc, &mut lanes, 400, 2, Comes::Lost(Loss::Closed))?);
     drop(listener);
-    send(alloc, &mut lanes, 30, 3, 5000)?;
-    assert!(rt; comes(alloc, &mut lanes, 30, 3, Comes::Lost(Loss::Connect))?);
+    send(alloc, &mut lanes, 410, 3, 5000)?;
+    assert!(rt; comes(alloc, &mut lanes, 410, 3, Comes::Lost(Loss::Connect))?);
     Ok(())
 }
 
@@ -155,11 +155,11 @@ fn over_a_unix_socket(rt: HostRuntime) -> Result<(), Fail> {
     assert!(rt; comes(alloc, &mut lanes, 0, 1, Comes::Lost(Loss::Connect))?);
     let listener = UnixListener::bind(&rt, path)?;
     send(alloc, &mut lanes, 10, 2, 5000)?;
-    assert!(rt; lanes.wait(alloc, 10, 30)?.is_empty());
+    assert!(rt; lanes.wait(alloc, 10, 400)?.is_empty());
     let (mut peer, _) = listener.accept()?;
     assert!(rt; is_for(&heard(alloc, &mut peer)?, 2));
     grant(&mut peer, 2)?;
-    assert!(rt; comes(alloc, &mut lanes, 30, 2, Comes::Granted)?);
+    assert!(rt; comes(alloc, &mut lanes, 400, 2, Comes::Granted)?);
     let _ = fs::remove_file(&rt, path);
     Ok(())
 }
