@@ -18,3 +18,5 @@ pub mod Reasons
 pub mod Minding
 pub mod Owed
 pub mod Retrying
+pub mod Basing
+pub mod Ends

@@ -241,7 +241,7 @@ module _ (s : State) (requests : List Request) (i : ℕ) where
       ∙ cond-true (list_any (λ (q : Request). q.entry == i) requests) (sent_track s.clocks.at (track_at s i)) (track_at s i) named
 
 -- none of some requests is of i
-not_of : (X : Out → Type 0) (at i : ℕ) (rs : List Request) → list_any (λ (q : Request). q.entry == i) rs ≡ false → All (λ q. q.entry ≡ i → X q) (map (out_at at) rs)
+pub not_of : (X : Out → Type 0) (at i : ℕ) (rs : List Request) → list_any (λ (q : Request). q.entry == i) rs ≡ false → All (λ q. q.entry ≡ i → X q) (map (out_at at) rs)
 not_of X at i [] none = All-nil (λ q. q.entry ≡ i → X q)
 not_of X at i (r ∷ rs) none =
     let both = neither (r.entry == i) (list_any (λ (q : Request). q.entry == i) rs) none in

@@ -70,7 +70,7 @@ none_gone i (q ∷ out) none =
           ap (λ b. cond (not b) (q ∷ filter (λ (o : Out). not (o.entry == i)) out) (filter (λ (o : Out). not (o.entry == i)) out)) other ∙ ap (λ os. q ∷ os) (none_gone i out left)
     ]
 
-found_lane : (i : ℕ) (operation : Operation) (out : List Out) (q : Out) → find (λ (o : Out). o.entry == i && is_same o.operation operation) out ≡ Some q → 1 ≤ lanes_of i out
+pub found_lane : (i : ℕ) (operation : Operation) (out : List Out) (q : Out) → find (λ (o : Out). o.entry == i && is_same o.operation operation) out ≡ Some q → 1 ≤ lanes_of i out
 found_lane i operation [] q found = absurd cc
 found_lane i operation (o ∷ out) q found =
     let rest = filter (λ (p : Out). p.entry == i) out in

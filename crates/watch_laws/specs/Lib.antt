@@ -6,3 +6,4 @@ pub mod Load
 pub mod Absence
 pub mod Time
 pub mod Waiting
+pub mod Ends
