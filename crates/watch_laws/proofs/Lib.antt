@@ -20,3 +20,12 @@ pub mod Owed
 pub mod Retrying
 pub mod Basing
 pub mod Ends
+pub mod Counting
+pub mod Lanes
+pub mod Lasting
+pub mod Enduring
+pub mod Stages
+pub mod Grounds
+pub mod Ticking
+pub mod Answered
+pub mod Outliving

@@ -411,7 +411,7 @@ same_is Renew Renew h = refl
 same_is Look Renew h = absurd cc
 same_is Renew Look h = absurd cc
 
-out_operation : (out : List Out) (i : ℕ) (operation : Operation) (q : Out) → request_out out i operation ≡ Some q → q.operation ≡ operation
+pub out_operation : (out : List Out) (i : ℕ) (operation : Operation) (q : Out) → request_out out i operation ≡ Some q → q.operation ≡ operation
 unfolding request_out
 out_operation out i operation q found =
     same_is q.operation operation (and_parts (q.entry == i) (is_same q.operation operation) (found_passes (λ (x : Out). x.entry == i && is_same x.operation operation) out q found)).1

@@ -224,7 +224,7 @@ begun_answers : (s : State) (w : Option Why) → (begun s w).answers ≡ s.answe
 begun_answers s None = refl
 begun_answers s (Some w) = refl
 
-readied_answers : (s : State) (wall elapsed : ℕ) → (readied s wall elapsed).answers ≡ []
+pub readied_answers : (s : State) (wall elapsed : ℕ) → (readied s wall elapsed).answers ≡ []
 unfolding readied
 readied_answers s wall elapsed = begun_answers (settled (timed s wall elapsed)) (why s wall elapsed)
 
@@ -342,7 +342,7 @@ answer_spares width n old mid new q reply i operation found entry is out answers
       one_at_most true = omega arith
       one_at_most false = omega arith
 
-looked_answers : (s : State) (q : Out) (reply : Reply) (terms : Terms) → (looked s q reply terms).answers ≡ s.answers
+pub looked_answers : (s : State) (q : Out) (reply : Reply) (terms : Terms) → (looked s q reply terms).answers ≡ s.answers
 looked_answers s q (Told seconds renewable date) terms = refl
 looked_answers s q (Refused status date) terms = refl
 looked_answers s q Busy terms = refl

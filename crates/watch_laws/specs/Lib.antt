@@ -7,3 +7,4 @@ pub mod Absence
 pub mod Time
 pub mod Waiting
 pub mod Ends
+pub mod Outage
