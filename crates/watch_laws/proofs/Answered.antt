@@ -60,7 +60,7 @@ module _ (f : Facts) (due : ℕ) (old mid new : State) (q : Out) (reply : Reply)
   lost_broke is = subst (λ r. IsReply f.o r q) is t.reply_is
 
   -- the entry endures it
-  by_lost : (bound : ℕ) (miss : Type 0) → (w : Reply) → reply ≡ w → (reply ≡ Lost → miss) → Endures f.o f.i f.end bound due miss old → Endures f.o f.i f.end bound due miss new
+  by_lost : (bound : ℕ) (miss : Type 0) → (w : Reply) → reply ≡ w → (q.entry ≡ f.i → reply ≡ Lost → miss) → Endures f.o f.i f.end bound due miss old → Endures f.o f.i f.end bound due miss new
   by_lost bound miss (Told seconds renewable date) is may h =
       let apart : q.entry ≢ f.i = λ own. (let bad : Told seconds renewable date ≡ Lost = sym is ∙ (t.own own).0 in absurd cc) in
       real_endures f.o f.i f.end bound due miss old mid new q reply t.answered (t.other apart) apart (ap is_real is) t.going.base.past.hold h
@@ -76,14 +76,14 @@ module _ (f : Facts) (due : ℕ) (old mid new : State) (q : Out) (reply : Reply)
         | inl here ↦
             let mine = eqb-true q.entry f.i here in
             let own = t.own mine in
-            own_endures f.o f.i f.end bound due miss old mid new q a broke timely (may is) h mine own.1.0 own.1.1 (second_before old.clocks.at f.end ahead)
-            (λ heard'. (of_this (Cutting f.o f.i bound old) h.out mine).1 heard')
+            own_endures f.o f.i f.end bound due miss old mid new q a broke timely h (may mine is) mine own.1.0 own.1.1 (second_before old.clocks.at f.end ahead)
+            (λ heard'. (of_this (Cutting f.o f.i bound miss old) h.out mine).1.1 heard')
         | inr different ↦
             let apart : q.entry ≢ f.i = λ e. not_both (subst (λ n. (n == f.i) ≡ true) (sym e) (same_index f.i)) different in
-            lost_endures f.o f.i f.end bound due miss old mid new q a broke timely (may is) h (t.other apart) apart
+            lost_endures f.o f.i f.end bound due miss old mid new q a broke timely h (t.other apart) apart
       ]
 
-  pub endures_reply : (bound : ℕ) (miss : Type 0) → (reply ≡ Lost → miss) → Endures f.o f.i f.end bound due miss old → Endures f.o f.i f.end bound due miss new
+  pub endures_reply : (bound : ℕ) (miss : Type 0) → (q.entry ≡ f.i → reply ≡ Lost → miss) → Endures f.o f.i f.end bound due miss old → Endures f.o f.i f.end bound due miss new
   endures_reply bound miss may h = by_lost bound miss reply refl may h
 
   kept_all : (P : Out → Type 0) → ((r : Out) → P r → P (heard r)) → All P old.out → All P new.out
@@ -151,14 +151,20 @@ module _ (f : Facts) (due : ℕ) (old mid new : State) (q : Out) (reply : Reply)
       let all = fewer_wait f.o (suc h.from) f.n old new t.going.base.alone t.base.alone t.base.tries sends in
       let count = h.count in
       let apart = apart_of h.idle in
+      let clock = ap (λ c. c.at) t.answered.clocks in
       inl (inl (record {
-        endures = endures_reply (ms f.time) ⊥ (λ is. not_both (of_this (λ (r : Out). is_whole f.o r.since ≡ true) h.whole) (lost_broke is)) h.endures;
+        endures = endures_reply (ms f.time) ⊥ (λ own is. apart own) h.endures;
         idle = after_flag old mid new q reply f.i t.answered.is t.answered.outs t.other apart ∙ h.idle;
         whole = kept_all (λ (r : Out). is_whole f.o r.since ≡ true) (λ r k. k) h.whole;
         r = h.r;
         from = h.from;
         count = omega (arith, all, count);
         fewer = h.fewer;
+        base = h.base;
+        reach = h.reach;
+        over = elim h.over as (λ _. (h.base ≡ ms f.time) ⊎ (f.o.until ≤ new.clocks.at)) [ inl yes' ↦ inl yes' | inr no' ↦ inr (omega (arith, clock, no')) ];
+        base_ahead = h.base_ahead;
+        base_by = h.base_by;
         start = h.start;
         next = h.next;
       }))
@@ -166,7 +172,7 @@ module _ (f : Facts) (due : ℕ) (old mid new : State) (q : Out) (reply : Reply)
       let all = fewer_wait f.o f.o.until f.n old new t.going.base.alone t.base.alone t.base.tries sends in
       let count = h.count in
       inl (inr (record {
-        endures = endures_reply (free_from f) Unit (λ is. tt) h.endures;
+        endures = endures_reply (free_from f) Unit (λ own is. tt) h.endures;
         unserved = stays_unserved h.unserved;
         r = h.r;
         count = omega (arith, all, count);
@@ -180,7 +186,7 @@ module _ (f : Facts) (due : ℕ) (old mid new : State) (q : Out) (reply : Reply)
       let clock = ap (λ c. c.at) t.answered.clocks in
       let now = h.now in
       inr (inl (record {
-        endures = endures_reply (free_from f) Unit (λ is. tt) h.endures;
+        endures = endures_reply (free_from f) Unit (λ own is. tt) h.endures;
         unserved = stays_unserved h.unserved;
         back = kept_all (λ (r : Out). f.o.until ≤ r.since) (λ r k. k) h.back;
         r = h.r;
@@ -196,10 +202,10 @@ module _ (f : Facts) (due : ℕ) (old mid new : State) (q : Out) (reply : Reply)
         now = omega (arith, clock, now);
         next = h.next;
       }))
-  replied_through rest sends (inr (inr h)) =
+  replied_through rest sends (inr (inr (inl h))) =
       let P : Out → Type 0 = λ r. r.entry ≡ f.i → (is_whole f.o r.since ≡ true) × (r.since ≤ h.sent) in
       let apart : q.entry ≢ f.i = λ is. not_both (of_this P h.whole is).0 (lost_broke (t.own is).0) in
-      inr (inr (record {
+      inr (inr (inl (record {
         served =
             ap (λ (x : State). is_served f.o x f.i) t.answered.is
             ∙ replied_lane f.i (is_whole f.o) mid q reply apart (ap (list_any (is_of f.i (is_whole f.o))) t.answered.outs ∙ h.served);
@@ -208,7 +214,22 @@ module _ (f : Facts) (due : ℕ) (old mid new : State) (q : Out) (reply : Reply)
         next = h.next;
         last_ahead = h.last_ahead;
         last_by = h.last_by;
-      }))
+      })))
+  replied_through rest sends (inr (inr (inr h))) =
+      let all = fewer_wait f.o (suc h.from) f.n old new t.going.base.alone t.base.alone t.base.tries sends in
+      let count = h.count in
+      let apart = apart_of h.idle in
+      let clock = ap (λ c. c.at) t.answered.clocks in
+      let over = h.over in
+      inr (inr (inr (record {
+        endures = endures_reply (ms f.time) ⊥ (λ own is. apart own) h.endures;
+        idle = after_flag old mid new q reply f.i t.answered.is t.answered.outs t.other apart ∙ h.idle;
+        over = omega (arith, clock, over);
+        soon = h.soon;
+        from = h.from;
+        count = omega (arith, all, count);
+        next = h.next;
+      })))
 
 -- the answers themselves
 pub looked_replied :

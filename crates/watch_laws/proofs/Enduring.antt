@@ -145,8 +145,8 @@ again_cut margin at end until x t is ahead le =
     omega (arith, capped, later)
 
 -- what holds of an entry between two clocks: bound is by when its try may go, and it fails only where miss
-unfoldable pub Kept : ℕ → ℕ → State → Try → Type 0
-Kept i bound s t = (t.failed ≡ false) × ((t.at ≤ max s.clocks.at bound) × ((track_at s i).out ≡ false → (is_first t ≡ true) ⊎ (s.presence.hold ≤ bound)))
+unfoldable pub Kept : ℕ → ℕ → Type 0 → State → Try → Type 0
+Kept i bound miss s t = (t.failed ≡ false) × ((t.at ≤ max s.clocks.at bound) × ((track_at s i).out ≡ false → (is_first t ≡ true) ⊎ (miss × (s.presence.hold ≤ bound))))
 
 unfoldable pub Missed : ℕ → ℕ → ℕ → ℕ → Type 0 → State → Try → Type 0
 Missed i bound due last miss s t =
@@ -155,10 +155,10 @@ Missed i bound due last miss s t =
 pub record IsPending (i bound due last : ℕ) (miss : Type 0) (s : State) (t : Try) : Type 0 where
   pub pressed : t.pressed ≡ true
   pub renews : t.operation ≡ Renew
-  pub how : Kept i bound s t ⊎ Missed i bound due last miss s t
+  pub how : Kept i bound miss s t ⊎ Missed i bound due last miss s t
 
-abbrev pub Cutting : Outage → ℕ → ℕ → State → Out → Type 0
-Cutting o i bound s q = q.entry ≡ i → (is_whole o q.since ≡ false) × (q.heard ≡ true → s.presence.hold ≤ bound)
+abbrev pub Cutting : Outage → ℕ → ℕ → Type 0 → State → Out → Type 0
+Cutting o i bound miss s q = q.entry ≡ i → miss × ((is_whole o q.since ≡ false) × (q.heard ≡ true → s.presence.hold ≤ bound))
 
 -- whenever it went out
 abbrev pub any_time : ℕ → Bool
@@ -170,8 +170,8 @@ pub record Endures (o : Outage) (i end bound due : ℕ) (miss : Type 0) (s : Sta
   pub last : rested (track_at s i).last ≤ bound
   pub tries : (t : Try) → attempt_at s i ≡ Some t → IsPending i bound due (cut o) miss s t
   pub lane : (track_at s i).out ≡ true → list_any (is_of i any_time) s.out ≡ true
-  pub out : All (Cutting o i bound s) s.out
-  pub silent' : list_any is_silent s.answers ≡ true → miss × (due ≤ cut o)
+  pub out : All (Cutting o i bound miss s) s.out
+  pub silent' : list_any is_silent s.answers ≡ true → s.presence.away ≡ true → due ≤ cut o
 
 -- a clock that settles
 module _ (o : Outage) (i end bound due : ℕ) (miss : Type 0) (s : State) (at : ℕ) (within : i < length s.tracks) (h : Endures o i end bound due miss s) (ahead : at < ms end) (soon' : at ≤ due) (rises : s.clocks.at ≤ at) (far : miss → again end (cut o) ≤ bound) where
@@ -181,16 +181,16 @@ module _ (o : Outage) (i end bound due : ℕ) (miss : Type 0) (s : State) (at : 
   abbrev hold' : ℕ
   hold' = (presence_after margin at s.tracks s.answers s.presence).hold
 
-  held_by : (t : Try) → attempt_at s i ≡ Some t → t.pressed ≡ true → (s.presence.hold ≤ bound) ⊎ ((list_any is_silent s.answers ≡ true) × (s.presence.away ≡ true)) → hold' ≤ bound
-  held_by t is pressed' before =
+  held_by : miss → (t : Try) → attempt_at s i ≡ Some t → t.pressed ≡ true → (s.presence.hold ≤ bound) ⊎ ((list_any is_silent s.answers ≡ true) × (s.presence.away ≡ true)) → hold' ≤ bound
+  held_by may t is pressed' before =
       elim (held_to margin at s.tracks s.answers s.presence) [
         | inl sets ↦
-            let quiet = h.silent' (and_parts s.presence.away (list_any is_silent s.answers) sets.0).1 in
+            let both = and_parts s.presence.away (list_any is_silent s.answers) sets.0 in
+            let due' = h.silent' both.1 both.0 in
             let less = held_least margin at s.tracks sets.1.0 i t within is pressed' in
             let set = sets.1.1 in
-            let due' = quiet.1 in
             let cut' = again_cut margin at end (cut o) (track_at s i) t h.end_is ahead (omega (arith, soon', due')) in
-            let most = far quiet.0 in
+            let most = far may in
             omega (arith, set, less, cut', most)
         | inr stays ↦
             elim before [
@@ -200,16 +200,16 @@ module _ (o : Outage) (i end bound due : ℕ) (miss : Type 0) (s : State) (at : 
       ]
 
   abbrev Spared : Type 0
-  Spared = (track_at s i).out ≡ false → hold' ≤ bound
+  Spared = ((track_at s i).out ≡ true) ⊎ (miss × (hold' ≤ bound))
 
-  kept_first : (t : Try) → attempt_at s i ≡ Some t → t.pressed ≡ true → ((track_at s i).out ≡ false → (is_first t ≡ true) ⊎ (s.presence.hold ≤ bound)) → (is_first t ≡ true) ⊎ Spared
+  kept_first : (t : Try) → attempt_at s i ≡ Some t → t.pressed ≡ true → ((track_at s i).out ≡ false → (is_first t ≡ true) ⊎ (miss × (s.presence.hold ≤ bound))) → (is_first t ≡ true) ⊎ Spared
   kept_first t is pressed' first =
       elim (cases_Bool (track_at s i).out) as (λ _. (is_first t ≡ true) ⊎ Spared) [
-        | inl out ↦ inr (λ free. absurd (not_both out free))
+        | inl out ↦ inr (inl out)
         | inr free ↦
             elim (first free) as (λ _. (is_first t ≡ true) ⊎ Spared) [
               | inl yes' ↦ inl yes'
-              | inr low ↦ inr (λ e. held_by t is pressed' (inl low))
+              | inr low ↦ inr (inr (low.0, held_by low.0 t is pressed' (inl low.1)))
             ]
       ]
 
@@ -231,7 +231,7 @@ module _ (o : Outage) (i end bound due : ℕ) (miss : Type 0) (s : State) (at : 
             let cut' = again_cut margin at end (cut o) x t h.end_is ahead (omega (arith, soon', due')) in
             let less = pause_within margin at x t in
             subst (IsKept at bound Spared) same
-            (record { pressed = p.pressed; renews = p.renews; settled = refl; soon = omega (arith, most, cut', less); first = inr (λ e. held_by t is p.pressed missed.1.1.1.1) })
+            (record { pressed = p.pressed; renews = p.renews; settled = refl; soon = omega (arith, most, cut', less); first = inr (inr (missed.1.1.0, held_by missed.1.1.0 t is p.pressed missed.1.1.1.1)) })
       ]
 
   settled_by_try : (v : Option Try) (u : Try) → attempt_at s i ≡ v → settled_try margin at (track_at s i) v ≡ Some u → IsKept at bound Spared u
@@ -251,12 +251,12 @@ pub clock_steady :
     (o : Outage) (i end bound due : ℕ) (miss : Type 0) (old : State) (wall elapsed : ℕ) (round : List ℕ) → why old wall elapsed ≡ None → i < length old.tracks → Endures o i end bound due miss old →
     (timed old wall elapsed).clocks.at < ms end → (timed old wall elapsed).clocks.at ≤ due → old.clocks.at ≤ (timed old wall elapsed).clocks.at → (miss → again end (cut o) ≤ bound) →
     Steady end (timed old wall elapsed).clocks.at bound
-    ((track_at old i).out ≡ false → (presence_after old.forest.margin (timed old wall elapsed).clocks.at old.tracks old.answers old.presence).hold ≤ bound)
+    (((track_at old i).out ≡ true) ⊎ (miss × ((presence_after old.forest.margin (timed old wall elapsed).clocks.at old.tracks old.answers old.presence).hold ≤ bound)))
     (track_at (pressed (readied old wall elapsed) round) i)
 clock_steady o i end bound due miss old wall elapsed round none within h ahead soon' rises far =
     let t = timed old wall elapsed in
     let at = t.clocks.at in
-    let S : Type 0 = (track_at old i).out ≡ false → (presence_after old.forest.margin at old.tracks old.answers old.presence).hold ≤ bound in
+    let S : Type 0 = ((track_at old i).out ≡ true) ⊎ (miss × ((presence_after old.forest.margin at old.tracks old.answers old.presence).hold ≤ bound)) in
     let b = settled t in
     let count = each_length (λ j. settled_track old.forest.margin at) old.tracks in
     let first : Steady end at bound S (track_at b i) =
@@ -268,11 +268,11 @@ clock_steady o i end bound due miss old wall elapsed round none within h ahead s
 -- and what held back a try holds it back no longer
 pub clock_held :
     (o : Outage) (i end bound due : ℕ) (miss : Type 0) (old : State) (at : ℕ) → i < length old.tracks → Endures o i end bound due miss old → at < ms end → at ≤ due → old.clocks.at ≤ at →
-    (miss → again end (cut o) ≤ bound) → is_some (attempt_at old i) ≡ true → old.presence.hold ≤ bound → (presence_after old.forest.margin at old.tracks old.answers old.presence).hold ≤ bound
-clock_held o i end bound due miss old at within h ahead soon' rises far tried low = by (attempt_at old i) refl tried where
+    (miss → again end (cut o) ≤ bound) → miss → is_some (attempt_at old i) ≡ true → old.presence.hold ≤ bound → (presence_after old.forest.margin at old.tracks old.answers old.presence).hold ≤ bound
+clock_held o i end bound due miss old at within h ahead soon' rises far may tried low = by (attempt_at old i) refl tried where
   by : (v : Option Try) → attempt_at old i ≡ v → is_some v ≡ true → (presence_after old.forest.margin at old.tracks old.answers old.presence).hold ≤ bound
   by None is some' = absurd cc
-  by (Some t) is some' = held_by o i end bound due miss old at within h ahead soon' rises far t is (h.tries t is).pressed (inl low)
+  by (Some t) is some' = held_by o i end bound due miss old at within h ahead soon' rises far may t is (h.tries t is).pressed (inl low)
 
 -- the broker's return
 record Backs (y x : Track) : Type 0 where
@@ -316,6 +316,12 @@ real_hold s q reply real none =
     let free = lane_freed s q in
     ap (λ (t : State). t.presence.hold) (cond-true (is_real reply) (answers_all free) (if q.heard then free else silent free) real)
     ∙ if_cases (λ (t : State). t.presence.hold ≡ 0) s.presence.away (record free { out = _; tracks = each (λ i. back_track) s.tracks; presence = is_back s.presence }) _ (λ e. refl) none
+
+pub real_away : (s : State) (q : Out) (reply : Reply) → is_real reply ≡ true → (replied s q reply).presence.away ≡ false
+real_away s q reply real =
+    let free = lane_freed s q in
+    ap (λ (t : State). t.presence.away) (cond-true (is_real reply) (answers_all free) (if q.heard then free else silent free) real)
+    ∙ if_cases (λ (t : State). t.presence.away ≡ false) s.presence.away (record free { out = _; tracks = each (λ i. back_track) s.tracks; presence = is_back s.presence }) _ (λ e. refl) (λ there. there)
 
 replied_answers : (s : State) (q : Out) (reply : Reply) → (replied s q reply).answers ≡ s.answers
 replied_answers s q reply =
@@ -407,7 +413,7 @@ real_endures o i end bound due miss old mid new q reply a same apart real none h
     ap (λ (x : State). x.presence.hold) a.is ∙ real_hold mid q reply real (subst (λ (p : Presence). p.away ≡ false → p.hold ≡ 0) (sym a.presence) none) in
     let low : new.presence.hold ≤ bound = omega (arith, hold) in
     let clock = ap (λ c. c.at) a.clocks in
-    let P : Out → Type 0 = Cutting o i bound new in
+    let P : Out → Type 0 = Cutting o i bound miss new in
     record {
       end_is = backs.end ∙ h.end_is;
       owes = backs.owes ∙ h.owes;
@@ -420,8 +426,21 @@ real_endures o i end bound due miss old mid new q reply a same apart real none h
           record {
             pressed = f.1.1.0 ∙ p.pressed;
             renews = f.1.1.1.0 ∙ p.renews;
-            how = elim p.how as (λ _. Kept i bound new u ⊎ Missed i bound due (cut o) miss new u) [
-              | inl kept ↦ (let soon' = kept.1.0 in inl (f.1.1.1.1.0 ∙ kept.0, (omega (arith, at, soon', clock), λ free. inr low)))
+            how = elim p.how as (λ _. Kept i bound miss new u ⊎ Missed i bound due (cut o) miss new u) [
+              | inl kept ↦
+                  let soon' = kept.1.0 in
+                  inl (
+                    f.1.1.1.1.0 ∙ kept.0,
+                    (
+                      omega (arith, at, soon', clock),
+                      λ free.
+                          let was = sym backs.out ∙ free in
+                          elim (kept.1.1 was) as (λ _. (is_first u ≡ true) ⊎ (miss × (new.presence.hold ≤ bound))) [
+                            | inl first ↦ inl (f.1.1.1.1.1.1 was ∙ first)
+                            | inr held' ↦ inr (held'.0, low)
+                          ],
+                    ),
+                  )
               | inr missed ↦ inr (f.1.1.1.1.0 ∙ missed.0, (backs.out ∙ missed.1.0, (missed.1.1.0, (missed.1.1.1.0, inl low))))
             ];
           };
@@ -430,13 +449,9 @@ real_endures o i end bound due miss old mid new q reply a same apart real none h
           (replied_lane i any_time mid q reply apart (subst (λ os. list_any (is_of i any_time) os ≡ true) (sym a.outs) (h.lane (sym backs.out ∙ out))));
       out =
           subst (λ (x : State). All P x.out) (sym a.is)
-          (all_left P (λ r k e. ((k e).0, λ heard'. low)) mid q reply
-          (subst (All P) (sym a.outs) (All-weaker (Cutting o i bound old) P (λ r k e. ((k e).0, λ heard'. low)) old.out h.out)));
-      silent' = λ any.
-          elim (any_more is_silent old.answers (answer old mid new q reply a) (sym (ap (list_any is_silent) (after old mid new q reply a)) ∙ any)) as (λ _. miss × (due ≤ cut o)) [
-            | inl before ↦ h.silent' before
-            | inr this ↦ absurd (not_both (and_parts (not (is_real reply)) (not q.heard) this).0 (ap not real))
-          ];
+          (all_left P (λ r k e. ((k e).0, ((k e).1.0, λ heard'. low))) mid q reply
+          (subst (All P) (sym a.outs) (All-weaker (Cutting o i bound miss old) P (λ r k e. ((k e).0, ((k e).1.0, λ heard'. low))) old.out h.out)));
+      silent' = λ any away. absurd (not_both away (ap (λ (x : State). x.presence.away) a.is ∙ real_away mid q reply real));
     }
 
 -- a lost one: the requests that are left, and by when the next clock comes
@@ -446,7 +461,7 @@ lost_out s q =
     let P : State → Type 0 = λ t. t.out ≡ without q.entry s.out in
     if_both P q.heard free (silent free) refl (if_both P s.presence.away free (record free { presence = is_gone s.presence }) refl refl)
 
-module _ (o : Outage) (i end bound due : ℕ) (miss : Type 0) (old mid new : State) (q : Out) (a : IsAnswered old mid new q Lost) (not_whole : is_whole o q.since ≡ false) (in_time : due ≤ settled_by o q.since + o.late) (may : miss) (h : Endures o i end bound due miss old) where
+module _ (o : Outage) (i end bound due : ℕ) (miss : Type 0) (old mid new : State) (q : Out) (a : IsAnswered old mid new q Lost) (not_whole : is_whole o q.since ≡ false) (in_time : due ≤ settled_by o q.since + o.late) (h : Endures o i end bound due miss old) where
   by_cut : due ≤ cut o
   by_cut = let c = cut_off o q.since not_whole in omega (arith, in_time, c)
 
@@ -460,14 +475,14 @@ module _ (o : Outage) (i end bound due : ℕ) (miss : Type 0) (old mid new : Sta
   still_away : old.presence.away ≡ true → new.presence.away ≡ true
   still_away away = ap (λ (x : State). x.presence.away) a.is ∙ lost_away mid q (ap (λ (p : Presence). p.away) a.presence ∙ away)
 
-  left_out : All (Cutting o i bound new) new.out
+  left_out : All (Cutting o i bound miss new) new.out
   unfolding without
   left_out =
-      let P : Out → Type 0 = Cutting o i bound new in
+      let P : Out → Type 0 = Cutting o i bound miss new in
       let l = lower in
       subst (All P) (sym (ap (λ (x : State). x.out) a.is ∙ lost_out mid q))
       (All-filter (λ r. not (r.entry == q.entry)) P mid.out
-      (subst (All P) (sym a.outs) (All-weaker (Cutting o i bound old) P (λ r k e. ((k e).0, λ heard'. let b = (k e).1 heard' in omega (arith, b, l))) old.out h.out)))
+      (subst (All P) (sym a.outs) (All-weaker (Cutting o i bound miss old) P (λ r k e. ((k e).0, ((k e).1.0, λ heard'. let b = (k e).1.1 heard' in omega (arith, b, l)))) old.out h.out)))
 
   still_held : (old.presence.hold ≤ bound) ⊎ ((list_any is_silent old.answers ≡ true) × (old.presence.away ≡ true)) → (new.presence.hold ≤ bound) ⊎ ((list_any is_silent new.answers ≡ true) × (new.presence.away ≡ true))
   still_held before =
@@ -496,13 +511,19 @@ module _ (o : Outage) (i end bound due : ℕ) (miss : Type 0) (old mid new : Sta
             record {
               pressed = p.pressed;
               renews = p.renews;
-              how = elim p.how as (λ _. Kept i bound new t ⊎ Missed i bound due (cut o) miss new t) [
+              how = elim p.how as (λ _. Kept i bound miss new t ⊎ Missed i bound due (cut o) miss new t) [
                 | inl kept ↦
                     let soon' = kept.1.0 in
-                    inl (kept.0, (omega (arith, soon', clock), λ free. elim (kept.1.1 (sym (ap (λ (x : Track). x.out) track) ∙ free)) as (λ _. (is_first t ≡ true) ⊎ (new.presence.hold ≤ bound)) [
-                      | inl first ↦ inl first
-                      | inr low ↦ inr (omega (arith, low, l))
-                    ]))
+                    inl (
+                      kept.0,
+                      (
+                        omega (arith, soon', clock),
+                        λ free. elim (kept.1.1 (sym (ap (λ (x : Track). x.out) track) ∙ free)) as (λ _. (is_first t ≡ true) ⊎ (miss × (new.presence.hold ≤ bound))) [
+                          | inl first ↦ inl first
+                          | inr low ↦ (let low' = low.1 in inr (low.0, omega (arith, low', l)))
+                        ],
+                      ),
+                    )
                 | inr missed ↦ inr (missed.0, (ap (λ (x : Track). x.out) track ∙ missed.1.0, (missed.1.1.0, (missed.1.1.1.0, still_held missed.1.1.1.1))))
               ];
             };
@@ -510,7 +531,7 @@ module _ (o : Outage) (i end bound due : ℕ) (miss : Type 0) (old mid new : Sta
             subst (λ (x : State). list_any (is_of i any_time) x.out ≡ true) (sym a.is)
             (replied_lane i any_time mid q Lost apart (subst (λ os. list_any (is_of i any_time) os ≡ true) (sym a.outs) (h.lane (sym (ap (λ (x : Track). x.out) track) ∙ out))));
         out = left_out;
-        silent' = λ any. (may, by_cut);
+        silent' = λ any away. by_cut;
       }
 
   -- its own
@@ -527,10 +548,10 @@ module _ (o : Outage) (i end bound due : ℕ) (miss : Type 0) (old mid new : Sta
       subst (λ (w : Try). (w.pressed ≡ true) × ((w.operation ≡ Renew) × (w.failed ≡ true))) same (pressed' t refl, (next, refl))
 
   pub own_endures :
-      q.entry ≡ i → i < length mid.tracks → track_at mid i ≡ ungranted_track old.clocks.at q.heard Lost (track_at old i) → sec old.clocks.at < end → (q.heard ≡ true → old.presence.hold ≤ bound) →
+      miss → q.entry ≡ i → i < length mid.tracks → track_at mid i ≡ ungranted_track old.clocks.at q.heard Lost (track_at old i) → sec old.clocks.at < end → (q.heard ≡ true → old.presence.hold ≤ bound) →
       Endures o i end bound due miss new
   unfolding Kept Missed ungranted_track
-  own_endures own within made ahead spared =
+  own_endures may own within made ahead spared =
       let x = track_at old i in
       let track : track_at new i ≡ record x { out = false; attempt = ungranted old.clocks.at q.heard Lost x x.attempt } = ap (λ (y : State). track_at y i) a.is ∙ lost_tracks mid q i ∙ made in
       let l = lower in
@@ -544,19 +565,30 @@ module _ (o : Outage) (i end bound due : ℕ) (miss : Type 0) (old mid new : Sta
             record {
               pressed = f.0;
               renews = f.1.0;
-              how = inr (f.1.1, (free, (may, (by_cut,
-                  elim (cases_Bool q.heard) as (λ _. (new.presence.hold ≤ bound) ⊎ ((list_any is_silent new.answers ≡ true) × (new.presence.away ≡ true))) [
-                    | inl heard' ↦ (let low = spared heard' in inl (omega (arith, low, l)))
-                    | inr unheard ↦
-                        inr (
-                          ap (list_any is_silent) (after old mid new q Lost a) ∙ any_added is_silent old.answers (answer old mid new q Lost a) (ap not unheard),
-                          ap (λ (y : State). y.presence.away) a.is ∙ unheard_away mid q unheard,
-                        )
-                  ]))));
+              how = inr (
+                f.1.1,
+                (
+                  free,
+                  (
+                    may,
+                    (
+                      by_cut,
+                      elim (cases_Bool q.heard) as (λ _. (new.presence.hold ≤ bound) ⊎ ((list_any is_silent new.answers ≡ true) × (new.presence.away ≡ true))) [
+                        | inl heard' ↦ (let low = spared heard' in inl (omega (arith, low, l)))
+                        | inr unheard ↦
+                            inr (
+                              ap (list_any is_silent) (after old mid new q Lost a) ∙ any_added is_silent old.answers (answer old mid new q Lost a) (ap not unheard),
+                              ap (λ (y : State). y.presence.away) a.is ∙ unheard_away mid q unheard,
+                            )
+                      ],
+                    ),
+                  ),
+                ),
+              );
             };
         lane = λ out. absurd (not_both out free);
         out = left_out;
-        silent' = λ any. (may, by_cut);
+        silent' = λ any away. by_cut;
       }
 
 -- the bound may be later, and then it may miss
@@ -572,21 +604,39 @@ later_endures o i end bound more due miss may s le weaker h = record {
       record {
         pressed = p.pressed;
         renews = p.renews;
-        how = elim p.how as (λ _. Kept i more s t ⊎ Missed i more due (cut o) may s t) [
+        how = elim p.how as (λ _. Kept i more may s t ⊎ Missed i more due (cut o) may s t) [
           | inl kept ↦
               let soon' = kept.1.0 in
-              inl (kept.0, (omega (arith, soon', le), λ free. elim (kept.1.1 free) as (λ _. (is_first t ≡ true) ⊎ (s.presence.hold ≤ more)) [
-                | inl first ↦ inl first
-                | inr low ↦ inr (omega (arith, low, le))
-              ]))
+              inl (
+                kept.0,
+                (
+                  omega (arith, soon', le),
+                  λ free. elim (kept.1.1 free) as (λ _. (is_first t ≡ true) ⊎ (may × (s.presence.hold ≤ more))) [
+                    | inl first ↦ inl first
+                    | inr low ↦ (let low' = low.1 in inr (weaker low.0, omega (arith, low', le)))
+                  ],
+                ),
+              )
           | inr missed ↦
-              inr (missed.0, (missed.1.0, (weaker missed.1.1.0, (missed.1.1.1.0, elim missed.1.1.1.1 as (λ _. (s.presence.hold ≤ more) ⊎ ((list_any is_silent s.answers ≡ true) × (s.presence.away ≡ true))) [
-                | inl low ↦ inl (omega (arith, low, le))
-                | inr both ↦ inr both
-              ]))))
+              inr (
+                missed.0,
+                (
+                  missed.1.0,
+                  (
+                    weaker missed.1.1.0,
+                    (
+                      missed.1.1.1.0,
+                      elim missed.1.1.1.1 as (λ _. (s.presence.hold ≤ more) ⊎ ((list_any is_silent s.answers ≡ true) × (s.presence.away ≡ true))) [
+                        | inl low ↦ inl (omega (arith, low, le))
+                        | inr both ↦ inr both
+                      ],
+                    ),
+                  ),
+                ),
+              )
         ];
       };
   lane = h.lane;
-  out = All-weaker (Cutting o i bound s) (Cutting o i more s) (λ r k e. ((k e).0, λ heard'. let b = (k e).1 heard' in omega (arith, b, le))) s.out h.out;
-  silent' = λ any. (weaker (h.silent' any).0, (h.silent' any).1);
+  out = All-weaker (Cutting o i bound miss s) (Cutting o i more may s) (λ r k e. (weaker (k e).0, ((k e).1.0, λ heard'. let b = (k e).1.1 heard' in omega (arith, b, le)))) s.out h.out;
+  silent' = h.silent';
 }

@@ -1,4 +1,4 @@
--- Grounds: what holds of every state of a history after its first clock. For the law of outages.
+-- Grounds: what holds of every state of a history. For the laws of outages.
 use Rattle.std.proofs.Common.{◌≡◌, ◌∙◌, ℕ, zero, suc, ◌+◌, ◌<◌, ◌≤◌, Bool, true, false, ◌==◌, List, [], ◌∷◌, ◌++◌, Option, Some, None, All, Result, Ok, Err, is_none, length, map, refl, sym, ap, subst, arith}
 use Rattle.std.proofs.lemmas.List.{length-map}
 use Rattle.std.proofs.lemmas.List.Elements.{All-nil, All-weaker}
@@ -34,16 +34,6 @@ use Rattle.watch_laws.proofs.Spacing.{looked_out}
 use Rattle.watch_laws.proofs.Stages.{IsBase}
 use Rattle.watch_laws.proofs.Topping.{readied_count, turn_count}
 use Rattle.watch_laws.proofs.Width.{Fits, turn_fits}
-
--- before the first clock too
-pub record IsGround (width n : ℕ) (s : State) : Type 0 where
-  pub fits : Fits width s
-  pub alone : IsAlone s
-  pub tries : AllTry s
-  pub count : length s.tracks ≡ n
-  pub past : IsPast s
-  pub within : All (λ (q : Out). q.entry < n) s.out
-  pub since : All (λ (q : Out). q.since ≤ s.clocks.at) s.out
 
 abbrev Bounds : ℕ → State → Type 0
 Bounds n s = All (λ (q : Out). q.entry < n) s.out × All (λ (q : Out). q.since ≤ s.clocks.at) s.out
@@ -96,8 +86,8 @@ turn_bounds : (n : ℕ) (old new : State) (event : Event) (result : Result Outpu
 turn_bounds n old new event (Ok output) turn count past b = step_bounds n old new event output turn.1 count past b
 turn_bounds n old new event (Err fault) turn count past b = subst (Bounds n) (sym (refused_stays old new event fault turn)) b
 
-pub turn_ground : (width n : ℕ) (old new : State) (event : Event) (result : Result Output WatchFault) → Turn old event result new → IsGround width n old → IsGround width n new
-turn_ground width n old new event result turn h =
+pub turn_base : (width n : ℕ) (old new : State) (event : Event) (result : Result Output WatchFault) → Turn old event result new → IsBase width n old → IsBase width n new
+turn_base width n old new event result turn h =
     let bounds = turn_bounds n old new event result turn h.count h.past (h.within, h.since) in
     record {
       fits = turn_fits width old new event result turn h.fits;
@@ -109,43 +99,13 @@ turn_ground width n old new event result turn h =
       since = bounds.1;
     }
 
--- a clock has been, and stays
-step_begun : (old new : State) (event : Event) (output : Output) → Step old event output new → is_none old.begun ≡ false → is_none new.begun ≡ false
-step_begun old new (Clock wall elapsed) output step begun' = clock_begun old new wall elapsed output (ticks old new wall elapsed output step) where
-  clock_begun : (a b : State) (w e : ℕ) (out : Output) → Ticks a b w e out → is_none b.begun ≡ false
-  clock_begun a b w e out h = ap (λ (x : State). is_none x.begun) h.new_is ∙ begun_some a w e
-step_begun old new (Looked j reply terms) output step begun' = looked_begun (request_out old.out j Look) step where
-  looked_begun : (found : Option Out) → StepLooked old found reply terms output new → is_none new.begun ≡ false
-  looked_begun None h = absurd h
-  looked_begun (Some q) h = ap (λ (x : State). is_none x.begun) (ap rest_of h.1 ∙ looked_leaves old q reply terms) ∙ begun'
-step_begun old new (Renewed j reply) output step begun' = renewed_begun (request_out old.out j Renew) step where
-  renewed_begun : (found : Option Out) → StepRenewed old found reply output new → is_none new.begun ≡ false
-  renewed_begun None h = absurd h
-  renewed_begun (Some q) h = ap (λ (x : State). is_none x.begun) (ap rest_of h.1 ∙ renewed_leaves old q reply) ∙ begun'
-step_begun old new (Need j until) output step begun' = ap (λ (x : State). is_none x.begun) step.1 ∙ begun'
-step_begun old new Begin output step begun' = ap (λ (x : State). is_none x.begun) step.1 ∙ begun'
-step_begun old new (Known j end renewable) output step begun' = ap (λ (x : State). is_none x.begun) step.1 ∙ begun'
-
-turn_begun : (old new : State) (event : Event) (result : Result Output WatchFault) → Turn old event result new → is_none old.begun ≡ false → is_none new.begun ≡ false
-turn_begun old new event (Ok output) turn begun' = step_begun old new event output turn.1 begun'
-turn_begun old new event (Err fault) turn begun' = ap (λ (x : State). is_none x.begun) (refused_stays old new event fault turn) ∙ begun'
-
-pub base_of : (width n : ℕ) (s : State) → IsGround width n s → is_none s.begun ≡ false → IsBase width n s
-base_of width n s h begun' = record { begun = begun'; fits = h.fits; alone = h.alone; tries = h.tries; count = h.count; past = h.past; within = h.within; since = h.since }
-
-pub turn_base : (width n : ℕ) (old new : State) (event : Event) (result : Result Output WatchFault) → Turn old event result new → IsBase width n old → IsBase width n new
-turn_base width n old new event result turn h =
-    base_of width n new
-    (turn_ground width n old new event result turn (record { fits = h.fits; alone = h.alone; tries = h.tries; count = h.count; past = h.past; within = h.within; since = h.since }))
-    (turn_begun old new event result turn h.begun)
-
 -- over a history
-pub ran_ground : (width n : ℕ) (turns : List Turned) (old : State) → History old turns → IsGround width n old → IsGround width n (after_all old turns)
-ran_ground width n [] old h ground = ground
-ran_ground width n (turn ∷ turns) old h ground = ran_ground width n turns turn.state h.1 (turn_ground width n old turn.state turn.event turn.result h.0 ground)
+pub ran_base : (width n : ℕ) (turns : List Turned) (old : State) → History old turns → IsBase width n old → IsBase width n (after_all old turns)
+ran_base width n [] old h base = base
+ran_base width n (turn ∷ turns) old h base = ran_base width n turns turn.state h.1 (turn_base width n old turn.state turn.event turn.result h.0 base)
 
-pub opened_ground : (g : Forest) (width : ℕ) → IsGround width (length g.entries) (opened g width)
-opened_ground g width = record {
+pub opened_base : (g : Forest) (width : ℕ) → IsBase width (length g.entries) (opened g width)
+opened_base g width = record {
   fits = (refl, omega arith);
   alone = record { once = λ j. omega arith };
   tries = first_tries g.entries;

@@ -51,7 +51,7 @@ Asks i s = All (λ (q : Out). q.entry ≡ i → q.operation ≡ Renew) s.out
 abbrev pub Bears : Track → Track → Type 0
 Bears y x = (y.end ≡ x.end) × ((y.grant ≡ x.grant) × (y.owes ≡ x.owes))
 
-same_bears : (x : Track) → Bears x x
+pub same_bears : (x : Track) → Bears x x
 same_bears x = (refl, (refl, refl))
 
 both_bear : (z y x : Track) → Bears z y → Bears y x → Bears z x
@@ -76,7 +76,7 @@ asked_bears margin e at round i x =
 sent_bears : (at : ℕ) (requests : List Request) (i : ℕ) (x : Track) → Bears (sent_in at requests i x) x
 sent_bears at requests i x = if_both (λ y. Bears y x) (list_any (λ (r : Request). r.entry == i) requests) (sent_track at x) x (refl, (refl, refl)) (refl, (refl, refl))
 
-back_bears : (x : Track) → Bears (back_track x) x
+pub back_bears : (x : Track) → Bears (back_track x) x
 unfolding back_track
 back_bears x = (refl, (refl, refl))
 

@@ -29,3 +29,5 @@ pub mod Grounds
 pub mod Ticking
 pub mod Answered
 pub mod Outliving
+pub mod Recovering
+pub mod Ahead

@@ -1,4 +1,4 @@
--- Outliving: an entry outlives every outage that its margin does. For the law of outages.
+-- Outliving: an entry outlives every outage that its margin does. For the laws of outages.
 use Rattle.std.proofs.Common.{◌≡◌, ◌⊎◌, ◌∙◌, ℕ, zero, suc, ◌+◌, ◌-◌, ◌*◌, ◌<◌, ◌≤◌, Bool, true, false, max, min, not, ◌&&◌, ◌||◌, ◌==◌, if◌then◌else◌, List, [], ◌∷◌, ◌++◌, Option, Some, None, All, IfSome, Result, Ok, Err, get_or, is_none, is_some, length, map, nat_le, nat_lt, refl, sym, ap, subst, arith, inl, inr, true≢false}
 use Rattle.std.proofs.lemmas.Bool.{and_parts, cases_Bool, cases_lt, eqb-true}
 use Rattle.std.proofs.lemmas.Bool.Decides.{nat_tests}
@@ -41,20 +41,21 @@ use Rattle.watch_machine.specs.Wait.{wait}
 use Rattle.watch_machine.specs.Wanted.{believed, is_never, is_unknown, is_wanted, least, wanted_need, wants}
 use Rattle.watch_machine.proofs.Cases.{if_both, not_both}
 use Rattle.watch_laws.specs.Absence.{is_clock, is_taken}
-use Rattle.watch_laws.specs.Outage.{AllInTime, AreLived, IsBefore, IsIncident, IsInTime, IsLived, IsReply, IsShort, Outage, OutageLaw, again, coming, comes, granted_by, how_many, is_served, is_whole, next_after, next_after_command, next_by, settled_by, waiting}
+use Rattle.watch_laws.specs.Outage.{AllInTime, AreLived, GrantLaw, IsBefore, IsIncident, IsInTime, IsLived, IsReply, IsShort, Outage, OutageLaw, again, asked_at, coming, comes, granted_at, granted_by, granted_next, how_many, is_served, is_whole, next_after, next_after_command, next_by, settled_by, waiting}
 use Rattle.watch_laws.specs.Turns.{after_all}
 use Rattle.watch_laws.proofs.Alone.{IsAlone}
 use Rattle.watch_laws.proofs.Answered.{IsReplied, goes_on_after, looked_replied, renewed_replied, replied_through}
-use Rattle.watch_laws.proofs.Clocking.{begun_some, clock_rises, refused_stays}
+use Rattle.watch_laws.proofs.Clocking.{refused_stays}
 use Rattle.watch_laws.proofs.Counting.{least_all}
-use Rattle.watch_laws.proofs.Enduring.{Cutting, Endures, IsPending, Kept, Missed, any_time, cut}
-use Rattle.watch_laws.proofs.Grounds.{IsGround, base_of, opened_ground, ran_ground, turn_base, turn_ground}
+use Rattle.watch_laws.proofs.Enduring.{Cutting, Endures, IsPending, Kept, Missed, any_time, cut, cut_off, real_away}
+use Rattle.watch_laws.proofs.Grounds.{opened_base, ran_base, turn_base}
 use Rattle.watch_laws.proofs.Lanes.{Sends, Ticks, is_of, is_anew, served_marked, ticks, turn_sends}
 use Rattle.watch_laws.proofs.Lasting.{Asks, Same, clock_forest, same_time, turn_same}
+use Rattle.watch_laws.proofs.Retrying.{rises}
 use Rattle.watch_laws.proofs.Minding.{end_minded, least_start}
 use Rattle.watch_laws.proofs.Sparing.{readied_answers}
-use Rattle.watch_laws.proofs.Stages.{Facts, IsBack, IsBase, IsCut, IsEarly, IsGoing, IsPlanned, IsServed, IsThrough, due_ahead, free_from, margin_holds, turn_of}
-use Rattle.watch_laws.proofs.Ticking.{IsTick, any_gives, anew_none, before_time, clock_goes, free_lanes, none_of, none_passes, not_whole, ticks_through}
+use Rattle.watch_laws.proofs.Stages.{Facts, IsBack, IsBase, IsCut, IsEarly, IsGoing, IsPlanned, IsServed, IsThrough, due_ahead, free_from, margin_holds, quick_if, turn_of}
+use Rattle.watch_laws.proofs.Ticking.{IsTick, any_gives, anew_none, before_time, clock_goes, early_cut, free_lanes, none_of, none_passes, not_so, not_whole, so_whole, ticks_through}
 use Rattle.watch_laws.proofs.Tracking.{replied_forest}
 
 -- what holds after a turn
@@ -80,7 +81,7 @@ clock_stays f due rest old new wall elapsed output planned step lived wanted bas
       ticks = go;
       none = lived.1;
       soon = lived.0;
-      rises = clock_rises old wall elapsed h.going.base.begun;
+      rises = rises old wall elapsed h.going.base.past.start;
       planned = planned;
       going = h.going;
       base = base;
@@ -141,6 +142,11 @@ forest_through f due k m s g less (inl (inl h)) = let count = h.count in inl (in
   from = h.from;
   count = omega (arith, count, less);
   fewer = h.fewer;
+  base = h.base;
+  reach = h.reach;
+  over = h.over;
+  base_ahead = h.base_ahead;
+  base_by = h.base_by;
   start = h.start;
   next = h.next;
 }))
@@ -170,8 +176,19 @@ forest_through f due k m s g less (inr (inl h)) = let count = h.count in inr (in
   now = h.now;
   next = h.next;
 }))
-forest_through f due k m s g less (inr (inr h)) =
-    inr (inr (record { served = h.served; sent = h.sent; whole = h.whole; next = h.next; last_ahead = h.last_ahead; last_by = h.last_by }))
+forest_through f due k m s g less (inr (inr (inl h))) =
+    inr (inr (inl (record { served = h.served; sent = h.sent; whole = h.whole; next = h.next; last_ahead = h.last_ahead; last_by = h.last_by })))
+forest_through f due k m s g less (inr (inr (inr h))) =
+    let count = h.count in
+    inr (inr (inr (record {
+      endures = forest_endures f.o f.i f.end (ms f.time) due ⊥ s g h.endures;
+      idle = h.idle;
+      over = h.over;
+      soon = h.soon;
+      from = h.from;
+      count = omega (arith, count, less);
+      next = h.next;
+    })))
 
 -- a need
 forest_stays :
@@ -227,8 +244,7 @@ in_time f due k s h =
     let end = ap believed h.going.end_is in
     let time = h.going.time in
     let ahead = h.going.ahead in
-    let by = h.going.by in
-    (
+    let by = h.going.by in (
       subst (λ n. s.clocks.at < ms n) (sym end) ahead,
       subst (λ n. s.clocks.at ≤ granted_by f.o (time_of s f.i) n) (sym end) (subst (λ n. s.clocks.at ≤ granted_by f.o n f.end) (sym time) by),
     )
@@ -242,8 +258,7 @@ along f planned (turn ∷ turns) due old history lived h =
     let count = base.count in
     let sends = turn_sends old turn.state turn.event turn.result f.n (omega (arith, count)) history.0 in
     let same = turn_same f.o f.i due old turn.state turn.event turn.result history.0 lived.0 h.going.asks in
-    let here = turn_stays f due (coming f.o f.n turn.state turns) old turn.state turn.event turn.result planned history.0 lived.0 lived.1.0 base sends same h in
-    (
+    let here = turn_stays f due (coming f.o f.n turn.state turns) old turn.state turn.event turn.result planned history.0 lived.0 lived.1.0 base sends same h in (
       in_time f (next_after f.o turn.result turn.state due) (After f turn.state (coming f.o f.n turn.state turns)) turn.state here,
       along f planned turns (next_after f.o turn.result turn.state due) turn.state history.1 lived.1.1 here,
     )
@@ -292,23 +307,23 @@ ran_shape (turn ∷ turns) old h =
     (rest.0 ∙ here.0, rest.1 ∙ here.1)
 
 -- the first turns, and the others
-first_turns : (xs ys : List Turned) (old : State) → History old (xs ++ ys) → History old xs
+pub first_turns : (xs ys : List Turned) (old : State) → History old (xs ++ ys) → History old xs
 first_turns [] ys old h = tt
 first_turns (x ∷ xs) ys old h = (h.0, first_turns xs ys x.state h.1)
 
-last_turns : (xs ys : List Turned) (old : State) → History old (xs ++ ys) → History (after_all old xs) ys
+pub last_turns : (xs ys : List Turned) (old : State) → History old (xs ++ ys) → History (after_all old xs) ys
 last_turns [] ys old h = h
 last_turns (x ∷ xs) ys old h = last_turns xs ys x.state h.1
 
 -- the clock from which on it is lived
-record Starts (o : Outage) (old : State) (last : Turned) : Type 0 where
-  wall : ℕ
-  elapsed : ℕ
-  output : Output
-  ticks' : Ticks old last.state wall elapsed output
-  due : next_after o last.result last.state 0 ≡ next_by o (wait last.state) last.state.out
+pub record Starts (o : Outage) (old : State) (last : Turned) : Type 0 where
+  pub wall : ℕ
+  pub elapsed : ℕ
+  pub output : Output
+  pub ticks' : Ticks old last.state wall elapsed output
+  pub due : next_after o last.result last.state 0 ≡ next_by o (wait last.state) last.state.out
 
-starts : (o : Outage) (old : State) (last : Turned) (event : Event) (result : Result Output WatchFault) → last.result ≡ result → Turn old event result last.state → is_clock event ≡ true → is_taken result ≡ true → Starts o old last
+pub starts : (o : Outage) (old : State) (last : Turned) (event : Event) (result : Result Output WatchFault) → last.result ≡ result → Turn old event result last.state → is_clock event ≡ true → is_taken result ≡ true → Starts o old last
 starts o old last (Clock wall elapsed) (Ok output) same turn clock taken' =
     let go = ticks old last.state wall elapsed output turn.1 in
     record {
@@ -350,7 +365,7 @@ record First (o : Outage) (n width margin : ℕ) (s : State) (i : ℕ) : Type 0 
   end_is : (track_at s i).end ≡ At end
   sum : end ≡ time_of s i + margin
 
-first_end : (o : Outage) (n width margin : ℕ) (s : State) (i : ℕ) → IsBefore o s i → s.forest.margin ≡ margin → First o n width margin s i
+first_end : (o : Outage) (n width margin : ℕ) (s : State) (i : ℕ) → IsBefore s i → s.forest.margin ≡ margin → First o n width margin s i
 first_end o n width margin s i b same =
     let t = time_is s i b.in_plan in
     let ahead = b.ahead in
@@ -360,33 +375,46 @@ first_end o n width margin s i b same =
 
 first_endures :
     (o : Outage) (i end bound due : ℕ) (miss : Type 0) (s : State) → (track_at s i).end ≡ At end → (track_at s i).owes ≡ false → rested (track_at s i).last ≤ bound → attempt_at s i ≡ None → (track_at s i).out ≡ false →
-    IsAlone s → s.answers ≡ [] → Endures o i end bound due miss s
-first_endures o i end bound due miss s end_is owes last idle free alone answers = record {
+    IsAlone s → (list_any is_silent s.answers ≡ true → s.presence.away ≡ true → ⊥) → Endures o i end bound due miss s
+first_endures o i end bound due miss s end_is owes last idle free alone quiet = record {
   end_is = end_is;
   owes = owes;
   last = last;
   tries = λ u is. absurd (let bad : None ≡ Some u = sym idle ∙ is in cc);
   lane = λ out. absurd (not_both out free);
-  out = All-weaker (λ (q : Out). q.entry ≡ i → ⊥) (Cutting o i bound s) (λ q no' is. absurd (no' is)) s.out (none_of i s.out (free_lanes i s alone free));
-  silent' = λ any. absurd (not_both any (ap (list_any is_silent) answers));
+  out = All-weaker (λ (q : Out). q.entry ≡ i → ⊥) (Cutting o i bound miss s) (λ q no' is. absurd (no' is)) s.out (none_of i s.out (free_lanes i s alone free));
+  silent' = λ any away. absurd (quiet any away);
 }
 
+-- who is idle is not out
+idle_free : (width n : ℕ) (s : State) (i : ℕ) → IsBase width n s → attempt_at s i ≡ None → (track_at s i).out ≡ false
+idle_free width n s i base idle =
+    elim (cases_Bool (track_at s i).out) as (λ _. (track_at s i).out ≡ false) [
+      | inl out ↦ absurd (true≢false (sym ((base.tries i).out out) ∙ ap is_some idle))
+      | inr no' ↦ no'
+    ]
+
+-- all that is out is whole, and the next clock comes soon; or the outage has begun; or it is over, and what it cut is settled soon
+abbrev Begins : Facts → ℕ → State → Type 0
+Begins f due s =
+    (All (λ (q : Out). is_whole f.o q.since ≡ true) s.out × (due ≤ ms f.time + turn_of f.o))
+    ⊎ (((s.clocks.at < f.o.until) × ((f.o.from < s.clocks.at + f.o.quick) × (due ≤ free_from f + f.o.late))) ⊎ ((f.o.until ≤ s.clocks.at) × (due ≤ cut f.o)))
+
+abbrev facts_of : Outage → ℕ → ℕ → ℕ → ℕ → State → Facts
+facts_of o i n width end s = record { o = o; i = i; n = n; width = width; margin = s.forest.margin; time = time_of s i; end = end }
+
 first_stays :
-    (o : Outage) (width n : ℕ) (s : State) (i due k end : ℕ) → IsPlanned (record { o = o; i = i; n = n; width = width; margin = s.forest.margin; time = time_of s i; end = end }) → IsBase width n s →
-    length s.forest.entries ≡ n → IsBefore o s i → (track_at s i).end ≡ At end → s.answers ≡ [] → due ≤ ms (time_of s i) + o.late → All (λ (q : Out). due ≤ settled_by o q.since + o.late) s.out →
-    k ≤ width * o.rounds → Stays (record { o = o; i = i; n = n; width = width; margin = s.forest.margin; time = time_of s i; end = end }) due k s
-first_stays o width n s i due k end planned base entries b end_is answers soon timely few =
-    let f : Facts = record { o = o; i = i; n = n; width = width; margin = s.forest.margin; time = time_of s i; end = end } in
+    (o : Outage) (width n : ℕ) (s : State) (i due k end : ℕ) → IsPlanned (facts_of o i n width end s) → IsBase width n s → length s.forest.entries ≡ n → IsBefore s i → (track_at s i).end ≡ At end →
+    list_any (λ (a : Answer). is_busy a.reply) s.answers ≡ false → (list_any is_silent s.answers ≡ true → s.presence.away ≡ true → ⊥) → All (λ (q : Out). due ≤ settled_by o q.since + o.late) s.out →
+    k ≤ width * o.rounds → Begins (facts_of o i n width end s) due s → Stays (facts_of o i n width end s) due k s
+first_stays o width n s i due k end planned base entries b end_is calm quiet timely few begins =
+    let f : Facts = facts_of o i n width end s in
     let at = s.clocks.at in
     let before = before_time s i (time_of s i) refl b.ahead in
     let sum = planned.end_is in
     let rest = b.rested in
     let reach : ms (time_of s i) ≤ free_from f = omega arith in
-    let free : (track_at s i).out ≡ false =
-    elim (cases_Bool (track_at s i).out) as (λ _. (track_at s i).out ≡ false) [
-      | inl out ↦ absurd (true≢false (sym ((base.tries i).out out) ∙ ap is_some b.idle))
-      | inr no' ↦ no'
-    ] in
+    let free = idle_free width n s i base b.idle in
     let none' = none_of i s.out (free_lanes i s base.alone free) in
     let now = base.since in
     record {
@@ -398,65 +426,99 @@ first_stays o width n s i due k end planned base entries b end_is answers soon t
         end_is = end_is;
         asks = All-weaker (λ (q : Out). q.entry ≡ i → ⊥) (λ (q : Out). q.entry ≡ i → q.operation ≡ Renew) (λ q no' is. absurd (no' is)) s.out none';
         timely = timely;
-        calm = ap (list_any (λ (a : Answer). is_busy a.reply)) answers;
+        calm = calm;
         free = omega (arith, rest);
         ahead = omega (arith, before, sum);
         by = omega (arith, before);
       };
-      through = elim (cases_Bool (list_any (λ (q : Out). not (is_whole o q.since)) s.out)) as (λ _. IsThrough f due k s) [
-        | inr all_whole ↦
-            let whole : All (λ (q : Out). is_whole o q.since ≡ true) s.out =
-            All-weaker (λ (q : Out). not (is_whole o q.since) ≡ false) (λ (q : Out). is_whole o q.since ≡ true) (λ q h. so_whole (is_whole o q.since) h) s.out (none_passes (λ (q : Out). not (is_whole o q.since)) s.out all_whole) in
+      through = elim begins as (λ _. IsThrough f due k s) [
+        | inl there ↦
             let zero' = anew_none o (suc at) n s now (omega arith) in
+            let soon = there.1 in
             inl (inl (record {
-              endures = first_endures o i end (ms (time_of s i)) due ⊥ s end_is b.owes (omega (arith, rest)) b.idle free base.alone answers;
+              endures = first_endures o i end (ms (time_of s i)) due ⊥ s end_is b.owes (omega (arith, rest)) b.idle free base.alone quiet;
               idle = free;
-              whole = whole;
+              whole = there.0;
               r = o.rounds;
               from = at;
               count = omega (arith, few, zero');
               fewer = omega arith;
+              base = ms (time_of s i);
+              reach = omega arith;
+              over = inl refl;
+              base_ahead = (let holds = margin_holds f planned in omega (arith, holds));
+              base_by = reach;
               start = omega (arith, before);
               next = omega (arith, soon);
             }))
-        | inl broke ↦
-            let early : at < o.until =
-            elim (cases_lt at o.until) as (λ _. at < o.until) [
-              | inl yes' ↦ yes'
-              | inr over ↦
-                  let settled = b.settled over in
-                  absurd (any_gives ⊥ (λ (q : Out). not (is_whole o q.since)) s.out broke (λ j d below no'. not_both (settled j d below) (not_so (is_whole o (get_or s.out j d).since) no')))
-            ] in
-            let late : o.from < at + o.quick =
-            any_gives (o.from < at + o.quick) (λ (q : Out). not (is_whole o q.since)) s.out broke
-            (λ j d below no'.
-            let q = get_or s.out j d in
-            let h = not_whole o q.since (not_so (is_whole o q.since) no') in
-            let l = h.0 in
-            let le = now j d below in
-            omega (arith, l, le)) in
-            let zero' = anew_none o o.until n s now early in
-            inl (inr (record {
-              endures = first_endures o i end (free_from f) due Unit s end_is b.owes (omega (arith, rest, reach)) b.idle free base.alone answers;
-              unserved = elim (cases_Bool (is_served o s i)) as (λ _. is_served o s i ≡ false) [
-                | inl served ↦ absurd (not_both (served_marked o s i base.alone served) free)
-                | inr no' ↦ no'
-              ];
-              r = o.rounds;
-              count = omega (arith, few, zero');
-              fewer = omega arith;
-              room = omega (arith, late, before);
-              next = omega (arith, soon, reach);
-            }))
+        | inr begun' ↦
+            elim begun' as (λ _. IsThrough f due k s) [
+              | inr late ↦
+                  let zero' = anew_none o (suc at) n s now (omega arith) in
+                  let over = late.0 in
+                  inr (inr (inr (record {
+                    endures = first_endures o i end (ms (time_of s i)) due ⊥ s end_is b.owes (omega (arith, rest)) b.idle free base.alone quiet;
+                    idle = free;
+                    over = over;
+                    soon = omega (arith, over, before);
+                    from = at;
+                    count = omega (arith, few, zero');
+                    next = late.1;
+                  })))
+              | inl broke ↦
+                  let early = broke.0 in
+                  let late = broke.1.0 in
+                  let zero' = anew_none o o.until n s now early in
+                  inl (inr (record {
+                    endures = first_endures o i end (free_from f) due Unit s end_is b.owes (omega (arith, rest, reach)) b.idle free base.alone quiet;
+                    unserved = elim (cases_Bool (is_served o s i)) as (λ _. is_served o s i ≡ false) [
+                      | inl served ↦ absurd (not_both (served_marked o s i base.alone served) free)
+                      | inr no' ↦ no'
+                    ];
+                    r = o.rounds;
+                    count = omega (arith, few, zero');
+                    fewer = omega arith;
+                    room = omega (arith, late, before);
+                    next = broke.1.1;
+                  }))
+            ]
       ];
-    } where
-      so_whole : (w : Bool) → not w ≡ false → w ≡ true
-      so_whole true h = refl
-      so_whole false h = absurd cc
+    }
 
-      not_so : (w : Bool) → not w ≡ true → w ≡ false
-      not_so true h = absurd cc
-      not_so false h = refl
+-- all that is out is whole, or the outage has begun; and where it is over, what it cut is settled soon
+whole_or_broke :
+    (o : Outage) (s : State) (due : ℕ) → All (λ (q : Out). q.since ≤ s.clocks.at) s.out → All (λ (q : Out). due ≤ settled_by o q.since + o.late) s.out →
+    All (λ (q : Out). is_whole o q.since ≡ true) s.out ⊎ (((s.clocks.at < o.until) × (o.from < s.clocks.at + o.quick)) ⊎ ((o.until ≤ s.clocks.at) × (due ≤ cut o)))
+whole_or_broke o s due now timely =
+    let at = s.clocks.at in
+    elim (cases_Bool (list_any (λ (q : Out). not (is_whole o q.since)) s.out))
+    as (λ _. All (λ (q : Out). is_whole o q.since ≡ true) s.out ⊎ (((at < o.until) × (o.from < at + o.quick)) ⊎ ((o.until ≤ at) × (due ≤ cut o)))) [
+      | inr all_whole ↦
+          inl (All-weaker (λ (q : Out). not (is_whole o q.since) ≡ false) (λ (q : Out). is_whole o q.since ≡ true) (λ q h. so_whole (is_whole o q.since) h) s.out
+          (none_passes (λ (q : Out). not (is_whole o q.since)) s.out all_whole))
+      | inl broke ↦
+          elim (cases_lt at o.until) as (λ _. All (λ (q : Out). is_whole o q.since ≡ true) s.out ⊎ (((at < o.until) × (o.from < at + o.quick)) ⊎ ((o.until ≤ at) × (due ≤ cut o)))) [
+            | inl early ↦
+                let late : o.from < at + o.quick =
+                any_gives (o.from < at + o.quick) (λ (q : Out). not (is_whole o q.since)) s.out broke
+                (λ j d below no'.
+                let q = get_or s.out j d in
+                let h = not_whole o q.since (not_so (is_whole o q.since) no') in
+                let l = h.0 in
+                let le = now j d below in
+                omega (arith, l, le)) in
+                inr (inl (early, late))
+            | inr over ↦
+                let soon : due ≤ cut o =
+                any_gives (due ≤ cut o) (λ (q : Out). not (is_whole o q.since)) s.out broke
+                (λ j d below no'.
+                let q = get_or s.out j d in
+                let c = cut_off o q.since (not_so (is_whole o q.since) no') in
+                let l = timely j d below in
+                omega (arith, c, l)) in
+                inr (inr (over, soon))
+          ]
+    ]
 
 -- until then is waited at most
 waits_for : (old s : State) (wall elapsed : ℕ) (output : Output) (i : ℕ) → Ticks old s wall elapsed output → i < length s.forest.entries → is_wanted s i ≡ true → attempt_at s i ≡ None → (track_at s i).out ≡ false → wait s ≤ ms (time_of s i)
@@ -474,34 +536,124 @@ waits_for old s wall elapsed output i h within wanted idle free =
           ]
     ])
 
-pub outlives : OutageLaw
-outlives o g width before last turns i wide run clock taken' b lived few order short =
+-- what follows whatever the turn is from which on it is lived
+from_there :
+    (o : Outage) (g : Forest) (width : ℕ) (before : List Turned) (last : Turned) (turns : List Turned) (i due : ℕ) → 0 < width → IsRun g width (before ++ last ∷ turns) → IsBefore last.state i →
+    AreLived o i due last.state turns → waiting o (length g.entries) last.state + coming o (length g.entries) last.state turns ≤ width * o.rounds → o.from ≤ o.until → IsShort o g.margin →
+    list_any (λ (a : Answer). is_busy a.reply) last.state.answers ≡ false → (list_any is_silent last.state.answers ≡ true → last.state.presence.away ≡ true → ⊥) →
+    All (λ (q : Out). due ≤ settled_by o q.since + o.late) last.state.out → ((f : Facts) → f.o ≡ o → f.time ≡ time_of last.state i → IsBase width (length g.entries) last.state → Begins f due last.state) → AllInTime o i turns
+from_there o g width before last turns i due wide run b lived few order short calm quiet timely begins =
     let n = length g.entries in
     let old = after_all (opened g width) before in
     let history = last_turns before (last ∷ turns) (opened g width) run in
     let first = first_turns before (last ∷ turns) (opened g width) run in
     let s = last.state in
-    let start = starts o old last last.event last.result refl history.0 clock taken' in
-    let ground = turn_ground width n old s last.event last.result history.0 (ran_ground width n before (opened g width) first (opened_ground g width)) in
-    let begun' : is_none s.begun ≡ false = ap (λ (x : State). is_none x.begun) start.ticks'.new_is ∙ begun_some old start.wall start.elapsed in
-    let base = base_of width n s ground begun' in
+    let base = turn_base width n old s last.event last.result history.0 (ran_base width n before (opened g width) first (opened_base g width)) in
     let shape = turn_shape old s last.event last.result history.0 in
     let shapes = ran_shape before (opened g width) first in
     let entries : length s.forest.entries ≡ n = shape.0 ∙ shapes.0 in
     let margin : s.forest.margin ≡ g.margin = shape.1 ∙ shapes.1 in
     let e = first_end o n width s.forest.margin s i b refl in
-    let f : Facts = record { o = o; i = i; n = n; width = width; margin = s.forest.margin; time = time_of s i; end = e.end } in
+    let f : Facts = facts_of o i n width e.end s in
     let low = b.within in
     let planned : IsPlanned f = record { wide = wide; within = omega (arith, low, entries); order = order; short = subst (IsShort o) (sym margin) short; end_is = e.sum } in
+    let stays = first_stays o width n s i due (waiting o n s + coming o n s turns) e.end planned base entries b e.end_is calm quiet timely few (begins f refl refl base) in
+    along f planned turns due s history.1 lived stays
+
+pub outlives : OutageLaw
+outlives o g width before last turns i wide run clock taken' b lived few order short =
+    let old = after_all (opened g width) before in
+    let history = last_turns before (last ∷ turns) (opened g width) run in
+    let s = last.state in
+    let start = starts o old last last.event last.result refl history.0 clock taken' in
     let answers : s.answers ≡ [] = ap (λ (x : State). x.answers) start.ticks'.new_is ∙ readied_answers old start.wall start.elapsed in
-    let free : (track_at s i).out ≡ false =
-    elim (cases_Bool (track_at s i).out) as (λ _. (track_at s i).out ≡ false) [
-      | inl out ↦ absurd (true≢false (sym ((base.tries i).out out) ∙ ap is_some b.idle))
-      | inr no' ↦ no'
-    ] in
-    let until = waits_for old s start.wall start.elapsed start.output i start.ticks' b.within b.wanted b.idle free in
     let due = next_by o (wait s) s.out in
+    let timely = least_all (λ (q : Out). settled_by o q.since + o.late) (wait s + o.late) s.out in
+    from_there o g width before last turns i due wide run b (subst (λ d. AreLived o i d s turns) start.due lived) few order short (ap (list_any (λ (a : Answer). is_busy a.reply)) answers)
+    (λ any away. absurd (not_both any (ap (list_any is_silent) answers))) timely
+    (λ f same time base.
+    let free = idle_free width (length g.entries) s i base b.idle in
+    let until = waits_for old s start.wall start.elapsed start.output i start.ticks' b.within b.wanted b.idle free in
     let least' = least_start (wait s + o.late) (map (λ (q : Out). settled_by o q.since + o.late) s.out) in
-    let stays = first_stays o width n s i due (waiting o n s + coming o n s turns) e.end planned base entries b e.end_is answers (omega (arith, until, least'))
-    (least_all (λ (q : Out). settled_by o q.since + o.late) (wait s + o.late) s.out) few in
-    along f planned turns due s history.1 (subst (λ d. AreLived o i d s turns) start.due lived) stays
+    let late = ap (λ (x : Outage). x.late) same in
+    let quick = ap (λ (x : Outage). x.quick) same in
+    let soon : due ≤ ms f.time + f.o.late = omega (arith, until, least', late, time) in
+    let from' = ap (λ (x : Outage). x.from) same in
+    let until' = ap (λ (x : Outage). x.until) same in
+    let ends : cut f.o ≡ cut o = ap cut same in
+    elim (whole_or_broke o s due base.since timely) as (λ _. Begins f due s) [
+      | inl whole ↦ inl (subst (λ (x : Outage). All (λ (q : Out). is_whole x q.since ≡ true) s.out) (sym same) whole, omega (arith, soon))
+      | inr begun' ↦
+          elim begun' as (λ _. Begins f due s) [
+            | inl broke ↦
+                let early = broke.0 in
+                let gone = broke.1 in
+                inr (inl (omega (arith, early, until'), (omega (arith, gone, from', quick), omega (arith, soon))))
+            | inr over ↦
+                let late' = over.0 in
+                let by' = over.1 in
+                inr (inr (omega (arith, late', until'), omega (arith, by', ends)))
+          ]
+    ])
+
+-- a grant shows that the broker is there
+grant_there : (old new : State) (event : Event) (result : Result Output WatchFault) (i seconds : ℕ) (renewable : Bool) (date : Option ℕ) → Turn old event result new → is_taken result ≡ true → event ≡ Renewed i (Told seconds renewable date) → new.presence.away ≡ false
+grant_there old new event (Ok output) i seconds renewable date turn taken' told = by (request_out old.out i Renew) (subst (λ e. Step old e output new) told turn.1) where
+  by : (found : Option Out) → StepRenewed old found (Told seconds renewable date) output new → new.presence.away ≡ false
+  by None step = absurd step
+  by (Some q) step = ap (λ (x : State). x.presence.away) step.1 ∙ real_away (renewed (noted old q (Told seconds renewable date)) q (Told seconds renewable date)) q (Told seconds renewable date) refl
+grant_there old new event (Err fault) i seconds renewable date turn taken' told = absurd (true≢false (sym taken'))
+
+asked_before : (last : Option ℕ) (at : ℕ) → rested last ≤ at + 1000 → asked_at last ≤ at
+asked_before None at h = omega arith
+asked_before (Some n) at h = omega (arith, h)
+
+pub outlives_again : GrantLaw
+outlives_again o g width before grant turns i wide run b lived few order short =
+    let old = after_all (opened g width) before in
+    let history = last_turns before (grant ∷ turns) (opened g width) run in
+    let s = grant.state in
+    let at = s.clocks.at in
+    let there = grant_there old s grant.event grant.result i b.seconds b.renewable b.date history.0 b.taken b.told in
+    let asked = granted_at s i in
+    let due = granted_next o s i in
+    let timely = least_all (λ (q : Out). settled_by o q.since + o.late) (settled_by o asked + o.late) s.out in
+    from_there o g width before grant turns i due wide run b.before lived few order short b.calm (λ any away. absurd (not_both away there)) timely
+    (λ f same time base.
+    let least' = least_start (settled_by o asked + o.late) (map (λ (q : Out). settled_by o q.since + o.late) s.out) in
+    let early = asked_before (track_at s i).last at (base.past.last i) in
+    let ahead = before_time s i (time_of s i) refl b.before.ahead in
+    let late = ap (λ (x : Outage). x.late) same in
+    let quick = ap (λ (x : Outage). x.quick) same in
+    let from' = ap (λ (x : Outage). x.from) same in
+    let until' = ap (λ (x : Outage). x.until) same in
+    let reach : again f.end (cut f.o) ≤ free_from f = omega arith in
+    let ends : cut f.o ≡ cut o = ap cut same in
+    elim (cases_Bool (is_whole o asked)) as (λ _. Begins f due s) [
+      | inl whole ↦
+          let e = quick_if o asked whole in
+          let soon : due ≤ at + turn_of o = omega (arith, least', e, early) in
+          elim (whole_or_broke o s due base.since timely) as (λ _. Begins f due s) [
+            | inl all ↦ inl (subst (λ (x : Outage). All (λ (q : Out). is_whole x q.since ≡ true) s.out) (sym same) all, omega (arith, soon, ahead, late, quick, time))
+            | inr begun' ↦
+                elim begun' as (λ _. Begins f due s) [
+                  | inl broke ↦
+                      let a = broke.0 in
+                      let c = broke.1 in
+                      let cut' : due ≤ cut o = (let k = early_cut o asked order (omega (arith, early, a)) in omega (arith, least', k)) in
+                      inr (inl (omega (arith, a, until'), (omega (arith, c, from', quick), omega (arith, cut', reach, ends))))
+                  | inr over ↦
+                      let late' = over.0 in
+                      let by' = over.1 in
+                      inr (inr (omega (arith, late', until'), omega (arith, by', ends)))
+                ]
+          ]
+      | inr cut_short ↦
+          let h = not_whole o asked cut_short in
+          let gone = h.0 in
+          let k = cut_off o asked cut_short in
+          elim (cases_lt at o.until) as (λ _. Begins f due s) [
+            | inl open' ↦ inr (inl (omega (arith, open', until'), (omega (arith, gone, early, from', quick), omega (arith, least', k, reach, ends))))
+            | inr over ↦ inr (inr (omega (arith, over, until'), omega (arith, least', k, ends)))
+          ]
+    ])

@@ -1,5 +1,5 @@
 -- Stages: how an outage goes by for an entry, stage by stage, and the sums of each. For the law of outages.
-use Rattle.std.proofs.Common.{◌≡◌, ◌⊎◌, ◌∙◌, ℕ, zero, suc, ◌+◌, ◌-◌, ◌*◌, ◌/◌, ◌<◌, ◌≤◌, Bool, true, false, max, not, ◌&&◌, ◌||◌, ◌==◌, if◌then◌else◌, List, Option, Some, None, All, is_none, length, nat_le, nat_lt, refl, sym, ap, subst, arith, inl, inr}
+use Rattle.std.proofs.Common.{◌≡◌, ◌⊎◌, ◌∙◌, ℕ, zero, suc, ◌+◌, ◌-◌, ◌*◌, ◌/◌, ◌<◌, ◌≤◌, Bool, true, false, max, not, ◌&&◌, ◌||◌, ◌==◌, if◌then◌else◌, List, Option, Some, None, All, length, nat_le, nat_lt, refl, sym, ap, subst, arith, inl, inr}
 use Rattle.std.proofs.Math.Nat.{mul-suc, mul-zero}
 use Rattle.std.proofs.lemmas.Bool.Decides.{nat_tests}
 use Rattle.std.proofs.lemmas.Bool.{cond-true}
@@ -43,9 +43,8 @@ pub record IsPlanned (f : Facts) : Type 0 where
   pub short : IsShort f.o f.margin
   pub end_is : f.end ≡ f.time + f.margin
 
--- what holds of every state of a history after its first clock
+-- what holds of every state of a history
 pub record IsBase (width n : ℕ) (s : State) : Type 0 where
-  pub begun : is_none s.begun ≡ false
   pub fits : Fits width s
   pub alone : IsAlone s
   pub tries : AllTry s
@@ -68,7 +67,7 @@ pub record IsGoing (f : Facts) (due : ℕ) (s : State) : Type 0 where
   pub ahead : s.clocks.at < ms f.end
   pub by : s.clocks.at ≤ granted_by f.o f.time f.end
 
--- before the outage: r rounds hold those that wait, but for those that went out after from
+-- before the outage, or after it: r rounds from base on hold those that wait, but for those that went out after from
 pub record IsEarly (f : Facts) (due k : ℕ) (s : State) : Type 0 where
   pub endures : Endures f.o f.i f.end (ms f.time) due ⊥ s
   pub idle : (track_at s f.i).out ≡ false
@@ -77,8 +76,13 @@ pub record IsEarly (f : Facts) (due k : ℕ) (s : State) : Type 0 where
   pub from : ℕ
   pub count : k + how_many f.n (is_anew f.o (suc from) s) ≤ f.width * r
   pub fewer : turn_of f.o * r ≤ turn_of f.o * f.o.rounds
-  pub start : from + turn_of f.o * r ≤ ms f.time + turn_of f.o * f.o.rounds
-  pub next : due + turn_of f.o * r ≤ ms f.time + turn_of f.o + turn_of f.o * f.o.rounds
+  pub base : ℕ
+  pub reach : ms f.time ≤ base
+  pub over : (base ≡ ms f.time) ⊎ (f.o.until ≤ s.clocks.at)
+  pub base_ahead : base + turn_of f.o * f.o.rounds + turn_of f.o < ms f.end
+  pub base_by : base ≤ free_from f
+  pub start : from + turn_of f.o * r ≤ base + turn_of f.o * f.o.rounds
+  pub next : due + turn_of f.o * r ≤ base + turn_of f.o + turn_of f.o * f.o.rounds
 
 -- from the outage on, until all requests that it cut are settled
 pub record IsCut (f : Facts) (due k : ℕ) (s : State) : Type 0 where
@@ -117,8 +121,18 @@ pub record IsServed (f : Facts) (due : ℕ) (s : State) : Type 0 where
   pub last_ahead : sent + turn_of f.o < ms f.end
   pub last_by : sent + turn_of f.o ≤ granted_by f.o f.time f.end
 
+-- and where the outage was over first, until all requests that it cut are settled
+pub record IsLate (f : Facts) (due k : ℕ) (s : State) : Type 0 where
+  pub endures : Endures f.o f.i f.end (ms f.time) due ⊥ s
+  pub idle : (track_at s f.i).out ≡ false
+  pub over : f.o.until ≤ s.clocks.at
+  pub soon : f.o.until ≤ ms f.time
+  pub from : ℕ
+  pub count : k + how_many f.n (is_anew f.o (suc from) s) ≤ f.width * f.o.rounds
+  pub next : due ≤ cut f.o
+
 abbrev pub IsThrough : Facts → ℕ → ℕ → State → Type 0
-IsThrough f due k s = (IsEarly f due k s ⊎ IsCut f due k s) ⊎ (IsBack f due k s ⊎ IsServed f due s)
+IsThrough f due k s = (IsEarly f due k s ⊎ IsCut f due k s) ⊎ (IsBack f due k s ⊎ (IsServed f due s ⊎ IsLate f due k s))
 
 -- sums: what is left after the last pause
 sum_pause : (end x rest q : ℕ) → rest ≤ q → x + rest + max 1000 (q / 15) + 1 ≤ ms end → again end x + rest < ms end
@@ -146,6 +160,17 @@ margin_holds f planned =
     let end = planned.end_is in
     omega (arith, short, end)
 
+-- where the outage was over before the time came, all rounds are held after the last request that it cut, too
+abbrev pub late_base : Facts → ℕ
+late_base f = max (ms f.time) (cut f.o)
+
+pub late_holds : (f : Facts) → IsPlanned f → f.o.until ≤ ms f.time → late_base f + turn_of f.o * f.o.rounds + turn_of f.o < ms f.end
+late_holds f planned soon =
+    let o = f.o in
+    let short : (o.until - o.from) + o.slow + 2 * (o.quick + o.late) + (turn_of o * o.rounds + o.late) + max 1000 ((turn_of o * o.rounds + o.late) / 15) ≤ ms f.margin = planned.short in
+    let end = planned.end_is in
+    omega (arith, short, end, soon)
+
 -- all lanes hold one round
 pub take_one : (w r k less : ℕ) → 0 < w → w + less ≤ k → k ≤ w * r → (q : ℕ) × ((r ≡ suc q) × (less ≤ w * q))
 take_one w zero k less wide fuller fits = absurd (let z = mul-zero w in omega (arith, z, wide, fuller, fits))
@@ -158,9 +183,10 @@ one_left w (suc q) k fits some = (q, refl)
 -- the next clock comes in time, whatever the stage
 pub due_ahead : (f : Facts) (due k : ℕ) (s : State) → IsPlanned f → IsThrough f due k s → (due < ms f.end) × (due ≤ granted_by f.o f.time f.end)
 due_ahead f due k s planned (inl (inl h)) =
-    let holds = margin_holds f planned in
+    let holds = h.base_ahead in
+    let by = h.base_by in
     let next = h.next in
-    (omega (arith, holds, next), omega (arith, next))
+    (omega (arith, holds, next), omega (arith, next, by))
 due_ahead f due k s planned (inl (inr h)) =
     let room = room_back f h.r planned h.fewer h.room in
     let next = h.next in
@@ -172,11 +198,15 @@ due_ahead f due k s planned (inr (inl h)) =
     let a = h.last_ahead in
     let b = h.last_by in
     (omega (arith, next, start, m, a), omega (arith, next, start, m, b))
-due_ahead f due k s planned (inr (inr h)) =
+due_ahead f due k s planned (inr (inr (inl h))) =
     let next = h.next in
     let a = h.last_ahead in
     let b = h.last_by in
     (omega (arith, next, a), omega (arith, next, b))
+due_ahead f due k s planned (inr (inr (inr h))) =
+    let next = h.next in
+    let holds = late_holds f planned h.soon in
+    (omega (arith, next, holds), omega (arith, next))
 
 -- requests by when they went out
 pub whole_after : (o : Outage) (at : ℕ) → o.until ≤ at → is_whole o at ≡ true

@@ -40,7 +40,7 @@ use Rattle.watch_laws.proofs.Owed.{AllTry, due_some}
 use Rattle.watch_laws.proofs.Retrying.{ready_first, ready_later}
 use Rattle.watch_laws.proofs.Sparing.{readied_answers}
 use Rattle.watch_laws.proofs.Spacing.{free_of, mid_flag, passed_over, same_index, went}
-use Rattle.watch_laws.proofs.Stages.{Facts, IsBack, IsBase, IsCut, IsEarly, IsGoing, IsPlanned, IsServed, IsThrough, free_from, margin_holds, one_left, quick_if, room_back, take_one, turn_of, whole_after}
+use Rattle.watch_laws.proofs.Stages.{Facts, IsBack, IsBase, IsCut, IsEarly, IsGoing, IsLate, IsPlanned, IsServed, IsThrough, free_from, late_base, late_holds, one_left, quick_if, room_back, take_one, turn_of, whole_after}
 use Rattle.watch_laws.proofs.Topping.{readied_count}
 use Rattle.watch_laws.proofs.Tracking.{each_kept}
 
@@ -89,19 +89,27 @@ pub before_time : (s : State) (i n : ℕ) → time_of s i ≡ n → second s < t
 unfolding sec
 before_time s i n same h = omega (arith, same, h)
 
-one_lane : (s : State) (j : ℕ) → IsAlone s → lanes_of j s.out ≤ 1
+pub one_lane : (s : State) (j : ℕ) → IsAlone s → lanes_of j s.out ≤ 1
 one_lane s j alone = let a = alone.once j in let b = flag_most (track_at s j).out in omega (arith, a, b) where
   flag_most : (b : Bool) → flag b ≤ 1
   flag_most true = omega arith
   flag_most false = omega arith
 
+pub so_whole : (w : Bool) → not w ≡ false → w ≡ true
+so_whole true h = refl
+so_whole false h = absurd cc
+
+pub not_so : (w : Bool) → not w ≡ true → w ≡ false
+not_so true h = absurd cc
+not_so false h = refl
+
 -- there is one where all lanes are taken
-some_lane : (out : List Out) → 1 ≤ length out → list_any (λ (q : Out). true) out ≡ true
+pub some_lane : (out : List Out) → 1 ≤ length out → list_any (λ (q : Out). true) out ≡ true
 some_lane [] h = absurd (omega (arith, h))
 some_lane (q ∷ out) h = refl
 
 -- requests that went out before the broker was back
-early_cut : (o : Outage) (since : ℕ) → o.from ≤ o.until → since < o.until → settled_by o since + o.late ≤ cut o
+pub early_cut : (o : Outage) (since : ℕ) → o.from ≤ o.until → since < o.until → settled_by o since + o.late ≤ cut o
 unfolding settled_by is_whole
 early_cut o since order early =
     if_cases (λ n. since + n + o.late ≤ cut o) (nat_le (since + o.quick) o.from || nat_le o.until since) o.quick o.slow
@@ -127,7 +135,7 @@ any_lane : (test : Out → Bool) (out : List Out) → list_any test out ≡ true
 any_lane test [] h = absurd cc
 any_lane test (q ∷ out) h = refl
 
-later_than : (from since : ℕ) → nat_le since from ≡ false → suc from ≤ since
+pub later_than : (from since : ℕ) → nat_le since from ≡ false → suc from ≤ since
 later_than from since h = grind (arith, nat_tests)
 
 -- a clock that was lived
@@ -178,22 +186,26 @@ module _ (f : Facts) (due : ℕ) (old new : State) (wall elapsed : ℕ) (output 
   within : i < length old.tracks
   within = let count = t.going.base.count in let low = t.planned.within in omega (arith, count, low)
 
+  -- what holds back a try that failed, no longer than the bound
+  abbrev Spares : ℕ → Type 0 → Type 0
+  Spares bound miss = ((track_at old i).out ≡ true) ⊎ (miss × (new.presence.hold ≤ bound))
+
   -- the try with which the entry was pressed
-  steady : (bound : ℕ) (miss : Type 0) → Endures o i f.end bound due miss old → (miss → again f.end (cut o) ≤ bound) → Steady f.end at bound ((track_at old i).out ≡ false → new.presence.hold ≤ bound) (track_at mid i)
+  steady : (bound : ℕ) (miss : Type 0) → Endures o i f.end bound due miss old → (miss → again f.end (cut o) ≤ bound) → Steady f.end at bound (Spares bound miss) (track_at mid i)
   steady bound miss h far =
       let c = clock in
       let a = at_ahead in
       let first = clock_steady o i f.end bound due miss old wall elapsed t.ticks.round t.none within h (omega (arith, c, a)) t.soon t.rises far in
-      subst (λ n. Steady f.end n bound ((track_at old i).out ≡ false → new.presence.hold ≤ bound) (track_at mid i)) (sym c)
-      (subst (λ (p : Presence). Steady f.end (timed old wall elapsed).clocks.at bound ((track_at old i).out ≡ false → p.hold ≤ bound) (track_at mid i)) (sym presence) first)
+      subst (λ n. Steady f.end n bound (((track_at old i).out ≡ true) ⊎ (miss × (new.presence.hold ≤ bound))) (track_at mid i)) (sym c)
+      (subst (λ (p : Presence). Steady f.end (timed old wall elapsed).clocks.at bound (((track_at old i).out ≡ true) ⊎ (miss × (p.hold ≤ bound))) (track_at mid i)) (sym presence) first)
 
-  held : (bound : ℕ) (miss : Type 0) → Endures o i f.end bound due miss old → (miss → again f.end (cut o) ≤ bound) → (track_at old i).out ≡ true → old.presence.hold ≤ bound → new.presence.hold ≤ bound
-  held bound miss h far out low =
+  held : (bound : ℕ) (miss : Type 0) → Endures o i f.end bound due miss old → (miss → again f.end (cut o) ≤ bound) → miss → (track_at old i).out ≡ true → old.presence.hold ≤ bound → new.presence.hold ≤ bound
+  held bound miss h far may out low =
       let c = clock in
       let a = at_ahead in
       let some' = (t.going.base.tries i).out out in
       let e = ap (λ (p : Presence). p.hold) presence in
-      let l = clock_held o i f.end bound due miss old (timed old wall elapsed).clocks.at within h (omega (arith, c, a)) t.soon t.rises far some' low in
+      let l = clock_held o i f.end bound due miss old (timed old wall elapsed).clocks.at within h (omega (arith, c, a)) t.soon t.rises far may some' low in
       omega (arith, e, l)
 
   -- what stays
@@ -299,16 +311,16 @@ module _ (f : Facts) (due : ℕ) (old new : State) (wall elapsed : ℕ) (output 
         | inr free' ↦ free'
       ]
 
-  still_cutting : (bound : ℕ) (miss : Type 0) → Endures o i f.end bound due miss old → (miss → again f.end (cut o) ≤ bound) → All (Cutting o i bound new) old.out
+  still_cutting : (bound : ℕ) (miss : Type 0) → Endures o i f.end bound due miss old → (miss → again f.end (cut o) ≤ bound) → All (Cutting o i bound miss new) old.out
   still_cutting bound miss h far =
-      elim (cases_Bool (track_at old i).out) as (λ _. All (Cutting o i bound new) old.out) [
-        | inl out ↦ All-weaker (Cutting o i bound old) (Cutting o i bound new) (λ q c is. ((c is).0, λ heard'. held bound miss h far out ((c is).1 heard'))) old.out h.out
-        | inr free ↦ All-weaker (λ (q : Out). q.entry ≡ i → ⊥) (Cutting o i bound new) (λ q no' is. absurd (no' is)) old.out (none_of i old.out (free_lanes i old t.going.base.alone free))
+      elim (cases_Bool (track_at old i).out) as (λ _. All (Cutting o i bound miss new) old.out) [
+        | inl out ↦ All-weaker (Cutting o i bound miss old) (Cutting o i bound miss new) (λ q c is. ((c is).0, ((c is).1.0, λ heard'. held bound miss h far (c is).0 out ((c is).1.1 heard')))) old.out h.out
+        | inr free ↦ All-weaker (λ (q : Out). q.entry ≡ i → ⊥) (Cutting o i bound miss new) (λ q no' is. absurd (no' is)) old.out (none_of i old.out (free_lanes i old t.going.base.alone free))
       ]
 
   -- what it endures after the clock
   endures : (bound : ℕ) (miss : Type 0) → Endures o i f.end bound due miss old → (miss → again f.end (cut o) ≤ bound) →
-      ((track_at old i).out ≡ false → (track_at new i).out ≡ true → (is_whole o at ≡ false) × (at + 1000 ≤ bound)) → Endures o i f.end bound due' miss new
+      ((track_at old i).out ≡ false → (track_at new i).out ≡ true → miss × ((is_whole o at ≡ false) × (at + 1000 ≤ bound))) → Endures o i f.end bound due' miss new
   unfolding Kept Missed
   endures bound miss h far newly =
       let s = steady bound miss h far in
@@ -316,31 +328,41 @@ module _ (f : Facts) (due : ℕ) (old new : State) (wall elapsed : ℕ) (output 
       record {
         end_is = t.same.bears.0 ∙ h.end_is;
         owes = t.same.bears.1.1 ∙ h.owes;
-        last = last_kept bound s.last (λ free out. (newly free out).1);
+        last = last_kept bound s.last (λ free out. (newly free out).1.1);
         tries = λ u is.
             let k = s.tries u (sym attempt_kept ∙ is) in
             record {
               pressed = k.pressed;
               renews = k.renews;
-              how = inl (k.settled, (k.soon, λ free. elim k.first as (λ _. (is_first u ≡ true) ⊎ (new.presence.hold ≤ bound)) [
-                | inl first ↦ inl first
-                | inr held' ↦ inr (held' (was_free free))
-              ]));
+              how = inl (
+                k.settled,
+                (
+                  k.soon,
+                  λ free. elim k.first as (λ _. (is_first u ≡ true) ⊎ (miss × (new.presence.hold ≤ bound))) [
+                    | inl first ↦ inl first
+                    | inr held' ↦
+                        elim held' as (λ _. (is_first u ≡ true) ⊎ (miss × (new.presence.hold ≤ bound))) [
+                          | inl out ↦ absurd (not_both out (was_free free))
+                          | inr low ↦ inr low
+                        ]
+                  ],
+                ),
+              );
             };
         lane = λ out.
             elim (cases_Bool (track_at old i).out) as (λ _. list_any (is_of i any_time) new.out ≡ true) [
               | inl before ↦ still_out old new wall elapsed output (is_of i any_time) t.ticks (h.lane before)
               | inr free ↦ goes_out_now old new wall elapsed output i any_time t.ticks free out refl
             ];
-        out = all_sent (Cutting o i bound new) old new wall elapsed output t.ticks
+        out = all_sent (Cutting o i bound miss new) old new wall elapsed output t.ticks
             (still_cutting bound miss h far)
             (λ k low due'' named is.
             let same : k ≡ i = sym (entry_by mid.presence (sec mid.clocks.at) mid.tracks k) ∙ is in
             let named' = subst (λ j. list_any (λ (r : Request). r.entry == j) t.ticks.requests ≡ true) same named in
             let below = subst (λ j. j < length mid.tracks) same low in
             let goes' = newly (named_free named') (named_marked named' below) in
-            (subst (λ n. is_whole o n ≡ false) (sym mid_clock) goes'.0, λ heard'. absurd cc));
-        silent' = λ any. absurd (not_both any (ap (list_any is_silent) no_answers));
+            (goes'.0, (subst (λ n. is_whole o n ≡ false) (sym mid_clock) goes'.1.0, λ heard'. absurd cc)));
+        silent' = λ any away. absurd (not_both any (ap (list_any is_silent) no_answers));
       }
 
   -- what has to be done of an entry that is not out: its try may go later, or all lanes are taken, or its time is ahead
@@ -361,19 +383,19 @@ module _ (f : Facts) (due : ℕ) (old new : State) (wall elapsed : ℕ) (output 
       let free' : (track_at end i).out ≡ false = subst (λ (x : State). (track_at x i).out ≡ false) is free in
       let time : time_of new i ≡ f.time = same_time i old new t.same ∙ t.going.time in
       subst (λ (x : State). ((u : Try) × ((attempt_at x i ≡ Some u) × ((x.clocks.at < ready x.presence (track_at x i) u) × (wait x ≤ ready x.presence (track_at x i) u))))
-          ⊎ ((f.width ≤ length x.out) ⊎ ((x.clocks.at < ms f.time) × (wait x ≤ ms f.time)))) (sym is)
+      ⊎ ((f.width ≤ length x.out) ⊎ ((x.clocks.at < ms f.time) × (wait x ≤ ms f.time)))) (sym is)
       (elim (end_minded ready' t.ticks.round t.ticks.requests i t.ticks.going there (subst (λ (x : State). is_wanted x i ≡ true) is t.wanted))
       as (λ _. ((u : Try) × ((attempt_at end i ≡ Some u) × ((end.clocks.at < ready end.presence (track_at end i) u) × (wait end ≤ ready end.presence (track_at end i) u))))
-          ⊎ ((f.width ≤ length end.out) ⊎ ((end.clocks.at < ms f.time) × (wait end ≤ ms f.time)))) [
+      ⊎ ((f.width ≤ length end.out) ⊎ ((end.clocks.at < ms f.time) × (wait end ≤ ms f.time)))) [
         | inl out ↦ absurd (not_both out free')
         | inr minded ↦
             elim minded as (λ _. ((u : Try) × ((attempt_at end i ≡ Some u) × ((end.clocks.at < ready end.presence (track_at end i) u) × (wait end ≤ ready end.presence (track_at end i) u))))
-                ⊎ ((f.width ≤ length end.out) ⊎ ((end.clocks.at < ms f.time) × (wait end ≤ ms f.time)))) [
+            ⊎ ((f.width ≤ length end.out) ⊎ ((end.clocks.at < ms f.time) × (wait end ≤ ms f.time)))) [
               | inl pressed' ↦
                   let u = pressed'.has.attempt in
                   elim (tended ready' t.ticks.round t.ticks.requests i u t.ticks.going there free' pressed'.has.attempt_is)
                   as (λ _. ((u : Try) × ((attempt_at end i ≡ Some u) × ((end.clocks.at < ready end.presence (track_at end i) u) × (wait end ≤ ready end.presence (track_at end i) u))))
-                      ⊎ ((f.width ≤ length end.out) ⊎ ((end.clocks.at < ms f.time) × (wait end ≤ ms f.time)))) [
+                  ⊎ ((f.width ≤ length end.out) ⊎ ((end.clocks.at < ms f.time) × (wait end ≤ ms f.time)))) [
                     | inl later ↦ inl (u, (pressed'.has.attempt_is, later))
                     | inr full ↦ (let w = ap (λ (x : State). x.width) (sym is) ∙ t.base.fits.0 in inr (inl (omega (arith, full, w))))
                   ]
@@ -384,15 +406,19 @@ module _ (f : Facts) (due : ℕ) (old new : State) (wall elapsed : ℕ) (output 
       ])
 
   -- its try may go by the bound, or now
-  ready_by : (bound : ℕ) (u : Try) → ms f.time ≤ bound → Steady f.end at bound ((track_at old i).out ≡ false → new.presence.hold ≤ bound) (track_at mid i) → (track_at new i).out ≡ false → attempt_at new i ≡ Some u →
+  ready_by : (bound : ℕ) (miss : Type 0) (u : Try) → ms f.time ≤ bound → Steady f.end at bound (Spares bound miss) (track_at mid i) → (track_at new i).out ≡ false → attempt_at new i ≡ Some u →
       ready new.presence (track_at new i) u ≤ max at bound
-  ready_by bound u reach s free is =
+  ready_by bound miss u reach s free is =
       let k = s.tries u (sym attempt_kept ∙ is) in
       let soon' = k.soon in
       let spare = spared in
       elim k.first as (λ _. ready new.presence (track_at new i) u ≤ max at bound) [
         | inl first ↦ ready_first new.presence (track_at new i) u (max at bound) first (omega (arith, spare, reach)) soon'
-        | inr held' ↦ (let low = held' (was_free free) in ready_later new.presence (track_at new i) u (max at bound) (omega (arith, spare, reach)) (omega (arith, low)) soon')
+        | inr held' ↦
+            elim held' as (λ _. ready new.presence (track_at new i) u ≤ max at bound) [
+              | inl out ↦ absurd (not_both out (was_free free))
+              | inr both ↦ (let low = both.1 in ready_later new.presence (track_at new i) u (max at bound) (omega (arith, spare, reach)) (omega (arith, low)) soon')
+            ]
       ]
 
   -- the next clock, by what has to be done
@@ -402,11 +428,11 @@ module _ (f : Facts) (due : ℕ) (old new : State) (wall elapsed : ℕ) (output 
   waits_by : (n : ℕ) → wait new ≤ n → due' ≤ n + o.late
   waits_by n le = let start = least_start (wait new + o.late) (map (λ (q : Out). settled_by o q.since + o.late) new.out) in omega (arith, start, le)
 
-  heeds : (bound : ℕ) → ms f.time ≤ bound → Steady f.end at bound ((track_at old i).out ≡ false → new.presence.hold ≤ bound) (track_at mid i) → (track_at new i).out ≡ false → Heeds bound
-  heeds bound reach s free =
+  heeds : (bound : ℕ) (miss : Type 0) → ms f.time ≤ bound → Steady f.end at bound (Spares bound miss) (track_at mid i) → (track_at new i).out ≡ false → Heeds bound
+  heeds bound miss reach s free =
       elim (tend free) as (λ _. Heeds bound) [
         | inl later ↦
-            let r = ready_by bound later.0 reach s free later.1.0 in
+            let r = ready_by bound miss later.0 reach s free later.1.0 in
             let ahead = later.1.1.0 in
             let until = later.1.1.1 in
             inl (waits_by bound (omega (arith, r, ahead, until)))
@@ -418,11 +444,11 @@ module _ (f : Facts) (due : ℕ) (old new : State) (wall elapsed : ℕ) (output 
       ]
 
   -- and where its time has come before any failure, all lanes are taken
-  full_now : ms f.time ≤ at → Steady f.end at (ms f.time) ((track_at old i).out ≡ false → new.presence.hold ≤ ms f.time) (track_at mid i) → (track_at new i).out ≡ false → f.width ≤ length new.out
+  full_now : ms f.time ≤ at → Steady f.end at (ms f.time) (Spares (ms f.time) ⊥) (track_at mid i) → (track_at new i).out ≡ false → f.width ≤ length new.out
   full_now come s free =
       elim (tend free) as (λ _. f.width ≤ length new.out) [
         | inl later ↦
-            let r = ready_by (ms f.time) later.0 (omega arith) s free later.1.0 in
+            let r = ready_by (ms f.time) ⊥ later.0 (omega arith) s free later.1.0 in
             let ahead = later.1.1.0 in
             absurd (omega (arith, r, ahead, come))
         | inr rest ↦
@@ -543,6 +569,10 @@ module _ (f : Facts) (due : ℕ) (old new : State) (wall elapsed : ℕ) (output 
       let clock = mid_clock f due old new wall elapsed output t in
       all_sent (λ (q : Out). is_whole f.o q.since ≡ true) old new wall elapsed output t.ticks there (λ k low due'' named. subst (λ n. is_whole f.o n ≡ true) (sym clock) whole)
 
+  still_over : (base : ℕ) → (base ≡ ms f.time) ⊎ (f.o.until ≤ old.clocks.at) → (base ≡ ms f.time) ⊎ (f.o.until ≤ new.clocks.at)
+  still_over base (inl is) = inl is
+  still_over base (inr before') = let up = t.rises in let c = clock f due old new wall elapsed output t in inr (omega (arith, before', up, c))
+
   -- before the outage: the entry goes out and is served
   early_served : (h : IsEarly f due before old) → is_served f.o old f.i ≡ false → is_served f.o new f.i ≡ true → IsServed f next new
   early_served h unserved served =
@@ -551,10 +581,11 @@ module _ (f : Facts) (due : ℕ) (old new : State) (wall elapsed : ℕ) (output 
       let count = h.count in
       let r = one_left f.width h.r before (omega (arith, count)) one in
       let m = ap (λ n. turn_of f.o * n) r.1 ∙ mul-suc (turn_of f.o) r.0 in
-      let holds = margin_holds f t.planned in
+      let holds = h.base_ahead in
+      let far = h.base_by in
       let soon = in_time f due old new wall elapsed output t in
       let due'' = h.next in
-      serves unserved served (omega (arith, holds, soon, due'')) (omega (arith, soon, due'', m))
+      serves unserved served (omega (arith, holds, soon, due'', m)) (omega (arith, soon, due'', m, far))
 
   -- the time is ahead
   early_ahead : (h : IsEarly f due before old) → All (λ (q : Out). is_whole f.o q.since ≡ true) new.out → (track_at new f.i).out ≡ false → new.clocks.at < ms f.time → IsEarly f next now new
@@ -565,8 +596,9 @@ module _ (f : Facts) (due : ℕ) (old new : State) (wall elapsed : ℕ) (output 
       let count = h.count in
       let zero' = none_anew f due old new wall elapsed output t (suc at) (omega arith) in
       let few = h.fewer in
+      let reach = h.reach in
       let soon : next ≤ ms f.time + turn_of f.o =
-      elim (heeds f due old new wall elapsed output t (ms f.time) (omega arith) s free) as (λ _. next ≤ ms f.time + turn_of f.o) [
+      elim (heeds f due old new wall elapsed output t (ms f.time) ⊥ (omega arith) s free) as (λ _. next ≤ ms f.time + turn_of f.o) [
         | inl by' ↦ omega (arith, by')
         | inr full ↦ (let q = full_quick f due old new wall elapsed output t full whole in omega (arith, q, ahead))
       ] in
@@ -578,8 +610,13 @@ module _ (f : Facts) (due : ℕ) (old new : State) (wall elapsed : ℕ) (output 
         from = at;
         count = omega (arith, less, count, zero');
         fewer = few;
-        start = omega (arith, ahead, few);
-        next = omega (arith, soon, few);
+        base = h.base;
+        reach = reach;
+        over = still_over h.base h.over;
+        base_ahead = h.base_ahead;
+        base_by = h.base_by;
+        start = omega (arith, ahead, few, reach);
+        next = omega (arith, soon, few, reach);
       }
 
   -- it has come, and all lanes are taken
@@ -605,6 +642,11 @@ module _ (f : Facts) (due : ℕ) (old new : State) (wall elapsed : ℕ) (output 
               from = h.from;
               count = omega (arith, less, count);
               fewer = few;
+              base = h.base;
+              reach = h.reach;
+              over = still_over h.base h.over;
+              base_ahead = h.base_ahead;
+              base_by = h.base_by;
               start = start;
               next = omega (arith, soon, start);
             }
@@ -627,6 +669,11 @@ module _ (f : Facts) (due : ℕ) (old new : State) (wall elapsed : ℕ) (output 
               from = at;
               count = omega (arith, fits, zero');
               fewer = omega (arith, few, m);
+              base = h.base;
+              reach = h.reach;
+              over = still_over h.base h.over;
+              base_ahead = h.base_ahead;
+              base_by = h.base_by;
               start = omega (arith, in', due'', m);
               next = omega (arith, soon, in', due'', m);
             }
@@ -654,12 +701,17 @@ module _ (f : Facts) (due : ℕ) (old new : State) (wall elapsed : ℕ) (output 
       let between = not_whole o at broke in
       let late = between.0 in
       let soon'' = between.1 in
+      let is_base : h.base ≡ ms f.time =
+      elim (still_over h.base h.over) as (λ _. h.base ≡ ms f.time) [
+        | inl is ↦ is
+        | inr over ↦ absurd (omega (arith, over, soon''))
+      ] in
       let now' = t.base.since in
       let early : All (λ (q : Out). q.since < o.until) new.out = All-weaker (λ (q : Out). q.since ≤ at) (λ (q : Out). q.since < o.until) (λ q le. omega (arith, le, soon'')) new.out now' in
       let reach : ms f.time ≤ free_from f = omega arith in
       let far : again E (cut o) ≤ free_from f = omega arith in
       let more = later_endures o f.i E (ms f.time) (free_from f) due ⊥ Unit old reach (λ bad. absurd bad) h.endures in
-      let lasts = endures f due old new wall elapsed output t (free_from f) Unit more (λ u. far) (λ was out. (broke, omega (arith, soon''))) in
+      let lasts = endures f due old new wall elapsed output t (free_from f) Unit more (λ u. far) (λ was out. (tt, (broke, omega (arith, soon'')))) in
       let less = fewer (suc h.from) in
       let count = h.count in
       let zero' = none_anew f due old new wall elapsed output t o.until soon'' in
@@ -670,7 +722,7 @@ module _ (f : Facts) (due : ℕ) (old new : State) (wall elapsed : ℕ) (output 
         | inl out ↦ (let c = cut_before early (any_lane (is_of f.i any_time) new.out (lasts.lane out)) in omega (arith, c, far))
         | inr free ↦
             let s = steady f due old new wall elapsed output t (free_from f) Unit more (λ u. far) in
-            elim (heeds f due old new wall elapsed output t (free_from f) reach s free) as (λ _. next ≤ free_from f + o.late) [
+            elim (heeds f due old new wall elapsed output t (free_from f) Unit reach s free) as (λ _. next ≤ free_from f + o.late) [
               | inl heeded' ↦ heeded'
               | inr full ↦ (let wide = t.planned.wide in let c = cut_before early (some_lane new.out (omega (arith, full, wide))) in omega (arith, c, far))
             ]
@@ -681,7 +733,7 @@ module _ (f : Facts) (due : ℕ) (old new : State) (wall elapsed : ℕ) (output 
         r = h.r;
         count = omega (arith, less, count, zero');
         fewer = h.fewer;
-        room = omega (arith, late, in', due'');
+        room = omega (arith, late, in', due'', is_base);
         next = by';
       }
 
@@ -698,7 +750,7 @@ module _ (f : Facts) (due : ℕ) (old new : State) (wall elapsed : ℕ) (output 
         | inl whole ↦
             let all = all_whole h.whole whole in
             elim (cases_Bool (is_served o new f.i)) as (λ _. IsThrough f next now new) [
-              | inl served ↦ inr (inr (early_served h unserved served))
+              | inl served ↦ inr (inr (inl (early_served h unserved served)))
               | inr not_served ↦
                   let free : (track_at new f.i).out ≡ false =
                   elim (cases_Bool (track_at new f.i).out) as (λ _. (track_at new f.i).out ≡ false) [
@@ -793,13 +845,13 @@ module _ (f : Facts) (due : ℕ) (old new : State) (wall elapsed : ℕ) (output 
             let r = one_left f.width h.r before (omega (arith, count)) one in
             let m = ap (λ n. turn_of o * n) r.1 ∙ mul-suc (turn_of o) r.0 in
             let few = h.fewer in
-            inr (inr (serves h.unserved served (omega (arith, in', due'', room', m)) (omega (arith, in', due'', m, few))))
+            inr (inr (inl (serves h.unserved served (omega (arith, in', due'', room', m)) (omega (arith, in', due'', m, few)))))
         | inr unserved ↦
             let lasts = endures f due old new wall elapsed output t (free_from f) Unit h.endures (λ u. far)
             (λ was out.
             let broke = unserved_broke (is_whole o at) refl was out unserved in
             let soon'' = (not_whole o at broke).1 in
-            (broke, omega (arith, soon''))) in
+            (tt, (broke, omega (arith, soon'')))) in
             elim (cases_Bool (list_any (λ (q : Out). nat_lt q.since o.until) new.out)) as (λ _. IsThrough f next now new) [
               | inl some' ↦
                   let order = t.planned.order in
@@ -812,7 +864,7 @@ module _ (f : Facts) (due : ℕ) (old new : State) (wall elapsed : ℕ) (output 
                   let whole = All-weaker (λ (q : Out). o.until ≤ q.since) (λ (q : Out). is_whole o q.since ≡ true) (λ q le. whole_after o q.since le) new.out back in
                   let free = not_out lasts unserved whole in
                   let s = steady f due old new wall elapsed output t (free_from f) Unit h.endures (λ u. far) in
-                  elim (heeds f due old new wall elapsed output t (free_from f) reach s free) as (λ _. IsThrough f next now new) [
+                  elim (heeds f due old new wall elapsed output t (free_from f) Unit reach s free) as (λ _. IsThrough f next now new) [
                     | inl by' ↦ inl (inr (still_cut h.r (omega (arith, less, count)) h.fewer h.room lasts unserved by'))
                     | inr full ↦
                         let anew = all_anew f due old new wall elapsed output t o.until whole back in
@@ -861,13 +913,13 @@ module _ (f : Facts) (due : ℕ) (old new : State) (wall elapsed : ℕ) (output 
             let one = tried_some tried h.unserved in
             let r = one_left f.width h.r before (omega (arith, count)) one in
             let n = ap (λ k. turn_of o * k) r.1 ∙ mul-suc (turn_of o) r.0 in
-            inr (inr (serves h.unserved served (omega (arith, in', due'', start, m, n, last_ahead)) (omega (arith, in', due'', start, m, n, last_by))))
+            inr (inr (inl (serves h.unserved served (omega (arith, in', due'', start, m, n, last_ahead)) (omega (arith, in', due'', start, m, n, last_by)))))
         | inr unserved ↦
             let lasts = endures f due old new wall elapsed output t (free_from f) Unit h.endures (λ u. far)
             (λ was out. absurd (not_both (goes_out_now old new wall elapsed output f.i (is_whole o) t.ticks was out (subst (λ n. is_whole o n ≡ true) (sym mc) is_back)) unserved)) in
             let free = not_out lasts unserved whole in
             let s = steady f due old new wall elapsed output t (free_from f) Unit h.endures (λ u. far) in
-            elim (heeds f due old new wall elapsed output t (free_from f) reach s free) as (λ _. IsThrough f next now new) [
+            elim (heeds f due old new wall elapsed output t (free_from f) Unit reach s free) as (λ _. IsThrough f next now new) [
               | inl by' ↦
                   let lanes = lanes_most f.n (λ (q : Out). is_whole o q.since && nat_le o.until q.since) new.out in
                   let fits = t.base.fits.1 in
@@ -919,7 +971,7 @@ module _ (f : Facts) (due : ℕ) (old new : State) (wall elapsed : ℕ) (output 
       let same : k ≡ f.i = sym (entry_by (mid f due old new wall elapsed output t).presence (sec (mid f due old new wall elapsed output t).clocks.at) (mid f due old new wall elapsed output t).tracks k) ∙ is in
       absurd (not_both marked (named_free f due old new wall elapsed output t (subst (λ j. list_any (λ (r : Request). r.entry == j) t.ticks.requests ≡ true) same named)))) in
       let served = still_out old new wall elapsed output (λ (q : Out). q.entry == f.i && is_whole o q.since) t.ticks h.served in
-      inr (inr (record {
+      inr (inr (inl (record {
         served = served;
         sent = h.sent;
         whole = whole;
@@ -932,7 +984,7 @@ module _ (f : Facts) (due : ℕ) (old new : State) (wall elapsed : ℕ) (output 
             quick_by f due old new wall elapsed output t h.sent q w.0 w.1);
         last_ahead = h.last_ahead;
         last_by = h.last_by;
-      }))
+      })))
 
   -- and what holds whatever the stage
   pub clock_goes : IsThrough f due before old → IsGoing f next new
@@ -944,12 +996,81 @@ module _ (f : Facts) (due : ℕ) (old new : State) (wall elapsed : ℕ) (output 
   clock_goes (inr (inl h)) =
       let far : again f.end (cut f.o) ≤ free_from f = omega arith in
       goes_on f due old new wall elapsed output t (λ named u is. ((steady f due old new wall elapsed output t (free_from f) Unit h.endures (λ v. far)).tries u is).renews)
-  clock_goes (inr (inr h)) =
+  clock_goes (inr (inr (inl h))) =
       goes_on f due old new wall elapsed output t
       (λ named u is. absurd (not_both (served_marked f.o old f.i t.going.base.alone h.served) (named_free f due old new wall elapsed output t named)))
+  clock_goes (inr (inr (inr h))) =
+      goes_on f due old new wall elapsed output t (λ named u is. ((steady f due old new wall elapsed output t (ms f.time) ⊥ h.endures (λ bad. absurd bad)).tries u is).renews)
+
+  -- where the outage was over first
+  late_ticks : IsLate f due before old → IsThrough f next now new
+  late_ticks h =
+      let o = f.o in
+      let at = new.clocks.at in
+      let over = h.over in
+      let up = t.rises in
+      let c = clock f due old new wall elapsed output t in
+      let here : o.until ≤ at = omega (arith, over, up, c) in
+      let is_back = whole_after o at here in
+      let mc = mid_clock f due old new wall elapsed output t in
+      let in' = in_time f due old new wall elapsed output t in
+      let due'' = h.next in
+      let less = fewer (suc h.from) in
+      let count = h.count in
+      let holds = late_holds f t.planned h.soon in
+      let unserved : is_served o old f.i ≡ false =
+      elim (cases_Bool (is_served o old f.i)) as (λ _. is_served o old f.i ≡ false) [
+        | inl served ↦ absurd (not_both (served_marked o old f.i t.going.base.alone served) h.idle)
+        | inr no' ↦ no'
+      ] in
+      elim (cases_Bool (is_served o new f.i)) as (λ _. IsThrough f next now new) [
+        | inl served ↦ inr (inr (inl (serves unserved served (omega (arith, in', due'', holds)) (omega (arith, in', due'')))))
+        | inr not_served ↦
+            let free : (track_at new f.i).out ≡ false =
+            elim (cases_Bool (track_at new f.i).out) as (λ _. (track_at new f.i).out ≡ false) [
+              | inl out ↦ absurd (not_both (goes_out_now old new wall elapsed output f.i (is_whole o) t.ticks h.idle out (subst (λ n. is_whole o n ≡ true) (sym mc) is_back)) not_served)
+              | inr no' ↦ no'
+            ] in
+            let lasts = endures f due old new wall elapsed output t (ms f.time) ⊥ h.endures (λ bad. absurd bad) (λ was out. absurd (not_both out free)) in
+            elim (cases_Bool (list_any (λ (q : Out). not (is_whole o q.since)) new.out)) as (λ _. IsThrough f next now new) [
+              | inl some' ↦
+                  let by' : next ≤ cut o =
+                  settles f due old new wall elapsed output t (λ q. not (is_whole o q.since)) (cut o) some'
+                  (λ k d below yes'. cut_off o (get_or new.out k d).since (not_so (is_whole o (get_or new.out k d).since) yes')) in
+                  inr (inr (inr (record { endures = lasts; idle = free; over = here; soon = h.soon; from = h.from; count = omega (arith, less, count); next = by' })))
+              | inr none' ↦
+                  let whole : All (λ (q : Out). is_whole o q.since ≡ true) new.out =
+                  All-weaker (λ (q : Out). not (is_whole o q.since) ≡ false) (λ (q : Out). is_whole o q.since ≡ true) (λ q e. so_whole (is_whole o q.since) e) new.out
+                  (none_passes (λ (q : Out). not (is_whole o q.since)) new.out none') in
+                  let s = steady f due old new wall elapsed output t (ms f.time) ⊥ h.endures (λ bad. absurd bad) in
+                  let zero' = anew_none o (suc at) f.n new t.base.since (omega arith) in
+                  let soon : next ≤ late_base f + turn_of o =
+                  elim (heeds f due old new wall elapsed output t (ms f.time) ⊥ (omega arith) s free) as (λ _. next ≤ late_base f + turn_of o) [
+                    | inl by' ↦ omega (arith, by')
+                    | inr full ↦ (let q = full_quick f due old new wall elapsed output t full whole in omega (arith, q, in', due''))
+                  ] in
+                  inl (inl (record {
+                    endures = lasts;
+                    idle = free;
+                    whole = whole;
+                    r = o.rounds;
+                    from = at;
+                    count = omega (arith, less, count, zero');
+                    fewer = omega arith;
+                    base = late_base f;
+                    reach = omega arith;
+                    over = inr here;
+                    base_ahead = holds;
+                    base_by = omega arith;
+                    start = omega (arith, in', due'');
+                    next = omega (arith, soon);
+                  }))
+            ]
+      ]
 
   pub ticks_through : IsThrough f due before old → IsThrough f next now new
   ticks_through (inl (inl h)) = early_ticks h
   ticks_through (inl (inr h)) = cut_ticks h
   ticks_through (inr (inl h)) = back_ticks h
-  ticks_through (inr (inr h)) = served_ticks h
+  ticks_through (inr (inr (inl h))) = served_ticks h
+  ticks_through (inr (inr (inr h))) = late_ticks h

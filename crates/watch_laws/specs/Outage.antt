@@ -1,7 +1,7 @@
--- Outage: how long the broker may be away. The law is the contract of a public function without a body.
+-- Outage: how long the broker may be away. Each law is the contract of a public function without a body.
 -- Source: this project's own.
 use Rattle.std.specs.Prelude.{◌≡◌, ◌==◌, ℕ, zero, suc, ◌+◌, ◌-◌, ◌*◌, ◌/◌, ◌<◌, ◌≤◌, Bool, true, false, not, ◌&&◌, ◌||◌, if◌then◌else◌, List, [], ◌∷◌, ◌++◌, Option, Some, None, Result, Ok, Err, IfSome, is_some, length, map, max, nat_le}
-use Rattle.std.specs.List.{All, list_any}
+use Rattle.std.specs.List.{list_any}
 use Rattle.keep_tree.specs.Forest.{Forest}
 use Rattle.watch_machine.specs.declared.command.Command.{Command}
 use Rattle.watch_machine.specs.declared.command.Command.TheVariants.{Go, Taken}
@@ -19,7 +19,7 @@ use Rattle.watch_machine.specs.Lines.{rested}
 use Rattle.watch_machine.specs.Margins.{is_in_plan}
 use Rattle.watch_machine.specs.Readings.{time_of}
 use Rattle.watch_machine.specs.Refusal.{request_out}
-use Rattle.watch_machine.specs.Settling.{timed}
+use Rattle.watch_machine.specs.Settling.{is_busy, timed}
 use Rattle.watch_machine.specs.State.{State, attempt_at, entry_of, second, track_at}
 use Rattle.watch_machine.specs.Step.{why}
 use Rattle.watch_machine.specs.Wanted.{believed, is_wanted, least}
@@ -136,9 +136,8 @@ granted_by o time end = max (ms time) (again end (o.until + o.slow + o.late)) + 
 abbrev pub IsShort : Outage → ℕ → Type 0
 IsShort o margin = (o.until - o.from) + o.slow + 2 * (o.quick + o.late) + sweep o + breath o ≤ ms margin
 
--- a state in which the time of i is ahead: i is wanted, in the plan, and not asked, and may be asked when its time comes. If the outage
--- is over, the requests that it cut are settled
-pub record IsBefore (o : Outage) (s : State) (i : ℕ) : Type 0 where
+-- a state in which the time of i is ahead: i is wanted, in the plan, and not asked, and may be asked when its time comes
+pub record IsBefore (s : State) (i : ℕ) : Type 0 where
   pub within : i < length s.forest.entries
   pub wanted : is_wanted s i ≡ true
   pub in_plan : is_in_plan s.forest.margin (entry_of s i) (track_at s i) ≡ true
@@ -146,7 +145,28 @@ pub record IsBefore (o : Outage) (s : State) (i : ℕ) : Type 0 where
   pub owes : (track_at s i).owes ≡ false
   pub ahead : second s < time_of s i
   pub rested : max s.presence.free (rested (track_at s i).last) ≤ ms (time_of s i)
-  pub settled : o.until ≤ s.clocks.at → All (λ (q : Out). is_whole o q.since ≡ true) s.out
+
+-- the clock at which the last request of i went out, the one that was granted
+abbrev pub asked_at : Option ℕ → ℕ
+asked_at None = 0
+asked_at (Some at) = at
+
+abbrev pub granted_at : State → ℕ → ℕ
+granted_at s i = asked_at (track_at s i).last
+
+-- a renewal of i is granted, and its time is ahead after it. No answer since the last clock says that the broker is busy
+pub record IsGrant (turn : Turned) (i : ℕ) : Type 0 where
+  pub seconds : ℕ
+  pub renewable : Bool
+  pub date : Option ℕ
+  pub told : turn.event ≡ Renewed i (Told seconds renewable date)
+  pub taken : is_taken turn.result ≡ true
+  pub before : IsBefore turn.state i
+  pub calm : list_any (λ a. is_busy a.reply) turn.state.answers ≡ false
+
+-- by when the next clock is handed in after it: no later than after that request, or any that is out, is settled, but for so much
+abbrev pub granted_next : Outage → State → ℕ → ℕ
+granted_next o s i = next_by o (settled_by o (granted_at s i)) s.out
 
 -- after each turn the end of i is ahead, and it is no later than i is granted
 abbrev pub IsInTime : Outage → ℕ → State → Type 0
@@ -161,7 +181,16 @@ AllInTime o i (turn ∷ turns) = IsInTime o i turn.state × AllInTime o i turns
 abbrev pub OutageLaw : Type 0
 OutageLaw =
     (o : Outage) (g : Forest) (width : ℕ) (before : List Turned) (last : Turned) (turns : List Turned) (i : ℕ) → 0 < width →
-    IsRun g width (before ++ last ∷ turns) → is_clock last.event ≡ true → is_taken last.result ≡ true → IsBefore o last.state i →
+    IsRun g width (before ++ last ∷ turns) → is_clock last.event ≡ true → is_taken last.result ≡ true → IsBefore last.state i →
     AreLived o i (next_after o last.result last.state 0) last.state turns →
     waiting o (length g.entries) last.state + coming o (length g.entries) last.state turns ≤ width * o.rounds → o.from ≤ o.until → IsShort o g.margin →
+    AllInTime o i turns
+
+-- and so it is from a grant of the entry on, until the next one. So outages of which no two lie between the same two grants count each
+-- by itself
+abbrev pub GrantLaw : Type 0
+GrantLaw =
+    (o : Outage) (g : Forest) (width : ℕ) (before : List Turned) (grant : Turned) (turns : List Turned) (i : ℕ) → 0 < width →
+    IsRun g width (before ++ grant ∷ turns) → IsGrant grant i → AreLived o i (granted_next o grant.state i) grant.state turns →
+    waiting o (length g.entries) grant.state + coming o (length g.entries) grant.state turns ≤ width * o.rounds → o.from ≤ o.until → IsShort o g.margin →
     AllInTime o i turns

@@ -1,5 +1,5 @@
 -- Time: nobody is renewed too early. Each law is the contract of a public function without a body.
-use Rattle.std.specs.Prelude.{◌≡◌, ◌==◌, ℕ, ◌<◌, Bool, true, false, ◌&&◌, ◌||◌, if◌then◌else◌, List, [], ◌∷◌, Option, Some, None, Result, Ok, Err, length}
+use Rattle.std.specs.Prelude.{◌≡◌, ◌==◌, ℕ, ◌+◌, ◌<◌, ◌≤◌, Bool, true, false, ◌&&◌, ◌||◌, if◌then◌else◌, List, [], ◌∷◌, ◌++◌, Option, Some, None, Result, Ok, Err, IfSome, length}
 use Rattle.std.specs.List.{list_any}
 use Rattle.keep_tree.specs.Forest.{Forest}
 use Rattle.watch_machine.specs.declared.command.Output.{Output}
@@ -10,12 +10,16 @@ use Rattle.watch_machine.specs.declared.event.Operation.TheVariants.{Renew}
 use Rattle.watch_machine.specs.declared.event.Reply.{Reply}
 use Rattle.watch_machine.specs.declared.event.Reply.TheVariants.{Told, Refused, Busy, Lost}
 use Rattle.watch_machine.specs.declared.fault.WatchFault.{WatchFault}
+use Rattle.watch_machine.specs.Clocks.{sec}
 use Rattle.watch_machine.specs.History.{IsRun, Turned}
-use Rattle.watch_machine.specs.Margins.{has_come, is_in_plan}
-use Rattle.watch_machine.specs.Refusal.{is_same}
-use Rattle.watch_machine.specs.State.{State, entry_of, second, track_at}
+use Rattle.watch_machine.specs.Margins.{has_come, is_in_plan, own_margin}
+use Rattle.watch_machine.specs.Readings.{time_of}
+use Rattle.watch_machine.specs.Refusal.{is_same, request_out}
+use Rattle.watch_machine.specs.State.{State, entry_of, opened, second, track_at}
 use Rattle.watch_machine.specs.Wanted.{is_alive, is_wanted}
+use Rattle.watch_laws.specs.Absence.{is_taken}
 use Rattle.watch_laws.specs.Load.{requests_of}
+use Rattle.watch_laws.specs.Turns.{after_all}
 
 -- the time of i has come
 abbrev pub is_come : State → ℕ → Bool
@@ -80,3 +84,12 @@ RoundsOpened (turn ∷ turns) = ((asked : List ℕ) → round_of turn.result ≡
 -- no round opens before the least time of an entry that is wanted and in the plan
 abbrev pub RoundLaw : Type 0
 RoundLaw = (g : Forest) (width : ℕ) (turns : List Turned) → IsRun g width turns → RoundsOpened turns
+
+-- however long a renewal waited for its turn, a grant of the entry's own margin and two seconds or more leaves its time two seconds or
+-- more after the second in which the request went out
+abbrev pub AheadLaw : Type 0
+AheadLaw =
+    (g : Forest) (width : ℕ) (before : List Turned) (grant : Turned) (i seconds : ℕ) (renewable : Bool) (date : Option ℕ) → IsRun g width (before ++ grant ∷ []) → i < length g.entries →
+    grant.event ≡ Renewed i (Told seconds renewable date) → is_taken grant.result ≡ true →
+    own_margin grant.state.forest.margin (entry_of grant.state i) (track_at grant.state i) + 2 ≤ seconds →
+    IfSome (request_out (after_all (opened g width) before).out i Renew) (λ q. sec q.since + 2 ≤ time_of grant.state i)

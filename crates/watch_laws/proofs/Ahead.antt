@@ -1,0 +1,115 @@
+-- Ahead: a grant that is far enough leaves the time of its entry ahead of the second in which the request went out. For the law of grants.
+use Rattle.std.proofs.Common.{◌≡◌, ◌∙◌, ℕ, ◌+◌, ◌-◌, ◌/◌, ◌<◌, ◌≤◌, Bool, true, false, if◌then◌else◌, List, [], ◌∷◌, Option, Some, None, IfSome, All, Result, Ok, Err, length, min, nat_lt, refl, sym, ap, subst, arith, true≢false}
+use Rattle.std.proofs.lemmas.Bool.Decides.{nat_tests}
+use Rattle.std.proofs.lemmas.List.{get_or-set_same}
+use Rattle.keep_tree.specs.declared.entry.Entry.{Entry}
+use Rattle.keep_tree.specs.Forest.{Forest, entry_at}
+use Rattle.watch_machine.specs.declared.command.Output.{Output}
+use Rattle.watch_machine.specs.declared.event.Event.{Event}
+use Rattle.watch_machine.specs.declared.event.Event.TheVariants.{Renewed}
+use Rattle.watch_machine.specs.declared.event.Operation.TheVariants.{Renew}
+use Rattle.watch_machine.specs.declared.event.Reply.{Reply}
+use Rattle.watch_machine.specs.declared.event.Reply.TheVariants.{Told}
+use Rattle.watch_machine.specs.declared.fault.WatchFault.{WatchFault}
+use Rattle.watch_machine.specs.declared.lanes.Out.{Out}
+use Rattle.watch_machine.specs.declared.track.End.TheVariants.{At}
+use Rattle.watch_machine.specs.declared.track.Grant.{Grant}
+use Rattle.watch_machine.specs.declared.track.Track.{Track}
+use Rattle.watch_machine.specs.declared.track.Try.{Try}
+use Rattle.watch_machine.specs.Answers.{noted, replied}
+use Rattle.watch_machine.specs.Clocks.{sec}
+use Rattle.watch_machine.specs.History.{Turn}
+use Rattle.watch_machine.specs.Margins.{lead, own_by, own_margin, time, time_before}
+use Rattle.watch_machine.specs.Readings.{time_of}
+use Rattle.watch_machine.specs.Refusal.{request_out}
+use Rattle.watch_machine.specs.Renewed.{from_base, from_try, granted_from, renewed, renewed_track, time_from}
+use Rattle.watch_machine.specs.State.{State, entry_of, no_track, opened, track_at}
+use Rattle.watch_machine.specs.Step.{Step, StepRenewed}
+use Rattle.watch_machine.proofs.Cases.{if_cases, of_value}
+use Rattle.watch_machine.proofs.Within.{out_all, out_entry}
+use Rattle.watch_laws.specs.Absence.{is_taken}
+use Rattle.watch_laws.specs.Time.{AheadLaw}
+use Rattle.watch_laws.specs.Turns.{after_all}
+use Rattle.watch_laws.proofs.Grounds.{opened_base, ran_base}
+use Rattle.watch_laws.proofs.Lasting.{Bears, back_bears, same_bears}
+use Rattle.watch_laws.proofs.Outliving.{first_turns, last_turns}
+use Rattle.watch_laws.proofs.Tracking.{back_kept, replied_forest}
+
+-- the second from which a grant counts leaves the time two seconds after that of the request
+from_far :
+    (margin step seconds at since : ℕ) (o : Option Try) → since ≤ at → own_by margin (min step seconds) + 2 ≤ seconds →
+    sec since + 2 ≤ (sec (from_try margin step seconds at since o) + seconds) - own_by margin (min step seconds)
+unfolding sec
+from_far margin step seconds at since None le far = omega (arith, far)
+from_far margin step seconds at since (Some t) le far = by t.base where
+  by : (b : Option ℕ) → since / 1000 + 2 ≤ ((from_base margin step seconds at since b) / 1000 + seconds) - own_by margin (min step seconds)
+  by None = omega (arith, far)
+  by (Some base) =
+      if_cases (λ n. since / 1000 + 2 ≤ (n / 1000 + seconds) - own_by margin (min step seconds)) (nat_lt (at / 1000 + 1) (time_from margin step seconds (base / 1000))) base since
+      (λ yes'. let late : at / 1000 + 1 < time_from margin step seconds (base / 1000) = grind (arith, nat_tests) in omega (arith, late, le)) (λ no'. omega (arith, far))
+
+-- the time of a track after it
+granted_time :
+    (margin : ℕ) (e : Entry) (at seconds : ℕ) (renewable : Bool) (from' : ℕ) (x : Track) →
+    (time margin e (granted_from e.step at seconds renewable from' x) ≡ (sec from' + seconds) - own_by margin (min e.step seconds))
+    × (own_margin margin e (granted_from e.step at seconds renewable from' x) ≡ own_by margin (min e.step seconds))
+unfolding time own_margin granted_from
+granted_time margin e at seconds renewable from' x = (refl, refl)
+
+-- time and own margin are by what a track bears
+bears_time : (margin : ℕ) (e : Entry) (y x : Track) → Bears y x → (time margin e y ≡ time margin e x) × (own_margin margin e y ≡ own_margin margin e x)
+unfolding time own_margin
+bears_time margin e y x h =
+    let g = ap (λ v. own_by margin (lead e.step v)) h.1.0 in
+    (ap (λ n. time_before y.end n) g ∙ ap (λ v. time_before v (own_by margin (lead e.step x.grant))) h.0, g)
+
+renewed_far :
+    (s new : State) (q : Out) (seconds : ℕ) (renewable : Bool) (date : Option ℕ) (i : ℕ) → new ≡ replied (renewed s q (Told seconds renewable date)) q (Told seconds renewable date) → q.entry ≡ i → i < length s.tracks →
+    q.since ≤ s.clocks.at → own_margin new.forest.margin (entry_of new i) (track_at new i) + 2 ≤ seconds → sec q.since + 2 ≤ time_of new i
+unfolding renewed_track
+renewed_far s new q seconds renewable date i is own within before far =
+    let reply = Told seconds renewable date in
+    let mid = renewed s q reply in
+    let g = s.forest in
+    let e = entry_of s i in
+    let x = track_at s i in
+    let from' = from_try g.margin e.step seconds s.clocks.at q.since x.attempt in
+    let made = granted_from e.step s.clocks.at seconds renewable from' x in
+    let there : track_at mid i ≡ made =
+    subst (λ k. track_at mid k ≡ granted_from (entry_of s k).step s.clocks.at seconds renewable (from_try g.margin (entry_of s k).step seconds s.clocks.at q.since (track_at s k).attempt) (track_at s k)) own
+    (get_or-set_same s.tracks q.entry (granted_from (entry_of s q.entry).step s.clocks.at seconds renewable (from_try g.margin (entry_of s q.entry).step seconds s.clocks.at q.since (track_at s q.entry).attempt) (track_at s q.entry)) no_track
+    (omega (arith, own, within))) in
+    let bears : Bears (track_at new i) made =
+    subst (λ (y : Track). Bears (track_at new i) y) there (subst (λ (y : State). Bears (track_at y i) (track_at mid i)) (sym is) (back_kept Bears same_bears back_bears mid q reply i)) in
+    let forest : new.forest ≡ g = ap (λ (y : State). y.forest) is ∙ replied_forest mid q reply in
+    let same = bears_time g.margin e (track_at new i) made bears in
+    let is_time = granted_time g.margin e s.clocks.at seconds renewable from' x in
+    let t : time_of new i ≡ time g.margin e (track_at new i) = ap (λ (h : Forest). time h.margin (entry_at h.entries i) (track_at new i)) forest in
+    let o : own_margin new.forest.margin (entry_of new i) (track_at new i) ≡ own_margin g.margin e (track_at new i) = ap (λ (h : Forest). own_margin h.margin (entry_at h.entries i) (track_at new i)) forest in
+    let same0 = same.0 in
+    let same1 = same.1 in
+    let time0 = is_time.0 in
+    let own0 = is_time.1 in
+    let late = from_far g.margin e.step seconds s.clocks.at q.since x.attempt before (omega (arith, far, o, same1, own0)) in
+    omega (arith, late, t, same0, time0)
+
+turn_far :
+    (width n : ℕ) (old new : State) (event : Event) (result : Result Output WatchFault) (i seconds : ℕ) (renewable : Bool) (date : Option ℕ) → Turn old event result new → is_taken result ≡ true →
+    event ≡ Renewed i (Told seconds renewable date) → i < length old.tracks → All (λ (q : Out). q.since ≤ old.clocks.at) old.out →
+    own_margin new.forest.margin (entry_of new i) (track_at new i) + 2 ≤ seconds → IfSome (request_out old.out i Renew) (λ (q : Out). sec q.since + 2 ≤ time_of new i)
+turn_far width n old new event (Err fault) i seconds renewable date turn taken' told within now far = absurd (true≢false (sym taken'))
+turn_far width n old new event (Ok output) i seconds renewable date turn taken' told within now far = by (request_out old.out i Renew) refl (subst (λ e. Step old e output new) told turn.1) where
+  by : (found : Option Out) → request_out old.out i Renew ≡ found → StepRenewed old found (Told seconds renewable date) output new → IfSome found (λ (q : Out). sec q.since + 2 ≤ time_of new i)
+  by None is step = tt
+  by (Some q) is step =
+      renewed_far (noted old q (Told seconds renewable date)) new q seconds renewable date i step.1 (out_entry old.out i Renew q is) within
+      (of_value (λ (r : Out). r.since ≤ old.clocks.at) (request_out old.out i Renew) q (out_all (λ (r : Out). r.since ≤ old.clocks.at) old.out i Renew now) is) far
+
+pub grants_far : AheadLaw
+grants_far g width before grant i seconds renewable date run within told taken' far =
+    let old = after_all (opened g width) before in
+    let first = first_turns before (grant ∷ []) (opened g width) run in
+    let last = last_turns before (grant ∷ []) (opened g width) run in
+    let base = ran_base width (length g.entries) before (opened g width) first (opened_base g width) in
+    let count = base.count in
+    turn_far width (length g.entries) old grant.state grant.event grant.result i seconds renewable date last.0 taken' told (omega (arith, count, within)) base.since far

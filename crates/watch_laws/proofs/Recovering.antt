@@ -1,0 +1,290 @@
+-- Recovering: while the broker is there, an entry that may go out is passed over by few rounds. For the law of recovery.
+use Rattle.std.proofs.Common.{◌≡◌, ◌⊎◌, ◌∙◌, ℕ, suc, ◌+◌, ◌*◌, ◌<◌, ◌≤◌, Bool, true, false, not, ◌&&◌, ◌||◌, ◌==◌, if◌then◌else◌, List, [], ◌∷◌, ◌++◌, Option, Some, None, All, Result, Ok, Err, get_or, is_some, length, map, nat_le, refl, sym, ap, subst, arith, inl, inr, true≢false}
+use Rattle.std.proofs.Math.Nat.{mul-suc}
+use Rattle.std.proofs.lemmas.Bool.{and_from, cases_Bool}
+use Rattle.std.proofs.lemmas.Bool.Decides.{nat_tests}
+use Rattle.std.proofs.lemmas.List.Elements.{All-weaker}
+use Rattle.std.specs.List.{list_any}
+use Rattle.keep_tree.specs.Forest.{Forest}
+use Rattle.watch_machine.specs.declared.command.Command.{Command}
+use Rattle.watch_machine.specs.declared.command.Command.TheVariants.{Go, Taken}
+use Rattle.watch_machine.specs.declared.command.Output.{Output}
+use Rattle.watch_machine.specs.declared.event.Event.{Event}
+use Rattle.watch_machine.specs.declared.event.Event.TheVariants.{Clock, Looked, Renewed, Need, Begin, Known}
+use Rattle.watch_machine.specs.declared.event.Operation.TheVariants.{Look, Renew}
+use Rattle.watch_machine.specs.declared.event.Reply.{Reply}
+use Rattle.watch_machine.specs.declared.event.Terms.{Terms}
+use Rattle.watch_machine.specs.declared.fault.WatchFault.{WatchFault}
+use Rattle.watch_machine.specs.declared.lanes.Out.{Out}
+use Rattle.watch_machine.specs.declared.track.Try.{Try}
+use Rattle.watch_machine.specs.Answers.{noted, replied}
+use Rattle.watch_machine.specs.Clocks.{sec}
+use Rattle.watch_machine.specs.History.{History, Turn, Turned}
+use Rattle.watch_machine.specs.Lines.{ready}
+use Rattle.watch_machine.specs.Looked.{looked}
+use Rattle.watch_machine.specs.Press.{pressed}
+use Rattle.watch_machine.specs.Refusal.{request_out}
+use Rattle.watch_machine.specs.Renewed.{renewed}
+use Rattle.watch_machine.specs.Sending.{sent}
+use Rattle.watch_machine.specs.Settling.{timed}
+use Rattle.watch_machine.specs.State.{State, attempt_at, opened, track_at}
+use Rattle.watch_machine.specs.Step.{Step, StepLooked, StepRenewed, readied}
+use Rattle.watch_machine.specs.Wait.{wait}
+use Rattle.watch_machine.proofs.Cases.{not_both}
+use Rattle.watch_laws.specs.Absence.{is_clock, is_taken}
+use Rattle.watch_laws.specs.Outage.{Outage, coming, comes, how_many, is_served, is_tried, is_whole, next_after, next_after_command, next_by, settled_by, waiting, waits}
+use Rattle.watch_laws.specs.Recovery.{AllBy, ArePassing, IsPassed, IsPassing, MayGo, RecoveryLaw, calm}
+use Rattle.watch_laws.specs.Turns.{after_all}
+use Rattle.watch_laws.proofs.Answering.{looked_leaves, renewed_leaves, rest_of}
+use Rattle.watch_laws.proofs.Clocking.{readied_clocks, refused_stays}
+use Rattle.watch_laws.proofs.Counting.{lanes_apart, least_all, some}
+use Rattle.watch_laws.proofs.Grounds.{opened_base, ran_base, turn_base}
+use Rattle.watch_laws.proofs.Lanes.{Sends, Ticks, all_left, fewer_wait, is_anew, served_marked, ticks, turn_sends}
+use Rattle.watch_laws.proofs.Minding.{some_within, tended}
+use Rattle.watch_laws.proofs.Outliving.{Starts, first_turns, last_turns, starts}
+use Rattle.watch_laws.proofs.Retrying.{rises}
+use Rattle.watch_laws.proofs.Spacing.{looked_out}
+use Rattle.watch_laws.proofs.Stages.{IsBase, one_left, quick_if, take_one, turn_of, whole_after}
+use Rattle.watch_laws.proofs.Ticking.{any_gives, anew_none, later_than, none_passes, one_lane, some_lane}
+
+-- every request is whole
+all_whole : (quick late since : ℕ) → is_whole (calm quick late) since ≡ true
+all_whole quick late since = whole_after (calm quick late) since (omega arith)
+
+settles_so : (quick late since : ℕ) → settled_by (calm quick late) since ≡ since + quick
+settles_so quick late since = quick_if (calm quick late) since (all_whole quick late since)
+
+abbrev Timely : ℕ → ℕ → ℕ → Out → Type 0
+Timely quick late due q = due ≤ settled_by (calm quick late) q.since + late
+
+-- after a turn: r rounds hold those that wait, but for those that went out after from; and by is the last moment
+record Passes (quick late width n i by due k : ℕ) (s : State) : Type 0 where
+  base : IsBase width n s
+  timely : All (Timely quick late due) s.out
+  r : ℕ
+  from : ℕ
+  count : k + how_many n (is_anew (calm quick late) (suc from) s) ≤ width * r
+  start : from + (quick + late) * r ≤ by
+  next : due ≤ from + (quick + late)
+  now : s.clocks.at ≤ by
+
+-- who may go out and has not finds all lanes taken
+full_lanes : (old new : State) (wall elapsed : ℕ) (output : Output) (i width : ℕ) → Ticks old new wall elapsed output → MayGo new i → new.width ≡ width → width ≤ length new.out
+full_lanes old new wall elapsed output i width h m wide =
+    let ready' = readied old wall elapsed in
+    let end = sent (pressed ready' h.round) h.requests in
+    let is = h.new_is in
+    let u = m.attempt in
+    let go : MayGo end i = subst (λ (x : State). MayGo x i) is m in
+    let w : end.width ≡ width = ap (λ (x : State). x.width) (sym is) ∙ wide in
+    let all = ap (λ (x : State). length x.out) is in
+    elim (tended ready' h.round h.requests i go.attempt h.going go.within go.free go.attempt_is) as (λ _. width ≤ length new.out) [
+      | inl later ↦ (let due = go.due in let ahead = later.0 in absurd (omega (arith, due, ahead)))
+      | inr full ↦ omega (arith, full, w, all)
+    ]
+
+-- so the next clock comes soon
+soon_next :
+    (quick late width n i by due : ℕ) (s : State) → 0 < width → IsBase width n s → All (Timely quick late due) s.out → width ≤ length s.out → due ≤ s.clocks.at + (quick + late)
+soon_next quick late width n i by due s wide base timely full =
+    let now = base.since in
+    any_gives (due ≤ s.clocks.at + (quick + late)) (λ q. true) s.out (some_lane s.out (omega (arith, wide, full)))
+    (λ k d below yes'.
+    let q = get_or s.out k d in
+    let t = timely k d below in
+    let e = settles_so quick late q.since in
+    let le = now k d below in
+    omega (arith, t, e, le))
+
+-- a clock
+clock_passes :
+    (quick late width n i by due rest : ℕ) (old new : State) (wall elapsed : ℕ) (output : Output) → 0 < width → i < n → Step old (Clock wall elapsed) output new → (timed old wall elapsed).clocks.at ≤ due → MayGo new i →
+    IsBase width n new → Sends old new n → Passes quick late width n i by due (waiting (calm quick late) n old + (how_many n (comes (calm quick late) old new) + rest)) old →
+    Passes quick late width n i by (next_after_command (calm quick late) output.command new due) (waiting (calm quick late) n new + rest) new
+clock_passes quick late width n i by due rest old new wall elapsed output wide low step in_time m base sends p =
+    let o = calm quick late in
+    let h = ticks old new wall elapsed output step in
+    let at = new.clocks.at in
+    let c = ap (λ (x : State). x.clocks.at) h.new_is ∙ ap (λ x. x.at) (readied_clocks old wall elapsed) in
+    let k = waiting o n new + rest in
+    let full = full_lanes old new wall elapsed output i width h m base.fits.0 in
+    let due' = next_by o (wait new) new.out in
+    let timely : All (Timely quick late due') new.out = least_all (λ (q : Out). settled_by o q.since + late) (wait new + late) new.out in
+    let less = fewer_wait o (suc p.from) n old new p.base.alone base.alone base.tries sends in
+    let count = p.count in
+    let start = p.start in
+    let next = p.next in
+    let tried : is_tried new i ≡ true = ap is_some m.attempt_is in
+    let unserved : is_served o new i ≡ false =
+    elim (cases_Bool (is_served o new i)) as (λ _. is_served o new i ≡ false) [
+      | inl served ↦ absurd (not_both (served_marked o new i base.alone served) m.free)
+      | inr no' ↦ no'
+    ] in
+    let one = some n i (waits o new) low (and_from (is_tried new i) (not (is_served o new i)) tried (ap not unserved)) in
+    let r = one_left width p.r k (omega (arith, less, count)) (omega (arith, one)) in
+    let g = ap (λ x. (quick + late) * x) r.1 ∙ mul-suc (quick + late) r.0 in
+    let soon = soon_next quick late width n i by due' new wide base timely full in
+    subst (λ x. Passes quick late width n i by (next_after_command o x new due) k new) (sym h.command)
+    (elim (cases_Bool (list_any (λ (q : Out). nat_le q.since p.from) new.out)) as (λ _. Passes quick late width n i by due' k new) [
+      | inl some' ↦
+          let before : due' ≤ p.from + (quick + late) =
+          any_gives (due' ≤ p.from + (quick + late)) (λ (q : Out). nat_le q.since p.from) new.out some'
+          (λ j d below yes'.
+          let q = get_or new.out j d in
+          let t = timely j d below in
+          let e = settles_so quick late q.since in
+          let le : q.since ≤ p.from = grind (arith, nat_tests) in
+          omega (arith, t, e, le)) in
+          record { base = base; timely = timely; r = p.r; from = p.from; count = omega (arith, less, count); start = start; next = before; now = omega (arith, c, in_time, next, start, g) }
+      | inr none' ↦
+          let late' = none_passes (λ (q : Out). nat_le q.since p.from) new.out none' in
+          let within = base.within in
+          let anew = lanes_apart n (λ (q : Out). is_whole o q.since && nat_le (suc p.from) q.since) new.out (λ j. one_lane new j base.alone)
+          (λ j d below.
+          let q = get_or new.out j d in
+          let l = later_than p.from q.since (late' j d below) in
+          let test : nat_le (suc p.from) q.since ≡ true = grind (arith, nat_tests) in
+          (within j d below, and_from (is_whole o q.since) (nat_le (suc p.from) q.since) (all_whole quick late q.since) test)) in
+          let q = take_one width p.r (k + how_many n (is_anew o (suc p.from) new)) k wide (omega (arith, full, anew)) (omega (arith, less, count)) in
+          let e = ap (λ x. (quick + late) * x) q.1.0 ∙ mul-suc (quick + late) q.0 in
+          let zero' = anew_none o (suc at) n new base.since (omega arith) in
+          let fits = q.1.1 in
+          record {
+            base = base;
+            timely = timely;
+            r = q.0;
+            from = at;
+            count = omega (arith, fits, zero');
+            start = omega (arith, c, in_time, next, start, e);
+            next = soon;
+            now = omega (arith, c, in_time, next, start, g);
+          }
+    ])
+
+-- any other event leaves the clock, and what is out
+abbrev Quiet : ℕ → ℕ → ℕ → State → State → Output → Type 0
+Quiet quick late due old new output =
+    (new.clocks.at ≡ old.clocks.at) × ((All (Timely quick late due) old.out → All (Timely quick late due) new.out) × (next_after_command (calm quick late) output.command new due ≡ due))
+
+answer_quiet : (quick late due : ℕ) (old mid new : State) (q : Out) (reply : Reply) (output out : Output) → new ≡ replied mid q reply → mid.out ≡ old.out → new.clocks ≡ old.clocks → output ≡ out → out.command ≡ Taken → Quiet quick late due old new output
+answer_quiet quick late due old mid new q reply output out is outs clocks made taken' = (
+  ap (λ c. c.at) clocks,
+  (
+    (λ all. subst (λ (x : State). All (Timely quick late due) x.out) (sym is) (all_left (Timely quick late due) (λ r h. h) mid q reply (subst (All (Timely quick late due)) (sym outs) all))),
+    ap (λ c. next_after_command (calm quick late) c new due) (ap (λ (x : Output). x.command) made ∙ taken'),
+  ),
+)
+
+looked_quiet : (quick late due : ℕ) (old new : State) (found : Option Out) (reply : Reply) (terms : Terms) (output : Output) → StepLooked old found reply terms output new → Quiet quick late due old new output
+looked_quiet quick late due old new None reply terms output step = absurd step
+looked_quiet quick late due old new (Some q) reply terms output step =
+    let s = noted old q reply in
+    answer_quiet quick late due old (looked s q reply terms) new q reply output _ step.1 (looked_out s q reply terms) (ap (λ (x : State). x.clocks) (ap rest_of step.1 ∙ looked_leaves old q reply terms)) step.0 refl
+
+renewed_quiet : (quick late due : ℕ) (old new : State) (found : Option Out) (reply : Reply) (output : Output) → StepRenewed old found reply output new → Quiet quick late due old new output
+renewed_quiet quick late due old new None reply output step = absurd step
+renewed_quiet quick late due old new (Some q) reply output step =
+    answer_quiet quick late due old (renewed (noted old q reply) q reply) new q reply output _ step.1 refl (ap (λ (x : State). x.clocks) (ap rest_of step.1 ∙ renewed_leaves old q reply)) step.0 refl
+
+same_quiet : (quick late due : ℕ) (old mid new : State) (output out : Output) → new ≡ mid → mid.clocks ≡ old.clocks → mid.out ≡ old.out → output ≡ out → out.command ≡ Taken → Quiet quick late due old new output
+same_quiet quick late due old mid new output out is clocks outs made taken' = (
+  ap (λ (x : State). x.clocks.at) is ∙ ap (λ c. c.at) clocks,
+  (
+    (λ all. subst (All (Timely quick late due)) (sym (ap (λ (x : State). x.out) is ∙ outs)) all),
+    ap (λ c. next_after_command (calm quick late) c new due) (ap (λ (x : Output). x.command) made ∙ taken'),
+  ),
+)
+
+quiet_passes :
+    (quick late width n i by due rest : ℕ) (old new : State) (output : Output) → Quiet quick late due old new output → IsBase width n new → Sends old new n →
+    Passes quick late width n i by due (waiting (calm quick late) n old + (how_many n (comes (calm quick late) old new) + rest)) old →
+    Passes quick late width n i by (next_after_command (calm quick late) output.command new due) (waiting (calm quick late) n new + rest) new
+quiet_passes quick late width n i by due rest old new output quiet base sends p =
+    let o = calm quick late in
+    let less = fewer_wait o (suc p.from) n old new p.base.alone base.alone base.tries sends in
+    let count = p.count in
+    let now = p.now in
+    let c = quiet.0 in
+    subst (λ x. Passes quick late width n i by x (waiting o n new + rest) new) (sym quiet.1.1)
+    (record { base = base; timely = quiet.1.0 p.timely; r = p.r; from = p.from; count = omega (arith, less, count); start = p.start; next = p.next; now = omega (arith, c, now) })
+
+step_passes :
+    (quick late width n i by due rest : ℕ) (old new : State) (event : Event) (output : Output) → 0 < width → i < n → Step old event output new → IsPassing i due old event new → IsBase width n new → Sends old new n →
+    Passes quick late width n i by due (waiting (calm quick late) n old + (how_many n (comes (calm quick late) old new) + rest)) old →
+    Passes quick late width n i by (next_after_command (calm quick late) output.command new due) (waiting (calm quick late) n new + rest) new
+step_passes quick late width n i by due rest old new (Clock wall elapsed) output wide low step passing base sends p =
+    clock_passes quick late width n i by due rest old new wall elapsed output wide low step passing.0 passing.1 base sends p
+step_passes quick late width n i by due rest old new (Looked j reply terms) output wide low step passing base sends p =
+    quiet_passes quick late width n i by due rest old new output (looked_quiet quick late due old new (request_out old.out j Look) reply terms output step) base sends p
+step_passes quick late width n i by due rest old new (Renewed j reply) output wide low step passing base sends p =
+    quiet_passes quick late width n i by due rest old new output (renewed_quiet quick late due old new (request_out old.out j Renew) reply output step) base sends p
+step_passes quick late width n i by due rest old new (Need j until) output wide low step passing base sends p =
+    quiet_passes quick late width n i by due rest old new output (same_quiet quick late due old _ new output _ step.1 refl refl step.0 refl) base sends p
+step_passes quick late width n i by due rest old new Begin output wide low step passing base sends p =
+    quiet_passes quick late width n i by due rest old new output (same_quiet quick late due old _ new output _ step.1 refl refl step.0 refl) base sends p
+step_passes quick late width n i by due rest old new (Known j end renewable) output wide low step passing base sends p =
+    quiet_passes quick late width n i by due rest old new output (same_quiet quick late due old _ new output _ step.1 refl refl step.0 refl) base sends p
+
+turn_passes :
+    (quick late width n i by due rest : ℕ) (old new : State) (event : Event) (result : Result Output WatchFault) → 0 < width → i < n → Turn old event result new → IsPassed i due old event result new → IsBase width n new →
+    Sends old new n → Passes quick late width n i by due (waiting (calm quick late) n old + (how_many n (comes (calm quick late) old new) + rest)) old →
+    Passes quick late width n i by (next_after (calm quick late) result new due) (waiting (calm quick late) n new + rest) new
+turn_passes quick late width n i by due rest old new event (Ok output) wide low turn passing base sends p = step_passes quick late width n i by due rest old new event output wide low turn.1 passing base sends p
+turn_passes quick late width n i by due rest old new event (Err fault) wide low turn passing base sends p =
+    let o = calm quick late in
+    let is = refused_stays old new event fault turn in
+    let less = fewer_wait o (suc p.from) n old new p.base.alone base.alone base.tries sends in
+    let count = p.count in
+    let now = p.now in
+    let c = ap (λ (x : State). x.clocks.at) is in
+    record {
+      base = base;
+      timely = subst (λ (x : State). All (Timely quick late due) x.out) (sym is) p.timely;
+      r = p.r;
+      from = p.from;
+      count = omega (arith, less, count);
+      start = p.start;
+      next = p.next;
+      now = omega (arith, c, now);
+    }
+
+along :
+    (quick late width n i by : ℕ) → 0 < width → i < n → (turns : List Turned) (due : ℕ) (old : State) → History old turns → ArePassing (calm quick late) i due old turns →
+    Passes quick late width n i by due (waiting (calm quick late) n old + coming (calm quick late) n old turns) old → AllBy by turns
+along quick late width n i by wide low [] due old history passing p = tt
+along quick late width n i by wide low (turn ∷ turns) due old history passing p =
+    let base = turn_base width n old turn.state turn.event turn.result history.0 p.base in
+    let count = base.count in
+    let sends = turn_sends old turn.state turn.event turn.result n (omega (arith, count)) history.0 in
+    let here = turn_passes quick late width n i by due (coming (calm quick late) n turn.state turns) old turn.state turn.event turn.result wide low history.0 passing.0 base sends p in
+    (here.now, along quick late width n i by wide low turns (next_after (calm quick late) turn.result turn.state due) turn.state history.1 passing.1 here)
+
+pub recovers : RecoveryLaw
+recovers quick late rounds g width before last turns i wide run clock taken' m passing few =
+    let o = calm quick late in
+    let n = length g.entries in
+    let old = after_all (opened g width) before in
+    let history = last_turns before (last ∷ turns) (opened g width) run in
+    let first = first_turns before (last ∷ turns) (opened g width) run in
+    let s = last.state in
+    let start = starts o old last last.event last.result refl history.0 clock taken' in
+    let base = turn_base width n old s last.event last.result history.0 (ran_base width n before (opened g width) first (opened_base g width)) in
+    let due = next_by o (wait s) s.out in
+    let timely : All (Timely quick late due) s.out = least_all (λ (q : Out). settled_by o q.since + late) (wait s + late) s.out in
+    let full = full_lanes old s start.wall start.elapsed start.output i width start.ticks' m base.fits.0 in
+    let at = s.clocks.at in
+    let by = at + (quick + late) * rounds in
+    let zero' = anew_none o (suc at) n s base.since (omega arith) in
+    let below = some_within s.tracks i m.attempt m.attempt_is in
+    let count = base.count in
+    along quick late width n i by wide (omega (arith, below, count)) turns due s history.1 (subst (λ d. ArePassing o i d s turns) start.due passing)
+    (record {
+      base = base;
+      timely = timely;
+      r = rounds;
+      from = at;
+      count = omega (arith, few, zero');
+      start = omega arith;
+      next = soon_next quick late width n i by due s wide base timely full;
+      now = omega arith;
+    })
