@@ -10,8 +10,9 @@ use Rattle.keep_report.specs.declared.stop.Stop.{Stop}
 use Rattle.keep_report.specs.declared.stop.Stop.TheVariants as stops
 use Rattle.keep_report.specs.Sent.{IsAll, IsUntouched}
 use Rattle.keep_lines.specs.Hearing.{Hearing, HearsLine, IsSaid, IsSent, StopsAfter, counted, joined}
-use Rattle.keep_lines.specs.Listening.{AreHeard, Halts, IsNoLine, IsStopped}
+use Rattle.keep_lines.specs.Listening.{AreHeard, Halts, HasEnded, IsNoLine, IsStopped, ListensTo}
 use Rattle.keep_lines.specs.code.LineByLine.{HaltsWithin, HearsUpTo}
+use Rattle.keep_lines.specs.declared.limits.Limits.{Limits}
 use Rattle.keep_lines.specs.declared.limits.TheConstants.{MOST_LINE}
 use Rattle.keep_lines.proofs.Cut.{cut_back, first_piece}
 use Rattle.keep_words.specs.Pieces.{pieces}
@@ -251,3 +252,23 @@ module _ (S : Type 0) (h : Hearing S) where
         let all : pieces 10 rest ≡ line ∷ f.0 ∷ f.1.0 = e ∙ ap (λ ps. line ∷ ps) f.1.1 in
         halts_at first old bytes (line ∷ f.0 ∷ f.1.0) mid last a b stop new same (subst (λ ps. HearsUpTo S h first old bytes ps mid last a) all before)
         (line_halts (counted (last + 1)) mid line f.0 f.1.0 stop new b one)
+
+    -- listening that ends after a text that was sent before
+    pub listens_then :
+        (a b : Change) → a.new ≡ b.old → (limits : Limits) (read : List ℕ) (number : ℕ) (old : S) (behind : List (List ℕ)) (t u : List ℕ) (result : Result (Unit {0}) Stop) (new : S) (fed : Change) → IsSent t a →
+        ListensTo S h limits read number old behind u result new fed b → ListensTo S h limits read number old behind (t ++ u) result new fed (joined a b)
+    listens_then a b same limits read number old behind t u (Ok v) new fed first ends = (ends.0, (ends.1.0, (ends.1.1.0, (ends.1.1.1.0, said_then a b same t u first.0 ends.1.1.1.1))))
+    listens_then a b same limits read number old behind t u (Err stops.Read) new fed first ends = (ends.0, (ends.1.0, (ends.1.1.0, (ends.1.1.1.0, (ends.1.1.1.1.0, said_then a b same t u first.0 ends.1.1.1.1.1)))))
+    listens_then a b same limits read number old behind t u (Err (stops.Inventory fault)) new fed first ends = (ends.0, halts_then a b same number old behind t u (stops.Inventory fault) new (HasEnded limits read fed) first ends.1)
+    listens_then a b same limits read number old behind t u (Err (stops.Moments fault)) new fed first ends = (ends.0, halts_then a b same number old behind t u (stops.Moments fault) new (HasEnded limits read fed) first ends.1)
+    listens_then a b same limits read number old behind t u (Err (stops.FaultWord n)) new fed first ends = (ends.0, halts_then a b same number old behind t u (stops.FaultWord n) new (HasEnded limits read fed) first ends.1)
+    listens_then a b same limits read number old behind t u (Err stops.TooLong) new fed first ends = (ends.0, halts_then a b same number old behind t u stops.TooLong new (HasEnded limits read fed) first ends.1)
+    listens_then a b same limits read number old behind t u (Err stops.Write) new fed first ends = (ends.0, halts_then a b same number old behind t u stops.Write new (HasEnded limits read fed) first ends.1)
+    listens_then a b same limits read number old behind t u (Err (stops.Broker name)) new fed first ends = (ends.0, halts_then a b same number old behind t u (stops.Broker name) new (HasEnded limits read fed) first ends.1)
+    listens_then a b same limits read number old behind t u (Err (stops.Line n)) new fed first ends = (ends.0, halts_then a b same number old behind t u (stops.Line n) new (HasEnded limits read fed) first ends.1)
+    listens_then a b same limits read number old behind t u (Err stops.Memory) new fed first ends = (ends.0, halts_then a b same number old behind t u stops.Memory new (HasEnded limits read fed) first ends.1)
+
+-- all of a text was written and flushed, where the output is flushed now
+pub all_flushed : (text : List ℕ) (out : Change) → IsSaid text out → IsTrue out.new.output.is_flushed → IsAll text out
+all_flushed text out (inl all) flushed = all
+all_flushed text out (inr none) flushed = (said_appends text out (inr none), flushed)

@@ -32,6 +32,13 @@ HearsLine S h number old line (Err (stops.Line n)) new out = (n ≡ number) × (
 HearsLine S h number old line (Err stops.Read) new out = ⊥
 HearsLine S h number old line (Err stop) new out = h.stops old line [] stop new out
 
+-- a call that ended between two lines: all of its lines were heard, or one was none, or no more could be read
+abbrev pub IsBetween : {X : Type 0} → Result X Stop → Type 0
+IsBetween (Ok x) = Unit {0}
+IsBetween (Err (stops.Line n)) = Unit {0}
+IsBetween (Err stops.Read) = Unit {0}
+IsBetween (Err stop) = ⊥
+
 -- what was done of one output, and then of another state of it
 abbrev pub joined : Change → Change → Change
 joined a b = record { old = a.old; new = b.new; is_in_memory = b.is_in_memory }

@@ -2,7 +2,7 @@
 ghost use Rattle.std.specs.Prelude.{◌≡◌, ◌+◌, ◌∷◌, [], ◌<◌, ◌≤◌, IfOk, OnOk, drop, length, option_map};
 ghost use Rattle.std.specs.Result.{IfErr};
 ghost use Rattle.keep_report.specs.declared.stop.Stop.TheVariants as stops;
-ghost use Rattle.keep_lines.specs.Hearing.{counted};
+ghost use Rattle.keep_lines.specs.Hearing.{IsBetween, counted};
 ghost use Rattle.keep_lines.specs.Listening.{Listens};
 ghost use Rattle.keep_lines.specs.code.LineByLine.{HaltsWithin, HearsUpTo, left_after, part};
 ghost use Rattle.keep_lines.specs.declared.limits.TheConstants.{MOST_LINE};
@@ -28,7 +28,9 @@ pub fn listen<N, H: Hearer<N>, R: Source, W: Sink>(
     out: &mut W,
 ) -> Result<(), Stop>
     requires ready { H.is_ready hearer.old neighbours.old (W.seen out.old) }
-    ensures { Listens H.State (H.hearing (H.key hearer.old neighbours.old)) limits (H.state hearer.old neighbours.old) result (H.state hearer.new neighbours.new) (⟦<R as Watched>⟧.change lines.old lines.new) (⟦<W as Watched>⟧.change out.old out.new) }
+    ensures listens { Listens H.State (H.hearing (H.key hearer.old neighbours.old)) limits (H.state hearer.old neighbours.old) result (H.state hearer.new neighbours.new) (⟦<R as Watched>⟧.change lines.old lines.new) (⟦<W as Watched>⟧.change out.old out.new) }
+    ensures ready { IsBetween result → H.is_ready hearer.new neighbours.new (W.seen out.new) }
+    ensures output { (R.seen lines.new).output ≡ (R.seen lines.old).output }
 {
     let mut room = zeros(alloc, ROOM)?;
     let mut pending = Vec::new(alloc);
@@ -98,7 +100,7 @@ fn hear_pending<N, H: Hearer<N>, W: Sink>(
     requires numbered { counted count.old ≡ count.old }
     ensures heard { OnOk result (HearsUpTo H.State (H.hearing (H.key hearer.old neighbours.old)) count.old (H.state hearer.old neighbours.old) pending.old.items (pending.new.items ∷ []) (H.state hearer.new neighbours.new) count.new (⟦<W as Watched>⟧.change out.old out.new)) }
     ensures short { OnOk result (length pending.new.items < MOST_LINE) }
-    ensures ready { OnOk result (H.is_ready hearer.new neighbours.new (W.seen out.new)) }
+    ensures ready { IsBetween result → H.is_ready hearer.new neighbours.new (W.seen out.new) }
     ensures same { OnOk result (H.key hearer.new neighbours.new ≡ H.key hearer.old neighbours.old) }
     ensures halts { IfErr result (λ stop. HaltsWithin H.State (H.hearing (H.key hearer.old neighbours.old)) count.old (H.state hearer.old neighbours.old) pending.old.items stop (H.state hearer.new neighbours.new) (⟦<W as Watched>⟧.change out.old out.new)) }
 {
@@ -124,7 +126,7 @@ fn hear_whole<N, H: Hearer<N>, W: Sink>(
     requires numbered { counted count.old ≡ count.old }
     ensures heard { IfOk result (λ n. HearsUpTo H.State (H.hearing (H.key hearer.old neighbours.old)) count.old (H.state hearer.old neighbours.old) bytes.now (drop n bytes.now ∷ []) (H.state hearer.new neighbours.new) count.new (⟦<W as Watched>⟧.change out.old out.new)) }
     ensures within { IfOk result (λ n. n ≤ length bytes.now) }
-    ensures ready { IfOk result (λ _. H.is_ready hearer.new neighbours.new (W.seen out.new)) }
+    ensures ready { IsBetween result → H.is_ready hearer.new neighbours.new (W.seen out.new) }
     ensures same { IfOk result (λ _. H.key hearer.new neighbours.new ≡ H.key hearer.old neighbours.old) }
     ensures halts { IfErr result (λ stop. HaltsWithin H.State (H.hearing (H.key hearer.old neighbours.old)) count.old (H.state hearer.old neighbours.old) bytes.now stop (H.state hearer.new neighbours.new) (⟦<W as Watched>⟧.change out.old out.new)) }
 {

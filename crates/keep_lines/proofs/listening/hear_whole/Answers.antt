@@ -4,7 +4,7 @@ use Rattle.std.specs.Result.{IfErr}
 use Rattle.keep_device.specs.Seen.{Change, change}
 use Rattle.keep_report.specs.declared.stop.Stop.{Stop}
 use Rattle.keep_words.specs.Pieces.{pieces}
-use Rattle.keep_lines.specs.Hearing.{HearsLine, counted, joined}
+use Rattle.keep_lines.specs.Hearing.{HearsLine, IsBetween, counted, joined}
 use Rattle.keep_lines.specs.code.LineByLine.{HaltsWithin, HearsUpTo}
 use Rattle.keep_lines.proofs.LineByLine.{behind_line, handed_on, heard_on, stopped_on}
 use Rattle.keep_lines.proofs.listening.hear_whole.Goals as goal
@@ -51,6 +51,11 @@ loop-line-preserved g c =
       rest = cut'.0;
       within = omega (arith, shorter, within);
       numbered = omega (arith, number);
-      ready = c.in_ok-hear.ensures.ready;
+      ready = c.in_ok-hear.ensures.ready tt;
       same = c.in_ok-hear.ensures.same ∙ c.loop-line.invariant.same;
     }
+
+pub returns-in_err-hear-clause-ready : goal.returns-in_err-hear-clause-ready
+returns-in_err-hear-clause-ready g c =
+    handed_on c.from_residual.result c.in_err-hear.field-0.0 (λ (r : Result ℕ Stop). IsBetween r → g.H.Hearer.is_ready c.hear.new.self c.hear.new.neighbours (g.W.Device.seen c.hear.new.out)) c.from_residual.ensures
+    c.in_err-hear.ensures.ready

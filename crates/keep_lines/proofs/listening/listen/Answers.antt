@@ -5,15 +5,15 @@ use Rattle.std.specs.Result.{IfErr}
 use Rattle.keep_device.specs.Seen.{Change, change}
 use Rattle.keep_report.specs.declared.stop.Stop.{Stop}
 use Rattle.keep_report.specs.declared.stop.Stop.TheVariants as stops
-use Rattle.keep_lines.specs.Hearing.{counted, joined}
+use Rattle.keep_lines.specs.Hearing.{IsBetween, counted, joined}
 use Rattle.keep_lines.specs.Listening.{Listens}
 use Rattle.keep_lines.specs.code.LineByLine.{HaltsWithin, HearsUpTo, IsListening, left_after, part}
 use Rattle.keep_lines.proofs.LineByLine.{handed_on}
 use Rattle.keep_lines.proofs.LinesRead.{ended_as, halted, listening_first, listening_more, no_memory, no_more, not_begun, read_failed, too_many}
 use Rattle.keep_lines.proofs.listening.listen.Goals as goal
 
-pub returns-in_err-room : goal.returns-in_err-room
-returns-in_err-room g c =
+pub returns-in_err-room-clause-listens : goal.returns-in_err-room-clause-listens
+returns-in_err-room-clause-listens g c =
     let t = g.H.Hearer in
     let first = t.key c.args.hearer.now c.args.neighbours.now in
     let m = t.hearing first in
@@ -39,10 +39,11 @@ loop-init g c =
       numbered = omega arith;
       ready = c.requires.ready;
       same = refl;
+      output = refl;
     }
 
-pub returns-in_default : goal.returns-in_default
-returns-in_default g c =
+pub returns-in_default-clause-listens : goal.returns-in_default-clause-listens
+returns-in_default-clause-listens g c =
     let t = g.H.Hearer in
     let first = t.key c.args.hearer.now c.args.neighbours.now in
     let m = t.hearing first in
@@ -55,8 +56,8 @@ returns-in_default g c =
     let next = g.R.Device.seen c.read_some.new.self in
     read_failed t.State m limits old c.loop.counter c.loop.pending.items c.loop.left now c.loop.count fed a here next c.in_default.ensures.bytes c.in_default.ensures.made c.in_default.ensures.count c.loop-test.true
 
-pub returns-then-n-eq0 : goal.returns-then-n-eq0
-returns-then-n-eq0 g c =
+pub returns-then-n-eq0-clause-listens : goal.returns-then-n-eq0-clause-listens
+returns-then-n-eq0-clause-listens g c =
     let t = g.H.Hearer in
     let first = t.key c.args.hearer.now c.args.neighbours.now in
     let m = t.hearing first in
@@ -76,8 +77,8 @@ returns-then-n-eq0 g c =
     c.at_end.result (subst (λ p. OnOk c.at_end.result (p ≡ [])) c.deref.ensures.value c.at_end.ensures.none)
     (subst (λ p. IfErr c.at_end.result (λ (stop : Stop). (stop ≡ stops.Line (counted (c.loop.count + 1))) × (0 < length p))) c.deref.ensures.value c.at_end.ensures.some)
 
-pub returns-in_err-extend_from_slice : goal.returns-in_err-extend_from_slice
-returns-in_err-extend_from_slice g c =
+pub returns-in_err-extend_from_slice-clause-listens : goal.returns-in_err-extend_from_slice-clause-listens
+returns-in_err-extend_from_slice-clause-listens g c =
     let t = g.H.Hearer in
     let first = t.key c.args.hearer.now c.args.neighbours.now in
     let m = t.hearing first in
@@ -101,8 +102,8 @@ returns-in_err-extend_from_slice g c =
     handed_on c.from_residual-in_err-extend_from_slice.result stops.Memory (λ (r : Result (Unit {0}) Stop). Listens t.State m limits old r now after a) c.from_residual-in_err-extend_from_slice.ensures
     (no_memory t.State m limits old c.loop.counter c.loop.pending.items c.loop.left now c.loop.count fed a here next c.read_some.new.buf c.in-Ok.n c.in-Ok.ensures.bytes.0 c.in-Ok.ensures.made c.in-Ok.ensures.count c.in-Ok.ensures.bound fits c.loop-test.true)
 
-pub returns-in_err-hear_pending : goal.returns-in_err-hear_pending
-returns-in_err-hear_pending g c =
+pub returns-in_err-hear_pending-clause-listens : goal.returns-in_err-hear_pending-clause-listens
+returns-in_err-hear_pending-clause-listens g c =
     let t = g.H.Hearer in
     let first = t.key c.args.hearer.now c.args.neighbours.now in
     let m = t.hearing first in
@@ -134,8 +135,8 @@ returns-in_err-hear_pending g c =
     handed_on c.from_residual-in_err-hear_pending.result stop (λ (r : Result (Unit {0}) Stop). Listens t.State m limits old r new after (joined a b)) c.from_residual-in_err-hear_pending.ensures
     (halted t.State m limits old c.loop.counter c.loop.pending.items c.loop.left now c.loop.count fed a here next c.read_some.new.buf c.in-Ok.n c.in-Ok.ensures.bytes.0 c.in-Ok.ensures.made c.in-Ok.ensures.count c.in-Ok.ensures.bound fits c.loop-test.true b refl (g.met.H.Hearer.stops_after first) stop new halts)
 
-pub returns-then-taken-n : goal.returns-then-taken-n
-returns-then-taken-n g c =
+pub returns-then-taken-n-clause-listens : goal.returns-then-taken-n-clause-listens
+returns-then-taken-n-clause-listens g c =
     let t = g.H.Hearer in
     let first = t.key c.args.hearer.now c.args.neighbours.now in
     let m = t.hearing first in
@@ -207,12 +208,13 @@ loop-preserved g c =
           (listening_more t.State m limits old c.loop.counter c.loop.pending.items c.loop.left now c.loop.count fed a here next c.read_some.new.buf c.in-Ok.n c.in-Ok.ensures.bytes.0 c.in-Ok.ensures.made c.in-Ok.ensures.count c.in-Ok.ensures.bound fits c.loop-test.true b refl c.hear_pending.new.pending.items new c.hear_pending.new.count some all c.in_ok-hear_pending.ensures.short heard);
       room = ap length back ∙ fits;
       numbered = omega (arith, number);
-      ready = c.in_ok-hear_pending.ensures.ready;
+      ready = c.in_ok-hear_pending.ensures.ready tt;
       same = c.in_ok-hear_pending.ensures.same ∙ c.loop.invariant.same;
+      output = c.in-Ok.ensures.output ∙ c.loop.invariant.output;
     }
 
-pub returns : goal.returns
-returns g c =
+pub returns-clause-listens : goal.returns-clause-listens
+returns-clause-listens g c =
     let t = g.H.Hearer in
     let first = t.key c.args.hearer.now c.args.neighbours.now in
     let m = t.hearing first in
@@ -227,3 +229,8 @@ returns g c =
     let all : c.loop.counter ≡ limits.reads = omega arith in
     no_more t.State m limits old c.loop.counter c.loop.pending.items c.loop.left now c.loop.count fed a here all
 
+pub returns-in_err-hear_pending-clause-ready : goal.returns-in_err-hear_pending-clause-ready
+returns-in_err-hear_pending-clause-ready g c =
+    handed_on c.from_residual-in_err-hear_pending.result c.in_err-hear_pending.field-0.0
+    (λ (r : Result (Unit {0}) Stop). IsBetween r → g.H.Hearer.is_ready c.hear_pending.new.hearer c.hear_pending.new.neighbours (g.W.Device.seen c.hear_pending.new.out)) c.from_residual-in_err-hear_pending.ensures
+    c.in_err-hear_pending.ensures.ready

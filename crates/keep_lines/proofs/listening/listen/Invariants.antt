@@ -15,4 +15,5 @@ invariant-loop g l = record {
   numbered : counted l.count ≡ l.count;
   ready : g.H.Hearer.is_ready l.hearer l.neighbours (g.W.Device.seen l.out);
   same : g.H.Hearer.key l.hearer l.neighbours ≡ g.H.Hearer.key l.fn.hearer l.fn.neighbours;
+  output : (g.R.Device.seen l.lines).output ≡ (g.R.Device.seen l.fn.lines).output;
 }
