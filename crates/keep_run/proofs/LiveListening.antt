@@ -1,6 +1,7 @@
 -- LiveListening: a live run that was opened and then listened, and what it tells of its end: for `live` and `run_live`.
-use Rattle.std.proofs.Common.{◌≡◌, ℕ, inl, inr, Bool, List, ◌++◌, Option, Result, Ok, Err, ◌+◌, codes, length, refl, sym, subst, take, ◌==◌, ◌≤◌, ◌∙◌, ap, arith, length-append, IsTrue}
+use Rattle.std.proofs.Common.{◌≡◌, ℕ, inl, inr, Bool, List, ◌++◌, Option, Result, Ok, Err, ◌+◌, codes, length, min, refl, sym, subst, take, ◌==◌, ◌≤◌, ◌∙◌, ap, arith, length-append, IsTrue}
 use Rattle.std.specs.Result.{IsErr, IsErrAnd}
+use Rattle.std.proofs.lemmas.List.{length-take}
 use Rattle.std.proofs.lemmas.List.Splits.{length-slice_split}
 use Rattle.std.proofs.lemmas.List.Sums.{count_by-le-length}
 use Rattle.std.specs.List.{count_by}
@@ -25,13 +26,16 @@ use Rattle.keep_lines.proofs.LineByLine.{listens_then}
 use Rattle.keep_words.specs.Pieces.{pieces}
 use Rattle.keep_run.specs.declared.live.listening.TheConstants.{MOST_EVENTS}
 use Rattle.keep_run.specs.Listening.{Listens, ListensTo, hearing, limits}
-use Rattle.keep_run.proofs.LineByLine.{stops_after}
+use Rattle.keep_run.specs.StopsAfter.{stops_after}
 use Rattle.keep_run.specs.LiveRun.{EndsEarly, HasListened, IsOpened, LiveRun, LivesTo}
 use Rattle.keep_run.specs.Stops.{both}
 use Rattle.keep_run.specs.Closed.{World}
 use Rattle.keep_run.proofs.Agents.{as_begun}
 
 -- ---- the number of a line
+
+most_taken : (n : ℕ) (read : List ℕ) → length (take n read) ≤ n
+most_taken n read = let l : length (take n read) ≡ min n (length read) = length-take n read in omega (arith, l)
 
 -- there are no more lines than bytes
 few_lines : (read : List ℕ) (lines behind : List (List ℕ)) → pieces 10 (take MOST_EVENTS read) ≡ lines ++ behind → counted (length lines + 1) ≡ length lines + 1
@@ -41,7 +45,7 @@ few_lines read lines behind parts =
     let all : length (lines ++ behind) ≡ count_by p (take MOST_EVENTS read) + 1 = ap length (sym parts) ∙ length-slice_split p (take MOST_EVENTS read) in
     let both' : length (lines ++ behind) ≡ length lines + length behind = length-append lines behind in
     let feeds : count_by p (take MOST_EVENTS read) ≤ length (take MOST_EVENTS read) = count_by-le-length p (take MOST_EVENTS read) in
-    let most : length (take MOST_EVENTS read) ≤ MOST_EVENTS = length-take MOST_EVENTS read in
+    let most : length (take MOST_EVENTS read) ≤ MOST_EVENTS = most_taken MOST_EVENTS read in
     omega (arith, all, both', feeds, most)
 
 -- ---- nothing was read
@@ -124,7 +128,7 @@ module _ (port : ℕ) (bytes : List ℕ) (start : ℕ) (before : Option Behind) 
     by_result (Err (stops.Broker name)) h = (v, read, inr (final, h, refl))
     by_result (Err (stops.Moments fault)) h = (v, read, inr (final, h, refl))
     by_result (Err (stops.FaultWord i)) h = (v, read, inr (final, h, refl))
-    by_result (Err (stops.Inventory fault)) h = absurd h.ends.1
+    by_result (Err (stops.Inventory fault)) h = absurd h.ends.1.1.1
 
   -- ---- by exit
 

@@ -6,7 +6,7 @@ ghost use Rattle.keep_run.specs.Listening as listening;
 ghost use Rattle.keep_run.specs.Listening.{Listens};
 ghost use Rattle.keep_run.specs.Stops.{both};
 ghost use Rattle.keep_run.specs.Closed.{World};
-ghost use Rattle.keep_run.proofs.LineByLine.{stops_after};
+ghost use Rattle.keep_run.specs.StopsAfter.{stops_after};
 
 use crate::agent::Agent;
 use crate::live::event_line::heard_in;
