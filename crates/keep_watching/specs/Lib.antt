@@ -3,7 +3,7 @@ pub mod Told
 pub mod Lines
 pub mod Watching
 pub mod Answers
-pub mod Slices
+pub mod Sending
 pub mod Clocked
 pub mod Hears
 pub mod WatchRun
@@ -12,4 +12,3 @@ pub mod code
 pub mod Listening
 pub mod LawsOfWatching
 pub mod Secrecy
-pub mod Alike

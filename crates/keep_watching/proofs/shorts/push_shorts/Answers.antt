@@ -3,7 +3,7 @@ use Rattle.std.proofs.Common.{◌≡◌, ◌∙◌, ◌++◌, ◌<◌, ℕ, List
 use Rattle.std.specs.List.{range_with_len}
 use Rattle.keep_run.specs.Text.{name_of}
 use Rattle.keep_tree.specs.Forest.{Forest}
-use Rattle.keep_watch.specs.Shortness.{short_of}
+use Rattle.watch_machine.specs.Shortness.{short_of}
 use Rattle.keep_watching.specs.Clocked.{later, news_line, said_after, said_of, short_lines}
 use Rattle.keep_watching.proofs.News.{before_more, behind_more, one_more, said_is}
 use Rattle.keep_watching.proofs.shorts.push_shorts.Goals as goal

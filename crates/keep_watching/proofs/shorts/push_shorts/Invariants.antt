@@ -2,7 +2,7 @@
 use Rattle.std.proofs.Common.{◌≡◌, ◌++◌, ◌<◌, ◌≤◌, ℕ, flat_map}
 use Rattle.std.specs.List.{range_with_len}
 use Rattle.keep_run.specs.Text.{name_of}
-use Rattle.keep_watch.specs.Shortness.{short_of}
+use Rattle.watch_machine.specs.Shortness.{short_of}
 use Rattle.keep_watching.specs.Clocked.{later, news_line, said_of}
 use Rattle.keep_watching.proofs.shorts.push_shorts.Given as goal
 
