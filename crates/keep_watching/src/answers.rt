@@ -15,7 +15,7 @@ use crate::watching::Watching;
 use keep_lanes::{Answered, Loss, hear_lookup, hear_renewal};
 use std::alloc::{AllocError, Global};
 use vault_http::DatedReply;
-use watch_machine::{End, Event, Notes, Operation, Reply};
+use watch_machine::{End, Event, Notes, Operation, Out, Reply};
 
 impl Watching {
     /// Takes answers, each for the request that is out of its entry, and appends their lines.
@@ -37,7 +37,6 @@ impl Watching {
     }
 
     /// Takes the answer to the request that is out of its entry, and appends its lines.
-    #[tactic(auto, using(crate::proofs::Answering::answer_free, crate::proofs::Answering::taken_made, crate::proofs::Answering::out_within))]
     fn answer(
         &mut self,
         alloc: Global,
@@ -64,7 +63,7 @@ impl Watching {
         ensures operation { IfSome (out_of self.now.machine.out entry) (λ r. result ≡ r.operation) }
         ensures whole { IsWhole self.now }
     {
-        match self.watch.out().iter().find(|out| out.entry == entry) {
+        match out_of(self.watch.out(), entry) {
             Some(out) => out.operation,
             None => Operation::Look,
         }
@@ -196,6 +195,13 @@ impl Watching {
         }
         push_link(notes.link, text)
     }
+}
+
+/// The request of these that is out of an entry.
+fn out_of(out: &[Out], entry: u32) -> Option<Out>
+    ensures { result ≡ out_of out.now entry }
+{
+    out.iter().find(|request| request.entry == entry).copied()
 }
 
 /// The event of an answer.

@@ -68,7 +68,6 @@ impl Watching {
 
     /// Waits for the first answers, up to that moment of the machine's clock, but for a second at most, and takes those that are
     /// there. Appends their lines, and that the time is to be handed in at once.
-    #[tactic(auto, using(crate::proofs::Clocks::taken_on, crate::proofs::Abreast::parted_out, crate::proofs::Abreast::abreast_taken))]
     pub(crate) fn take_on<L: Lanes>(
         &mut self,
         alloc: Global,

@@ -21,7 +21,7 @@ pub(crate) fn push_shorts(
     ensures said { OnOk result (said.new ≡ said_after watch.now said.old) }
     ensures count { length said.new ≡ length said.old }
 {
-    let margin = u64::from(watch.forest().margin());
+    let margin = watch.forest().margin();
     for entry in 0..watch.forest().len() {
         let reach = watch.short_of(entry);
         let last = said[entry as usize];
@@ -34,7 +34,7 @@ pub(crate) fn push_shorts(
 /// Appends that the entry of that name cannot be kept past a moment, where that is news.
 fn push_news(
     alloc: Global,
-    margin: u64,
+    margin: u32,
     name: &[u8],
     last: Option<u64>,
     reach: Option<u64>,
@@ -49,7 +49,7 @@ fn push_news(
 }
 
 /// What was said last of an entry, once that is said, too.
-fn later(margin: u64, last: Option<u64>, reach: Option<u64>) -> Option<u64>
+fn later(margin: u32, last: Option<u64>, reach: Option<u64>) -> Option<u64>
     ensures { result ≡ later margin last reach }
 {
     match reach {
@@ -59,11 +59,11 @@ fn later(margin: u64, last: Option<u64>, reach: Option<u64>) -> Option<u64>
 }
 
 /// Whether a reach is to be said: nothing was said before, or something that differs from it by the margin or more.
-fn is_news(margin: u64, last: Option<u64>, reach: u64) -> bool
+fn is_news(margin: u32, last: Option<u64>, reach: u64) -> bool
     ensures { result ≡ is_news margin last reach }
 {
     match last {
         None => true,
-        Some(last) => last.abs_diff(reach) >= margin,
+        Some(last) => last.abs_diff(reach) >= u64::from(margin),
     }
 }

@@ -50,3 +50,9 @@ loop-request-preserved g c =
       width = c.in_ok-send.ensures.width ∙ c.loop-request.invariant.width;
       port = c.in_ok-send.ensures.port ∙ c.loop-request.invariant.port;
     }
+
+pub returns-in_err-ask-clause-width : goal.returns-in_err-ask-clause-width
+returns-in_err-ask-clause-width g c = c.loop-request.invariant.width
+
+pub returns-in_err-ask-clause-port : goal.returns-in_err-ask-clause-port
+returns-in_err-ask-clause-port g c = c.loop-request.invariant.port
