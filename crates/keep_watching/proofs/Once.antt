@@ -58,6 +58,10 @@ itself p =
 often : Place → List Place → ℕ
 often p qs = count_by (same_place p) qs
 
+often_none : (p : Place) → often p [] ≡ 0
+unfolding often
+often_none p = refl
+
 often_cons : (p q : Place) (qs : List Place) → often p (q ∷ qs) ≡ cond (same_place p q) 1 0 + often p qs
 unfolding often
 often_cons p q qs = sum_by-cons (λ k. cond (same_place p k) 1 0) q qs
@@ -143,7 +147,7 @@ comes_itself x = inr (refl, inr (refl, omega arith))
 
 -- what is among some of which something holds
 among_places : (P : Place → Type 0) (p : Place) (qs : List Place) → All P qs → 0 < often p qs → P p
-among_places P p [] all some = absurd (omega (arith, some))
+among_places P p [] all some = absurd (let none = often_none p in omega (arith, some, none))
 among_places P p (q ∷ qs) all some =
     let more = often_cons p q qs in
     elim (cases_Bool (same_place p q)) [
@@ -161,8 +165,8 @@ same_rest x p xs ys same = let a = often_cons p x xs in let b = often_cons p x y
 
 order_once : (xs ys : List Place) → IsInOrder xs → IsInOrder ys → ((p : Place) → often p ys ≡ often p xs) → ys ≡ xs
 order_once [] [] up up' same = refl
-order_once [] (y ∷ ys) up up' same = absurd (let here = itself_among y ys in let e = same y in omega (arith, here, e))
-order_once (x ∷ xs) [] up up' same = absurd (let here = itself_among x xs in let e = same x in omega (arith, here, e))
+order_once [] (y ∷ ys) up up' same = absurd (let here = itself_among y ys in let e = same y in let none = often_none y in omega (arith, here, e, none))
+order_once (x ∷ xs) [] up up' same = absurd (let here = itself_among x xs in let e = same x in let none = often_none x in omega (arith, here, e, none))
 order_once (x ∷ xs) (y ∷ ys) up up' same =
     let a = among_places (Comes x) y (x ∷ xs) (All-cons (Comes x) x xs (comes_itself x) (all_come x xs up)) (subst (λ n. 0 < n) (same y) (itself_among y ys)) in
     let b = among_places (Comes y) x (y ∷ ys) (All-cons (Comes y) y ys (comes_itself y) (all_come y ys up')) (subst (λ n. 0 < n) (sym (same x)) (itself_among x xs)) in

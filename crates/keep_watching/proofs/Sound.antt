@@ -256,7 +256,7 @@ begun_left : (s : State) (w : Option Why) → Left (begun s w) s
 begun_left s None = (refl, (refl, refl))
 begun_left s (Some w) = (refl, (refl, refl))
 
-readied_left : (s : State) (wall elapsed : ℕ) → Left (readied s wall elapsed) s
+pub readied_left : (s : State) (wall elapsed : ℕ) → Left (readied s wall elapsed) s
 unfolding readied
 readied_left s wall elapsed = begun_left (settled (timed s wall elapsed)) (why s wall elapsed)
 
@@ -515,7 +515,7 @@ looked_other s q (Refused status date) terms i other = get_or-set_other s.tracks
 looked_other s q Busy terms i other = get_or-set_other s.tracks q.entry i _ no_track other
 looked_other s q Lost terms i other = get_or-set_other s.tracks q.entry i _ no_track other
 
-looked_out : (s : State) (q : Out) (reply : Reply) (terms : Terms) → (looked s q reply terms).out ≡ s.out
+pub looked_out : (s : State) (q : Out) (reply : Reply) (terms : Terms) → (looked s q reply terms).out ≡ s.out
 looked_out s q (Told seconds renewable date) terms = refl
 looked_out s q (Refused status date) terms = refl
 looked_out s q Busy terms = refl
