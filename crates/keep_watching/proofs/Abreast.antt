@@ -94,11 +94,11 @@ parted_times [] answers left h i = (let a = ap (λ (xs : List Answered). times i
 parted_times (o ∷ os) answers left h i = elim h [
   | inl back ↦
       let a = back.0 in
-      let rest = parted_times os back.1.0 left back.1.1.1.1 i in
-      let is = ap (λ (xs : List Answered). times i (entries_of xs)) back.1.1.0 in
-      let here = times_cons i a.index (entries_of back.1.0) in
+      let rest = parted_times os back.1 left back.2.1.1 i in
+      let is = ap (λ (xs : List Answered). times i (entries_of xs)) back.2.0 in
+      let here = times_cons i a.index (entries_of back.1) in
       let there = times_cons i o.index (entries_on os) in
-      let same = ap (λ n. cond (n == i) 1 0) back.1.1.1.0.0 in
+      let same = ap (λ n. cond (n == i) 1 0) back.2.1.0.0 in
       omega (arith, rest, is, here, there, same)
   | inr stays ↦
       let rest = parted_times os answers stays.0 stays.1.1 i in
@@ -111,7 +111,7 @@ parted_times (o ∷ os) answers left h i = elim h [
 parted_count : (old : List lanes.Out) (answers : List Answered) (left : List lanes.Out) → IsParted old answers left → length left + length answers ≡ length old
 parted_count [] answers left h = (let a = ap length h.0 in let b = ap length h.1 in omega (arith, a, b))
 parted_count (o ∷ os) answers left h = elim h [
-  | inl back ↦ (let rest = parted_count os back.1.0 left back.1.1.1.1 in let is = ap length back.1.1.0 in omega (arith, rest, is))
+  | inl back ↦ (let rest = parted_count os back.1 left back.2.1.1 in let is = ap length back.2.0 in omega (arith, rest, is))
   | inr stays ↦ (let rest = parted_count os answers stays.0 stays.1.1 in let is = ap length stays.1.0 in omega (arith, rest, is))
 ]
 

@@ -1,11 +1,12 @@
 -- Alike replies: of what two brokers say of an entry whose tables differ in credentials alone, a watch is told the same. For the law
 -- that secrets change no answer.
-use Rattle.std.proofs.Common.{◌≡◌, ◌∙◌, ◌==◌, ℕ, ◌<◌, ◌≤◌, false, cond, is_none, List, [], Some, None, Ok, Err, IsUtf8, bytes_eq, length, refl, sym, ap, subst}
+use Rattle.std.proofs.Common.{◌≡◌, ◌∙◌, ◌==◌, ℕ, ◌<◌, ◌≤◌, ◌||◌, Bool, false, cond, is_none, List, [], Some, None, Ok, Err, IsUtf8, bytes_eq, length, refl, sym, ap, ap₂, subst}
 use Rattle.std.proofs.lemmas.Bool.{cond-true}
 use Rattle.std.specs.Cmp.Lexicographic.{bytes_decides}
 use Rattle.keep_exchange.specs.Exchanges.{received}
 use Rattle.keep_exchange.specs.Heard.{looked_in, looked_of, looked_up as looked_whole, of_lease, of_token, refuses as refused_by, renewed_by as renewed_whole, renewed_in, told_at}
 use Rattle.keep_exchange.specs.declared.heard.Heard as exchange
+use Rattle.keep_exchange.specs.declared.heard.Heard.TheVariants as exchanged
 use Rattle.keep_exchange.specs.declared.heard.Terms as looked
 use Rattle.keep_exchange.proofs.Lengths.{errors_short, ok_short, refusal_short, refused_short, renewed_lease_short, renewed_self_short, reply_short, status_short}
 use Rattle.keep_lanes.specs.Heard.{heard_with, looked_up, renewed_by}
@@ -28,9 +29,11 @@ use Rattle.keep_tree.specs.declared.entry.Kind.{Kind}
 use Rattle.keep_tree.specs.declared.entry.Kind.TheVariants.{Token, Lease}
 use Rattle.keep_tree.specs.Forest.{Forest, entry_at}
 use Rattle.keep_tree.specs.Push.{is_lease}
+use Rattle.watch_machine.specs.declared.event.Operation.{Operation}
+use Rattle.watch_machine.specs.declared.event.Operation.TheVariants.{Look, Renew}
 use Rattle.watch_machine.specs.declared.event.Reply.TheVariants as replies
-use Rattle.keep_run.proofs.Dated.{Speaks}
-use Rattle.keep_watching.specs.Told.{end_told, is_of_another, lookup_reply, lookup_terms, loss_in, no_terms, said_to, terms_told}
+use Rattle.keep_run.proofs.Dated.{Speaks, if_both}
+use Rattle.keep_watching.specs.Told.{end_told, is_of_another, lookup_reply, lookup_terms, loss_in, no_terms, renewal_reply, said_to, terms_told}
 use Rattle.mini_broker.specs.declared.call.Call.TheVariants.{LookupSelf, LookupLease}
 use Rattle.mini_broker.specs.declared.refusal.Refusal.{Refusal}
 use Rattle.mini_broker.specs.declared.refusal.Refusal.TheVariants.{UnsupportedPath, UnsupportedMethod, PermissionDenied, BadRequest, UnknownLease, NotRenewable}
@@ -45,7 +48,12 @@ use Rattle.vault_json.specs.declared.lookup.Lookup.{Lookup}
 use Rattle.vault_json.specs.declared.lookup.Lookup.TheVariants as lookups
 use Rattle.vault_json.specs.declared.renewed.Renewed as grants
 use Rattle.vault_json.specs.Laws.{LookedLeaseIsRead}
+use Rattle.vault_json.specs.Lookup.{lookup_lease_answer}
 use Rattle.vault_json.specs.Renewed.{renew_lease_answer, renew_self_answer}
+use Rattle.vault_json.specs.Body.{body_of, reply_of}
+use Rattle.vault_json.specs.declared.fault.ReplyFault.TheVariants.{NotJson}
+use Rattle.json.specs.Json.{value}
+use Rattle.json.specs.Lex.{lex}
 use Rattle.vault_json.specs.Written.{looked_self_text, renewed_lease_text}
 use Rattle.vault_json.proofs.ReadBack.{renewed_lease_is_read, renewed_self_is_read}
 
@@ -88,6 +96,17 @@ unfolding renewed_whole
 renewal_refused kind id v reply is =
     ap (renewed_by kind id) (refused_received v reply is) ∙ ap (λ n. heard_with (lost_by n) (cond (n == 200) (told_at None (renewed_in kind id reply.body)) (refused_by n None))) is.0
     ∙ by_refusal v (lost_by (status_of v)) (told_at None (renewed_in kind id reply.body))
+
+-- ---- no body
+
+-- no bytes are no JSON
+no_lookup : lookup_lease_answer [] ≡ Err NotJson
+unfolding lookup_lease_answer reply_of body_of lex value
+no_lookup = refl
+
+no_renewal : renew_lease_answer [] ≡ Err NotJson
+unfolding renew_lease_answer reply_of body_of lex value
+no_renewal = refl
 
 -- ---- a renewal
 
@@ -275,3 +294,54 @@ module _ (g : Forest) (cs ds : List (List ℕ)) (ts : List Terms) (one : IsInven
         by_kind kind (LooksSame i (answer_of a) (answer_of b))
         (λ token. token_looks i t r q token rows.0.same a b (subst (λ k. Tells t (look_for k) r a) token first) (subst (λ k. Tells t (look_for k) q b) token second))
         (λ lease. lease_looks i t r q within lease rows.0.same rows.1.0 rows.1.1 speaks a b (subst (λ k. Tells t (look_for k) r a) lease first) (subst (λ k. Tells t (look_for k) q b) lease second))
+
+  -- ---- what no broker told
+
+  -- an answer that is lost says the same, whatever was asked
+  pub loss_same : (operation : Operation) (i : ℕ) (why : Loss) → said_to u operation i (Err why) ≡ said_to s operation i (Err why)
+  unfolding looked_whole renewed_whole lookup_reply lookup_terms
+  loss_same Look i why = refl
+  loss_same Renew i why = refl
+
+  -- and so does a reply with no body
+  empty : ℕ → Reply
+  empty status = record { status = status; body = [] }
+
+  empty_granted : (kind : Kind) (a b : List ℕ) → renewed_in kind b [] ≡ renewed_in kind a []
+  empty_granted Token a b = refl
+  empty_granted Lease a b = ap (of_lease b) no_renewal ∙ sym (ap (of_lease a) no_renewal)
+
+  empty_renews : (i status : ℕ) → RenewsSame i (with_reply (empty status)) (with_reply (empty status))
+  unfolding renewed_whole empty
+  empty_renews i status =
+      ap (λ o. heard_with (lost_by status) (cond (status == 200) (told_at None o) (refused_by status None))) (empty_granted (entry_at g.entries i).kind (credential_at cs i) (credential_at ds i))
+
+  abbrev HearsSame : ℕ → Heard looked.Terms → Type 0
+  HearsSame i h = (lookup_reply u i h ≡ lookup_reply s i h) × (lookup_terms u i h ≡ lookup_terms s i h)
+
+  untold_alike : (i status : ℕ) (why : Loss) (b : Bool) → HearsSame i (heard_with why (cond b exchanged.Lost (refused_by status None)))
+  unfolding lookup_reply lookup_terms
+  untold_alike i status why b =
+      let P : exchange.Heard looked.Terms → Type 0 = λ e. HearsSame i (heard_with why e) in
+      if_both P b exchanged.Lost (refused_by status None) (refl, refl)
+      (if_both P (status == 400 || (status == 403 || (status == 404 || status == 405))) (exchanged.Refused status None) (cond (status == 429) exchanged.Busy exchanged.Lost) (refl, refl)
+      (if_both P (status == 429) exchanged.Busy exchanged.Lost (refl, refl) (refl, refl)))
+
+  empty_looked : (kind : Kind) → kind ≡ Lease → looked_in kind [] ≡ None
+  empty_looked kind lease = ap (λ k. looked_in k []) lease ∙ ap (looked_of false) no_lookup
+
+  empty_looks : (i status : ℕ) → HearsSame i (looked_up (entry_at g.entries i).kind (with_reply (empty status)))
+  unfolding looked_whole empty
+  empty_looks i status =
+      let kind = (entry_at g.entries i).kind in
+      by_kind kind (HearsSame i (looked_up kind (with_reply (empty status)))) (λ token. heard_alike i token (looked_up kind (with_reply (empty status))))
+      (λ lease.
+      subst (λ o. HearsSame i (heard_with (lost_by status) (cond (status == 200) (told_at None o) (refused_by status None)))) (sym (empty_looked kind lease)) (untold_alike i status (lost_by status) (status == 200)))
+
+  pub status_same : (operation : Operation) (i status : ℕ) → said_to u operation i (with_reply (record { status = status; body = [] })) ≡ said_to s operation i (with_reply (record { status = status; body = [] }))
+  unfolding empty
+  status_same Look i status =
+      let same = empty_looks i status in
+      let h = looked_up (entry_at g.entries i).kind (with_reply (record { status = status; body = [] })) in
+      ap₂ (λ r t. record { reply = r; terms = t; loss = loss_in h }) same.0 same.1
+  status_same Renew i status = ap (λ h. record { reply = renewal_reply h; terms = no_terms; loss = loss_in h }) (empty_renews i status)

@@ -26,7 +26,7 @@ use Rattle.keep_watching.proofs.Sound.{Answered, counts, marked_within, same_ind
 -- ---- the request that an answer is to
 
 -- an entry that is out of some has a request among them
-some_out : (out : List Out) (i : ℕ) → 0 < times i (map (λ (r : Out). r.entry) out) → out_of out i ≢ None
+pub some_out : (out : List Out) (i : ℕ) → 0 < times i (map (λ (r : Out). r.entry) out) → out_of out i ≢ None
 some_out [] i some = absurd (omega (arith, some))
 some_out (r ∷ out) i some =
     elim (cases_Bool (r.entry == i)) [

@@ -13,4 +13,9 @@ pub mod LinesRead
 pub mod RunOfMachine
 pub mod Once
 pub mod Secrets
+pub mod Kept
+pub mod AlikeReplies
+pub mod AlikeTaken
+pub mod AlikeLanes
+pub mod AlikeWatches
 pub mod FromFile

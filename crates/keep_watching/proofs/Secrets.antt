@@ -46,7 +46,7 @@ record AreBothAlike (w v : Watching) (text more : List ℕ) : Type 0 where
 cons_head : {X : Type 0} (x y : X) (xs ys : List X) → x ∷ xs ≡ y ∷ ys → x ≡ y
 cons_head x y xs ys e = cc
 
-cons_tail : {X : Type 0} (x y : X) (xs ys : List X) → x ∷ xs ≡ y ∷ ys → xs ≡ ys
+pub cons_tail : {X : Type 0} (x y : X) (xs ys : List X) → x ∷ xs ≡ y ∷ ys → xs ≡ ys
 cons_tail x y xs ys e = cc
 
 not_empty : {X : Type 0} (x : X) (xs : List X) → x ∷ xs ≡ [] → ⊥
@@ -61,11 +61,11 @@ not_full x xs e = cc
 -- ---- answers
 
 -- the requests that a clock commands, and until when nothing is to be done
-requests_in : Command → List Request
+pub requests_in : Command → List Request
 requests_in (Go requests until) = requests
 requests_in other = []
 
-until_in : Command → ℕ
+pub until_in : Command → ℕ
 until_in (Go requests until) = until
 until_in other = 0
 
@@ -73,7 +73,7 @@ abbrev content_at : ℕ → Said → Content
 content_at i said = record { index = i; said = said }
 
 module _ (s t : Inventory) (forest : t.forest ≡ s.forest) where
-  one_taken :
+  pub one_taken :
       (x y : Answered) (old other new last : State) (text more : List ℕ) → other ≡ old → (h : IsTaken s x old new text) (k : IsTaken t y other last more) → y.index ≡ x.index → k.said ≡ h.said →
       (last ≡ new) × (more ≡ text)
   one_taken x y old other new last text more state h k index said =
@@ -106,7 +106,7 @@ module _ (s t : Inventory) (forest : t.forest ≡ s.forest) where
 
 -- ---- what is done at a clock
 
-there_once : (m : State) (x y : Option Next) → IsNextThere m x → IsNextThere m y → y ≡ x
+pub there_once : (m : State) (x y : Option Next) → IsNextThere m x → IsNextThere m y → y ≡ x
 there_once m x y h k = k.1.1 ∙ ap (option_map (next_there m)) (next_once m h.0 k.0 h.1.0 k.1.0) ∙ sym h.1.1
 
 waits_alike : (w v : Watching) (until other : ℕ) (new last : Watching) (text more : List ℕ) → other ≡ until → AreAlike w v → IsWaited w until new text → IsWaited v other last more → AreBothAlike new last text more

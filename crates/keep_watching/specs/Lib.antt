@@ -12,3 +12,4 @@ pub mod code
 pub mod Listening
 pub mod LawsOfWatching
 pub mod Secrecy
+pub mod Alike

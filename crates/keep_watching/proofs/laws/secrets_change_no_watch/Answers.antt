@@ -1,6 +1,13 @@
--- The law, as it is proved of the definitions.
+-- The law is put together from what holds over any exchange and what holds over brokers in memory.
+use Rattle.keep_watching.proofs.AlikeWatches as watches
 use Rattle.keep_watching.proofs.Secrets.{secrets}
 use Rattle.keep_watching.proofs.laws.secrets_change_no_watch.Goals as goal
 
-pub returns : goal.returns
-returns c = secrets
+pub returns-clause-content : goal.returns-clause-content
+returns-clause-content c = secrets
+
+pub returns-clause-new : goal.returns-clause-new
+returns-clause-new c = watches.fresh_alike
+
+pub returns-clause-lines : goal.returns-clause-lines
+returns-clause-lines c = watches.alike_watches c.looked_lease_is_read.ensures
