@@ -2,7 +2,7 @@
 use Rattle.std.proofs.Common.{◌≡◌, ◌++◌, length}
 use Rattle.std.specs.Vec.Iter.{into_iter_items, into_iter_len}
 use Rattle.keep_watching.proofs.Answering.{IsTaking}
-use Rattle.keep_watching.proofs.answers.Watching.take_answers.Given as goal
+use Rattle.keep_watching.proofs.watching.Watching.take_answers.Given as goal
 
 abbrev pub invariant-loop-answered : goal.invariant-loop-answered
 invariant-loop-answered l = record {

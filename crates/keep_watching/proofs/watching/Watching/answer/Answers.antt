@@ -11,7 +11,7 @@ use Rattle.keep_watching.specs.Answers.{noted_lines, reply_lines}
 use Rattle.keep_watching.specs.Told.{event_as}
 use Rattle.keep_watching.specs.Watching.{IsWhole, Watching}
 use Rattle.keep_watching.proofs.Answering.{answer_free, out_within, taken_made}
-use Rattle.keep_watching.proofs.answers.Watching.answer.Goals as goal
+use Rattle.keep_watching.proofs.watching.Watching.answer.Goals as goal
 
 pub said-requires : goal.said-requires
 said-requires c =

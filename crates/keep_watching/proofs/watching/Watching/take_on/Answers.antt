@@ -11,7 +11,7 @@ use Rattle.keep_watching.specs.Sending.{AreHandedBack, IsAbreast, Lanes, lanes_o
 use Rattle.keep_watching.specs.Texts.{clock_line}
 use Rattle.keep_watching.proofs.Abreast.{abreast_taken, parted_out}
 use Rattle.keep_watching.proofs.Clocks.{taken_on}
-use Rattle.keep_watching.proofs.sending.Watching.take_on.Goals as goal
+use Rattle.keep_watching.proofs.watching.Watching.take_on.Goals as goal
 
 always : {E : Type 0} (result : Result (Unit {0}) E) (P : Type 0) → P → OnOk result P
 always (Ok u) P p = p

@@ -4,7 +4,7 @@ use Rattle.std.specs.Vec.Iter.{into_iter_items}
 use Rattle.keep_lanes.specs.declared.lanes.Answered.{Answered}
 use Rattle.keep_watching.specs.Watching.{Watching}
 use Rattle.keep_watching.proofs.Answering.{IsTaking, taking_first, taking_more, taking_next}
-use Rattle.keep_watching.proofs.answers.Watching.take_answers.Goals as goal
+use Rattle.keep_watching.proofs.watching.Watching.take_answers.Goals as goal
 
 nothing_left : {X : Type 0} (l : List X) → length l ≡ 0 → l ≡ []
 nothing_left [] h = refl

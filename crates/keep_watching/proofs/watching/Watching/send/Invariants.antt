@@ -1,7 +1,7 @@
 -- The requests so far have gone out, each on a lane.
 use Rattle.std.proofs.Common.{◌≡◌, ◌+◌, length, take}
 use Rattle.keep_watching.specs.Sending.{GoOut, lanes_of, moment_of}
-use Rattle.keep_watching.proofs.sending.Watching.send.Given as goal
+use Rattle.keep_watching.proofs.watching.Watching.send.Given as goal
 
 abbrev pub invariant-loop-request : goal.invariant-loop-request
 invariant-loop-request g l = record {

@@ -8,7 +8,7 @@ use Rattle.watch_machine.specs.declared.command.Request.{Request}
 use Rattle.watch_machine.specs.declared.event.Operation.TheVariants.{Look}
 use Rattle.keep_watching.specs.Sending.{GoOut, Lanes, ask_of, lanes_of, moment_of}
 use Rattle.keep_watching.proofs.Abreast.{gone_more, put_count}
-use Rattle.keep_watching.proofs.sending.Watching.send.Goals as goal
+use Rattle.keep_watching.proofs.watching.Watching.send.Goals as goal
 
 abbrev none_asked : Request
 none_asked = record { entry = 0; operation = Look; patience = Full }
