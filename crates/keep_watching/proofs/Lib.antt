@@ -1,9 +1,10 @@
 pub mod WatchEnding
-pub mod Messages
 pub mod Saying
 pub mod Wording
+pub mod Sound
 pub mod Turns
 pub mod Answering
+pub mod Abreast
 pub mod News
 pub mod Clocks
 pub mod Taking
@@ -11,9 +12,10 @@ pub mod LineByLine
 pub mod LinesRead
 pub mod RunOfMachine
 pub mod Once
+pub mod Secrets
 pub mod Kept
 pub mod AlikeReplies
 pub mod AlikeTaken
+pub mod AlikeLanes
 pub mod AlikeWatches
-pub mod Secrets
 pub mod FromFile

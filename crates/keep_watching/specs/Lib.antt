@@ -3,7 +3,7 @@ pub mod Told
 pub mod Lines
 pub mod Watching
 pub mod Answers
-pub mod Slices
+pub mod Sending
 pub mod Clocked
 pub mod Hears
 pub mod WatchRun

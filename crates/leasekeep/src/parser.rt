@@ -2,8 +2,8 @@ use clap::error::ErrorKind;
 use clap::{Arg, ArgAction, ArgMatches, Command, Error};
 use keep_engine::LIMIT;
 use keep_moment::LAST;
-use keep_watch::WIDTH_MAX;
 use std::alloc::{AllocError, Global};
+use watch_machine::WIDTH_MAX;
 
 const ABOUT: &str = "Keeps Vault tokens and leases alive with the fewest wake-ups.";
 

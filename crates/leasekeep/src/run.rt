@@ -8,10 +8,10 @@ use keep_files::Disk;
 use std::io;
 use std::io::{Read, Write};
 use std::net::Net;
-use std::rt::{Env, Files};
+use std::rt::{Clock, Env, Files};
 
 /// Runs the command that the words of the command line ask, and gives the exit.
-pub fn run<R: Env + Files + AllocGlobal + Print + Net, I: Read + Drop, E: Write + Drop>(
+pub fn run<R: Env + Files + AllocGlobal + Print + Net + Clock, I: Read + Drop, E: Write + Drop>(
     rt: &R,
     input: I,
     errors: E,

@@ -7,6 +7,7 @@ use agent_tests::outcomes::{Outcome, streams_to};
 use keep_device::{InputFault, MemorySink, MemorySource};
 use keep_engine::{Command, Exit, MarginQuery, keep_alive, obey};
 use keep_exchange::MemoryExchange;
+use keep_lanes::MemoryLanes;
 use keep_files::Inputs;
 use keep_inventory::read;
 use keep_moment::Text;
@@ -252,11 +253,11 @@ fn a_live_run_reads_its_file_first(rt: HostRuntime) -> Result<(), Fail> {
 // A watch over the file, over a broker that lists the web example.
 fn watches(alloc: Global, file: &str) -> Result<(Outcome, u64), Fail> {
     let table = Table::load(alloc, &read(alloc, WEB.as_bytes())?)?;
-    let mut exchange = MemoryExchange::new(alloc, table);
+    let mut lanes = MemoryLanes::new(alloc, table, 5, 8);
     let text = Vec::from_slice(alloc, b"clock 1000000 1000000\n")?;
     let lines = MemorySource::new(text, Vec::new(alloc), None);
     let mut streams = streams_to(alloc, lines, MemorySink::new(alloc, None));
-    let exit = watch_file(alloc, file, 8, &mut Folder, &mut exchange, &mut streams);
+    let exit = watch_file(alloc, file, &mut Folder, &mut lanes, &mut streams);
     let reads = streams.lines.reads();
     Ok((Outcome::of(exit, streams), reads))
 }

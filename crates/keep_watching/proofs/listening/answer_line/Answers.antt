@@ -6,6 +6,7 @@ use Rattle.keep_report.specs.declared.stop.Stop.TheVariants as stops
 use Rattle.keep_report.specs.Sent.{Sends}
 use Rattle.keep_run.proofs.LineByLine.{handed_on}
 use Rattle.keep_tree.specs.Forest.{Forest}
+use Rattle.keep_watching.specs.Sending.{lanes_of}
 use Rattle.keep_watching.specs.Answers.{Appended}
 use Rattle.keep_watching.specs.Clocked.{Side, side}
 use Rattle.keep_watching.specs.Hears.{IsHeard}
@@ -18,15 +19,15 @@ pub returns-in_default-clause-hears : goal.returns-in_default-clause-hears
 returns-in_default-clause-hears g c =
     let out : Change = change g.W.Device.is_in_memory (g.W.Device.seen c.args.out.now) (g.W.Device.seen c.args.out.now) in
     let line = c.args.line.now in
-    line_is_none (g.E.Abreast.host_port c.args.exchange.now) c.args.number (side c.args.watching.now (g.E.Abreast.table c.args.exchange.now)) line out
+    line_is_none (g.L.Lanes.host_port c.args.lanes.now) c.args.number (side c.args.watching.now (lanes_of (g.L.Lanes.behind c.args.lanes.now) (g.L.Lanes.out c.args.lanes.now) (g.L.Lanes.seconds c.args.lanes.now))) line out
     (ap (λ (h : Forest). line_in h line) (sym c.names.ensures.names) ∙ sym c.line_in.ensures.said ∙ c.in_default.is) refl
 
 pub returns-in_err-take-clause-hears : goal.returns-in_err-take-clause-hears
 returns-in_err-take-clause-hears g c =
     let out : Change = change g.W.Device.is_in_memory (g.W.Device.seen c.args.out.now) (g.W.Device.seen c.args.out.now) in
-    let port = g.E.Abreast.host_port c.args.exchange.now in
-    let old : Side = side c.args.watching.now (g.E.Abreast.table c.args.exchange.now) in
-    let new : Side = side c.take.new.self (g.E.Abreast.table c.take.new.exchange) in
+    let port = g.L.Lanes.host_port c.args.lanes.now in
+    let old : Side = side c.args.watching.now (lanes_of (g.L.Lanes.behind c.args.lanes.now) (g.L.Lanes.out c.args.lanes.now) (g.L.Lanes.seconds c.args.lanes.now)) in
+    let new : Side = side c.take.new.self (lanes_of (g.L.Lanes.behind c.take.new.lanes) (g.L.Lanes.out c.take.new.lanes) (g.L.Lanes.seconds c.take.new.lanes)) in
     let line = c.args.line.now in
     handed_on c.from_residual.result stops.Memory (λ (r : Result (Unit {0}) Stop). HearsLine port c.args.number old line r new out) c.from_residual.ensures
     (line_wants port c.args.number old line new out refl)
@@ -34,9 +35,9 @@ returns-in_err-take-clause-hears g c =
 pub returns-clause-hears : goal.returns-clause-hears
 returns-clause-hears g c =
     let out : Change = change g.W.Device.is_in_memory (g.W.Device.seen c.args.out.now) (g.W.Device.seen c.send.new.out) in
-    let port = g.E.Abreast.host_port c.args.exchange.now in
-    let old : Side = side c.args.watching.now (g.E.Abreast.table c.args.exchange.now) in
-    let new : Side = side c.take.new.self (g.E.Abreast.table c.take.new.exchange) in
+    let port = g.L.Lanes.host_port c.args.lanes.now in
+    let old : Side = side c.args.watching.now (lanes_of (g.L.Lanes.behind c.args.lanes.now) (g.L.Lanes.out c.args.lanes.now) (g.L.Lanes.seconds c.args.lanes.now)) in
+    let new : Side = side c.take.new.self (lanes_of (g.L.Lanes.behind c.take.new.lanes) (g.L.Lanes.out c.take.new.lanes) (g.L.Lanes.seconds c.take.new.lanes)) in
     let line = c.args.line.now in
     let text = c.take.new.text.items in
     let says : line_in old.watching.inventory.forest line ≡ Some c.in-Some.line =

@@ -5,6 +5,7 @@ use Rattle.keep_device.specs.Seen.{Change, change}
 use Rattle.keep_report.specs.declared.stop.Stop.{Stop}
 use Rattle.keep_report.specs.declared.stop.Stop.TheVariants as stops
 use Rattle.keep_run.proofs.LineByLine.{handed_on, joined}
+use Rattle.keep_watching.specs.Sending.{lanes_of}
 use Rattle.keep_watching.specs.Answers.{cut}
 use Rattle.keep_watching.specs.Clocked.{Side, side}
 use Rattle.keep_watching.specs.code.LineByLine.{HaltsWithin, HearsUpTo, IsListening}
@@ -14,22 +15,22 @@ use Rattle.keep_watching.proofs.listening.listen_to.Goals as goal
 
 pub loop-init : goal.loop-init
 loop-init g c =
-    let port = g.E.Abreast.host_port c.args.exchange.now in
-    let old : Side = side c.args.watching.now (g.E.Abreast.table c.args.exchange.now) in
+    let port = g.L.Lanes.host_port c.args.lanes.now in
+    let old : Side = side c.args.watching.now (lanes_of (g.L.Lanes.behind c.args.lanes.now) (g.L.Lanes.out c.args.lanes.now) (g.L.Lanes.seconds c.args.lanes.now)) in
     let fed : Change = change g.R.Device.is_in_memory (g.R.Device.seen c.args.lines.now) (g.R.Device.seen c.args.lines.now) in
     let a : Change = change g.W.Device.is_in_memory (g.W.Device.seen c.args.out.now) (g.W.Device.seen c.args.out.now) in
     record {
       listening = subst (λ p. IsListening port old 0 p old 0 fed a) (sym c.new-pending.ensures.items) (listening_first port old (g.R.Device.seen c.args.lines.now) g.R.Device.is_in_memory a (inr (refl, refl), refl));
       counted = omega arith;
-      closed = c.requires.closed;
+      abreast = c.requires.abreast;
       port = refl;
     }
 
 pub returns-in_default : goal.returns-in_default
 returns-in_default g c =
-    let port = g.E.Abreast.host_port c.args.exchange.now in
-    let old : Side = side c.args.watching.now (g.E.Abreast.table c.args.exchange.now) in
-    let now : Side = side c.loop.watching (g.E.Abreast.table c.loop.exchange) in
+    let port = g.L.Lanes.host_port c.args.lanes.now in
+    let old : Side = side c.args.watching.now (lanes_of (g.L.Lanes.behind c.args.lanes.now) (g.L.Lanes.out c.args.lanes.now) (g.L.Lanes.seconds c.args.lanes.now)) in
+    let now : Side = side c.loop.watching (lanes_of (g.L.Lanes.behind c.loop.lanes) (g.L.Lanes.out c.loop.lanes) (g.L.Lanes.seconds c.loop.lanes)) in
     let fed : Change = change g.R.Device.is_in_memory (g.R.Device.seen c.args.lines.now) (g.R.Device.seen c.loop.lines) in
     let a : Change = change g.W.Device.is_in_memory (g.W.Device.seen c.args.out.now) (g.W.Device.seen c.loop.out) in
     let here : IsListening port old c.loop.counter c.loop.pending.items now c.loop.count fed a = c.loop.invariant.listening in
@@ -38,9 +39,9 @@ returns-in_default g c =
 
 pub returns-then-n-eq0 : goal.returns-then-n-eq0
 returns-then-n-eq0 g c =
-    let port = g.E.Abreast.host_port c.args.exchange.now in
-    let old : Side = side c.args.watching.now (g.E.Abreast.table c.args.exchange.now) in
-    let now : Side = side c.loop.watching (g.E.Abreast.table c.loop.exchange) in
+    let port = g.L.Lanes.host_port c.args.lanes.now in
+    let old : Side = side c.args.watching.now (lanes_of (g.L.Lanes.behind c.args.lanes.now) (g.L.Lanes.out c.args.lanes.now) (g.L.Lanes.seconds c.args.lanes.now)) in
+    let now : Side = side c.loop.watching (lanes_of (g.L.Lanes.behind c.loop.lanes) (g.L.Lanes.out c.loop.lanes) (g.L.Lanes.seconds c.loop.lanes)) in
     let fed : Change = change g.R.Device.is_in_memory (g.R.Device.seen c.args.lines.now) (g.R.Device.seen c.loop.lines) in
     let a : Change = change g.W.Device.is_in_memory (g.W.Device.seen c.args.out.now) (g.W.Device.seen c.loop.out) in
     let here : IsListening port old c.loop.counter c.loop.pending.items now c.loop.count fed a = c.loop.invariant.listening in
@@ -57,9 +58,9 @@ returns-then-n-eq0 g c =
 
 pub returns-in_err-extend_from_slice : goal.returns-in_err-extend_from_slice
 returns-in_err-extend_from_slice g c =
-    let port = g.E.Abreast.host_port c.args.exchange.now in
-    let old : Side = side c.args.watching.now (g.E.Abreast.table c.args.exchange.now) in
-    let now : Side = side c.loop.watching (g.E.Abreast.table c.loop.exchange) in
+    let port = g.L.Lanes.host_port c.args.lanes.now in
+    let old : Side = side c.args.watching.now (lanes_of (g.L.Lanes.behind c.args.lanes.now) (g.L.Lanes.out c.args.lanes.now) (g.L.Lanes.seconds c.args.lanes.now)) in
+    let now : Side = side c.loop.watching (lanes_of (g.L.Lanes.behind c.loop.lanes) (g.L.Lanes.out c.loop.lanes) (g.L.Lanes.seconds c.loop.lanes)) in
     let fed : Change = change g.R.Device.is_in_memory (g.R.Device.seen c.args.lines.now) (g.R.Device.seen c.loop.lines) in
     let a : Change = change g.W.Device.is_in_memory (g.W.Device.seen c.args.out.now) (g.W.Device.seen c.loop.out) in
     let here : IsListening port old c.loop.counter c.loop.pending.items now c.loop.count fed a = c.loop.invariant.listening in
@@ -74,9 +75,9 @@ returns-in_err-extend_from_slice g c =
 
 pub returns-in_err-answer_pending : goal.returns-in_err-answer_pending
 returns-in_err-answer_pending g c =
-    let port = g.E.Abreast.host_port c.args.exchange.now in
-    let old : Side = side c.args.watching.now (g.E.Abreast.table c.args.exchange.now) in
-    let now : Side = side c.loop.watching (g.E.Abreast.table c.loop.exchange) in
+    let port = g.L.Lanes.host_port c.args.lanes.now in
+    let old : Side = side c.args.watching.now (lanes_of (g.L.Lanes.behind c.args.lanes.now) (g.L.Lanes.out c.args.lanes.now) (g.L.Lanes.seconds c.args.lanes.now)) in
+    let now : Side = side c.loop.watching (lanes_of (g.L.Lanes.behind c.loop.lanes) (g.L.Lanes.out c.loop.lanes) (g.L.Lanes.seconds c.loop.lanes)) in
     let fed : Change = change g.R.Device.is_in_memory (g.R.Device.seen c.args.lines.now) (g.R.Device.seen c.loop.lines) in
     let a : Change = change g.W.Device.is_in_memory (g.W.Device.seen c.args.out.now) (g.W.Device.seen c.loop.out) in
     let here : IsListening port old c.loop.counter c.loop.pending.items now c.loop.count fed a = c.loop.invariant.listening in
@@ -88,19 +89,19 @@ returns-in_err-answer_pending g c =
     let fits : length c.read_some.new.buf ≡ 4096 = omega arith in
     let items : c.extend_from_slice.new.self.items ≡ c.loop.pending.items ++ take c.in-Ok.n c.read_some.new.buf = c.in_ok-extend_from_slice.ensures.items in
     let b : Change = change g.W.Device.is_in_memory (g.W.Device.seen c.loop.out) (g.W.Device.seen c.answer_pending.new.out) in
-    let new : Side = side c.answer_pending.new.watching (g.E.Abreast.table c.answer_pending.new.exchange) in
+    let new : Side = side c.answer_pending.new.watching (lanes_of (g.L.Lanes.behind c.answer_pending.new.lanes) (g.L.Lanes.out c.answer_pending.new.lanes) (g.L.Lanes.seconds c.answer_pending.new.lanes)) in
     let stop = c.in_err-answer_pending.field-0.0 in
     let halts : HaltsWithin port c.loop.count now (c.loop.pending.items ++ take c.in-Ok.n c.read_some.new.buf) stop new b =
     subst (λ p. HaltsWithin p c.loop.count now (c.loop.pending.items ++ take c.in-Ok.n c.read_some.new.buf) stop new b) c.loop.invariant.port
-    (subst (λ p. HaltsWithin (g.E.Abreast.host_port c.loop.exchange) c.loop.count now p stop new b) items c.in_err-answer_pending.ensures.halts) in
+    (subst (λ p. HaltsWithin (g.L.Lanes.host_port c.loop.lanes) c.loop.count now p stop new b) items c.in_err-answer_pending.ensures.halts) in
     handed_on c.from_residual-in_err-answer_pending.result stop (λ (r : Result (Unit {0}) Stop). Listens port old r new after (joined a b)) c.from_residual-in_err-answer_pending.ensures
     (halted port old c.loop.counter c.loop.pending.items now c.loop.count fed a here next c.read_some.new.buf c.in-Ok.n c.in-Ok.ensures.bytes.0 c.in-Ok.ensures.count c.in-Ok.ensures.bound fits b refl stop new halts)
 
 pub loop-preserved : goal.loop-preserved
 loop-preserved g c =
-    let port = g.E.Abreast.host_port c.args.exchange.now in
-    let old : Side = side c.args.watching.now (g.E.Abreast.table c.args.exchange.now) in
-    let now : Side = side c.loop.watching (g.E.Abreast.table c.loop.exchange) in
+    let port = g.L.Lanes.host_port c.args.lanes.now in
+    let old : Side = side c.args.watching.now (lanes_of (g.L.Lanes.behind c.args.lanes.now) (g.L.Lanes.out c.args.lanes.now) (g.L.Lanes.seconds c.args.lanes.now)) in
+    let now : Side = side c.loop.watching (lanes_of (g.L.Lanes.behind c.loop.lanes) (g.L.Lanes.out c.loop.lanes) (g.L.Lanes.seconds c.loop.lanes)) in
     let fed : Change = change g.R.Device.is_in_memory (g.R.Device.seen c.args.lines.now) (g.R.Device.seen c.loop.lines) in
     let a : Change = change g.W.Device.is_in_memory (g.W.Device.seen c.args.out.now) (g.W.Device.seen c.loop.out) in
     let here : IsListening port old c.loop.counter c.loop.pending.items now c.loop.count fed a = c.loop.invariant.listening in
@@ -112,10 +113,10 @@ loop-preserved g c =
     let fits : length c.read_some.new.buf ≡ 4096 = omega arith in
     let items : c.extend_from_slice.new.self.items ≡ c.loop.pending.items ++ take c.in-Ok.n c.read_some.new.buf = c.in_ok-extend_from_slice.ensures.items in
     let b : Change = change g.W.Device.is_in_memory (g.W.Device.seen c.loop.out) (g.W.Device.seen c.answer_pending.new.out) in
-    let new : Side = side c.answer_pending.new.watching (g.E.Abreast.table c.answer_pending.new.exchange) in
+    let new : Side = side c.answer_pending.new.watching (lanes_of (g.L.Lanes.behind c.answer_pending.new.lanes) (g.L.Lanes.out c.answer_pending.new.lanes) (g.L.Lanes.seconds c.answer_pending.new.lanes)) in
     let heard : HearsUpTo port c.loop.count now (c.loop.pending.items ++ take c.in-Ok.n c.read_some.new.buf) (c.answer_pending.new.pending.items ∷ []) new c.answer_pending.new.count b =
     subst (λ p. HearsUpTo p c.loop.count now (c.loop.pending.items ++ take c.in-Ok.n c.read_some.new.buf) (c.answer_pending.new.pending.items ∷ []) new c.answer_pending.new.count b) c.loop.invariant.port
-    (subst (λ p. HearsUpTo (g.E.Abreast.host_port c.loop.exchange) c.loop.count now p (c.answer_pending.new.pending.items ∷ []) new c.answer_pending.new.count b) items c.in_ok-answer_pending.ensures.heard) in
+    (subst (λ p. HearsUpTo (g.L.Lanes.host_port c.loop.lanes) c.loop.count now p (c.answer_pending.new.pending.items ∷ []) new c.answer_pending.new.count b) items c.in_ok-answer_pending.ensures.heard) in
     let none = c.if-n-eq0.false in
     let some : 0 < c.in-Ok.n = grind (arith, none) in
     let counted = heard.count in
@@ -123,15 +124,15 @@ loop-preserved g c =
       listening = listening_more port old c.loop.counter c.loop.pending.items now c.loop.count fed a here next c.read_some.new.buf c.in-Ok.n c.in-Ok.ensures.bytes.0 c.in-Ok.ensures.count c.in-Ok.ensures.bound fits b refl
           c.answer_pending.new.pending.items new c.answer_pending.new.count some c.in_ok-answer_pending.ensures.short heard;
       counted = omega (arith, counted);
-      closed = c.in_ok-answer_pending.ensures.closed;
+      abreast = c.in_ok-answer_pending.ensures.abreast;
       port = c.in_ok-answer_pending.ensures.port ∙ c.loop.invariant.port;
     }
 
 pub returns : goal.returns
 returns g c =
-    let port = g.E.Abreast.host_port c.args.exchange.now in
-    let old : Side = side c.args.watching.now (g.E.Abreast.table c.args.exchange.now) in
-    let now : Side = side c.loop.watching (g.E.Abreast.table c.loop.exchange) in
+    let port = g.L.Lanes.host_port c.args.lanes.now in
+    let old : Side = side c.args.watching.now (lanes_of (g.L.Lanes.behind c.args.lanes.now) (g.L.Lanes.out c.args.lanes.now) (g.L.Lanes.seconds c.args.lanes.now)) in
+    let now : Side = side c.loop.watching (lanes_of (g.L.Lanes.behind c.loop.lanes) (g.L.Lanes.out c.loop.lanes) (g.L.Lanes.seconds c.loop.lanes)) in
     let fed : Change = change g.R.Device.is_in_memory (g.R.Device.seen c.args.lines.now) (g.R.Device.seen c.loop.lines) in
     let a : Change = change g.W.Device.is_in_memory (g.W.Device.seen c.args.out.now) (g.W.Device.seen c.loop.out) in
     let here : IsListening port old c.loop.counter c.loop.pending.items now c.loop.count fed a = c.loop.invariant.listening in

@@ -1,0 +1,41 @@
+-- The requests of a clock go out on lanes that are free, and all that is done is a clock of the definitions.
+use Rattle.std.proofs.Common.{◌≡◌, ◌∙◌, ◌+◌, ◌<◌, ◌≤◌, All, ap, length, subst, sym}
+use Rattle.watch_machine.specs.declared.command.Request.{Request}
+use Rattle.watch_machine.specs.State.{State}
+use Rattle.keep_watching.specs.Sending.{IsAbreast, Lanes, lanes_of}
+use Rattle.keep_watching.specs.Watching.{Watching}
+use Rattle.keep_watching.proofs.Abreast.{abreast_sent, lanes_free, sent_all}
+use Rattle.keep_watching.proofs.Sound.{Gone, turn_gone}
+use Rattle.keep_watching.proofs.clock.Watching.clock.Goals as goal
+
+pub send_out-requires-clause-within : goal.send_out-requires-clause-within
+send_out-requires-clause-within g c =
+    let old = c.args.self.now.machine in
+    let requests = c.in-Go.requests in
+    let gone : Gone old requests c.turn.new.self.machine =
+    turn_gone old c.turn.new.self.machine c.args.readings.wall c.args.readings.elapsed c.in_ok-output.output requests c.in-Go.until c.in_ok-output.ensures c.in-Go.is c.requires.abreast.sound in
+    subst (λ (w : Watching). All (λ (r : Request). r.entry < length w.machine.forest.entries) requests) (sym c.in_ok-push_short_needs.ensures.said) gone.within
+
+pub send_out-requires-clause-free : goal.send_out-requires-clause-free
+send_out-requires-clause-free g c =
+    let old = c.args.self.now.machine in
+    let requests = c.in-Go.requests in
+    let gone : Gone old requests c.turn.new.self.machine =
+    turn_gone old c.turn.new.self.machine c.args.readings.wall c.args.readings.elapsed c.in_ok-output.output requests c.in-Go.until c.in_ok-output.ensures c.in-Go.is c.requires.abreast.sound in
+    lanes_free old c.turn.new.self.machine requests (g.L.Lanes.width c.args.lanes.now) (g.L.Lanes.out c.args.lanes.now) c.requires.abreast gone
+
+pub go_on-requires : goal.go_on-requires
+go_on-requires g c =
+    let old = c.args.self.now.machine in
+    let requests = c.in-Go.requests in
+    let mid = c.turn.new.self.machine in
+    let now = c.push_short_needs.new.self in
+    let lanes : Lanes = lanes_of (g.L.Lanes.behind c.args.lanes.now) (g.L.Lanes.out c.args.lanes.now) (g.L.Lanes.seconds c.args.lanes.now) in
+    let after : Lanes = lanes_of (g.L.Lanes.behind c.send_out.new.lanes) (g.L.Lanes.out c.send_out.new.lanes) (g.L.Lanes.seconds c.send_out.new.lanes) in
+    let gone : Gone old requests mid =
+    turn_gone old mid c.args.readings.wall c.args.readings.elapsed c.in_ok-output.output requests c.in-Go.until c.in_ok-output.ensures c.in-Go.is c.requires.abreast.sound in
+    let machine : now.machine ≡ mid = ap (λ (w : Watching). w.machine) c.in_ok-push_short_needs.ensures.said in
+    let sent = sent_all _ _ _ _ _ requests lanes after c.in_ok-send_out.ensures.sent in
+    let all : IsAbreast mid (g.L.Lanes.width c.args.lanes.now) (g.L.Lanes.out c.send_out.new.lanes) = abreast_sent old mid requests (g.L.Lanes.width c.args.lanes.now) (g.L.Lanes.out c.args.lanes.now) (g.L.Lanes.out c.send_out.new.lanes) c.requires.abreast gone sent in
+    subst (λ (m : State). IsAbreast m (g.L.Lanes.width c.send_out.new.lanes) (g.L.Lanes.out c.send_out.new.lanes)) (sym machine)
+    (subst (λ width. IsAbreast mid width (g.L.Lanes.out c.send_out.new.lanes)) (sym c.in_ok-send_out.ensures.width) all)
