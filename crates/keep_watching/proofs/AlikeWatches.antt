@@ -29,7 +29,8 @@ use Rattle.watch_machine.proofs.Cases.{of_value, value_is}
 use Rattle.keep_watching.specs.Alike.{AlikeWatchesLaw, AreBehindAlike, AreLanesAlike, AreSidesAlike, FreshAlikeLaw, inventory_of}
 use Rattle.keep_watching.specs.Answers.{out_of}
 use Rattle.keep_watching.specs.Clocked.{AreTakenOn, IsClocked, IsDone, IsWaited, Side, changed_line, clock_lines, listens_until, said_after, short_lines, side}
-use Rattle.keep_watching.specs.Hears.{AreHeard, IsHeard, IsKnown, IsLineHeard, IsTurned}
+use Rattle.keep_watching.specs.Hears.{IsHeard, IsKnown, IsLineHeard, IsTurned}
+use Rattle.keep_watching.specs.Listening.{AreHeard}
 use Rattle.keep_watching.specs.Lines.{line_in}
 use Rattle.keep_watching.specs.Sending.{GoOut, IsAbreast, IsSound, Lanes, asked_lines, entries_on, entries_out, moment_of, times}
 use Rattle.keep_watching.specs.Texts.{after_clock_line, clock_line, planned_line, unknown_name_line, wait_line}

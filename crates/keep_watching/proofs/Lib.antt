@@ -9,7 +9,6 @@ pub mod News
 pub mod Clocks
 pub mod Taking
 pub mod LineByLine
-pub mod LinesRead
 pub mod RunOfMachine
 pub mod Once
 pub mod Secrets

@@ -9,7 +9,8 @@ use Rattle.watch_machine.specs.History.{History, Turn, Turned}
 use Rattle.watch_machine.specs.State.{State}
 use Rattle.keep_watching.specs.Answers.{AreTaken}
 use Rattle.keep_watching.specs.Clocked.{IsClocked, IsDone, Side, clocked, side}
-use Rattle.keep_watching.specs.Hears.{AreHeard, IsHeard, IsKnown, IsTurned}
+use Rattle.keep_watching.specs.Hears.{IsHeard, IsKnown, IsTurned}
+use Rattle.keep_watching.specs.Listening.{AreHeard}
 use Rattle.keep_watching.specs.LawsOfWatching.{LeadsTo, RunOfMachineLaw, behind}
 use Rattle.keep_watching.specs.Watching.{Watching, fresh}
 use Rattle.keep_watching.specs.declared.line.Line.{Line}

@@ -19,7 +19,8 @@ use Rattle.watch_machine.specs.History.{Turn}
 use Rattle.watch_machine.specs.State.{State, opened}
 use Rattle.keep_watching.specs.Answers.{AreTaken, IsTaken, noted_lines, out_of, reply_lines}
 use Rattle.keep_watching.specs.Clocked.{IsClocked, IsDone, IsNextThere, IsWaited, Side, changed_line, clock_lines, clocked, next_there, said_after, short_lines, side}
-use Rattle.keep_watching.specs.Hears.{AreHeard, IsHeard, IsKnown, IsLineHeard, IsTurned}
+use Rattle.keep_watching.specs.Hears.{IsHeard, IsKnown, IsLineHeard, IsTurned}
+use Rattle.keep_watching.specs.Listening.{AreHeard}
 use Rattle.keep_watching.specs.Lines.{line_in}
 use Rattle.keep_watching.specs.Secrecy.{Content, SecretsLaw, contents, contents_done, contents_heard, contents_taken}
 use Rattle.keep_watching.specs.Sending.{asked_lines}

@@ -68,7 +68,7 @@ module _ (port : ℕ) (bytes : List ℕ) (width : ℕ) (old : Lanes) (fed : Chan
     by_result (Err (stops.Broker name)) h = has (Err (stops.Broker name)) h
     by_result (Err (stops.Moments fault)) h = has (Err (stops.Moments fault)) h
     by_result (Err (stops.FaultWord i)) h = has (Err (stops.FaultWord i)) h
-    by_result (Err (stops.Inventory fault)) h = absurd h.ends.1
+    by_result (Err (stops.Inventory fault)) h = absurd h.ends.1.1.1
 
   -- ---- by exit
 

@@ -13,7 +13,7 @@ use Rattle.keep_tree.specs.Forest.{Forest}
 use Rattle.watch_machine.specs.State.{State}
 use Rattle.keep_watching.specs.Answers.{out_of}
 use Rattle.keep_watching.specs.Clocked.{Side, side}
-use Rattle.keep_watching.specs.Hears.{AreHeard}
+use Rattle.keep_watching.specs.Listening.{AreHeard}
 use Rattle.keep_watching.specs.Sending.{IsAbreast, Lanes, lanes_of}
 use Rattle.keep_watching.specs.Told.{said_to}
 use Rattle.keep_watching.specs.Watching.{fresh}

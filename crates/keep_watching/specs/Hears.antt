@@ -1,6 +1,6 @@
--- Hears: what a line comes to, and lines one after another.
+-- Hears: what a line comes to.
 -- Source: this project's own.
-use Rattle.std.specs.Prelude.{◌≡◌, ℕ, ◌/◌, Bool, true, false, is_some, List, [], ◌∷◌, ◌++◌, Some, Ok}
+use Rattle.std.specs.Prelude.{◌≡◌, ℕ, ◌/◌, Bool, true, false, is_some, List, ◌++◌, Some, Ok}
 use Rattle.watch_machine.specs.declared.command.Output.{Output}
 use Rattle.watch_machine.specs.declared.event.Event.{Event}
 use Rattle.watch_machine.specs.declared.event.Event.TheVariants as events
@@ -41,9 +41,3 @@ pub record IsLineHeard (port : ℕ) (old : Side) (line : List ℕ) (new : Side) 
   pub says : Line
   pub is : line_in old.watching.inventory.forest line ≡ Some says
   pub heard : IsHeard port old says new text
-
--- lines are heard, one after another, and their texts stand one after another
-abbrev pub AreHeard : ℕ → Side → List (List ℕ) → Side → List ℕ → Type 0
-AreHeard port old [] new text = (new ≡ old) × (text ≡ [])
-AreHeard port old (line ∷ lines) new text =
-    (mid : Side) × ((first : List ℕ) × ((rest : List ℕ) × (IsLineHeard port old line mid first × (AreHeard port mid lines new rest × (text ≡ first ++ rest)))))

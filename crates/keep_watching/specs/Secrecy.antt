@@ -7,7 +7,8 @@ use Rattle.watch_machine.specs.declared.lanes.Out.{Out}
 use Rattle.watch_machine.specs.State.{State}
 use Rattle.keep_watching.specs.Answers.{AreTaken}
 use Rattle.keep_watching.specs.Clocked.{IsDone, Side, clocked, side}
-use Rattle.keep_watching.specs.Hears.{AreHeard, IsHeard}
+use Rattle.keep_watching.specs.Hears.{IsHeard}
+use Rattle.keep_watching.specs.Listening.{AreHeard}
 use Rattle.keep_watching.specs.Sending.{Lanes}
 use Rattle.keep_watching.specs.declared.told.Said.{Said}
 use Rattle.keep_watching.specs.Watching.{fresh}

@@ -3,7 +3,7 @@ use Rattle.std.proofs.Common.{◌≡◌, ◌∙◌, ◌-◌, List, Result, ap, a
 use Rattle.keep_device.specs.Seen.{Change, change}
 use Rattle.keep_report.specs.declared.stop.Stop.{Stop}
 use Rattle.keep_report.specs.declared.stop.Stop.TheVariants as stops
-use Rattle.keep_run.proofs.LineByLine.{handed_on}
+use Rattle.keep_lines.proofs.LineByLine.{handed_on}
 use Rattle.keep_watching.specs.Sending.{IsAbreast, Lanes, lanes_of}
 use Rattle.keep_lanes.specs.Out.{Out}
 use Rattle.keep_watching.specs.Clocked.{side}
