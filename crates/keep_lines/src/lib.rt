@@ -9,5 +9,5 @@ mod limits;
 mod listening;
 
 pub use hearer::Hearer;
-pub use limits::{Limits, MOST_LINE, ROOM};
+pub use limits::{Limits, MOST_LINE, ROOM, limits_law};
 pub use listening::listen;

@@ -1,3 +1,5 @@
+ghost use Rattle.std.specs.Prelude.{◌≡◌};
+
 /// The most bytes of a line with its line feed.
 pub const MOST_LINE: usize = 256;
 
@@ -12,3 +14,9 @@ pub struct Limits {
     /// The most reads.
     pub reads: u64,
 }
+
+/// The limits as numbers. It does nothing.
+pub fn limits_law()
+    ensures line { MOST_LINE ≡ 256 }
+    ensures room { ROOM ≡ 4096 }
+{}
