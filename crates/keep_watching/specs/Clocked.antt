@@ -1,10 +1,11 @@
 -- Clocked: what a clock comes to: what the machine notes of it, the needs that cannot be kept, the requests that go out, and the
 -- answers that come, or until when nothing is to be done.
 -- Source: this project's own.
-use Rattle.std.specs.Prelude.{◌≡◌, ℕ, ◌+◌, ◌-◌, ◌==◌, ◌||◌, Bool, true, false, if◌then◌else◌, List, [], ◌∷◌, ◌++◌, Option, Some, None, Ok, length, map, min, nat_le, option_map, slice_index_or}
+use Rattle.std.specs.Prelude.{◌≡◌, ℕ, ◌+◌, ◌-◌, ◌==◌, ◌||◌, Bool, true, false, if◌then◌else◌, List, [], ◌∷◌, ◌++◌, Option, Some, None, Ok, length, map, min, nat_le, nat_lt, option_map, slice_index_or}
 use Rattle.std.specs.List.{flat_map, range_with_len}
 use Rattle.keep_run.specs.Text.{name_of, names_of}
 use Rattle.keep_lanes.specs.declared.lanes.Answered.{Answered}
+use Rattle.keep_moment.specs.declared.moment.TheConstants.{LAST}
 use Rattle.keep_tree.specs.Forest.{Forest}
 use Rattle.watch_machine.specs.declared.command.Command.TheVariants.{Go}
 use Rattle.watch_machine.specs.declared.command.Request.{Request}
@@ -15,7 +16,7 @@ use Rattle.watch_machine.specs.declared.readings.Next.{Next}
 use Rattle.watch_machine.specs.History.{Turn}
 use Rattle.watch_machine.specs.Readings.{IsNext, broker_moment, broker_now}
 use Rattle.watch_machine.specs.Shortness.{short_of}
-use Rattle.watch_machine.specs.State.{State}
+use Rattle.watch_machine.specs.State.{State, entry_of}
 use Rattle.keep_watching.specs.Answers.{AreTaken, cut, if_some}
 use Rattle.keep_watching.specs.Sending.{AreHandedBack, GoOut, Lanes, asked_lines, moment_of}
 use Rattle.keep_watching.specs.Texts.{begin_line, clock_line, next_line, no_next_line, short_line, wait_line, wake_line}
@@ -44,6 +45,19 @@ abbrev pub is_news : ℕ → Option ℕ → ℕ → Bool
 is_news margin None reach = true
 is_news margin (Some last) reach = nat_le (last + margin) reach || nat_le (reach + margin) last
 
+-- it is time to say that an entry cannot be kept: at once, but a day before the moment that it reaches where its need is the last
+-- moment, which is what `always` is to a watch
+abbrev pub is_time : State → ℕ → ℕ → Bool
+is_time m i reach = nat_lt (entry_of m i).need LAST || nat_le (reach - 86400) (broker_now m)
+
+abbrev pub timely : State → ℕ → Option ℕ → Option ℕ
+timely m i None = None
+timely m i (Some reach) = if is_time m i reach then Some reach else None
+
+-- the reach of an entry that is before its need, where it is time to say so
+unfoldable pub short_now : State → ℕ → Option ℕ
+short_now m i = timely m i (short_of m i)
+
 -- a reach that is news
 abbrev pub news_line : ℕ → List ℕ → Option ℕ → Option ℕ → List ℕ
 news_line margin name last None = []
@@ -53,7 +67,7 @@ abbrev pub indices : State → List ℕ
 indices m = range_with_len 0 (length m.forest.entries)
 
 unfoldable pub short_lines : Forest → State → List (Option ℕ) → List ℕ
-short_lines g m said = flat_map (λ i. news_line m.forest.margin (name_of g i) (said_of said i) (short_of m i)) (indices m)
+short_lines g m said = flat_map (λ i. news_line m.forest.margin (name_of g i) (said_of said i) (short_now m i)) (indices m)
 
 -- what was said last, once that is said, too
 abbrev pub later : ℕ → Option ℕ → Option ℕ → Option ℕ
@@ -61,7 +75,7 @@ later margin last None = last
 later margin last (Some reach) = if is_news margin last reach then Some reach else last
 
 unfoldable pub said_after : State → List (Option ℕ) → List (Option ℕ)
-said_after m said = map (λ i. later m.forest.margin (said_of said i) (short_of m i)) (indices m)
+said_after m said = map (λ i. later m.forest.margin (said_of said i) (short_now m i)) (indices m)
 
 -- ---- the next time
 

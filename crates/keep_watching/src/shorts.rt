@@ -1,11 +1,15 @@
 //! Needs that cannot be kept any more.
-ghost use Rattle.std.specs.Prelude.{◌≡◌, ◌++◌, OnOk, length};
-ghost use Rattle.keep_watching.specs.Clocked.{is_news, later, news_line, said_after, short_lines};
+ghost use Rattle.std.specs.Prelude.{◌≡◌, ◌++◌, ◌<◌, OnOk, length};
+ghost use Rattle.keep_watching.specs.Clocked.{is_news, later, news_line, said_after, short_lines, short_now};
 
 use crate::texts::{name_of, push_short};
+use keep_moment::LAST;
 use keep_tree::Forest;
 use std::alloc::{AllocError, Global};
 use watch_machine::Watch;
+
+/// How long before the moment that it reaches an entry is said to be short whose need is always, in seconds.
+const DAY_BEFORE: u64 = 86_400;
 
 /// Appends the needs that are after what their entries reach. `said` has what was said last of each: a reach that differs from it
 /// by less than the margin is no news.
@@ -23,12 +27,28 @@ pub(crate) fn push_shorts(
 {
     let margin = watch.forest().margin();
     for entry in 0..watch.forest().len() {
-        let reach = watch.short_of(entry);
+        let reach = short_now(watch, entry);
         let last = said[entry as usize];
         push_news(alloc, margin, name_of(names, entry), last, reach, text)?;
         said[entry as usize] = later(margin, last, reach);
     }
     Ok(())
+}
+
+/// How far an entry can be led, in seconds by the broker's clock, where that is before its need and it is time to say so: an entry
+/// whose need is always is said to be short a day before that moment.
+fn short_now(watch: &Watch, entry: u32) -> Option<u64>
+    requires { entry < length watch.now.forest.entries }
+    ensures { result ≡ short_now watch.now entry }
+{
+    let reach = watch.short_of(entry)?;
+    let now = watch.broker_moment(watch.clocks().at / 1000);
+    let need = watch.forest().get(entry).need;
+    if need < LAST || reach.saturating_sub(DAY_BEFORE) <= now {
+        Some(reach)
+    } else {
+        None
+    }
 }
 
 /// Appends that the entry of that name cannot be kept past a moment, where that is news.
