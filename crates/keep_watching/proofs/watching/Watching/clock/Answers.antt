@@ -6,7 +6,7 @@ use Rattle.keep_watching.specs.Sending.{IsAbreast, Lanes, lanes_of}
 use Rattle.keep_watching.specs.Watching.{Watching}
 use Rattle.keep_watching.proofs.Abreast.{abreast_sent, lanes_free, sent_all}
 use Rattle.keep_watching.proofs.Sound.{Gone, turn_gone}
-use Rattle.keep_watching.proofs.clock.Watching.clock.Goals as goal
+use Rattle.keep_watching.proofs.watching.Watching.clock.Goals as goal
 
 pub send_out-requires-clause-within : goal.send_out-requires-clause-within
 send_out-requires-clause-within g c =
