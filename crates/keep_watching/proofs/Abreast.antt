@@ -67,15 +67,18 @@ lanes_free old mid requests width out abreast gone =
     let w = abreast.width_is in
     let n = abreast.in_step.count in
     let few = gone.few in
-    omega (arith, w, n, few)
+    let room = abreast.room in
+    omega (arith, w, n, few, room)
 
 pub abreast_sent : (old mid : State) (requests : List Request) (width : ℕ) (out new : List lanes.Out) → IsAbreast old width out → Gone old requests mid → AreSent out requests new → IsAbreast mid width new
 abreast_sent old mid requests width out new abreast gone sent =
     let n = abreast.in_step.count in
     let a = gone.count in
     let b = sent.count in
+    let free = lanes_free old mid requests width out abreast gone in
     record {
       width_is = gone.width ∙ abreast.width_is;
+      room = omega (arith, b, free);
       sound = gone.sound;
       in_step = record {
         count = omega (arith, n, a, b);
@@ -98,7 +101,7 @@ parted_times (o ∷ os) answers left h i = elim h [
       let is = ap (λ (xs : List Answered). times i (entries_of xs)) back.2.0 in
       let here = times_cons i a.index (entries_of back.1) in
       let there = times_cons i o.index (entries_on os) in
-      let same = ap (λ n. cond (n == i) 1 0) back.2.1.0.0 in
+      let same = ap {B = ℕ} (λ n. cond (n == i) 1 0) back.2.1.0.0 in
       omega (arith, rest, is, here, there, same)
   | inr stays ↦
       let rest = parted_times os answers stays.0 stays.1.1 i in
@@ -127,8 +130,10 @@ abreast_taken s old new width out answers left text abreast parted taken =
     let n = abreast.in_step.count in
     let a = over.count in
     let b = parted_count out answers left parted in
+    let room = abreast.room in
     record {
       width_is = over.width ∙ abreast.width_is;
+      room = omega (arith, b, room);
       sound = over.sound;
       in_step = record {
         count = omega (arith, n, a, b);
@@ -145,6 +150,7 @@ abreast_taken s old new width out answers left text abreast parted taken =
 pub abreast_quiet : (old new : State) (width : ℕ) (out : List lanes.Out) → IsAbreast old width out → IsQuiet old new → IsAbreast new width out
 abreast_quiet old new width out abreast quiet = record {
   width_is = quiet.width ∙ abreast.width_is;
+  room = abreast.room;
   sound = quiet.sound;
   in_step = record {
     count = abreast.in_step.count ∙ sym (ap length quiet.out);
@@ -172,4 +178,4 @@ gone_more port s m t now (q ∷ rest) r old mid new h one = (h.0, (h.1.0, gone_m
 pub abreast_fresh : (s : Inventory) (width : ℕ) (out : List lanes.Out) → out ≡ [] → IsAbreast (fresh s width).machine width out
 abreast_fresh s width out none =
     subst (IsAbreast (fresh s width).machine width) (sym none)
-    (record { width_is = refl; sound = record { count = length-map s.forest.entries fresh_track; once = λ i. omega arith }; in_step = record { count = refl; each = λ i. refl } })
+    (record { width_is = refl; room = omega arith; sound = record { count = length-map s.forest.entries fresh_track; once = λ i. omega arith }; in_step = record { count = refl; each = λ i. refl } })

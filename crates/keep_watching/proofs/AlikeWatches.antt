@@ -83,7 +83,7 @@ most_one false = omega arith
 
 -- the width of the machine is its own
 own_width : (m : State) (width : ℕ) (out : List lanes.Out) → IsAbreast m width out → IsAbreast m m.width out
-own_width m width out h = record { width_is = refl; sound = h.sound; in_step = h.in_step }
+own_width m width out h = record { width_is = refl; room = subst (λ n. length out ≤ n) (sym h.width_is) h.room; sound = h.sound; in_step = h.in_step }
 
 module _ (g : Forest) (cs ds : List (List ℕ)) (ts : List Terms) (one : IsInventory (record { forest = g; credentials = cs; terms = ts })) (two : IsInventory (record { forest = g; credentials = ds; terms = ts })) (read : LookedLeaseIsRead) where
   abbrev s : Inventory

@@ -1,5 +1,5 @@
 -- Kept: what the machine of a watch keeps of the forest that was supplied, whatever comes. For the law that secrets change no answer.
-use Rattle.std.proofs.Common.{◌≡◌, ◌∙◌, ℕ, ◌<◌, ◌&&◌, Bool, true, false, not, cond, is_some, Option, Some, None, Ok, ◌+◌, length, min, nat_lt, refl, sym, ap, subst}
+use Rattle.std.proofs.Common.{◌≡◌, ◌∙◌, ℕ, ◌<◌, ◌&&◌, Bool, true, false, not, cond, if◌then◌else◌, is_some, Option, Some, None, Ok, ◌+◌, length, min, nat_lt, refl, sym, ap, subst}
 use Rattle.keep_exchange.specs.declared.heard.Terms as looked
 use Rattle.keep_inventory.specs.Inventories.{Inventory, terms_at}
 use Rattle.keep_inventory.specs.Lookup.{lookup_fault, told_terms}

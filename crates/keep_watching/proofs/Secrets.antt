@@ -62,11 +62,11 @@ not_full x xs e = cc
 -- ---- answers
 
 -- the requests that a clock commands, and until when nothing is to be done
-pub requests_in : Command → List Request
+abbrev pub requests_in : Command → List Request
 requests_in (Go requests until) = requests
 requests_in other = []
 
-pub until_in : Command → ℕ
+abbrev pub until_in : Command → ℕ
 until_in (Go requests until) = until
 until_in other = 0
 

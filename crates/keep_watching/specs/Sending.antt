@@ -84,9 +84,10 @@ pub record AreInStep (m : State) (out : List lanes.Out) : Type 0 where
   pub count : length out ≡ length m.out
   pub each : (i : ℕ) → times i (entries_on out) ≡ times i (entries_out m)
 
--- as many may be out on the lanes as the machine has out at once, and they are in step with it
+-- as many may be out on the lanes as the machine has out at once, no more are, and they are in step with it
 pub record IsAbreast (m : State) (width : ℕ) (out : List lanes.Out) : Type 0 where
   pub width_is : m.width ≡ width
+  pub room : length out ≤ width
   pub sound : IsSound m
   pub in_step : AreInStep m out
 

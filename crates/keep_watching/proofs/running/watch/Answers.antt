@@ -40,7 +40,7 @@ listen-requires g c =
     let free : c.free.result ≡ width =
     (let all = c.free.ensures ∙ ap (λ (o : List Out). width - length o) c.requires.free in omega (arith, all)) in
     let is = c.in_ok-watching.ensures ∙ ap (fresh c.in_ok-inventory.inventory) free in
-    subst (λ (w : Watching). IsAbreast w.machine width out) (sym is) (abreast_fresh c.in_ok-inventory.inventory width out c.requires.free)
+    record { abreast = subst (λ (w : Watching). IsAbreast w.machine width out) (sym is) (abreast_fresh c.in_ok-inventory.inventory width out c.requires.free) }
 
 pub returns-clause-run : goal.returns-clause-run
 returns-clause-run g c =
