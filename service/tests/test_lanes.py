@@ -8,6 +8,7 @@ import unittest
 from dataclasses import replace
 
 from leasekeep_inventory.http_client import Request
+from leasekeepd_lib.watch_process import NAP
 
 from .model.stage import IS_QUICK, Stage, fleet
 from .model.vault import Act, about, both, renewals
@@ -63,7 +64,7 @@ class WhoGoesFirst(Scenario):
             await stage.until(150)
             stage.world.suspended += 1185 - 150
             await stage.finish(1400)
-        self.play(fleet(dead + 8, 7200, 60, lambda place: 600 if place < dead else 1200, need=DAY), scene)
+        self.play(fleet(dead + 8, 7200, 60, lambda place: 600 if place < dead else 1200, need=DAY), scene, nap=NAP)
         self.assert_kept(*(f"e{place}" for place in range(dead)))
 
 
