@@ -103,9 +103,11 @@ class Vault:
     has_whole_seconds: bool = False
     log: list[tuple[float, str, str, int | None]] = field(default_factory=list)
     _recent: list[float] = field(default_factory=list)
+    _swept: float | None = None
 
     def load(self, inventory: Inventory, **real: dict[str, Any]) -> None:
         """The rows of an inventory, each with its end as written; `real` changes fields of some by name."""
+        self._swept = None
         for entry in inventory.entries:
             ceiling = inventory.ceiling(entry, entry.issued, entry.period, entry.explicit_max_ttl)
             row = Secret(entry.name, entry.kind, entry.parent, entry.end, entry.issued, ceiling, entry.period,
@@ -123,8 +125,11 @@ class Vault:
         return next(row for row in self.rows.values() if row.name == name)
 
     def sweep(self) -> None:
-        """Ends each row whose end, or the end of one over it, has come."""
+        """Ends each row whose end, or the end of one over it, has come; once at each moment."""
         now = self.now()
+        if now == self._swept:
+            return
+        self._swept = now
         by_name = {row.name: row for row in self.rows.values()}
         for row in self.rows.values():
             if row.ended is None and row.end <= now:
@@ -135,6 +140,7 @@ class Vault:
 
     def revoke(self, name: str) -> None:
         self.named(name).ended = self.world.now()
+        self._swept = None
 
     def count(self, word: str) -> int:
         return sum(word in path for _, path, _, _ in self.log)
