@@ -37,6 +37,8 @@ class _Standing:
     lost: int = 0
     is_renewal: bool = False
     """Whether the last request that went out about it was a renewal."""
+    asked: float = 0.0
+    """When that request went out, by the elapsed clock."""
 
 
 class Standings:
@@ -88,9 +90,8 @@ class Standings:
                 self.beginnings += 1
                 self.begun = self._clock.elapsed()
             case (Said.LOOK | Said.RENEW) as said, names:
-                for name in names:
-                    if name in self._by_name:
-                        self._by_name[name].is_renewal = said is Said.RENEW
+                for standing in (self._by_name[name] for name in names if name in self._by_name):
+                    standing.is_renewal, standing.asked = said is Said.RENEW, self._clock.elapsed()
             case Said.NEXT, (moment, *names):
                 self._next = (int(moment), names[0]) if names else None
             case said, (name, *rest):
@@ -108,7 +109,7 @@ class Standings:
                 standing.granted += 1
             case Said.END:
                 standing.end = int(rest[0]) / 1000
-                self._take_offset(standing.end)
+                self._take_offset(standing.end, self._clock.elapsed() - standing.asked)
             case Said.LOST | Said.REFUSED | Said.GONE:
                 if standing.trouble != "gone":
                     standing.trouble = _TROUBLES[said]
@@ -121,10 +122,11 @@ class Standings:
                 if not self._is_known(standing, standing.short):
                     standing.warned = standing.short
 
-    def _take_offset(self, end: float) -> None:
-        """A lookup's end is told by the broker's clock, and then by the elapsed one."""
+    def _take_offset(self, end: float, took: float) -> None:
+        """A lookup's end is told by the broker's clock, counted from its reply, and then by the elapsed one, counted from the request,
+        which went out so long before."""
         if self._told_end is not None:
-            apart = self._told_end - end - (self._clock.wall() - self._clock.elapsed())
+            apart = self._told_end - end - (self._clock.wall() - self._clock.elapsed()) - took
             self.offset = apart if abs(apart) > PARTED else 0.0
             self._told_end = None
 

@@ -138,6 +138,14 @@ class Lines(unittest.TestCase):
         self.hear("told web 60", "end web 169000 yes")  # A grant tells no moment of the broker's.
         self.assertEqual(self.standings.offset, -40.0)
 
+    def test_a_slow_reply_is_no_difference_of_clocks(self) -> None:
+        for ahead, offset in ((0, 0.0), (40, 39.2)):
+            self.clock.now = 50.0
+            self.hear("look web", "clock")
+            self.clock.now = 54.8
+            self.hear(f"entry web {1064 + ahead}", "end web 110000 yes", "clock")
+            self.assertAlmostEqual(self.standings.offset, offset)
+
     def test_another_credential_and_another_entry(self) -> None:
         self.looked_up()
         self.hear("gone web 403", "gone db 404")
