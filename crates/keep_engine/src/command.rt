@@ -60,7 +60,7 @@ pub enum Command {
 
 impl Command {
     /// The path of its inventory.
-    fn inventory(&self) -> &str
+    pub fn inventory(&self) -> &str
         ensures { result.now ≡ path_of self.now }
     {
         match self {

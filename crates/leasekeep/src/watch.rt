@@ -1,7 +1,7 @@
+use keep_command::SystemFiles;
 use keep_device::{Place, Sink, Source, Streams};
-use keep_engine::Exit;
+use keep_engine::{Exit, PROGRAM};
 use keep_exchange::SocketSlices;
-use keep_files::Disk;
 use keep_watch::WIDTH_MAX;
 use keep_watching::watch_file;
 use std::net::Net;
@@ -28,12 +28,15 @@ pub fn watch<R: Files + AllocGlobal + Net, I: Source, W: Sink, E: Sink>(
 ) -> Exit {
     let seconds = watched.patience.min(60) as u32;
     let mut exchange = SocketSlices::new(rt, watched.place, seconds);
-    watch_file(
+    let mut files = SystemFiles::new(rt);
+    let exit = watch_file(
         rt.alloc(),
         watched.file,
         watched.width.min(WIDTH_MAX as u64) as u32,
-        &mut Disk { rt },
+        &mut files,
         &mut exchange,
         streams,
-    )
+    );
+    files.advise(PROGRAM, exit, watched.file, &mut streams.errors);
+    exit
 }
