@@ -10,8 +10,6 @@ use crate::unread::Unread;
 use keep_device::{Sink, SinkFault, Watched, write_all};
 use keep_inventory::{InvFault, Key, Note, Served};
 
-const OPEN: &[u8] = b"issued and end are not written; serve, watch and run look them up";
-
 /// What is to be written for a key.
 #[derive(Clone, Copy, Debug, PartialEq, Eq)]
 enum Form {
@@ -59,7 +57,12 @@ pub fn advise_on_open<E: Sink>(program: &str, served: &Served, errors: &mut E)
     let inventory = served.inventory();
     if let Some(index) = first_untold(served.notes()) {
         let name = inventory.forest().get(index).name.list();
-        tell_line(errors, program.as_bytes(), name, OPEN);
+        tell_line(
+            errors,
+            program.as_bytes(),
+            name,
+            b"issued and end are not written; serve, watch and run look them up",
+        );
     }
 }
 

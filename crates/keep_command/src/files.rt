@@ -1,8 +1,8 @@
 //! The files of the system, and the line for people after a run over one of them.
 use crate::advice::{advise_on_fault, advise_on_file, advise_on_open};
 use crate::unread::Unread;
-use keep_device::{InputFault, Sink, read_file, read_opened};
-use keep_files::Inputs;
+use keep_device::{InputFault, Sink, read_file};
+use keep_files::{Disk, Inputs};
 use keep_inventory::{MOST_INVENTORY, read_served};
 use keep_moment::Text;
 use keep_report::Exit;
@@ -30,14 +30,9 @@ impl<'a, R: Files + AllocGlobal> Inputs for SystemFiles<'a, R> {
     ghost bytes_at = { λ _ _. None };
 
     fn read(&mut self, alloc: Global, path: &str, max: usize) -> Result<Text, InputFault> {
-        let opened = fs::open(self.rt, path);
-        let unopened = match &opened {
-            Ok(_) => None,
-            Err(error) => Some(Unread::of(error.kind())),
-        };
-        let read = read_opened(alloc, opened, max);
+        let read = Disk { rt: self.rt }.read(alloc, path, max);
         if let Err(fault) = &read {
-            self.note(alloc, path, *fault, unopened);
+            self.note(alloc, path, *fault);
         }
         read
     }
@@ -83,23 +78,31 @@ impl<'a, R: Files + AllocGlobal> SystemFiles<'a, R> {
     }
 
     // Keeps which file was not read. If memory for its path is refused, none is kept.
-    fn note(&mut self, alloc: Global, path: &str, fault: InputFault, unopened: Option<Unread>) {
-        let why = match (fault, unopened) {
-            (InputFault::OutOfMemory, _) => return,
-            (InputFault::TooLong, _) => Unread::TooLong,
-            (InputFault::ReadFailed, Some(why)) => why,
-            (InputFault::ReadFailed, None) => self.why_unread(path),
+    fn note(&mut self, alloc: Global, path: &str, fault: InputFault) {
+        let why = match fault {
+            InputFault::OutOfMemory => return,
+            InputFault::TooLong => Unread::TooLong,
+            InputFault::ReadFailed => self.why_unread(path),
         };
         if let Ok(path) = String::from_str(alloc, path) {
             self.unread = Some(UnreadFile { path, why });
         }
     }
 
-    // Why a file that was opened was not read.
+    // Why a file was not read, by what the system says of it now.
     fn why_unread(&self, path: &str) -> Unread {
         match fs::metadata(self.rt, path) {
+            Err(error) => Unread::of(error.kind()),
             Ok(found) if found.is_dir() => Unread::Folder,
-            _ => Unread::Failed,
+            Ok(found) if found.is_file() => self.why_unopened(path),
+            Ok(_) => Unread::Failed,
+        }
+    }
+
+    fn why_unopened(&self, path: &str) -> Unread {
+        match fs::open(self.rt, path) {
+            Err(error) => Unread::of(error.kind()),
+            Ok(_) => Unread::Failed,
         }
     }
 }
