@@ -1,7 +1,7 @@
 -- Opened: the first entry whose table leaves its end to a lookup, for the line that names it.
-use Rattle.std.proofs.Common.{◌≡◌, ◌∙◌, ℕ, suc, ◌+◌, ◌<◌, Bool, true, false, List, [], ◌∷◌, Option, Some, None, length, sym, ap, subst, arith, if◌then◌else◌}
+use Rattle.std.proofs.Common.{◌≡◌, ◌∙◌, ℕ, suc, ◌+◌, ◌<◌, Bool, true, false, List, [], ◌∷◌, Option, Some, length, sym, ap, subst, arith, if◌then◌else◌}
 use Rattle.keep_device.specs.Seen.{Change}
-use Rattle.keep_tree.specs.Forest.{Forest, entry_at}
+use Rattle.keep_tree.specs.Forest.{Forest}
 use Rattle.keep_inventory.specs.declared.note.Note.{Note}
 use Rattle.keep_inventory.specs.Served.{IsServed, Served, first_untold}
 use Rattle.keep_command.specs.Advice.{Advises, open_line, open_line_of}

@@ -1,7 +1,7 @@
 //! The files of the system, and the line for people after a run over one of them.
 use crate::advice::{advise_on_fault, advise_on_file, advise_on_open};
 use crate::unread::Unread;
-use keep_device::{InputFault, Sink, read_file};
+use keep_device::{InputFault, Sink};
 use keep_files::{Disk, Inputs};
 use keep_inventory::{MOST_INVENTORY, read_served};
 use keep_moment::Text;
@@ -68,10 +68,11 @@ impl<'a, R: Files + AllocGlobal> SystemFiles<'a, R> {
         if !is_regular {
             return;
         }
-        let Ok(text) = read_file(self.rt, file, MOST_INVENTORY) else {
+        let alloc = self.rt.alloc();
+        let Ok(text) = Disk { rt: self.rt }.read(alloc, file, MOST_INVENTORY) else {
             return;
         };
-        match read_served(self.rt.alloc(), text.list()) {
+        match read_served(alloc, text.list()) {
             Ok(served) => advise_on_open(program, &served, errors),
             Err(fault) => advise_on_fault(program, fault, errors),
         }
