@@ -1,6 +1,6 @@
+use keep_command::SystemFiles;
 use keep_device::{Place, Sink, Source, Streams};
-use keep_engine::Exit;
-use keep_files::Disk;
+use keep_engine::{Exit, PROGRAM};
 use keep_lanes::{LanesOver, MOST_WIDTH};
 use keep_report::Stop;
 use keep_watching::watch_file;
@@ -30,13 +30,16 @@ pub fn watch<R: Files + AllocGlobal + Net + Clock, I: Source, W: Sink, E: Sink>(
     let width = watched.width.min(u64::from(MOST_WIDTH)) as u32;
     let mut lanes = match LanesOver::over_sockets(rt.alloc(), rt, watched.place, seconds, width) {
         Ok(lanes) => lanes,
-        Err(_) => return Stop::Memory.report("leasekeep", &mut streams.errors),
+        Err(_) => return Stop::Memory.report(PROGRAM, &mut streams.errors),
     };
-    watch_file(
+    let mut files = SystemFiles::new(rt);
+    let exit = watch_file(
         rt.alloc(),
         watched.file,
-        &mut Disk { rt },
+        &mut files,
         &mut lanes,
         streams,
-    )
+    );
+    files.advise(PROGRAM, exit, watched.file, &mut streams.errors);
+    exit
 }

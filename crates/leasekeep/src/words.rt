@@ -145,6 +145,7 @@ fn command_of(alloc: Global, matches: &ArgMatches<'_>) -> Result<Command, Unread
         Some(("plan", matches)) => Ok(Command::Plan {
             file: word(alloc, matches, "FILE")?,
             start: start(matches)?,
+            dates: matches.get_flag("dates"),
         }),
         Some(("margin", matches)) => Ok(Command::Margin {
             file: word(alloc, matches, "FILE")?,

@@ -42,6 +42,7 @@ impl Inputs for Folder {
 enum Asked {
     Ends,
     Plan,
+    PlanInDates,
     Margin,
     Reach,
     Rehearse,
@@ -60,7 +61,7 @@ type Obeyed = (
     &'static str,
 );
 
-const OBEYED: [Obeyed; 14] = [
+const OBEYED: [Obeyed; 15] = [
     (
         Asked::Ends,
         "web.toml",
@@ -70,6 +71,14 @@ const OBEYED: [Obeyed; 14] = [
         "",
     ),
     (Asked::Plan, "web.toml", "", Exit::Done, IN_RUNS, ""),
+    (
+        Asked::PlanInDates,
+        "web.toml",
+        "",
+        Exit::Done,
+        "start 1970-01-01T00:16:40Z\nrun 1970-01-01T00:17:39Z 59 3 web web\nend 3\n",
+        "",
+    ),
     (Asked::Margin, "web.toml", "", Exit::Done, "1 3\n13 3\n", ""),
     (
         Asked::Reach,
@@ -170,7 +179,16 @@ fn command_of(alloc: Global, asked: Asked, file: &str, certificate: &str) -> Res
             start,
             moments: Vec::new(alloc),
         },
-        Asked::Plan => Command::Plan { file, start },
+        Asked::Plan => Command::Plan {
+            file,
+            start,
+            dates: false,
+        },
+        Asked::PlanInDates => Command::Plan {
+            file,
+            start,
+            dates: true,
+        },
         Asked::Margin => Command::Margin {
             file,
             query: MarginQuery {

@@ -1,6 +1,8 @@
 -- Words for the parts of a run: what is made before the first write, and its delivery. No public clause cites them.
 use Rattle.std.specs.Prelude.{◌≡◌, ◌⊎◌, ℕ, List, Result, Ok, Err, slice_index}
 use Rattle.keep_device.specs.Seen.{Change}
+use Rattle.keep_moment.specs.declared.text.Text.{Text}
+use Rattle.keep_tree.specs.declared.entry.Entry.{Entry}
 use Rattle.keep_tree.specs.Forest.{Forest}
 use Rattle.keep_plan.specs.declared.decision.Decision.{Decision}
 use Rattle.keep_plan.specs.declared.decision.Decision.TheVariants as decision
@@ -14,6 +16,7 @@ use Rattle.keep_report.specs.Exits.{exit_of}
 use Rattle.keep_report.specs.Sent.{IsAll, IsUntouched, Sends}
 use Rattle.keep_report.specs.Told.{Reports}
 use Rattle.keep_engine.specs.declared.outcome.Outcome.{Outcome}
+use Rattle.keep_engine.specs.PlanDates.{AreRunsInDates, IsPairInDates}
 use Rattle.keep_engine.specs.Running.{Halts, Texts, line_of}
 
 -- what a command makes of a forest
@@ -44,3 +47,16 @@ abbrev pub decided_exit : Decision → Exit
 decided_exit (decision.Keep p) = exits.Done
 decided_exit (decision.Unkeepable entry needed) = exits.Unkeepable
 decided_exit decision.TooLong = exits.TooLong
+
+-- the text in dates of a decision over these entries
+abbrev pub IsInDatesOf : List Entry → ℕ → Decision → List ℕ → Type 0
+IsInDatesOf es s (decision.Keep p) text = AreRunsInDates es s p.runs text
+IsInDatesOf es s (decision.Unkeepable entry needed) text = IsPairInDates es s entry needed text
+IsInDatesOf es s decision.TooLong text = ⊥
+
+-- there is none where each plan is too long, or where memory was refused
+abbrev pub DatesOf : List Entry → ℕ → Result Text Stop → Decision → Type 0
+DatesOf es s (Ok text) d = IsInDatesOf es s d text
+DatesOf es s (Err stops.TooLong) d = d ≡ decision.TooLong
+DatesOf es s (Err stops.Memory) d = Unit {0}
+DatesOf es s (Err stop) d = ⊥
