@@ -102,7 +102,7 @@ found_once (r ∷ front) q rest once =
     ]
 
 if_is : {X : Type 0} (P : X → Type 0) (o : Option X) (x : X) → o ≡ Some x → P x → IfSome o P
-if_is P o x is h = subst (λ (z : Option X). IfSome z P) (sym is) h
+if_is {X} P o x is h = subst (λ (z : Option X). IfSome z P) (sym is) h
 
 said_of : (a b : Said) → b.reply ≡ a.reply → b.terms ≡ a.terms → b.loss ≡ a.loss → b ≡ a
 said_of a b reply terms loss = ap (λ r. record b { reply = r }) reply ∙ ap₂ (λ t l. record a { terms = t; loss = l }) terms loss

@@ -1,6 +1,6 @@
 -- Alike replies: of what two brokers say of an entry whose tables differ in credentials alone, a watch is told the same. For the law
 -- that secrets change no answer.
-use Rattle.std.proofs.Common.{◌≡◌, ◌∙◌, ◌==◌, ℕ, ◌<◌, ◌≤◌, ◌||◌, Bool, false, cond, is_none, List, [], Some, None, Ok, Err, IsUtf8, bytes_eq, length, refl, sym, ap, ap₂, subst}
+use Rattle.std.proofs.Common.{◌≡◌, ◌∙◌, ◌==◌, ℕ, ◌<◌, ◌≤◌, ◌||◌, Bool, false, cond, is_none, List, [], Option, Some, None, Ok, Err, IsUtf8, bytes_eq, length, refl, sym, ap, ap₂, subst}
 use Rattle.std.proofs.lemmas.Bool.{cond-true}
 use Rattle.std.specs.Cmp.Lexicographic.{bytes_decides}
 use Rattle.keep_exchange.specs.Exchanges.{received}
@@ -48,12 +48,16 @@ use Rattle.vault_json.specs.declared.lookup.Lookup.{Lookup}
 use Rattle.vault_json.specs.declared.lookup.Lookup.TheVariants as lookups
 use Rattle.vault_json.specs.declared.renewed.Renewed as grants
 use Rattle.vault_json.specs.Laws.{LookedLeaseIsRead}
-use Rattle.vault_json.specs.Lookup.{lookup_lease_answer}
-use Rattle.vault_json.specs.Renewed.{renew_lease_answer, renew_self_answer}
-use Rattle.vault_json.specs.Body.{body_of, reply_of}
+use Rattle.vault_json.specs.Lookup.{looked_lease_in, lookup_lease_answer}
+use Rattle.vault_json.specs.Renewed.{renew_lease_answer, renew_self_answer, renewed_lease_in}
+use Rattle.vault_json.specs.Answer.{◌>>=◌}
+use Rattle.vault_json.specs.Body.{an_object, body_of, or_not_json, reply_of, tree_of, unwrapped}
 use Rattle.vault_json.specs.declared.fault.ReplyFault.TheVariants.{NotJson}
 use Rattle.json.specs.Json.{value}
-use Rattle.json.specs.Lex.{lex}
+use Rattle.json.specs.Lex.{lex, punctuate}
+use Rattle.serde_json.specs.Data.{Data}
+use Rattle.serde_json.specs.Read.{read}
+use Rattle.std.specs.Str.{is_utf8}
 use Rattle.vault_json.specs.Written.{looked_self_text, renewed_lease_text}
 use Rattle.vault_json.proofs.ReadBack.{renewed_lease_is_read, renewed_self_is_read}
 
@@ -100,13 +104,17 @@ renewal_refused kind id v reply is =
 -- ---- no body
 
 -- no bytes are no JSON
+no_tree : tree_of [] ≡ None
+unfolding lex punctuate value
+no_tree = if_both (λ (o : Option Data). o ≡ None) (is_utf8 []) (read []) None refl refl
+
 no_lookup : lookup_lease_answer [] ≡ Err NotJson
-unfolding lookup_lease_answer reply_of body_of lex value
-no_lookup = refl
+unfolding lookup_lease_answer reply_of body_of
+no_lookup = ap (λ o. ((or_not_json o >>= an_object) >>= unwrapped) >>= looked_lease_in) no_tree
 
 no_renewal : renew_lease_answer [] ≡ Err NotJson
-unfolding renew_lease_answer reply_of body_of lex value
-no_renewal = refl
+unfolding renew_lease_answer reply_of body_of
+no_renewal = ap (λ o. ((or_not_json o >>= an_object) >>= unwrapped) >>= renewed_lease_in) no_tree
 
 -- ---- a renewal
 
