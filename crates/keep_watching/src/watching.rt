@@ -104,7 +104,7 @@ impl Watching {
     ///
     /// The last line is `wait ELAPSED` or `clock`. A name that no entry has is `fault unknown-name`, and an end that is known
     /// after a clock is `fault after-clock`; both change nothing. The only error is want of memory.
-    #[tactic(auto, using(crate::proofs::Taking::heard_need, crate::proofs::Taking::heard_begin, crate::proofs::Taking::heard_known, crate::proofs::Taking::heard_unknown, crate::proofs::Taking::abreast_need, crate::proofs::Taking::abreast_begin, crate::proofs::Taking::abreast_known))]
+    #[tactic(auto, using(crate::proofs::Taking::heard_need, crate::proofs::Taking::heard_begin, crate::proofs::Taking::heard_known, crate::proofs::Taking::heard_unknown, crate::proofs::Taking::abreast_need, crate::proofs::Taking::abreast_begin))]
     pub(crate) fn take<L: Lanes>(
         &mut self,
         alloc: Global,
