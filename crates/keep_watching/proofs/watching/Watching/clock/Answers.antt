@@ -38,10 +38,10 @@ go_on-requires g c =
     let gone : Gone old requests mid =
     turn_gone old mid c.args.readings.wall c.args.readings.elapsed c.in_ok-output.output requests c.in-Go.until c.in_ok-output.ensures.turned c.in-Go.is c.requires.abreast.sound in
     let machine : now.machine ≡ mid = ap (λ (w : Watching). w.machine) c.in_ok-push_short_needs.ensures.said in
-    let sent = sent_all _ _ _ _ _ requests lanes after c.in_ok-send_out.ensures.sent in
+    let sent = sent_all _ _ _ _ _ requests lanes after c.in_ok-send_out-in-Go.ensures.sent in
     let all : IsAbreast mid (g.L.Lanes.width c.args.lanes.now) (g.L.Lanes.out c.send_out.new.lanes) = abreast_sent old mid requests (g.L.Lanes.width c.args.lanes.now) (g.L.Lanes.out c.args.lanes.now) (g.L.Lanes.out c.send_out.new.lanes) c.requires.abreast gone sent in
     subst (λ (m : State). IsAbreast m (g.L.Lanes.width c.send_out.new.lanes) (g.L.Lanes.out c.send_out.new.lanes)) (sym machine)
-    (subst (λ width. IsAbreast mid width (g.L.Lanes.out c.send_out.new.lanes)) (sym c.in_ok-send_out.ensures.width) all)
+    (subst (λ width. IsAbreast mid width (g.L.Lanes.out c.send_out.new.lanes)) (sym c.in_ok-send_out-in-Go.ensures.width) all)
 
 pub returns-in-Go-clause-clocked : goal.returns-in-Go-clause-clocked
 returns-in-Go-clause-clocked g c =
@@ -63,4 +63,4 @@ returns-in-Go-clause-clocked g c =
     on_ok c.go_on.result (Appended x3 x4 (IsDone w2.machine.out elapsed until (side w2 between) (side w3 after))) (Appended x0 x4 (IsClocked port (side w before) wall elapsed (side w3 after))) c.go_on.ensures.done
     (λ done.
     clock_made port w w1 w2 w3 before between after wall elapsed c.in_ok-output.output requests until x0 c.push_clock_notes.new.text.items c.push_short_needs.new.text.items x3 x4 c.in_ok-output.ensures.turned c.in-Go.is
-    c.in_ok-output.ensures.rest c.in_ok-push_clock_notes.ensures c.in_ok-push_short_needs.ensures.text c.in_ok-push_short_needs.ensures.said c.in_ok-send_out.ensures.text c.in_ok-send_out.ensures.sent done)
+    c.in_ok-output.ensures.rest c.in_ok-push_clock_notes.ensures c.in_ok-push_short_needs.ensures.text c.in_ok-push_short_needs.ensures.said c.in_ok-send_out-in-Go.ensures.text c.in_ok-send_out-in-Go.ensures.sent done)
