@@ -1,6 +1,6 @@
 //! Needs that cannot be kept any more.
 ghost use Rattle.std.specs.Prelude.{◌≡◌, ◌++◌, ◌<◌, OnOk, length};
-ghost use Rattle.keep_watching.specs.Clocked.{is_news, later, news_line, said_after, short_lines, short_now};
+ghost use Rattle.keep_watching.specs.Clocked.{is_news, is_time, later, news_line, said_after, short_lines, short_now};
 
 use crate::texts::{name_of, push_short};
 use keep_moment::LAST;
@@ -35,20 +35,27 @@ pub(crate) fn push_shorts(
     Ok(())
 }
 
-/// How far an entry can be led, in seconds by the broker's clock, where that is before its need and it is time to say so: an entry
-/// whose need is always is said to be short a day before that moment.
+/// How far an entry can be led, in seconds by the broker's clock, where that is before its need and it is time to say so.
+#[tactic(auto, unfolding(crate::specs::Clocked::short_now))]
 fn short_now(watch: &Watch, entry: u32) -> Option<u64>
     requires { entry < length watch.now.forest.entries }
     ensures { result ≡ short_now watch.now entry }
 {
-    let reach = watch.short_of(entry)?;
-    let now = watch.broker_moment(watch.clocks().at / 1000);
-    let need = watch.forest().get(entry).need;
-    if need < LAST || reach.saturating_sub(DAY_BEFORE) <= now {
-        Some(reach)
-    } else {
-        None
+    match watch.short_of(entry) {
+        Some(reach) if is_time(watch, entry, reach) => Some(reach),
+        _ => None,
     }
+}
+
+/// Whether it is time to say that an entry cannot be led past that moment: at once, but where its need is always only a day before
+/// the moment.
+#[tactic(auto, unfolding(watch_machine::specs::Clocks::sec))]
+fn is_time(watch: &Watch, entry: u32, reach: u64) -> bool
+    requires { entry < length watch.now.forest.entries }
+    ensures { result ≡ is_time watch.now entry reach }
+{
+    let now = watch.broker_moment(watch.clocks().at / 1000);
+    watch.forest().get(entry).need < LAST || reach.saturating_sub(DAY_BEFORE) <= now
 }
 
 /// Appends that the entry of that name cannot be kept past a moment, where that is news.
