@@ -16,7 +16,6 @@ from leasekeepd_journal.changes import Change, ChangeFault, What, only_entry, re
 from .aside import aside
 from .book import Book
 from .clock import Clock
-from .day_before import DayBefore
 from .events import HeldLog, Log
 from .health import unkept
 from .lookups import Lookups
@@ -51,8 +50,7 @@ class Service:
         self.standings = Standings(clock)
         self._files = SecretFiles(surroundings.source.path.parent)
         self._secrets = SecretWatch(self._files, lambda: self.inventory, lookups.look_up, self._take_file, clock, log)
-        self._day_before = DayBefore(self.standings.moment, self._hear)
-        self.watch = Watch(launcher, clock, surroundings.ends, log, self._day_before.hear)
+        self.watch = Watch(launcher, clock, surroundings.ends, log, self._hear)
         self.reports = Reports(surroundings.notifier, surroundings.storage, surroundings.metrics, lambda: self.metrics(),
                                lambda: self.standings.next_wake, self._is_alive, log)
         self._widest = None if surroundings.widest is None else WidestServed(surroundings.widest, clock)
@@ -80,7 +78,6 @@ class Service:
         """Serves another inventory from now on."""
         self.inventory = self._files.filled(inventory, self.inventory)
         self.standings.take(self.inventory)
-        self._day_before.take(self.inventory)
         self.watch.take(self._handed())
 
     def _handed(self) -> Inventory:
@@ -255,7 +252,6 @@ class Service:
         inventory = await self._written(Change(What.NEED, name, until=until))
         self._log.info("need", name, until_text(until), "by", who)
         self.inventory = inventory
-        self._day_before.take(inventory)
         handed = self._handed()
         if self._soon is None and handed.find(name) is not None:
             self.watch.need(handed, name, until)
