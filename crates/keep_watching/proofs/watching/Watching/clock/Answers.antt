@@ -1,5 +1,5 @@
 -- The requests of a clock go out on lanes that are free, and all that is done is a clock of the definitions.
-use Rattle.std.proofs.Common.{◌≡◌, ◌∙◌, ◌+◌, ◌<◌, ◌≤◌, All, ap, length, subst, sym}
+use Rattle.std.proofs.Common.{◌≡◌, ◌<◌, All, ap, length, subst, sym}
 use Rattle.watch_machine.specs.declared.command.Request.{Request}
 use Rattle.watch_machine.specs.State.{State}
 use Rattle.keep_watching.specs.Answers.{Appended}
