@@ -1,5 +1,5 @@
 -- Abreast: what goes out on lanes and comes back from them, beside what the machine has out. For `send`, `clock` and `take_on`.
-use Rattle.std.proofs.Common.{◌≡◌, ◌∙◌, ℕ, ◌+◌, ◌-◌, ◌<◌, ◌≤◌, Bool, cond, ◌==◌, List, [], ◌∷◌, ◌++◌, Ok, All, length, map, refl, sym, ap, subst, arith, inl, inr}
+use Rattle.std.proofs.Common.{◌≡◌, ◌∙◌, ℕ, ◌+◌, ◌-◌, ◌≤◌, Bool, cond, ◌==◌, List, [], ◌∷◌, ◌++◌, Ok, length, map, refl, sym, ap, subst, arith, inl, inr}
 use Rattle.std.proofs.lemmas.List.{length-append, length-map}
 use Rattle.keep_inventory.specs.Inventories.{Inventory}
 use Rattle.keep_lanes.specs.Out as lanes
@@ -12,7 +12,7 @@ use Rattle.watch_machine.specs.declared.lanes.Out.{Out}
 use Rattle.watch_machine.specs.History.{Turn}
 use Rattle.watch_machine.specs.State.{State, fresh_track}
 use Rattle.keep_watching.specs.Answers.{AreTaken}
-use Rattle.keep_watching.specs.Sending.{AreInStep, AreOut, GoOut, GoesOut, IsAbreast, IsSound, Lanes, entries_of, entries_on, entries_out, times}
+use Rattle.keep_watching.specs.Sending.{AreOut, GoOut, GoesOut, IsAbreast, Lanes, entries_of, entries_on, entries_out, times}
 use Rattle.keep_watching.specs.Watching.{fresh}
 use Rattle.keep_watching.proofs.Answering.{are_over}
 use Rattle.keep_watching.proofs.Sound.{Gone, IsQuiet, entries_asked, times_append, times_cons, turn_begin, turn_known, turn_need}

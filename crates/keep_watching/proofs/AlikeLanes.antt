@@ -1,29 +1,28 @@
 -- Alike lanes: over brokers whose tables differ in credentials alone, requests that go out leave lanes alike, and the answers that come back
 -- from lanes that are alike say the same. For the law that secrets change no answer.
-use Rattle.std.proofs.Common.{◌≡◌, ◌≢◌, ◌∙◌, ◌==◌, ℕ, zero, suc, ◌+◌, ◌<◌, ◌≤◌, Bool, true, false, cond, not, if◌then◌else◌, List, [], ◌∷◌, ◌++◌, Option, Some, None, IfSome, Ok, Err, All, append_assoc, filter, length, map, nat_le, nat_lt, refl, sym, ap, ap₂, subst, arith, inl, inr, true≢false}
+use Rattle.std.proofs.Common.{◌≡◌, ◌≢◌, ◌∙◌, ◌==◌, ℕ, suc, ◌+◌, ◌<◌, ◌≤◌, Bool, true, false, not, if◌then◌else◌, List, [], ◌∷◌, ◌++◌, Option, Some, None, IfSome, Err, All, append_assoc, filter, length, map, nat_le, nat_lt, refl, sym, ap, ap₂, subst, arith, inl, inr, true≢false}
 use Rattle.std.proofs.lemmas.Bool.{cases_Bool, cond-false, cond-true}
 use Rattle.std.proofs.lemmas.List.Elements.{All-head, All-tail, filter_passes}
 use Rattle.std.specs.List.{AllZip}
 use Rattle.keep_exchange.specs.Requests.{lookup_of, request_of}
-use Rattle.keep_inventory.specs.Inventories.{IsInventory, Inventory, credential_at}
+use Rattle.keep_inventory.specs.Inventories.{IsInventory, Inventory}
 use Rattle.keep_inventory.specs.declared.terms.Terms.{Terms}
 use Rattle.keep_lanes.specs.Allowed.{after, first_by}
 use Rattle.keep_lanes.specs.Losses.{Answer}
 use Rattle.keep_lanes.specs.Out as lanes
 use Rattle.keep_lanes.specs.Out.{AreThere, IsBelow, IsOf, IsParted, IsPut, first_at, is_there, is_there_at, lesser, sooner_at, up_to}
-use Rattle.keep_lanes.specs.Serving.{Behind, Comes, IsSentBy, IsServed, allowed, fault_at, later, next_number}
+use Rattle.keep_lanes.specs.Serving.{Comes, IsSentBy, IsServed, allowed, fault_at, later, next_number}
 use Rattle.keep_lanes.specs.declared.allowance.Allowance.{Allowance}
 use Rattle.keep_lanes.specs.declared.coming.Coming.{Coming}
 use Rattle.keep_lanes.specs.declared.fault.LaneFault.{LaneFault}
 use Rattle.keep_lanes.specs.declared.fault.LaneFault.TheVariants.{Refuse, Lose, Hang, Late, Garble, Status}
 use Rattle.keep_lanes.specs.declared.lanes.Answered.{Answered}
-use Rattle.keep_lanes.specs.declared.loss.Loss.{Loss}
 use Rattle.keep_lanes.specs.declared.loss.Loss.TheVariants as losses
 use Rattle.keep_run.specs.Alike.{AreDated, AreTablesAlike, IsKept}
 use Rattle.keep_run.proofs.AlikeKept.{renewals_both}
 use Rattle.keep_run.proofs.AlikeLooks.{looks_both}
 use Rattle.keep_run.proofs.Dated.{step_dated}
-use Rattle.keep_tree.specs.Forest.{Forest, entry_at}
+use Rattle.keep_tree.specs.Forest.{Forest}
 use Rattle.mini_broker.specs.Step.{step}
 use Rattle.mini_broker.specs.Table.{Table}
 use Rattle.vault_json.specs.Laws.{LookedLeaseIsRead}
@@ -34,9 +33,9 @@ use Rattle.watch_machine.specs.declared.lanes.Out.{Out}
 use Rattle.watch_machine.specs.Sending.{out_at}
 use Rattle.watch_machine.specs.State.{State}
 use Rattle.watch_machine.proofs.Cases.{of_value}
-use Rattle.keep_watching.specs.Alike.{AreBehindAlike, AreLanesAlike, AreOutAlike, inventory_of}
+use Rattle.keep_watching.specs.Alike.{AreLanesAlike, AreOutAlike, inventory_of}
 use Rattle.keep_watching.specs.Answers.{out_of}
-use Rattle.keep_watching.specs.Sending.{GoOut, GoesOut, Lanes, ask_of, message_as, patience_in, times}
+use Rattle.keep_watching.specs.Sending.{GoOut, GoesOut, Lanes, ask_of, message_as, times}
 use Rattle.keep_watching.specs.Told.{loss_in, no_terms, renewal_reply, said_to}
 use Rattle.keep_watching.specs.declared.told.Said.{Said}
 use Rattle.keep_watching.proofs.AlikeReplies.{LooksSame, RenewsSame, answer_of, loss_same, looks_same, renews_same, status_same}

@@ -1,6 +1,6 @@
 -- Alike taken: where of answers one machine is told what another is, both write one text and come to one state; and what is asked of an
 -- entry while others are answered. For the law that secrets change no answer.
-use Rattle.std.proofs.Common.{◌≡◌, ◌≢◌, ◌∙◌, ◌==◌, ℕ, Bool, true, false, not, if◌then◌else◌, List, [], ◌∷◌, ◌++◌, Option, Some, None, IfSome, Ok, filter, map, refl, sym, ap, ap₂, subst, inl, inr}
+use Rattle.std.proofs.Common.{◌≡◌, ◌∙◌, ◌==◌, ℕ, Bool, true, false, not, if◌then◌else◌, List, [], ◌∷◌, ◌++◌, Option, Some, None, IfSome, Ok, filter, map, refl, sym, ap, ap₂, subst, inl, inr}
 use Rattle.std.proofs.lemmas.Bool.{cases_Bool, cond-false, eqb-true}
 use Rattle.std.specs.List.{AllZip}
 use Rattle.keep_inventory.specs.Inventories.{Inventory}

@@ -32,7 +32,7 @@ use Rattle.watch_machine.specs.declared.event.Terms.{Terms}
 use Rattle.watch_machine.specs.declared.lanes.Out.{Out}
 use Rattle.watch_machine.specs.Answers.{answers_all, lane_freed, noted, replied, silent}
 use Rattle.watch_machine.specs.History.{Turn}
-use Rattle.watch_machine.specs.Looked.{by_terms, looked as looked_at, parent_told, step_told}
+use Rattle.watch_machine.specs.Looked.{by_terms, looked as looked_at, step_told}
 use Rattle.watch_machine.specs.Press.{pressed}
 use Rattle.watch_machine.specs.Refusal.{refusal, request_out}
 use Rattle.watch_machine.specs.Renewed.{renewed}

@@ -1,5 +1,5 @@
 -- Once: an event gives one output and one state, and a state has one next time. For the law that secrets change no answer.
-use Rattle.std.proofs.Common.{◌≡◌, ◌⊎◌, ◌∙◌, ℕ, suc, ◌+◌, ◌-◌, ◌<◌, ◌≤◌, Bool, true, false, cond, ◌&&◌, ◌||◌, ◌==◌, List, [], ◌∷◌, Option, Some, None, Ok, All, IsPermutation, IsSortedBy, count_by, get_or, length, map, nat_lt, take, zero-add, refl, sym, ap, ap₂, subst, arith, inl, inr}
+use Rattle.std.proofs.Common.{◌≡◌, ◌⊎◌, ◌∙◌, ℕ, suc, ◌+◌, ◌-◌, ◌<◌, ◌≤◌, Bool, true, false, cond, ◌&&◌, ◌||◌, ◌==◌, List, [], ◌∷◌, Option, Some, None, Ok, All, IsSortedBy, count_by, get_or, length, map, nat_lt, take, refl, sym, ap, ap₂, subst, arith, inl, inr}
 use Rattle.std.proofs.lemmas.Bool.{and_parts, cases_Bool, eqb-true}
 use Rattle.std.proofs.lemmas.Bool.Decides.{nat_tests}
 use Rattle.std.proofs.lemmas.List.Elements.{All-cons, All-head, All-nil, All-tail, All-weaker}
@@ -23,10 +23,10 @@ use Rattle.watch_machine.specs.declared.track.Track.{Track}
 use Rattle.watch_machine.specs.Clocks.{sec}
 use Rattle.watch_machine.specs.History.{Turn}
 use Rattle.watch_machine.specs.Press.{pressed}
-use Rattle.watch_machine.specs.Readings.{IsNext, is_timed_at}
+use Rattle.watch_machine.specs.Readings.{IsNext}
 use Rattle.watch_machine.specs.Refusal.{request_out}
-use Rattle.watch_machine.specs.Round.{IsAsked, IsRound, IsSecond, asked_by, plan_view}
-use Rattle.watch_machine.specs.Sending.{IsGoing, IsLine, IsSent, Place, due, is_before, request, sent}
+use Rattle.watch_machine.specs.Round.{IsRound, IsSecond, asked_by, plan_view}
+use Rattle.watch_machine.specs.Sending.{IsGoing, IsLine, Place, due, is_before, request, sent}
 use Rattle.watch_machine.specs.State.{State}
 use Rattle.watch_machine.specs.Step.{Step, StepClock, StepCommand, StepLooked, StepRenewed, nothing, readied, why}
 use Rattle.watch_machine.specs.Wait.{wait}

@@ -1,5 +1,5 @@
 -- Secrets: the law that what a watch writes tells no secret and no lease id.
-use Rattle.std.proofs.Common.{◌≡◌, ◌∙◌, ◌-◌, ℕ, Bool, true, false, is_some, length, replicate, List, [], ◌∷◌, ◌++◌, Option, Some, None, Ok, option_map, ap, ap₂, refl, sym, subst}
+use Rattle.std.proofs.Common.{◌≡◌, ◌∙◌, ◌-◌, ℕ, Bool, true, false, is_some, length, replicate, List, [], ◌∷◌, ◌++◌, Option, Some, None, Ok, option_map, ap, refl, sym, subst}
 use mathlib.Core.Path.{path_j}
 use Rattle.keep_inventory.specs.Inventories.{Inventory}
 use Rattle.keep_lanes.specs.declared.lanes.Answered.{Answered}

@@ -1,5 +1,5 @@
 -- The requests of a clock go out on lanes that are free, and all that is done is a clock of the definitions.
-use Rattle.std.proofs.Common.{◌≡◌, ◌∙◌, ◌+◌, ◌<◌, ◌≤◌, All, ap, length, subst, sym}
+use Rattle.std.proofs.Common.{◌≡◌, ◌<◌, All, ap, length, subst, sym}
 use Rattle.watch_machine.specs.declared.command.Request.{Request}
 use Rattle.watch_machine.specs.State.{State}
 use Rattle.keep_watching.specs.Answers.{Appended}
@@ -27,8 +27,8 @@ send_out-requires-clause-free g c =
     turn_gone old c.turn.new.self.machine c.args.readings.wall c.args.readings.elapsed c.in_ok-output.output requests c.in-Go.until c.in_ok-output.ensures.turned c.in-Go.is c.requires.abreast.sound in
     lanes_free old c.turn.new.self.machine requests (g.L.Lanes.width c.args.lanes.now) (g.L.Lanes.out c.args.lanes.now) c.requires.abreast gone
 
-pub go_on-requires : goal.go_on-requires
-go_on-requires g c =
+pub go_on-requires-clause-abreast : goal.go_on-requires-clause-abreast
+go_on-requires-clause-abreast g c =
     let old = c.args.self.now.machine in
     let requests = c.in-Go.requests in
     let mid = c.turn.new.self.machine in
