@@ -27,8 +27,8 @@ send_out-requires-clause-free g c =
     turn_gone old c.turn.new.self.machine c.args.readings.wall c.args.readings.elapsed c.in_ok-output.output requests c.in-Go.until c.in_ok-output.ensures.turned c.in-Go.is c.requires.abreast.sound in
     lanes_free old c.turn.new.self.machine requests (g.L.Lanes.width c.args.lanes.now) (g.L.Lanes.out c.args.lanes.now) c.requires.abreast gone
 
-pub go_on-requires-clause-abreast : goal.go_on-requires-clause-abreast
-go_on-requires-clause-abreast g c =
+pub go_on-requires : goal.go_on-requires
+go_on-requires g c =
     let old = c.args.self.now.machine in
     let requests = c.in-Go.requests in
     let mid = c.turn.new.self.machine in
@@ -40,8 +40,11 @@ go_on-requires-clause-abreast g c =
     let machine : now.machine ≡ mid = ap (λ (w : Watching). w.machine) c.in_ok-push_short_needs.ensures.said in
     let sent = sent_all _ _ _ _ _ requests lanes after c.in_ok-send_out-in-Go.ensures.sent in
     let all : IsAbreast mid (g.L.Lanes.width c.args.lanes.now) (g.L.Lanes.out c.send_out.new.lanes) = abreast_sent old mid requests (g.L.Lanes.width c.args.lanes.now) (g.L.Lanes.out c.args.lanes.now) (g.L.Lanes.out c.send_out.new.lanes) c.requires.abreast gone sent in
-    subst (λ (m : State). IsAbreast m (g.L.Lanes.width c.send_out.new.lanes) (g.L.Lanes.out c.send_out.new.lanes)) (sym machine)
-    (subst (λ width. IsAbreast mid width (g.L.Lanes.out c.send_out.new.lanes)) (sym c.in_ok-send_out-in-Go.ensures.width) all)
+    record {
+      abreast =
+          subst (λ (m : State). IsAbreast m (g.L.Lanes.width c.send_out.new.lanes) (g.L.Lanes.out c.send_out.new.lanes)) (sym machine)
+          (subst (λ width. IsAbreast mid width (g.L.Lanes.out c.send_out.new.lanes)) (sym c.in_ok-send_out-in-Go.ensures.width) all);
+    }
 
 pub returns-in-Go-clause-clocked : goal.returns-in-Go-clause-clocked
 returns-in-Go-clause-clocked g c =
