@@ -37,8 +37,8 @@ DAY = 86400.0
 LONGEST_NAP = 60.0
 """Seconds that are slept at once towards a far moment: a sleep counts no suspension."""
 ALIVE_WITHIN = 300.0
-"""Seconds without a sign of life from which on the watch counts as hung: it gives one every half a minute, and more than
-two minutes pass only where the longest time-out runs out again and again."""
+"""Seconds without a sign of life from which on the watch counts as hung: it gives one every half a minute, or within the longest
+silence and the longest pause where one process ends after the other."""
 
 
 class Service:
@@ -63,7 +63,7 @@ class Service:
     def _hear(self, line: WatchLine) -> None:
         level = self.standings.level_of(line)
         if level is not None:
-            self._log.say(level, line.said.word, *line.logged)
+            self._log.say(level, line.said.word, *self.standings.logged(line))
         self.standings.hear(line)
 
     def load(self) -> None:

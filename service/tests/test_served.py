@@ -80,8 +80,6 @@ class Talking:
 
 
 class Launcher:
-    timeout = 5
-
     def __init__(self) -> None:
         self.inventories = list[Inventory]()
         self.children = list[Talking]()
