@@ -120,6 +120,24 @@ class Silence(Scenario):
                 self.play(fleet(entries, 7200, 60, 7000), scene)
 
 
+class Reasons(Scenario):
+    def test_a_loss_and_an_absence_say_why(self) -> None:
+        for act, status, why in ((Act.REFUSE, 0, "closed"), (Act.HANG, 0, "timeout"), (Act.DRIP, 0, "timeout"), (Act.STATUS, 200, "reply"),
+                                 (Act.STATUS, 503, "503"), (Act.STATUS, 472, "472"), (None, 0, "connect")):
+            async def scene(stage: Stage) -> None:
+                await stage.until(30)
+                if act is None:
+                    stage.launcher.close()
+                else:
+                    stage.vault.faults.append(fault(30, 50, act, status))
+                await stage.finish(50)
+            with self.subTest(act=act, status=status):
+                self.play(fleet(1, 600, 60, 100), scene)
+                self.assertEqual([line.split("warning: ")[1] for line in self.stage.output.getvalue().splitlines() if "warning" in line],
+                                 [f"lost e0 {why}", f"away {why}"])
+                self.assertEqual(self.stage.entries()[0].lost > 0, True)
+
+
 class Beginnings(Scenario):
     def test_nodes_whose_dates_differ(self) -> None:
         """Two nodes answer in turn, 4 seconds apart: at most one beginning in ten minutes, and each asks one lookup of each entry."""

@@ -167,7 +167,7 @@ fn spell_pair(
     Ok(Text::from_vec(text))
 }
 
-#[tactic(auto, unfolding(crate::specs::PlanDates::run_line, keep_cert::specs::CertificateText::line_text))]
+#[tactic(auto, unfolding(crate::specs::PlanDates::run_line, keep_cert::specs::CertificateText::line_text, keep_cert::specs::CertificateText::name_of))]
 fn spell_run(alloc: Global, forest: &Forest, run: Run, date: &[u8]) -> Result<Text, AllocError>
     requires { IsAmong (length forest.now.entries) run }
     ensures { IfOk result (λ line. line ≡ run_line forest.now.entries run date.now) }

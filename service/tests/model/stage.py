@@ -199,7 +199,8 @@ class Stage:
     def _hear(self, line: WatchLine) -> None:
         level = self.standings.level_of(line)
         if level is not None:
-            self._log.say(level, line.said.word, *line.words)
+            words = line.words if line.said.moment is not None else self.standings.logged(line)  # (Moments stay numbers here.)
+            self._log.say(level, line.said.word, *words)
         if line.said is Said.END and int(line.words[1]) / 1000 + self.world.began > self.vault.named(line.words[0]).end + 0.001:
             self.believed_too_long.append(str(line))  # (of a machine whose clock is neither slow nor quick)
         self.standings.hear(line)
