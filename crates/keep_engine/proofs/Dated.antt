@@ -1,5 +1,5 @@
 -- Dated: the lines of `plan --dates`, and that they are told by the forest.
-use Rattle.std.proofs.Common.{◌≡◌, ◌∙◌, ℕ, ◌+◌, ◌<◌, ◌≤◌, ◌++◌, true, List, [], ◌∷◌, Result, Ok, Err, get_or, length, take, refl, sym, ap, subst}
+use Rattle.std.proofs.Common.{◌≡◌, ◌∙◌, ℕ, ◌+◌, ◌<◌, ◌≤◌, ◌++◌, true, List, [], ◌∷◌, Result, Ok, Err, codes, decimal, get_or, length, take, refl, sym, ap, subst}
 use Rattle.std.proofs.lemmas.List.{append_assoc, append-nil, take_all, take_more}
 use Rattle.keep_moment.specs.declared.text.Text.{Text}
 use Rattle.keep_tree.specs.declared.entry.Entry.{Entry}
@@ -9,7 +9,7 @@ use Rattle.keep_rule.specs.Runs.{counted}
 use Rattle.keep_plan.specs.declared.decision.Decision.{Decision}
 use Rattle.keep_plan.specs.declared.decision.Decision.TheVariants as decision
 use Rattle.keep_plan.specs.Decides.{Decides}
-use Rattle.keep_cert.specs.CertificateText.{end_text, unkeepable_text}
+use Rattle.keep_cert.specs.CertificateText.{end_text, line_text, name_of, unkeepable_text}
 use Rattle.keep_report.specs.declared.exit.Exit.{Exit}
 use Rattle.keep_report.specs.declared.exit.Exit.TheVariants as exits
 use Rattle.keep_report.specs.declared.stop.Stop.{Stop}
@@ -34,6 +34,34 @@ runs_are es s rs count date lines text word are is spelled =
 pub pair_is : (es : List Entry) (s entry needed : ℕ) (date text : List ℕ) → IsMomentWord true s date → text ≡ start_line date ++ unkeepable_text es entry needed → IsPairInDates es s entry needed text
 pair_is es s entry needed date text word spelled = record { start = date; is_start = word; spelled = spelled }
 
+-- ---- the words of a run
+
+-- what is appended in turn is the line of these words
+pub run_spelled :
+    (es : List Entry) (r : Run) (date a b c d e f line : List ℕ) → a ≡ [] ++ codes "run " → b ≡ a ++ date → c ≡ b ++ 32 ∷ [] → d ≡ c ++ (decimal r.step ++ 32 ∷ []) → e ≡ d ++ (decimal r.count ++ 32 ∷ []) →
+    f ≡ e ++ (name_of es r.entry ++ (32 ∷ (name_of es r.needed ++ 10 ∷ []))) → line ≡ f → line ≡ run_line es r date
+unfolding run_line line_text
+run_spelled es r date a b c d e f line one two three four five six is =
+    let s = decimal r.step in
+    let n = decimal r.count in
+    let x = name_of es r.entry in
+    let y = name_of es r.needed in
+    let z : List ℕ = x ++ (32 ∷ (y ++ 10 ∷ [])) in
+    let q : List ℕ = x ++ (32 ∷ y) in
+    let end : q ++ (10 ∷ []) ≡ z = append_assoc x (32 ∷ y) (10 ∷ []) in
+    let counted' : (n ++ (32 ∷ q)) ++ (10 ∷ []) ≡ (n ++ 32 ∷ []) ++ z = append_assoc n (32 ∷ q) (10 ∷ []) ∙ ap (λ t. n ++ (32 ∷ t)) end ∙ sym (append_assoc n (32 ∷ []) z) in
+    let stepped : (s ++ (32 ∷ (n ++ (32 ∷ q)))) ++ (10 ∷ []) ≡ (s ++ 32 ∷ []) ++ ((n ++ 32 ∷ []) ++ z) =
+    append_assoc s (32 ∷ (n ++ (32 ∷ q))) (10 ∷ []) ∙ ap (λ t. s ++ (32 ∷ t)) counted' ∙ sym (append_assoc s (32 ∷ []) ((n ++ 32 ∷ []) ++ z)) in
+    let dated : (date ++ (32 ∷ (s ++ (32 ∷ (n ++ (32 ∷ q)))))) ++ (10 ∷ []) ≡ (date ++ 32 ∷ []) ++ ((s ++ 32 ∷ []) ++ ((n ++ 32 ∷ []) ++ z)) =
+    append_assoc date (32 ∷ (s ++ (32 ∷ (n ++ (32 ∷ q))))) (10 ∷ []) ∙ ap (λ t. date ++ (32 ∷ t)) stepped ∙ sym (append_assoc date (32 ∷ []) ((s ++ 32 ∷ []) ++ ((n ++ 32 ∷ []) ++ z))) in
+    let front : c ≡ codes "run " ++ (date ++ 32 ∷ []) = three ∙ ap (λ t. t ++ 32 ∷ []) (two ∙ ap (λ t. t ++ date) one) ∙ append_assoc (codes "run ") date (32 ∷ []) in
+    is ∙ six
+    ∙ ap (λ t. t ++ z) (five ∙ ap (λ t. t ++ (n ++ 32 ∷ [])) (four ∙ ap (λ t. t ++ (s ++ 32 ∷ [])) front))
+    ∙ append_assoc ((codes "run " ++ (date ++ 32 ∷ [])) ++ (s ++ 32 ∷ [])) (n ++ 32 ∷ []) z
+    ∙ append_assoc (codes "run " ++ (date ++ 32 ∷ [])) (s ++ 32 ∷ []) ((n ++ 32 ∷ []) ++ z)
+    ∙ append_assoc (codes "run ") (date ++ 32 ∷ []) ((s ++ 32 ∷ []) ++ ((n ++ 32 ∷ []) ++ z))
+    ∙ ap (λ t. codes "run " ++ t) (sym dated)
+
 -- ---- one line more
 
 lines_then : (es : List Entry) (rs : List Run) (r : Run) (text line : List ℕ) → AreRunLines es rs text → IsRunLine es r line → AreRunLines es (rs ++ r ∷ []) (text ++ line)
@@ -41,10 +69,10 @@ lines_then es [] r text line are is = (line, [], is, refl, ap (λ t. t ++ line) 
 lines_then es (q ∷ rs) r text line are is =
     (are.0, are.1 ++ line, are.2, lines_then es rs r are.1 line are.3 is, ap (λ t. t ++ line) are.4 ∙ append_assoc are.0 are.1 line)
 
-pub lines_more : (es : List Entry) (rs : List Run) (i : ℕ) (r : Run) (text line next : List ℕ) → i < length rs → r ≡ get_or rs i r → AreRunLines es (take i rs) text → IsRunLine es r line →
+pub lines_more : (es : List Entry) (rs : List Run) (i : ℕ) (r other : Run) (text line next : List ℕ) → i < length rs → r ≡ get_or rs i other → AreRunLines es (take i rs) text → IsRunLine es r line →
     next ≡ text ++ line → AreRunLines es (take (i + 1) rs) next
-lines_more es rs i r text line next within is are here spelled =
-    let more : take i rs ++ r ∷ [] ≡ take (i + 1) rs = ap (λ (x : Run). take i rs ++ x ∷ []) is ∙ sym (take_more rs i r within) in
+lines_more es rs i r other text line next within is are here spelled =
+    let more : take i rs ++ r ∷ [] ≡ take (i + 1) rs = ap (λ (x : Run). take i rs ++ x ∷ []) is ∙ sym (take_more rs i other within) in
     subst (λ t. AreRunLines es (take (i + 1) rs) t) (sym spelled) (subst (λ (xs : List Run). AreRunLines es xs (text ++ line)) more (lines_then es (take i rs) r text line are here))
 
 pub lines_all : (es : List Entry) (rs : List Run) (i : ℕ) (text : List ℕ) → length rs ≤ i → AreRunLines es (take i rs) text → AreRunLines es rs text

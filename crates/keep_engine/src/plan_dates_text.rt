@@ -110,7 +110,7 @@ fn pair_in_dates(
 }
 
 /// The line of each run. The only error is want of memory.
-#[tactic(auto, using(crate::proofs::Dated::lines_more, crate::proofs::Dated::lines_all))]
+#[tactic(auto, using(crate::proofs::Dated::lines_all))]
 fn run_lines(alloc: Global, forest: &Forest, runs: &[Run]) -> Result<Text, Stop>
     requires { All (IsAmong (length forest.now.entries)) runs.now }
     ensures lines { IfOk result (λ lines. AreRunLines forest.now.entries runs.now lines) }

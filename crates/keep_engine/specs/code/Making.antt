@@ -21,15 +21,15 @@ use Rattle.keep_engine.specs.Running.{Halts, Texts, line_of}
 
 -- what a command makes of a forest
 abbrev pub MakesOf : Texts → Halts → Forest → Result Outcome Stop → Type 0
-MakesOf Text Halt g (Ok outcome) = Text g outcome.exit outcome.text
-MakesOf Text Halt g (Err stops.Memory) = Unit {0}
-MakesOf Text Halt g (Err stop) = Halt g stop
+MakesOf Written Halt g (Ok outcome) = Written g outcome.exit outcome.text
+MakesOf Written Halt g (Err stops.Memory) = Unit {0}
+MakesOf Written Halt g (Err stop) = Halt g stop
 
 -- what it makes of what was read
 abbrev pub Makes : Texts → Halts → Result Inventory InvFault → Result Outcome Stop → Type 0
-Makes Text Halt answer (Err (stops.Inventory fault)) = answer ≡ Err fault
-Makes Text Halt answer (Err stops.Memory) = Unit {0}
-Makes Text Halt answer made = (inventory : Inventory) × (answer ≡ Ok inventory) × MakesOf Text Halt inventory.forest made
+Makes Written Halt answer (Err (stops.Inventory fault)) = answer ≡ Err fault
+Makes Written Halt answer (Err stops.Memory) = Unit {0}
+Makes Written Halt answer made = (inventory : Inventory) × (answer ≡ Ok inventory) × MakesOf Written Halt inventory.forest made
 
 -- a text was sent, or why only a front of it was; or why there is none was told
 abbrev pub Delivers : Result Outcome Stop → Exit → Change → Change → Type 0
