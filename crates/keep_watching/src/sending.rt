@@ -81,10 +81,18 @@ impl Watching {
         ensures abreast { OnOk result (IsAbreast self.new.machine (L.width lanes.new) (L.out lanes.new)) }
         ensures port { L.host_port lanes.new ≡ L.host_port lanes.old }
     {
-        let until = self.here(until).min(elapsed.saturating_add(1000));
+        let until = self.listens_until(elapsed, until);
         let answers = lanes.wait(alloc, elapsed, until)?;
         self.take_answers(alloc, answers, text)?;
         text.extend_from_slice(b"clock\n")
+    }
+
+    /// The moment of the clock that is handed in up to which answers are waited for: that moment of the machine's clock, but a
+    /// second from now at most.
+    fn listens_until(&self, elapsed: u64, until: u64) -> u64
+        ensures { result ≡ listens_until self.now.machine elapsed until }
+    {
+        self.here(until).min(elapsed.saturating_add(1000))
     }
 
     /// A moment of the machine's clock, as the clock that is handed in shows it.

@@ -1,5 +1,5 @@
 -- The answers that are there are those of requests that are out, and they are taken.
-use Rattle.std.proofs.Common.{◌≡◌, ◌∙◌, ◌++◌, IfSome, List, Ok, Err, OnOk, Option, Result, ap, arith, rules, subst, sym, ℕ}
+use Rattle.std.proofs.Common.{◌≡◌, ◌∙◌, ◌++◌, IfSome, List, Ok, Err, OnOk, Option, Result, ap, rules, subst, sym, ℕ}
 use Rattle.std.proofs.lemmas.Result.{on_ok_weaker}
 use Rattle.keep_lanes.specs.Out as lanes
 use Rattle.keep_lanes.specs.Out.{AreThere, IsParted}
@@ -42,10 +42,9 @@ returns-clause-taken g c =
     let first = c.args.text.now.items in
     let mid = c.take_answers.new.text.items in
     let last = c.extend_from_slice.new.self.items in
-    let moment : c.min-until.result ≡ until = (let here = c.here.ensures in let later = c.saturating_add.ensures in let least = c.min-until.ensures in omega (arith, here, later, least)) in
     let back : AreHandedBack now until before answers after =
-    subst (λ u. AreHandedBack now u before answers after) moment
-    (handed_back now c.min-until.result _ _ _ _ _ _ answers c.in_ok-answers.ensures.parted c.in_ok-answers.ensures.there c.wait.ensures.behind c.wait.ensures.seconds) in
+    subst (λ u. AreHandedBack now u before answers after) c.listens_until-until.ensures
+    (handed_back now c.listens_until-until.result _ _ _ _ _ _ answers c.in_ok-answers.ensures.parted c.in_ok-answers.ensures.there c.wait.ensures.behind c.wait.ensures.seconds) in
     let text : OnOk c.extend_from_slice.result (last ≡ mid ++ clock_line) = search rules in
     on_ok_weaker c.extend_from_slice.result (λ t. taken_on old new before after now until answers first mid last back c.in_ok-take_answers.ensures.taken c.take_answers.ensures.rest t) text
 
