@@ -198,7 +198,7 @@ fn plans_in_dates_are_written(rt: HostRuntime) -> Result<(), Fail> {
 fn plans_in_dates_stop_as_plans_do(rt: HostRuntime) -> Result<(), Fail> {
     let alloc = rt.alloc();
     for (web, exit, fault) in &STOPPED {
-        let inventory = inventory_of(alloc, web)?;
+        let inventory = inventory_of(alloc, *web)?;
         let outcome = plans_in_dates(alloc, inventory.as_str(), None)?;
         assert!(rt; outcome.is(*exit, "", fault), "{fault}");
     }
