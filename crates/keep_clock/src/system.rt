@@ -47,6 +47,9 @@ impl<'a, R: Net + std::time::Clock> SystemClock<'a, R> {
 
     /// Where the sockets are registered that a wait is to end for, each under the number of its neighbour as a token. `None`
     /// where the system gives nothing that waits for sockets: a neighbour is then to be tried at each turn.
+    ///
+    /// A neighbour is told of when it can go on again. One that was left before a call of it answered that it would have to
+    /// wait is told of no more: it is to be tried at the next turn, without a wait before it.
     pub fn registry(&self) -> Option<&Registry> {
         match &self.poll {
             Some(poll) => Some(poll.registry()),

@@ -8,7 +8,7 @@ use Rattle.keep_tree.specs.Push.{is_name}
 use Rattle.keep_inventory.specs.Values.{is_credential}
 use Rattle.keep_control.specs.Answer.{◌>>=◌}
 use Rattle.keep_control.specs.Laws.{Asks, RequestFound, RequestOnly, Says, SaysWhen}
-use Rattle.keep_control.specs.Requests.{IsRequest, command_of, if_named, is_command, is_command_with, need_of, plain_of, replace_of, request_of}
+use Rattle.keep_control.specs.Requests.{IsRequest, asked_of, command_of, if_named, is_command, is_command_with, need_of, plain_of, replace_of, request_of}
 use Rattle.keep_control.specs.When.{IsWhen, when_of}
 use Rattle.keep_control.specs.Words.{one_or_more, or_not_words, tree_of_words, word_at, words_in, words_of}
 use Rattle.keep_control.specs.declared.fault.RequestFault.{RequestFault}
@@ -140,7 +140,7 @@ words_found line ws e =
     t.1 ∙ ap (λ d. Some d) (words_only t.0 ws t.2)
 
 pub request_found : RequestFound
-unfolding request_of
+unfolding request_of asked_of
 request_found line r e =
     let p = refused (nat_lt LINE_MAX (length line)) _ TooLong r e in
     let t = then_ok (words_of line) command_of r p.1 in
@@ -180,7 +180,7 @@ some_words (Follow false) ws s = rw s (words_back _ _)
 some_words (Follow true) ws s = rw s (words_back _ _)
 
 pub request_only : RequestOnly
-unfolding request_of words_of
+unfolding request_of asked_of words_of
 request_only line r a =
     let words : words_of line ≡ Ok a.words = ap or_not_words (ap (option_and_then words_in) a.tree ∙ some_words r a.words a.says) in
     cond-false (nat_lt LINE_MAX (length line)) _ _ (le-ltb _ _ a.short) ∙ ap (λ answer. answer >>= command_of) words ∙ command_only r a.words a.says a.is_request

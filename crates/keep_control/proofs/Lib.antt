@@ -4,7 +4,7 @@ pub mod Chosen
 pub mod Spans
 pub mod Whens
 pub mod WordTrees
-pub mod Lines
+pub mod OneLine
 pub mod Commands
 pub mod Written
 pub mod Replied

@@ -11,7 +11,7 @@ use Rattle.serde_json.specs.Written.{compact_text, has_float, items_have_float, 
 use Rattle.vault_json.specs.Body.{tree_of}
 use Rattle.vault_json.proofs.Bodies.{tree_of_text}
 use Rattle.vault_json.proofs.Plain.{IsPlain, compact_utf8, read_compact}
-use Rattle.keep_control.specs.Words.{items_of, line_of, one_or_more, texts_of, tree_of_words, words_in}
+use Rattle.keep_control.specs.Words.{items_of, one_or_more, texts_of, tree_of_words, words_in}
 use Rattle.keep_control.proofs.Chosen.{mapped, some_same, then_some}
 
 -- ---- arrays and words
@@ -55,6 +55,10 @@ words_back w ws = ap (option_and_then one_or_more) (texts_back (w ∷ ws))
 
 -- ---- their text
 
+-- each word between quotation marks, with its escapes; commas part them
+unfoldable pub line_of : List (List ℕ) → List ℕ
+line_of ws = 91 ∷ (join_with_byte 44 (map quoted ws) ++ 93 ∷ [])
+
 rest_text : (w : List ℕ) (ws : List (List ℕ)) → quoted w ++ items_text true (items_of ws) ≡ join_with_byte 44 (map quoted (w ∷ ws)) ++ 93 ∷ []
 rest_text w [] = refl
 rest_text w (x ∷ ws) =
@@ -69,9 +73,9 @@ no_float : (ws : List (List ℕ)) → items_have_float (items_of ws) ≡ false
 no_float [] = refl
 no_float (w ∷ ws) = no_float ws
 
--- what the compact text of such an array is
-pub compact_is : (ws : List (List ℕ)) (d : Data) (text : List ℕ) → tree_of_words ws ≡ d → (has_float d ≡ false → text ≡ compact_text d) → text ≡ line_of ws
-compact_is ws d text is h = h (ap has_float (sym is) ∙ no_float ws) ∙ ap compact_text (sym is) ∙ line_text ws
+-- there is no float in such an array
+pub without_floats : (ws : List (List ℕ)) (d : Data) → tree_of_words ws ≡ d → has_float d ≡ false
+without_floats ws d is = ap has_float (sym is) ∙ no_float ws
 
 -- ---- their text is read back
 
@@ -91,10 +95,9 @@ same_items : (ws : List (List ℕ)) → of_items (items_outline (items_of ws)) �
 same_items [] = refl
 same_items (w ∷ ws) = ap (option_map (item (string w))) (same_items ws)
 
-pub line_read : (ws : List (List ℕ)) → AllUtf8 ws → tree_of (line_of ws) ≡ Some (tree_of_words ws)
+pub line_read : (ws : List (List ℕ)) → AllUtf8 ws → tree_of (compact_text (tree_of_words ws)) ≡ Some (tree_of_words ws)
 line_read ws h =
     let plain : IsPlain (tree_of_words ws) = words_plain ws h in
     let shallow : tree.depth (outline (tree_of_words ws)) ≤ max_depth = let f = flat ws in omega (arith, f) in
-    ap tree_of (sym (line_text ws))
-    ∙ tree_of_text (compact_text (tree_of_words ws)) (compact_utf8 (tree_of_words ws) plain)
+    tree_of_text (compact_text (tree_of_words ws)) (compact_utf8 (tree_of_words ws) plain)
     ∙ read_compact (tree_of_words ws) plain shallow (ap (option_map array) (same_items ws))

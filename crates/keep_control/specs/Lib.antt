@@ -5,4 +5,3 @@ pub mod Words
 pub mod Requests
 pub mod Replies
 pub mod Laws
-pub mod code

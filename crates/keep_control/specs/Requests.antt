@@ -2,11 +2,13 @@
 -- Source: this project's own.
 use Rattle.std.specs.Prelude.{◌≡◌, ℕ, Bool, true, false, ◌&&◌, ◌==◌, if◌then◌else◌, List, [], ◌∷◌, ◌++◌, Option, Some, None, Result, Ok, Err, length, nat_lt, bytes_eq, codes}
 use Rattle.std.specs.Str.{is_utf8}
+use Rattle.serde_json.specs.Data.{Data}
+use Rattle.serde_json.specs.Written.{compact_text}
 use Rattle.keep_tree.specs.Push.{is_name}
 use Rattle.keep_inventory.specs.Values.{is_credential}
 use Rattle.keep_control.specs.Answer.{◌>>=◌}
 use Rattle.keep_control.specs.When.{IsWhen, when_of, when_word}
-use Rattle.keep_control.specs.Words.{line_of, word_at, words_of}
+use Rattle.keep_control.specs.Words.{texted, word_at, words_of}
 use Rattle.keep_control.specs.declared.limits.TheConstants.{LINE_MAX}
 use Rattle.keep_control.specs.declared.fault.RequestFault.{RequestFault}
 use Rattle.keep_control.specs.declared.fault.RequestFault.TheVariants.{TooLong, NotWords, NoCommand, BadName, BadWhen, BadCredential}
@@ -54,9 +56,13 @@ command_of ws =
     else (if is_command (codes "drop") 2 ws then if_named (word_at ws 1) (Ok (Drop (word_at ws 1)))
     else plain_of ws))
 
+-- what a line of any length asks for
+unfoldable pub asked_of : List ℕ → Result Request RequestFault
+asked_of line = words_of line >>= command_of
+
 -- what a line asks for, which is without its line feed
 unfoldable pub request_of : List ℕ → Result Request RequestFault
-request_of line = if nat_lt LINE_MAX (length line) then Err TooLong else (words_of line >>= command_of)
+request_of line = if nat_lt LINE_MAX (length line) then Err TooLong else asked_of line
 
 -- ---- as it is written
 
@@ -83,8 +89,12 @@ is_text (Add table) = is_utf8 table
 is_text (Drop name) = is_utf8 name
 is_text _ = true
 
+-- the array of its words
+unfoldable pub tree_for : Request → Result Data RequestFault
+tree_for r = texted (is_text r) (words_for r)
+
 unfoldable pub line_for : Request → Result (List ℕ) RequestFault
-line_for r = if is_text r then Ok (line_of (words_for r)) else Err NotWords
+line_for r = tree_for r >>= (λ d. Ok (compact_text d))
 
 -- a line with its line feed, where it is not too long
 unfoldable pub ended : List ℕ → Result (List ℕ) RequestFault

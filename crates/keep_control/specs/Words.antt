@@ -1,8 +1,6 @@
 -- Words: a line as an array of words, as it is read and as it is written.
 -- Source: RFC 8259.
-use Rattle.std.specs.Prelude.{ℕ, List, [], ◌∷◌, ◌++◌, map, get_or, Option, Some, None, option_map, option_and_then, Result, Ok, Err}
-use Rattle.std.specs.List.{join_with_byte}
-use Rattle.json.specs.Print.{quoted}
+use Rattle.std.specs.Prelude.{ℕ, Bool, if◌then◌else◌, List, [], ◌∷◌, get_or, Option, Some, None, option_map, option_and_then, Result, Ok, Err}
 use Rattle.serde_json.specs.Data.{Data, string, array, Items, no_items, item}
 use Rattle.serde_json.specs.Find.{as_array, as_str}
 use Rattle.vault_json.specs.Body.{tree_of}
@@ -38,7 +36,7 @@ words_of line = or_not_words (option_and_then words_in (tree_of line))
 
 -- ---- as it is written
 
--- the items that texts are, and their array
+-- the items that texts are, and their array: what is written of it has no space (`compact_text`)
 abbrev pub items_of : List (List ℕ) → Items
 items_of [] = no_items
 items_of (w ∷ ws) = item (string w) (items_of ws)
@@ -46,6 +44,6 @@ items_of (w ∷ ws) = item (string w) (items_of ws)
 abbrev pub tree_of_words : List (List ℕ) → Data
 tree_of_words ws = array (items_of ws)
 
--- RFC 8259, section 7: each word between quotation marks, with its escapes (`quoted`); commas part them
-unfoldable pub line_of : List (List ℕ) → List ℕ
-line_of ws = 91 ∷ (join_with_byte 44 (map quoted ws) ++ 93 ∷ [])
+-- the array, where what the words hold is text
+abbrev pub texted : Bool → List (List ℕ) → Result Data RequestFault
+texted is ws = if is then Ok (tree_of_words ws) else Err NotWords

@@ -3,10 +3,9 @@ ghost use Rattle.std.specs.Int.{is_in_range};
 ghost use Rattle.std.specs.List.{list_all};
 ghost use Rattle.keep_tree.specs.Push.{is_name, is_name_byte};
 ghost use Rattle.keep_inventory.specs.Values.{is_credential};
-ghost use Rattle.keep_control.specs.Answer.{Gives, ◌>>=◌};
-ghost use Rattle.keep_control.specs.Requests.{command_of, if_named, need_of, plain_of, replace_of, request_of};
+ghost use Rattle.keep_control.specs.Answer.{Gives};
+ghost use Rattle.keep_control.specs.Requests.{asked_of, command_of, if_named, need_of, plain_of, replace_of, request_of};
 ghost use Rattle.keep_control.specs.When.{when_of};
-ghost use Rattle.keep_control.specs.Words.{words_of};
 ghost use Rattle.keep_control.specs.declared.fault.RequestFault.TheVariants as faults;
 ghost use Rattle.keep_control.specs.declared.request.Request.TheVariants.{Drop};
 ghost use Rattle.keep_control.specs.declared.limits.TheConstants.{LINE_MAX};
@@ -39,8 +38,9 @@ pub fn read_request(alloc: Global, line: &[u8]) -> Result<Request, RequestFault>
 }
 
 // What a line asks for that is not too long.
+#[tactic(auto, unfolding(crate::specs::Requests::asked_of))]
 fn asked(alloc: Global, line: &[u8]) -> Result<Request, RequestFault>
-    ensures { Gives (λ request. request) result (words_of line.now >>= command_of) }
+    ensures { Gives (λ request. request) result (asked_of line.now) }
 {
     let words = Words::read(alloc, line)?;
     command(alloc, &words)

@@ -2,10 +2,9 @@ ghost use Rattle.std.specs.Prelude.{◌≡◌, ◌∷◌, [], ◌&&◌, IfOk, Ma
 ghost use Rattle.std.specs.Str.{is_utf8};
 ghost use Rattle.serde_json.specs.View.{view};
 ghost use Rattle.keep_control.specs.Answer.{Gives};
-ghost use Rattle.keep_control.specs.Requests.{ended, line_for, text_of};
+ghost use Rattle.keep_control.specs.Requests.{ended, line_for, text_of, tree_for};
 ghost use Rattle.keep_control.specs.When.{need_word, when_word};
-ghost use Rattle.keep_control.specs.Words.{tree_of_words};
-ghost use Rattle.keep_control.specs.code.Writing.{texted, tree_for};
+ghost use Rattle.keep_control.specs.Words.{texted, tree_of_words};
 ghost use Rattle.keep_control.specs.declared.fault.RequestFault.TheVariants as faults;
 
 use crate::fault::RequestFault;
@@ -42,6 +41,7 @@ fn ended(mut line: Vec<u8>) -> Result<Text, RequestFault>
 }
 
 // The line that asks for it.
+#[tactic(auto, unfolding(crate::specs::Requests::line_for))]
 fn line_for(alloc: Global, request: &Request) -> Result<Vec<u8>, RequestFault>
     ensures { Gives (λ line. line.items) result (line_for request.now) }
 {
@@ -50,6 +50,7 @@ fn line_for(alloc: Global, request: &Request) -> Result<Vec<u8>, RequestFault>
 }
 
 // The array of its words.
+#[tactic(auto, unfolding(crate::specs::Requests::tree_for))]
 fn tree_for(alloc: Global, request: &Request) -> Result<Value, RequestFault>
     ensures { Gives (λ v. view v) result (tree_for request.now) }
 {

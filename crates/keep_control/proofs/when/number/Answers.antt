@@ -12,6 +12,11 @@ overflow_mul-value c =
     let part = digits_value-take-le 10 ds c.loop-byte.byte-index (omega arith) in
     omega (arith, most, part, c.loop-byte.invariant)
 
+pub overflow_sub-value : goal.overflow_sub-value
+overflow_sub-value c =
+    let digit = digit_of c.args.digits.now c.loop-byte.byte-index (number_parts c.args.digits.now c.requires).2 c.loop-byte-test.true in
+    omega (arith, digit.least)
+
 pub overflow_add-value : goal.overflow_add-value
 overflow_add-value c =
     let ds = c.args.digits.now in

@@ -10,8 +10,8 @@ use Rattle.json.specs.Print.{escape, escape_byte, escape_letter, quoted}
 use Rattle.keep_words.specs.Laws.{Lacks}
 use Rattle.keep_words.proofs.Joined.{lacks_append, lacks_each}
 use Rattle.keep_control.specs.Front.{IsFront, LacksFeed}
-use Rattle.keep_control.specs.Words.{line_of}
 use Rattle.keep_control.specs.declared.limits.TheConstants.{LINE_MAX}
+use Rattle.keep_control.proofs.WordTrees.{line_of}
 use Rattle.keep_control.specs.declared.front.Front.TheVariants.{Whole}
 
 one_lacks : (x : ℕ) → x ≢ 10 → Lacks 10 (x ∷ [])
@@ -38,7 +38,16 @@ letter_is_not x other =
     (either_not _ 116 0 (λ e. omega (arith, e)) (λ e. omega (arith, e)))))))
 
 digit_is_not : (n : ℕ) → digit_char n ≢ 10
-digit_is_not n = either_not _ _ _ (λ e. omega (arith, e)) (λ e. omega (arith, e))
+digit_is_not n = either_not (nat_lt n 10) (48 + n) (87 + n) (λ e. omega (arith, e)) (λ e. omega (arith, e))
+
+-- a byte by its number, in hexadecimal digits
+abbrev coded : ℕ → List ℕ
+coded x = 92 ∷ 117 ∷ 48 ∷ 48 ∷ digit_char (x / 16) ∷ digit_char (x % 16) ∷ []
+
+coded_lacks : (x : ℕ) → Lacks 10 (coded x)
+coded_lacks x =
+    lacks_append 10 (92 ∷ 117 ∷ 48 ∷ 48 ∷ []) (digit_char (x / 16) ∷ digit_char (x % 16) ∷ []) refl
+    (front_lacks (digit_char (x / 16)) (digit_char (x % 16) ∷ []) (digit_is_not (x / 16)) (one_lacks (digit_char (x % 16)) (digit_is_not (x % 16))))
 
 byte_lacks : (x : ℕ) → Lacks 10 (escape_byte x)
 unfolding escape_byte
@@ -46,11 +55,9 @@ byte_lacks x =
     elim (cases_eq x 10) [
       | inl e ↦ rw e refl
       | inr other ↦
-          either_lacks _ _ _ (front_lacks 92 _ (λ e. omega (arith, e)) (one_lacks (escape_letter x) (letter_is_not x other)))
-          (either_lacks _ _ _
-          (front_lacks 92 _ (λ e. omega (arith, e)) (front_lacks 117 _ (λ e. omega (arith, e)) (front_lacks 48 _ (λ e. omega (arith, e)) (front_lacks 48 _ (λ e. omega (arith, e))
-          (front_lacks (digit_char (x / 16)) _ (digit_is_not (x / 16)) (one_lacks (digit_char (x % 16)) (digit_is_not (x % 16))))))))
-          (one_lacks x other))
+          either_lacks (nat_lt 0 (escape_letter x)) (92 ∷ escape_letter x ∷ []) (cond (nat_lt x 32) (coded x) (x ∷ []))
+          (front_lacks 92 (escape_letter x ∷ []) (λ e. omega (arith, e)) (one_lacks (escape_letter x) (letter_is_not x other)))
+          (either_lacks (nat_lt x 32) (coded x) (x ∷ []) (coded_lacks x) (one_lacks x other))
     ]
 
 escape_lacks : (s : List ℕ) → Lacks 10 (escape s)
@@ -58,16 +65,16 @@ escape_lacks [] = refl
 escape_lacks (x ∷ s) = lacks_append 10 (escape_byte x) (escape s) (byte_lacks x) (escape_lacks s)
 
 quoted_lacks : (s : List ℕ) → Lacks 10 (quoted s)
-quoted_lacks s = front_lacks 34 _ (λ e. omega (arith, e)) (lacks_append 10 (escape s) (34 ∷ []) (escape_lacks s) refl)
+quoted_lacks s = front_lacks 34 (escape s ++ 34 ∷ []) (λ e. omega (arith, e)) (lacks_append 10 (escape s) (34 ∷ []) (escape_lacks s) refl)
 
 join_lacks : (ws : List (List ℕ)) → Lacks 10 (join_with_byte 44 (map quoted ws))
 join_lacks [] = refl
 join_lacks (w ∷ []) = quoted_lacks w
-join_lacks (w ∷ x ∷ ws) = lacks_append 10 (quoted w) (44 ∷ join_with_byte 44 (map quoted (x ∷ ws))) (quoted_lacks w) (front_lacks 44 _ (λ e. omega (arith, e)) (join_lacks (x ∷ ws)))
+join_lacks (w ∷ x ∷ ws) = lacks_append 10 (quoted w) (44 ∷ join_with_byte 44 (map quoted (x ∷ ws))) (quoted_lacks w) (front_lacks 44 (join_with_byte 44 (map quoted (x ∷ ws))) (λ e. omega (arith, e)) (join_lacks (x ∷ ws)))
 
 pub line_lacks : (ws : List (List ℕ)) → Lacks 10 (line_of ws)
 unfolding line_of
-line_lacks ws = front_lacks 91 _ (λ e. omega (arith, e)) (lacks_append 10 (join_with_byte 44 (map quoted ws)) (93 ∷ []) (join_lacks ws) refl)
+line_lacks ws = front_lacks 91 (join_with_byte 44 (map quoted ws) ++ 93 ∷ []) (λ e. omega (arith, e)) (lacks_append 10 (join_with_byte 44 (map quoted ws)) (93 ∷ []) (join_lacks ws) refl)
 
 -- ---- the first line of what begins with it
 
