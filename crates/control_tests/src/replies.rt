@@ -54,14 +54,27 @@ fn replies_are_written_and_read(rt: HostRuntime) -> Result<(), Fail> {
 }
 
 const NONE: [&str; 12] = [
-    "", "\n", "ok", "ok\r\n", "OK\n", " ok\n", "ok\none", "error\n", "error:\n", "error: why",
-    "error: why\nmore\n", "no\nok\n",
+    "",
+    "\n",
+    "ok",
+    "ok\r\n",
+    "OK\n",
+    " ok\n",
+    "ok\none",
+    "error\n",
+    "error:\n",
+    "error: why",
+    "error: why\nmore\n",
+    "no\nok\n",
 ];
 
 #[test]
 fn no_replies(rt: HostRuntime) -> Result<(), Fail> {
     for text in &NONE {
-        assert!(rt; read_reply(rt.alloc(), text.as_bytes())?.is_none(), "{text}");
+        assert!(rt;
+            read_reply(rt.alloc(), text.as_bytes())?.is_none(),
+            "{text}"
+        );
     }
     Ok(())
 }

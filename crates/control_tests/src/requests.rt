@@ -15,13 +15,22 @@ const TAKEN: [(&str, &str); 20] = [
         "[\"need\", \"app-db\", \"2026-11-22T09:00:00Z\"]",
         "[\"need\",\"app-db\",\"1795338000\"]\n",
     ),
-    ("[\"need\", \"a/b.c_d\", \"+6h\"]", "[\"need\",\"a/b.c_d\",\"+21600\"]\n"),
+    (
+        "[\"need\", \"a/b.c_d\", \"+6h\"]",
+        "[\"need\",\"a/b.c_d\",\"+21600\"]\n",
+    ),
     ("[\"need\",\"x\",\"+90\"]", "[\"need\",\"x\",\"+90\"]\n"),
     ("[\"need\",\"x\",\"+90s\"]", "[\"need\",\"x\",\"+90\"]\n"),
     ("[\"need\",\"x\",\"+2d\"]", "[\"need\",\"x\",\"+172800\"]\n"),
-    ("[\"need\",\"x\",\"always\"]", "[\"need\",\"x\",\"always\"]\n"),
+    (
+        "[\"need\",\"x\",\"always\"]",
+        "[\"need\",\"x\",\"always\"]\n",
+    ),
     ("[\"need\",\"x\",\"0\"]", "[\"need\",\"x\",\"0\"]\n"),
-    ("[\"need\",\"x\",\"000000000060\"]", "[\"need\",\"x\",\"60\"]\n"),
+    (
+        "[\"need\",\"x\",\"000000000060\"]",
+        "[\"need\",\"x\",\"60\"]\n",
+    ),
     (
         "[\"replace\", \"web\", \"hvs.CAES~!\\\"\\\\\"]",
         "[\"replace\",\"web\",\"hvs.CAES~!\\\"\\\\\"]\n",
@@ -31,7 +40,10 @@ const TAKEN: [(&str, &str); 20] = [
         "[\"add\",\"[[token]]\\nname = \\\"w\\\"\\n\"]\n",
     ),
     ("[\"add\", \"\"]", "[\"add\",\"\"]\n"),
-    ("[\"add\", \"# \\u00e9\\u0001\"]", "[\"add\",\"# \u{e9}\\u0001\"]\n"),
+    (
+        "[\"add\", \"# \\u00e9\\u0001\"]",
+        "[\"add\",\"# \u{e9}\\u0001\"]\n",
+    ),
     ("[\"drop\", \"web\"]", "[\"drop\",\"web\"]\n"),
     ("[\"status\"]", "[\"status\"]\n"),
     ("  [ \"he\\u0061lth\" ]\r", "[\"health\"]\n"),
@@ -80,7 +92,10 @@ const REFUSED: [(&str, RequestFault); 34] = [
     ("[\"add\"]", RequestFault::NoCommand),
     ("[\"drop\"]", RequestFault::NoCommand),
     ("[\"follow\",\"--alerts\"]", RequestFault::NoCommand),
-    ("[\"follow\",\"alerts\",\"alerts\"]", RequestFault::NoCommand),
+    (
+        "[\"follow\",\"alerts\",\"alerts\"]",
+        RequestFault::NoCommand,
+    ),
     ("[\"drop\",\"\"]", RequestFault::BadName),
     ("[\"drop\",\"a b\"]", RequestFault::BadName),
     ("[\"need\",\"\\u00e9\",\"x\"]", RequestFault::BadName),
@@ -89,7 +104,10 @@ const REFUSED: [(&str, RequestFault); 34] = [
     ("[\"need\",\"web\",\"\"]", RequestFault::BadWhen),
     ("[\"replace\",\"web\",\"\"]", RequestFault::BadCredential),
     ("[\"replace\",\"web\",\"a b\"]", RequestFault::BadCredential),
-    ("[\"replace\",\"web\",\"\\u007f\"]", RequestFault::BadCredential),
+    (
+        "[\"replace\",\"web\",\"\\u007f\"]",
+        RequestFault::BadCredential,
+    ),
 ];
 
 fn is_refused(alloc: Global, line: &str, fault: RequestFault) -> bool {
@@ -101,7 +119,9 @@ fn the_first_fault_is_told(rt: HostRuntime) {
     for (line, fault) in &REFUSED {
         assert!(rt; is_refused(rt.alloc(), line, *fault), "of {line}");
     }
-    assert!(rt; read_request(rt.alloc(), b"[\"st\xffatus\"]").err() == Some(RequestFault::NotWords));
+    assert!(rt;
+        read_request(rt.alloc(), b"[\"st\xffatus\"]").err() == Some(RequestFault::NotWords)
+    );
 }
 
 /// A line of so many bytes: it adds a table of spaces.
@@ -133,7 +153,9 @@ fn a_line_may_be_so_long(rt: HostRuntime) -> Result<(), Fail> {
 fn what_is_not_written(rt: HostRuntime) -> Result<(), Fail> {
     let alloc = rt.alloc();
     let table = keep_moment::Text::of(alloc, b"# \xff")?;
-    assert!(rt; write_request(alloc, &Request::Add { table }).err() == Some(RequestFault::NotWords));
+    assert!(rt;
+        write_request(alloc, &Request::Add { table }).err() == Some(RequestFault::NotWords)
+    );
     let table = keep_moment::Text::from_vec(line_of(alloc, 65_530)?);
     assert!(rt; write_request(alloc, &Request::Add { table }).err() == Some(RequestFault::TooLong));
     Ok(())

@@ -38,7 +38,11 @@ impl Model for MemoryClock {
 impl MemoryClock {
     /// A clock with these readings to come, `None` for one that fails; past the last of them each fails. It keeps its first
     /// `room` calls. The only error is want of memory.
-    pub fn new(alloc: Global, readings: Vec<Option<Reading>>, room: usize) -> Result<MemoryClock, AllocError>
+    pub fn new(
+        alloc: Global,
+        readings: Vec<Option<Reading>>,
+        room: usize,
+    ) -> Result<MemoryClock, AllocError>
         ensures { IfOk result (λ clock. clock ≡ record { to_come = readings.items; calls = []; room = room; is_whole = true; failures = 0 }) }
     {
         Ok(MemoryClock {

@@ -1,23 +1,22 @@
 -- Requests: what is read of a line is what it asks for, and each line that asks for something is read so.
-use Rattle.std.proofs.Common.{◌≡◌, ◌⊎◌, inl, inr, ℕ, ◌+◌, ◌<◌, ◌≤◌, Bool, true, false, cond, ◌&&◌, ◌==◌, List, [], ◌∷◌, length, nat_lt, bytes_eq, codes, Option, Some, None, option_and_then, Result, Ok, Err, refl, sym, ap, ◌∙◌, subst, arith, ltb-false}
-use Rattle.std.proofs.lemmas.Bool.{and_parts, and_from, cond-true, cond-false, eqb-true, le-ltb}
+use Rattle.std.proofs.Common.{◌≡◌, inl, inr, ℕ, true, false, cond, ◌==◌, List, [], ◌∷◌, length, nat_lt, bytes_eq, codes, Option, Some, None, option_and_then, Result, Ok, Err, refl, sym, ap, ◌∙◌, subst, arith, ltb-false}
+use Rattle.std.proofs.lemmas.Bool.{and_parts, cond-true, cond-false, eqb-true, le-ltb}
 use Rattle.std.specs.Cmp.Lexicographic.{bytes_decides}
-use Rattle.serde_json.specs.Data.{Data}
 use Rattle.vault_json.specs.Body.{tree_of}
 use Rattle.keep_tree.specs.Push.{is_name}
 use Rattle.keep_inventory.specs.Values.{is_credential}
 use Rattle.keep_control.specs.Answer.{◌>>=◌}
-use Rattle.keep_control.specs.Laws.{Asks, RequestFound, RequestOnly, Says, SaysWhen}
+use Rattle.keep_control.specs.Laws.{RequestFound, RequestOnly, Says}
 use Rattle.keep_control.specs.Requests.{IsRequest, asked_of, command_of, if_named, is_command, is_command_with, need_of, plain_of, replace_of, request_of}
-use Rattle.keep_control.specs.When.{IsWhen, when_of}
-use Rattle.keep_control.specs.Words.{one_or_more, or_not_words, tree_of_words, word_at, words_in, words_of}
+use Rattle.keep_control.specs.When.{when_of}
+use Rattle.keep_control.specs.Words.{or_not_words, tree_of_words, word_at, words_in, words_of}
 use Rattle.keep_control.specs.declared.fault.RequestFault.{RequestFault}
-use Rattle.keep_control.specs.declared.fault.RequestFault.TheVariants.{TooLong, NotWords, NoCommand, BadName, BadWhen, BadCredential}
+use Rattle.keep_control.specs.declared.fault.RequestFault.TheVariants.{TooLong, NoCommand, BadName, BadCredential}
 use Rattle.keep_control.specs.declared.limits.TheConstants.{LINE_MAX}
 use Rattle.keep_control.specs.declared.request.Request.{Request}
 use Rattle.keep_control.specs.declared.request.Request.TheVariants.{Need, Replace, Add, Drop, Status, Health, Settle, Reload, Follow}
 use Rattle.keep_control.specs.declared.when.When.{When}
-use Rattle.keep_control.proofs.Chosen.{branch, granted, ok_same, passed, refused, some_same, then_ok, then_some}
+use Rattle.keep_control.proofs.Chosen.{branch, granted, ok_same, refused, then_ok, then_some}
 use Rattle.keep_control.proofs.Whens.{when_found, when_only}
 use Rattle.keep_control.proofs.WordTrees.{words_back, words_only}
 

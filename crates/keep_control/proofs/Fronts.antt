@@ -1,5 +1,5 @@
 -- Where the first line feed stands, for `front_of`.
-use Rattle.std.proofs.Common.{◌≡◌, ℕ, ◌≤◌, List, arith}
+use Rattle.std.proofs.Common.{ℕ, ◌≤◌, List, arith}
 use Rattle.std.proofs.lemmas.Bool.{eq-eqb}
 use Rattle.memchr.specs.Find.{Nowhere, Passes, is_byte}
 use Rattle.keep_control.specs.Front.{LacksFeed}

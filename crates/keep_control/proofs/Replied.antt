@@ -1,17 +1,15 @@
 -- Replies: the text of a reply is read as that reply, and no other text is.
-use Rattle.std.proofs.Common.{◌≡◌, ◌≢◌, ◌⊎◌, inl, inr, ℕ, zero, suc, ◌+◌, ◌<◌, ◌≤◌, Bool, true, false, not, cond, ◌==◌, List, [], ◌∷◌, ◌++◌, length, take, drop, bytes_eq, codes, Option, Some, None, option_map, refl, sym, ap, ◌∙◌, subst, arith, append_assoc, length-append}
+use Rattle.std.proofs.Common.{◌≡◌, ◌≢◌, inl, inr, ℕ, zero, suc, ◌<◌, Bool, true, false, not, cond, ◌==◌, List, [], ◌∷◌, ◌++◌, length, take, drop, bytes_eq, codes, Option, Some, None, option_map, refl, sym, ap, ◌∙◌, subst, arith, append_assoc, length-append}
 use Rattle.std.proofs.lemmas.Bool.{and_from, and_parts, cases_Bool, cond-true, cond-false, eqb-true, eq-eqb, not_from_false}
-use Rattle.std.proofs.lemmas.List.{append-nil}
 use Rattle.std.proofs.lemmas.List.Splits.{slice_split_at}
 use Rattle.std.specs.Cmp.Lexicographic.{bytes_decides}
-use Rattle.std.specs.List.{join_with_byte, onto_first, slice_split}
+use Rattle.std.specs.List.{join_with_byte, onto_first}
 use Rattle.keep_words.specs.Laws.{AllLack, Lacks}
 use Rattle.keep_words.specs.Pieces.{pieces}
 use Rattle.keep_words.proofs.Cutting.{has_piece}
 use Rattle.keep_words.proofs.Joined.{joined_back, lacks_append, lacks_each}
 use Rattle.keep_control.specs.Laws.{ReplyFound, ReplyOnly, WhyIsLine}
 use Rattle.keep_control.specs.Replies.{IsReply, closed, lines_of, lines_text, refusal_of, refused_in, reply_if, reply_in, reply_lines, reply_of, reply_text, why_of}
-use Rattle.keep_control.specs.declared.fault.RequestFault.{RequestFault}
 use Rattle.keep_control.specs.declared.fault.RequestFault.TheVariants as faults
 use Rattle.keep_control.specs.declared.reply.Reply.{Reply}
 use Rattle.keep_control.specs.declared.reply.Reply.TheVariants.{Done, Refused}

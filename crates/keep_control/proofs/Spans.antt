@@ -1,7 +1,7 @@
 -- A time from now: what is read of a word is what it says, and each is read.
-use Rattle.std.proofs.Common.{◌≡◌, ◌≢◌, ◌⊎◌, inl, inr, ℕ, ◌+◌, ◌-◌, ◌*◌, ◌<◌, ◌≤◌, Bool, true, false, ◌&&◌, List, [], ◌∷◌, ◌++◌, length, take, get_or, nat_lt, nat_le, codes, Option, Some, None, refl, sym, ap, ◌∙◌, subst, arith, length-append, lt-ltb, ltb-true, le-leb}
+use Rattle.std.proofs.Common.{◌≡◌, inl, inr, ℕ, ◌+◌, ◌-◌, ◌*◌, ◌<◌, ◌≤◌, true, false, ◌&&◌, List, [], ◌∷◌, ◌++◌, length, take, get_or, nat_lt, nat_le, Some, refl, sym, ap, ◌∙◌, subst, arith, length-append, lt-ltb, ltb-true, le-leb}
 use Rattle.std.proofs.Math.Seq.{take-append_seam, get_or-append_seam, take-length}
-use Rattle.std.proofs.lemmas.Bool.{and_from, and_parts, cases_Bool, cases_eq, cond-true, cond-false, eqb-true, leb-true, ne_eqb}
+use Rattle.std.proofs.lemmas.Bool.{and_from, and_parts, cases_Bool, cases_eq, cond-true, cond-false, leb-true, ne_eqb}
 use Rattle.std.proofs.lemmas.List.{append-nil, take_more}
 use Rattle.std.proofs.lemmas.List.Folds.{list_all-append}
 use Rattle.std.proofs.lemmas.Str.Parse.{digits_value_short}
@@ -11,7 +11,7 @@ use Rattle.std.specs.Str.Parse.{digits_value}
 use Rattle.keep_words.proofs.Digits.{own}
 use Rattle.keep_moment.specs.declared.moment.TheConstants.{LAST}
 use Rattle.keep_control.specs.Laws.{AreDigits, IsUnit}
-use Rattle.keep_control.specs.When.{but_last, if_not_past, is_number, last_byte, seconds_each, span_of, unit_seconds}
+use Rattle.keep_control.specs.When.{but_last, is_number, last_byte, seconds_each, span_of, unit_seconds}
 use Rattle.keep_control.proofs.Chosen.{passed, some_same}
 
 -- ---- numbers

@@ -1,6 +1,6 @@
 -- WHEN: what is read of a word is what it says, and each is read.
-use Rattle.std.proofs.Common.{◌≡◌, ◌≢◌, ◌⊎◌, inl, inr, ℕ, ◌+◌, ◌*◌, ◌/◌, ◌<◌, ◌≤◌, Bool, true, false, ◌&&◌, ◌==◌, List, [], ◌∷◌, ◌++◌, length, drop, get_or, nat_le, bytes_eq, codes, Option, Some, None, option_map, ℤ, pos, negsuc, Result, Ok, Err, refl, sym, ap, ◌∙◌, subst, arith, le-leb}
-use Rattle.std.proofs.lemmas.Bool.{and_parts, cases_Bool, cond-true, cond-false, eqb-true, eq-eqb, leb-true, ne_eqb, true≢false}
+use Rattle.std.proofs.Common.{◌≡◌, inl, inr, ℕ, ◌+◌, ◌*◌, ◌/◌, ◌<◌, ◌≤◌, true, false, ◌==◌, List, [], ◌∷◌, drop, get_or, nat_le, bytes_eq, codes, Option, Some, None, option_map, ℤ, pos, negsuc, Result, Ok, Err, refl, sym, ap, ◌∙◌, subst, arith}
+use Rattle.std.proofs.lemmas.Bool.{and_parts, cases_Bool, cond-true, cond-false, eqb-true, leb-true, ne_eqb, true≢false}
 use Rattle.std.proofs.lemmas.Int.{ints}
 use Rattle.std.specs.Char.{is_ascii_digit}
 use Rattle.std.specs.Cmp.Lexicographic.{bytes_decides}
@@ -9,16 +9,16 @@ use Rattle.std.specs.Result.{result_ok}
 use Rattle.std.specs.Str.Parse.{digits_value}
 use Rattle.keep_moment.specs.declared.fault.TimeFault.{TimeFault}
 use Rattle.keep_moment.specs.declared.moment.TheConstants.{LAST}
-use Rattle.keep_moment.specs.MomentOf.{in_range, moment_at, moment_of, stamp_of}
-use Rattle.keep_moment.specs.Rfc3339.{face, seconds_of}
+use Rattle.keep_moment.specs.MomentOf.{in_range, moment_of}
+use Rattle.keep_moment.specs.Rfc3339.{seconds_of}
 use Rattle.keep_moment.proofs.Moments.{moment_found, moment_tells}
 use Rattle.keep_inventory.specs.Languages.{full}
 use Rattle.keep_inventory.specs.Values.{is_always, need_text}
 use Rattle.keep_inventory.specs.Values as values
 use Rattle.keep_inventory.specs.declared.need.Need.{Need}
 use Rattle.keep_inventory.specs.declared.need.Need.TheVariants.{Until, Always}
-use Rattle.keep_control.specs.Laws.{AreDigits, IsSpan, SaysNeed, SaysWhen}
-use Rattle.keep_control.specs.When.{IsNeed, IsWhen, fixed_of, if_not_past, is_number, seconds_each, span_of, until_if, when_of}
+use Rattle.keep_control.specs.Laws.{AreDigits, SaysNeed, SaysWhen}
+use Rattle.keep_control.specs.When.{IsNeed, IsWhen, fixed_of, is_number, seconds_each, span_of, until_if, when_of}
 use Rattle.keep_control.specs.declared.when.When.{When}
 use Rattle.keep_control.specs.declared.when.When.TheVariants.{Fixed, FromNow}
 use Rattle.keep_control.proofs.Chosen.{mapped, some_same}

@@ -1,12 +1,10 @@
 -- Words and the arrays that they are: what is read of an array is its words, and the text of an array is read back.
-use Rattle.std.proofs.Common.{◌≡◌, ℕ, ◌≤◌, ◌||◌, true, false, cond, max, List, length, [], ◌∷◌, ◌++◌, map, Option, Some, None, option_map, option_and_then, refl, sym, ap, ◌∙◌, append_assoc, arith, IsUtf8}
-use Rattle.std.proofs.lemmas.Str.{IsUtf8-append, IsUtf8-nil}
+use Rattle.std.proofs.Common.{◌≡◌, ℕ, ◌≤◌, true, false, max, List, [], ◌∷◌, ◌++◌, map, Some, option_map, option_and_then, refl, sym, ap, ◌∙◌, append_assoc, arith, IsUtf8}
 use Rattle.std.specs.List.{join_with_byte}
 use Rattle.json.specs.Print.{quoted}
 use Rattle.json.specs.Tree as tree
 use Rattle.serde_json.specs.Data.{Data, null, boolean, number, string, array, object, Items, no_items, item}
-use Rattle.serde_json.specs.Find.{as_str}
-use Rattle.serde_json.specs.Read.{of_items, of_json, max_depth}
+use Rattle.serde_json.specs.Read.{of_items, max_depth}
 use Rattle.serde_json.specs.Written.{compact_text, has_float, items_have_float, items_outline, items_text, outline}
 use Rattle.vault_json.specs.Body.{tree_of}
 use Rattle.vault_json.proofs.Bodies.{tree_of_text}

@@ -1,5 +1,5 @@
 -- What is written of a request is one line, and is read as that request.
-use Rattle.std.proofs.Common.{◌≡◌, ℕ, ◌+◌, ◌*◌, ◌^◌, ◌<◌, ◌≤◌, Bool, true, false, ◌&&◌, List, [], ◌∷◌, ◌++◌, length, nat_lt, codes, decimal, Ok, Err, Some, IsUtf8, refl, sym, ap, ◌∙◌, subst, arith, inl, inr, ltb-false}
+use Rattle.std.proofs.Common.{◌≡◌, ℕ, ◌^◌, ◌<◌, ◌≤◌, true, false, List, [], ◌∷◌, ◌++◌, length, nat_lt, decimal, Ok, IsUtf8, refl, sym, ap, ◌∙◌, subst, arith, inl, ltb-false}
 use Rattle.std.proofs.lemmas.Bool.{and_parts}
 use Rattle.std.proofs.lemmas.Fmt.{IsAscii-decimal, decimal_nonempty, digits_decimal, digits_value-decimal, length-decimal-le}
 use Rattle.std.proofs.lemmas.Str.{IsUtf8-append, IsUtf8-from_ascii, IsUtf8-from_is_utf8}
@@ -7,7 +7,6 @@ use Rattle.std.proofs.lemmas.List.{append-nil}
 use Rattle.std.specs.Str.{is_utf8}
 use Rattle.serde_json.specs.Written.{compact_text}
 use Rattle.json.proofs.Printed.Utf8.{IsUtf8-are_ascii}
-use Rattle.keep_tree.specs.Push.{is_name}
 use Rattle.keep_moment.specs.declared.moment.TheConstants.{LAST}
 use Rattle.keep_words.specs.Laws.{Lacks}
 use Rattle.keep_words.proofs.Digits.{own}
@@ -16,10 +15,9 @@ use Rattle.keep_inventory.specs.declared.need.Need.TheVariants.{Until, Always}
 use Rattle.keep_control.specs.Front.{IsFront}
 use Rattle.keep_control.specs.declared.front.Front.TheVariants.{Whole}
 use Rattle.keep_control.specs.Laws.{AreDigits, Asks, Says, SaysNeed, SaysWhen, WrittenIsRead}
-use Rattle.keep_control.specs.Requests.{IsRequest, ended, is_text, line_for, request_of, text_of, tree_for, words_for}
+use Rattle.keep_control.specs.Requests.{IsRequest, ended, is_text, line_for, text_of, tree_for, words_for}
 use Rattle.keep_control.specs.When.{IsNeed, IsWhen, need_word, when_word}
 use Rattle.keep_control.specs.Words.{tree_of_words}
-use Rattle.keep_control.specs.declared.fault.RequestFault.{RequestFault}
 use Rattle.keep_control.specs.declared.fault.RequestFault.TheVariants.{TooLong, NotWords}
 use Rattle.keep_control.specs.declared.limits.TheConstants.{LINE_MAX}
 use Rattle.keep_control.specs.declared.request.Request.{Request}

@@ -1,6 +1,6 @@
 -- Replies: the lines that answer a request, and what a client reads of them.
 -- Source: this project's own.
-use Rattle.std.specs.Prelude.{◌≡◌, ℕ, ◌==◌, List, [], ◌∷◌, ◌++◌, if◌then◌else◌, Option, Some, None, option_map, length, take, drop, bytes_eq, codes}
+use Rattle.std.specs.Prelude.{ℕ, ◌==◌, List, [], ◌∷◌, ◌++◌, if◌then◌else◌, Option, Some, None, option_map, length, take, drop, bytes_eq, codes}
 use Rattle.keep_words.specs.Laws.{AllLack, Lacks}
 use Rattle.keep_words.specs.Pieces.{pieces}
 use Rattle.keep_control.specs.declared.fault.RequestFault.{RequestFault}

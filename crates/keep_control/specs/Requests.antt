@@ -11,7 +11,7 @@ use Rattle.keep_control.specs.When.{IsWhen, when_of, when_word}
 use Rattle.keep_control.specs.Words.{texted, word_at, words_of}
 use Rattle.keep_control.specs.declared.limits.TheConstants.{LINE_MAX}
 use Rattle.keep_control.specs.declared.fault.RequestFault.{RequestFault}
-use Rattle.keep_control.specs.declared.fault.RequestFault.TheVariants.{TooLong, NotWords, NoCommand, BadName, BadWhen, BadCredential}
+use Rattle.keep_control.specs.declared.fault.RequestFault.TheVariants.{TooLong, NoCommand, BadName, BadWhen, BadCredential}
 use Rattle.keep_control.specs.declared.request.Request.{Request}
 use Rattle.keep_control.specs.declared.request.Request.TheVariants.{Need, Replace, Add, Drop, Status, Health, Settle, Reload, Follow}
 use Rattle.keep_control.specs.declared.when.When.{When}

@@ -1,11 +1,10 @@
 -- When: until when an entry is to be needed, as the word of a request says it.
 -- Source: RFC 3339, section 5.6, for a date; the rest is this project's own.
-use Rattle.std.specs.Prelude.{◌≡◌, ◌⊎◌, ℕ, ◌+◌, ◌-◌, ◌*◌, ◌≤◌, Bool, ◌&&◌, ◌==◌, if◌then◌else◌, List, [], ◌∷◌, ◌++◌, Option, Some, None, length, take, drop, slice_index, nat_lt, nat_le, codes, decimal, option_map}
+use Rattle.std.specs.Prelude.{ℕ, ◌+◌, ◌-◌, ◌*◌, ◌≤◌, Bool, ◌&&◌, ◌==◌, if◌then◌else◌, List, ◌∷◌, Option, Some, None, length, take, drop, slice_index, nat_lt, nat_le, codes, decimal, option_map}
 use Rattle.std.specs.Char.{is_ascii_digit}
 use Rattle.std.specs.List.{list_all}
 use Rattle.std.specs.Str.Parse.{digits_value}
 use Rattle.keep_moment.specs.declared.moment.TheConstants.{LAST}
-use Rattle.keep_moment.specs.MomentOf.{moment_of}
 use Rattle.keep_inventory.specs.Languages.{full}
 use Rattle.keep_inventory.specs.Values.{need_text}
 use Rattle.keep_inventory.specs.declared.need.Need.{Need}

@@ -56,7 +56,11 @@ fn tree_for(alloc: Global, request: &Request) -> Result<Value, RequestFault>
 {
     match request {
         Request::Need { name, when } => need_tree(alloc, name.list(), *when),
-        Request::Replace { name, credential } => replace_tree(alloc, name.list(), credential.list()),
+        Request::Replace { name, credential } => replace_tree(
+            alloc,
+            name.list(),
+            credential.list(),
+        ),
         Request::Add { table } => two(alloc, "add", table.list()),
         Request::Drop { name } => two(alloc, "drop", name.list()),
         Request::Status => Ok(one(alloc, "status")?),

@@ -1,5 +1,5 @@
 -- There is no float in the array of the words, so its text is compact.
-use Rattle.std.proofs.Common.{◌≡◌, ◌∙◌, Ok, ap, sym}
+use Rattle.std.proofs.Common.{◌∙◌, Ok, ap, sym}
 use Rattle.serde_json.specs.Written.{compact_text}
 use Rattle.keep_control.specs.Answer.{◌>>=◌}
 use Rattle.keep_control.specs.Requests.{is_text, line_for, tree_for, words_for}
