@@ -1,3 +1,4 @@
 pub mod Seen
 pub mod Scripts
 pub mod Times
+pub mod Laws

@@ -10,9 +10,13 @@ pub record Seen : Type 0 where
   pub calls : Option (List Call)
   pub failed_calls : ℕ
 
--- one call was made, and this one: what is known of the calls now was known before, and is one more
+-- these calls were made and no others, in this order: what is known of the calls now was known before, and these are more
+abbrev pub AllMade : List Call → Seen → Seen → Type 0
+AllMade more old new = IfSome new.calls (λ cs. (before : List Call) × (old.calls ≡ Some before) × (cs ≡ before ++ more))
+
+-- one call was made, and this one
 abbrev pub Made : Call → Seen → Seen → Type 0
-Made call old new = IfSome new.calls (λ cs. (before : List Call) × (old.calls ≡ Some before) × (cs ≡ before ++ call ∷ []))
+Made call old new = AllMade (call ∷ []) old new
 
 -- the call that reads both clocks, by what it told, if it told anything
 abbrev pub read_call : Option Reading → Call

@@ -7,6 +7,7 @@
 
 mod call;
 mod clock;
+mod laws;
 mod memory;
 mod reading;
 mod system;
@@ -14,6 +15,7 @@ mod times;
 
 pub use call::Call;
 pub use clock::Clock;
+pub use laws::calls_are_joined;
 pub use memory::MemoryClock;
 pub use reading::Reading;
 pub use system::{MOST_EVENTS, SystemClock};
