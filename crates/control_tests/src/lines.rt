@@ -22,7 +22,7 @@ fn fronts(rt: HostRuntime) {
 
 fn bytes_of(alloc: Global, length: usize) -> Result<Vec<u8>, Fail> {
     let mut bytes = Vec::new(alloc);
-    while bytes.len() < length {
+    for _ in 0..length {
         bytes.push(b'x')?;
     }
     Ok(bytes)
