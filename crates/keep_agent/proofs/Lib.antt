@@ -1,0 +1,6 @@
+pub mod Left
+pub mod Believing
+pub mod Fresh
+pub mod Turned
+pub mod Handed
+pub mod EndLines
