@@ -86,4 +86,4 @@ LineLaw = (k : KnownEnd) → IsKnownEnd k → Lacks 10 (end_text k)
 
 -- in another boot it is worth nothing
 abbrev pub BootLaw : Type 0
-BootLaw = (k : KnownEnd) (boot : List ℕ) → bytes_eq k.boot boot ≡ false → in_boot boot (end_of_text (end_text k)) ≡ None
+BootLaw = (k : KnownEnd) → IsKnownEnd k → (boot : List ℕ) → bytes_eq k.boot boot ≡ false → in_boot boot (end_of_text (end_text k)) ≡ None

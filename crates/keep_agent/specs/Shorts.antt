@@ -8,7 +8,8 @@ use Rattle.watch_machine.specs.Shortness.{short_of}
 use Rattle.watch_machine.specs.State.{State, entry_of}
 use Rattle.keep_agent.specs.declared.shorts.Short.{Short}
 use Rattle.keep_agent.specs.declared.standing.Standing.{Standing}
-use Rattle.keep_agent.specs.Agent.{Agent, standing_at}
+use Rattle.keep_agent.specs.Agent.{Agent}
+use Rattle.keep_agent.specs.Standings.{standing_in}
 
 -- a reach is said where none was, or where it differs by the margin or more from what was said last
 abbrev pub is_news : ℕ → Option ℕ → ℕ → Bool
@@ -32,8 +33,11 @@ short_at i None = []
 short_at i (Some reach) = record { entry = i; reach = reach } ∷ []
 
 -- all that is to be said, by entry
+unfoldable pub shorts_in : State → List Standing → List Short
+shorts_in m xs = flat_map (λ i. short_at i (news_in m i (standing_in xs i).short)) (range_with_len 0 (length xs))
+
 abbrev pub shorts_of : Agent → List Short
-shorts_of a = flat_map (λ i. short_at i (news_in a.machine i (standing_at a i).short)) (range_with_len 0 (length a.standings))
+shorts_of a = shorts_in a.machine a.standings
 
 -- once it is said
 abbrev pub said_short : Option ℕ → Option ℕ → Option ℕ
@@ -43,5 +47,8 @@ said_short last (Some reach) = Some reach
 unfoldable pub said_standing : State → ℕ → Standing → Standing
 said_standing m i x = record x { short = said_short x.short (news_in m i x.short) }
 
+unfoldable pub said_standings : State → List Standing → List Standing
+said_standings m xs = map (λ i. said_standing m i (standing_in xs i)) (range_with_len 0 (length xs))
+
 abbrev pub all_said : Agent → Agent
-all_said a = record a { standings = map (λ i. said_standing a.machine i (standing_at a i)) (range_with_len 0 (length a.standings)) }
+all_said a = record a { standings = said_standings a.machine a.standings }

@@ -1,6 +1,5 @@
 //! What an agent holds between two events.
 ghost use Rattle.std.specs.Prelude.{◌≡◌, ◌<◌, IfErr, IfOk, length, replicate};
-ghost use Rattle.std.specs.List.{All};
 ghost use Rattle.keep_agent.specs.Agent.{IsAgent, IsStanding, fresh, standing_at};
 ghost use Rattle.keep_agent.specs.Standings.{fresh_standing};
 ghost use Rattle.watch_machine.specs.Readings.{IsNext};
@@ -34,8 +33,7 @@ impl Model for Agent {
 
 /// The standings of so many entries of which nothing was told yet. The only error is want of memory.
 fn fresh_standings(alloc: Global, count: u32) -> Result<Vec<Standing>, AllocError>
-    ensures value { IfOk result (λ standings. standings.items ≡ replicate count fresh_standing) }
-    ensures bounds { IfOk result (λ standings. All IsStanding standings.items) }
+    ensures { IfOk result (λ standings. standings.items ≡ replicate count fresh_standing) }
 {
     let mut standings = Vec::new(alloc);
     for _ in 0..count {
