@@ -85,10 +85,8 @@ pub(crate) fn believes(agent: &Agent, entry: u32, end: End) -> bool {
 /// Whether a request of an entry is among those that go out.
 pub(crate) fn asks(command: &Command, entry: u32, operation: Operation) -> bool {
     match command {
-        Command::Go { requests, .. } => requests
-            .list()
-            .iter()
-            .any(|request| request.entry == entry && request.operation == operation),
+        Command::Go { requests, .. } => requests.list().iter().any(|request| request.entry == entry
+            && request.operation == operation),
         Command::Taken => false,
     }
 }

@@ -1,6 +1,8 @@
 // The example of the watch's page, and what is said of its entry.
 
-use crate::agents::{agent_of, asks, believes, clock, looked, renewed, standing, stands, status, told};
+use crate::agents::{
+    agent_of, asks, believes, clock, looked, renewed, standing, stands, status, told,
+};
 use keep_agent::{Agent, Condition, Trouble};
 use std::alloc::Global;
 use std::process::Abort;
@@ -8,7 +10,8 @@ use std::test::Fail;
 use watch_machine::{Command, End, Event, Operation, Reply, WatchFault};
 
 // One token that is due: `web`, end 1060, increment 60, needed to 1200.
-const WEB: &str = "[[token]]\nname = \"web\"\nsecret = \"s.web\"\nissued = 1000\nend = 1060\nincrement = 60\nmax_ttl = 9000\nneed = 1200\n";
+const WEB: &str =
+    "[[token]]\nname = \"web\"\nsecret = \"s.web\"\nissued = 1000\nend = 1060\nincrement = 60\nmax_ttl = 9000\nneed = 1200\n";
 
 // Nothing goes out, and nothing is to be done before that.
 fn waits<R: Abort>(

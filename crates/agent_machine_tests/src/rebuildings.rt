@@ -7,8 +7,11 @@ use std::test::Fail;
 use watch_machine::{End, Event, Operation, Reply};
 
 // Three tokens, and then: the second with another credential, the third gone, and a new one in front.
-const BEFORE: &str = "margin = 20\n\n[[token]]\nname = \"a\"\nsecret = \"s.a\"\nissued = 1000\nend = 1060\nincrement = 60\nmax_ttl = 9000\nneed = 5000\n\n[[token]]\nname = \"b\"\nsecret = \"s.b\"\nissued = 1000\nend = 1060\nincrement = 60\nmax_ttl = 9000\nneed = 5000\n\n[[token]]\nname = \"d\"\nsecret = \"s.d\"\nissued = 1000\nend = 1060\nincrement = 60\nmax_ttl = 9000\nneed = 5000\n";
-const AFTER: &str = "margin = 20\n\n[[token]]\nname = \"c\"\nsecret = \"s.c\"\nissued = 1000\nend = 1060\nincrement = 60\nmax_ttl = 9000\nneed = 5000\n\n[[token]]\nname = \"a\"\nsecret = \"s.a\"\nissued = 1000\nend = 1060\nincrement = 60\nmax_ttl = 9000\nneed = 5000\n\n[[token]]\nname = \"b\"\nsecret = \"s.new\"\nissued = 1000\nend = 1060\nincrement = 60\nmax_ttl = 9000\nneed = 5000\n";
+const BEFORE: &str =
+    "margin = 20\n\n[[token]]\nname = \"a\"\nsecret = \"s.a\"\nissued = 1000\nend = 1060\nincrement = 60\nmax_ttl = 9000\nneed = 5000\n\n[[token]]\nname = \"b\"\nsecret = \"s.b\"\nissued = 1000\nend = 1060\nincrement = 60\nmax_ttl = 9000\nneed = 5000\n\n[[token]]\nname = \"d\"\nsecret = \"s.d\"\nissued = 1000\nend = 1060\nincrement = 60\nmax_ttl = 9000\nneed = 5000\n";
+
+const AFTER: &str =
+    "margin = 20\n\n[[token]]\nname = \"c\"\nsecret = \"s.c\"\nissued = 1000\nend = 1060\nincrement = 60\nmax_ttl = 9000\nneed = 5000\n\n[[token]]\nname = \"a\"\nsecret = \"s.a\"\nissued = 1000\nend = 1060\nincrement = 60\nmax_ttl = 9000\nneed = 5000\n\n[[token]]\nname = \"b\"\nsecret = \"s.new\"\nissued = 1000\nend = 1060\nincrement = 60\nmax_ttl = 9000\nneed = 5000\n";
 
 // Everything is looked up, and ends in a minute.
 fn served(alloc: Global, at: u64) -> Result<Agent, Fail> {

@@ -165,14 +165,15 @@ read_is_written text k e =
     let t = told_only w.1 w.2 k.told q.0 in
     let names = q.1.1.1.1 in
     let words : w.0 ∷ w.1 ∷ w.2 ∷ w.3 ∷ w.4 ∷ [] ≡ end_words k =
-    (let a = names.0 in let b = t.0 in let c = t.1.1 in let d = names.1.0 in let f = names.1.1 in cc) in
-    (record {
-      name = ap is_name (sym names.0) ∙ q.1.0;
-      end = t.1.0;
-      fingerprint = ap is_word (sym names.1.0) ∙ q.1.1.0;
-      boot = ap is_word (sym names.1.1) ∙ q.1.1.1.0;
-    },
-    sym (joined_back 32 text) ∙ ap (join_with_byte 32) (p.1.0 ∙ words))
+    (let a = names.0 in let b = t.0 in let c = t.1.1 in let d = names.1.0 in let f = names.1.1 in cc) in (
+      record {
+        name = ap is_name (sym names.0) ∙ q.1.0;
+        end = t.1.0;
+        fingerprint = ap is_word (sym names.1.0) ∙ q.1.1.0;
+        boot = ap is_word (sym names.1.1) ∙ q.1.1.1.0;
+      },
+      sym (joined_back 32 text) ∙ ap (join_with_byte 32) (p.1.0 ∙ words),
+    )
 
 -- ---- in another boot
 

@@ -16,7 +16,7 @@ use Rattle.keep_agent.specs.Standings.{fresh_standing, standing_in}
 pub opened_unknown : (g : Forest) (width i : ℕ) → (track_at (opened g width) i).end ≡ Unknown
 opened_unknown g width i =
     elim (cases_lt i (length g.entries)) [
-      | inl within ↦ ap (λ (x : Track). x.end) (get_or-map fresh_track g.entries i no_track no_entry within)
+      | inl within ↦ ap (λ (x : Track). x.end) (get_or-map fresh_track g.entries i no_entry no_track within)
       | inr past ↦ ap (λ (x : Track). x.end) (get_or_past (map fresh_track g.entries) i no_track (let n = length-map g.entries fresh_track in omega (arith, n, past)))
     ]
 

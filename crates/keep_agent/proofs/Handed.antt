@@ -146,7 +146,7 @@ module _ (old new : Agent) (s : Inventory) (width : ℕ) (h : IsRebuilt old s wi
       let all = length-map s.forest.entries fresh_track in
       let so = so_far (carried_told old s) (opened s.forest width) new.machine (length s.forest.entries) (omega (arith, all)) h.machine in
       so.before j within ∙ ap (λ o. told_track (standing_of old o).told (track_at (opened s.forest width) j)) is
-      ∙ ap (told_track (standing_of old from).told) (get_or-map fresh_track s.forest.entries j no_track no_entry within)
+      ∙ ap (told_track (standing_of old from).told) (get_or-map fresh_track s.forest.entries j no_entry no_track within)
 
 again : (end : End) (renewable : Bool) (told : Option Told) (x : Track) → x.end ≡ Unknown → IfSome told (λ t. t.end ≤ END_MAX) → Believes end renewable told →
     IsBelievedAgain end (told_track told x).end × ((e : ℕ) → end ≡ At e → (told_track told x).renewable ≡ renewable)
@@ -162,10 +162,13 @@ pub remembered : RememberedLaw
 remembered old new s width agent h i j within is =
     let track = its_track old new s width h j within (Some i) is in
     let told = (standing_at old i).told in
-    let fact = again (track_at old.machine i).end (track_at old.machine i).renewable told (fresh_track (entry_at s.forest.entries j)) refl (standing_bound old.standings agent.bounded i) (agent.believed i) in
-    (its_standing old new s width h j within (Some i) is,
-    (subst (λ (x : Track). IsBelievedAgain (track_at old.machine i).end x.end) (sym track) fact.0,
-    λ end believed. ap (λ (x : Track). x.renewable) track ∙ fact.1 end believed))
+    let fact = again (track_at old.machine i).end (track_at old.machine i).renewable told (fresh_track (entry_at s.forest.entries j)) refl (standing_bound old.standings agent.bounded i) (agent.believed i) in (
+      its_standing old new s width h j within (Some i) is,
+      (
+        subst (λ (x : Track). IsBelievedAgain (track_at old.machine i).end x.end) (sym track) fact.0,
+        λ end believed. ap (λ (x : Track). x.renewable) track ∙ fact.1 end believed,
+      ),
+    )
 
 pub fresh_elsewhere : FreshLaw
 fresh_elsewhere old new s width h j within is = (its_standing old new s width h j within None is, its_track old new s width h j within None is)

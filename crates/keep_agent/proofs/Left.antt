@@ -343,4 +343,3 @@ known_track s new i end renewable output turn within = ap (λ (t : State). track
 
 pub known_other : (s new : State) (i end : ℕ) (renewable : Bool) (output : Output) → Turn s (Known i end renewable) (Ok output) new → (k : ℕ) → (k ≡ i → ⊥) → track_at new k ≡ track_at s k
 known_other s new i end renewable output turn k other = ap (λ (t : State). track_at t k) turn.1.1 ∙ get_or-set_other s.tracks i k _ no_track other
-

@@ -6,3 +6,4 @@ pub mod Turned
 pub mod Handed
 pub mod EndLines
 pub mod Saying
+pub mod Running

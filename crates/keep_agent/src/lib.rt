@@ -18,7 +18,7 @@ mod waiting;
 
 pub use agent::Agent;
 pub use ends::{KnownEnd, end_text, read_end};
-pub use laws::{ends_are_read_back, nothing_is_forgotten};
+pub use laws::{a_rebuilding_is_a_run, ends_are_read_back, nothing_is_forgotten};
 pub use shorts::Short;
 pub use standing::{Standing, Told, Trouble};
 pub use status::{Condition, Status};

@@ -73,11 +73,11 @@ impl Agent {
         ensures within { IfSome result (λ i. i < length self.now.inventory.forest.entries) }
     {
         let name = inventory.forest().get(index).name.list();
-        match self.inventory.forest().find(name) {
-            Some(former) if is_same_entry(&self.inventory, inventory, former, index) => {
-                Some(former)
-            }
-            _ => None,
+        let former = self.inventory.forest().find(name)?;
+        if is_same_entry(&self.inventory, inventory, former, index) {
+            Some(former)
+        } else {
+            None
         }
     }
 }
@@ -116,12 +116,7 @@ fn hand_all(alloc: Global, watch: &mut Watch, standings: &[Standing]) -> Result<
 
 /// Hands the end of an entry to a Watch, where it was told. The only error is want of memory.
 #[tactic(auto, using(crate::proofs::Left::known_free, crate::proofs::Left::turn_entries))]
-fn hand(
-    alloc: Global,
-    watch: &mut Watch,
-    entry: u32,
-    told: Option<Told>,
-) -> Result<(), WatchFault>
+fn hand(alloc: Global, watch: &mut Watch, entry: u32, told: Option<Told>) -> Result<(), WatchFault>
     requires { entry < length watch.old.forest.entries }
     ensures handed { OnOk result (IsHanded entry told watch.old watch.new) }
     ensures refused { IfErr result (λ fault. fault ≡ OutOfMemory) }

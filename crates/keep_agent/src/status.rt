@@ -1,8 +1,7 @@
 //! How an entry stands.
 ghost use Rattle.std.specs.Prelude.{◌≡◌, ◌<◌, length};
 ghost use Rattle.keep_agent.specs.Status.{alive_status, end_there, has_ended, is_gone, is_up_to, reach_in_force, status_by, status_of};
-ghost use Rattle.watch_machine.specs.Clocks.{sec};
-ghost use Rattle.watch_machine.specs.State.{second};
+ghost use Rattle.watch_machine.specs.Wanted.{is_unknown};
 
 use crate::agent::Agent;
 use crate::standing::Trouble;
@@ -72,7 +71,7 @@ fn status_by(
             in_force: 0,
         };
     }
-    let trying = trouble.is_some() || end == End::Unknown;
+    let trying = trouble.is_some() || is_unknown(end);
     alive_status(need, there, trying, reach_in_force(need, there, short))
 }
 
@@ -116,6 +115,15 @@ fn has_ended(watch: &Watch, end: End) -> bool
     match end {
         End::At(end) => end <= watch.clocks().at / 1000,
         End::Unknown | End::Never => false,
+    }
+}
+
+fn is_unknown(end: End) -> bool
+    ensures { result ≡ is_unknown end }
+{
+    match end {
+        End::Unknown => true,
+        End::At(_) | End::Never => false,
     }
 }
 
