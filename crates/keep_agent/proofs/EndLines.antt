@@ -128,9 +128,9 @@ of_five text (Some w) f k is e = (w, (five_is (pieces 32 text) w is, e))
 said_only : (word : List ℕ) (b : Bool) → renewable_of word ≡ Some b → word ≡ yes_or_no b
 said_only word b e =
     elim (cases_Bool (bytes_eq word (codes "yes"))) [
-      | inl yes ↦
-          let same : true ≡ b = some_same true b (sym (cond-true (bytes_eq word (codes "yes")) (Some true) _ yes) ∙ e) in
-          (bytes_decides word (codes "yes")).0 yes ∙ ap yes_or_no same
+      | inl is_yes ↦
+          let same : true ≡ b = some_same true b (sym (cond-true (bytes_eq word (codes "yes")) (Some true) _ is_yes) ∙ e) in
+          (bytes_decides word (codes "yes")).0 is_yes ∙ ap yes_or_no same
       | inr other ↦
           let q = passed (bytes_eq word (codes "no")) false b (sym (cond-false (bytes_eq word (codes "yes")) (Some true) _ other) ∙ e) in
           (bytes_decides word (codes "no")).0 q.0 ∙ ap yes_or_no q.1

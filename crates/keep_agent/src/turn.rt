@@ -25,7 +25,7 @@ impl Agent {
     ///
     /// Those of the Watch: `BadIndex`, there is no such entry; `NotAsked`, an answer to no request that is out; `OutOfMemory`, which
     /// may come in the place of the answer to a clock, and to an answer. Each leaves the agent as it was.
-    #[tactic(auto, using(crate::proofs::Within::taken_within, crate::proofs::Turned::taken_is_agent))]
+    #[tactic(auto, using(crate::proofs::Within::taken_within))]
     pub fn turn(&mut self, alloc: Global, event: Event) -> Result<Output, WatchFault>
         ensures turn { AgentTurn self.old event result self.new }
         ensures refused { IfSome (refusal self.old.machine event) (λ fault. result ≡ Err fault) }

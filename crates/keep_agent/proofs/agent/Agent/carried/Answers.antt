@@ -7,7 +7,7 @@ use Rattle.keep_tree.specs.Forest.{Forest}
 use Rattle.keep_agent.specs.declared.standing.Standing.{Standing}
 use Rattle.keep_agent.specs.Agent.{IsStanding}
 use Rattle.keep_agent.specs.Rebuilding.{carried_standing}
-use Rattle.keep_agent.proofs.rebuilding.Agent.carried.Goals as goal
+use Rattle.keep_agent.proofs.agent.Agent.carried.Goals as goal
 
 pub loop-index-preserved : goal.loop-index-preserved
 loop-index-preserved c =
