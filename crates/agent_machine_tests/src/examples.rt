@@ -106,9 +106,20 @@ fn is_in<R: Abort>(rt: &R, agent: &Agent, trouble: Option<Trouble>, refused: u64
     assert!(rt; is);
 }
 
-// An answer to whatever is out of the only entry.
+// Clocks from a moment on, half a second apart, until a request of the only entry is out.
+fn asked(alloc: Global, agent: &mut Agent, at: u64) -> Result<(), Fail> {
+    for step in 0..60u64 {
+        agent.turn(alloc, clock(at.saturating_add(step * 500)))?;
+        if !agent.watch().out().is_empty() {
+            return Ok(());
+        }
+    }
+    Ok(())
+}
+
+// An answer to the request that goes out from a moment on.
 fn answers(alloc: Global, agent: &mut Agent, at: u64, reply: Reply) -> Result<(), Fail> {
-    agent.turn(alloc, clock(at))?;
+    asked(alloc, agent, at)?;
     let renewal = match agent.watch().out() {
         [out] => out.operation == Operation::Renew,
         _ => false,
@@ -142,7 +153,7 @@ fn troubles_are_told_apart(rt: HostRuntime) -> Result<(), Fail> {
     is_in(&rt, &agent, Some(Trouble::Gone), 1, 0);
     assert!(rt; stands(&agent, 0, Condition::Gone, 0));
     // it stays so while no answer comes
-    answers(alloc, &mut agent, 1_400_000, Reply::Lost)?;
+    answers(alloc, &mut agent, 1_070_000, Reply::Lost)?;
     is_in(&rt, &agent, Some(Trouble::Gone), 1, 0);
     Ok(())
 }
