@@ -29,3 +29,12 @@ pub mod Grounds
 pub mod Ticking
 pub mod Answered
 pub mod Outliving
+pub mod Believed
+pub mod Forested
+pub mod Foreseen
+pub mod OfPlan
+pub mod Calming
+pub mod OnPlan
+pub mod CalmClock
+pub mod CalmGrant
+pub mod CalmDay

@@ -8,3 +8,4 @@ pub mod Time
 pub mod Waiting
 pub mod Ends
 pub mod Outage
+pub mod Calm
