@@ -226,12 +226,26 @@ module _ (s : State) (round : List ℕ) (requests : List Request) (i : ℕ) wher
         ];
       }
 
+  -- a try that is not out may go later, and the wait does not pass that; or all lanes are taken
+  pub tended : (t : Try) → Goes s.presence s.clocks.at mid.tracks (s.width - length s.out) requests → i < length s.forest.entries → (track_at end i).out ≡ false → attempt_at end i ≡ Some t →
+      ((s.clocks.at < ready s.presence (track_at end i) t) × (wait end ≤ ready s.presence (track_at end i) t)) ⊎ (s.width ≤ length end.out)
+  tended t going within free is =
+      let until = wait_each end i within in
+      let count = each_length (sent_in s.clocks.at requests) mid.tracks in
+      let below = some_within end.tracks i t is in
+      elim (heeded mid requests i t (omega (arith, count, below)) going free is) as (λ _. ((s.clocks.at < ready s.presence (track_at end i) t) × (wait end ≤ ready s.presence (track_at end i) t)) ⊎ (s.width ≤ length end.out)) [
+        | inl ahead ↦
+            let soon = by_try s.forest.margin (entry_of s i) (wanted_need end i) s.presence s.clocks.at (track_at end i) free t is ahead in
+            inl (ahead, omega (arith, until, soon))
+        | inr full ↦ inr full
+      ]
+
   pressed_minded : (o : Option Try) → Goes s.presence s.clocks.at mid.tracks (s.width - length s.out) requests → i < length s.forest.entries → (track_at end i).out ≡ false → attempt_at end i ≡ o → is_pressed_try o ≡ true → IsPressed end (wait end) i
   unfolding has_try
   pressed_minded None going within free is pressed' = absurd cc
   pressed_minded (Some t) going within free is pressed' = record { has = has_try t going within free is; pressed = pressed' }
 
-  end_minded : Goes s.presence s.clocks.at mid.tracks (s.width - length s.out) requests → i < length s.forest.entries → is_wanted end i ≡ true → IsMinded end (wait end) i
+  pub end_minded : Goes s.presence s.clocks.at mid.tracks (s.width - length s.out) requests → i < length s.forest.entries → is_wanted end i ≡ true → IsMinded end (wait end) i
   end_minded going within wanted =
       let g = s.forest in
       let c = s.clocks in

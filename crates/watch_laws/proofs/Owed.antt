@@ -46,9 +46,9 @@ use Rattle.watch_laws.proofs.Minding.{has_try}
 use Rattle.watch_laws.proofs.Tracking.{back_kept, each_holds, each_kept, set_holds, set_kept}
 
 -- there is a try where a lookup is owed, and where the request is out
-record Tries (x : Track) : Type 0 where
-  owed : x.owes ≡ true → is_some x.attempt ≡ true
-  out : x.out ≡ true → is_some x.attempt ≡ true
+pub record Tries (x : Track) : Type 0 where
+  pub owed : x.owes ≡ true → is_some x.attempt ≡ true
+  pub out : x.out ≡ true → is_some x.attempt ≡ true
 
 abbrev Still : Track → Track → Type 0
 Still y x = Tries x → Tries y
@@ -115,7 +115,7 @@ mid_tries s round i h =
     (λ j x. pressed_tries g.margin (entry_at g.entries j) (need_of g.entries s.tracks c j) c.at x) i h)
 
 -- what goes out is a try
-due_some : (p : Presence) (at : ℕ) (x : Track) → is_due p at x ≡ true → is_some x.attempt ≡ true
+pub due_some : (p : Presence) (at : ℕ) (x : Track) → is_due p at x ≡ true → is_some x.attempt ≡ true
 unfolding is_due
 due_some p at x due = by x.attempt (and_parts (not x.out) (is_due_try p at x x.attempt) due).1 where
   by : (o : Option Try) → is_due_try p at x o ≡ true → is_some o ≡ true
@@ -215,10 +215,10 @@ renewed_tries s q Busy i h = set_kept Still (λ y k. k) s.tracks q.entry _ (ungr
 renewed_tries s q Lost i h = set_kept Still (λ y k. k) s.tracks q.entry _ (ungranted_tries s.clocks.at q.heard Lost (track_at s q.entry)) i h
 
 -- what every turn keeps, and what the command of a clock heeds
-abbrev AllTry : State → Type 0
+abbrev pub AllTry : State → Type 0
 AllTry s = (i : ℕ) → Tries (track_at s i)
 
-abbrev Outcome : Command → State → Type 0
+abbrev pub Outcome : Command → State → Type 0
 Outcome command new = AllTry new × OwesRight command new
 
 some_try : (o : Option Try) → is_some o ≡ true → (t : Try) × (o ≡ Some t)
@@ -273,7 +273,7 @@ step_outcome old new Begin output step all = taken_right output _ new step.0 ref
 step_outcome old new (Known j end renewable) output step all =
     taken_right output _ new step.0 refl (subst AllTry (sym step.1) (λ i. set_kept Still (λ x k. k) old.tracks j _ (λ k. record { owed = k.owed; out = k.out }) i (all i)))
 
-turn_outcome : (old new : State) (event : Event) (result : Result Output WatchFault) → Turn old event result new → AllTry old → AllTry new × OwedRight result new
+pub turn_outcome : (old new : State) (event : Event) (result : Result Output WatchFault) → Turn old event result new → AllTry old → AllTry new × OwedRight result new
 turn_outcome old new event (Ok output) turn all = step_outcome old new event output turn.1 all
 turn_outcome old new event (Err fault) turn all = (subst AllTry (sym (refused_stays old new event fault turn)) all, tt)
 
@@ -281,7 +281,7 @@ ran : (turns : List Turned) (old : State) → History old turns → AllTry old �
 ran [] old h all = tt
 ran (turn ∷ turns) old h all = let here = turn_outcome old turn.state turn.event turn.result h.0 all in (here.1, ran turns turn.state h.1 here.0)
 
-first_tries : (es : List Entry) (i : ℕ) → Tries (track_in (map fresh_track es) i)
+pub first_tries : (es : List Entry) (i : ℕ) → Tries (track_in (map fresh_track es) i)
 first_tries [] i = none_tries
 first_tries (e ∷ es) zero = record { owed = λ o. absurd cc; out = λ o. absurd cc }
 first_tries (e ∷ es) (suc i) = first_tries es i

@@ -47,13 +47,13 @@ use Rattle.watch_laws.proofs.Tracking.{back_kept, each_holds, each_kept, set_kep
 
 -- the bounds that every turn keeps: the broker is spared for a second at most, nothing was asked later than now, and nothing is held back
 -- while the broker is there
-record IsPast (s : State) : Type 0 where
-  start : is_none s.begun ≡ true → s.clocks.at ≡ 0
-  free : s.presence.free ≤ s.clocks.at + 1000
-  hold : s.presence.away ≡ false → s.presence.hold ≡ 0
-  last : (i : ℕ) → rested (track_at s i).last ≤ s.clocks.at + 1000
+pub record IsPast (s : State) : Type 0 where
+  pub start : is_none s.begun ≡ true → s.clocks.at ≡ 0
+  pub free : s.presence.free ≤ s.clocks.at + 1000
+  pub hold : s.presence.away ≡ false → s.presence.hold ≡ 0
+  pub last : (i : ℕ) → rested (track_at s i).last ≤ s.clocks.at + 1000
 
-rises : (s : State) (wall elapsed : ℕ) → (is_none s.begun ≡ true → s.clocks.at ≡ 0) → s.clocks.at ≤ (timed s wall elapsed).clocks.at
+pub rises : (s : State) (wall elapsed : ℕ) → (is_none s.begun ≡ true → s.clocks.at ≡ 0) → s.clocks.at ≤ (timed s wall elapsed).clocks.at
 rises s wall elapsed start =
     elim (cases_Bool (is_none s.begun)) [
       | inl none ↦ (let z = start none in omega (arith, z))
@@ -65,7 +65,7 @@ freed : (margin at : ℕ) (xs : List Track) (answers : List Answer) (p : Presenc
 unfolding presence_after
 freed margin at xs answers p h = if_both (λ n. n ≤ at + 1000) (list_any (λ a. is_busy a.reply) answers) (at + 1000) p.free (omega arith) h
 
-held_to : (margin at : ℕ) (xs : List Track) (answers : List Answer) (p : Presence) →
+pub held_to : (margin at : ℕ) (xs : List Track) (answers : List Answer) (p : Presence) →
     ((p.away && list_any is_silent answers ≡ true) × ((n : ℕ) × ((presence_after margin at xs answers p).hold ≤ at + held margin at xs n)))
     ⊎ ((p.away && list_any is_silent answers ≡ false) × ((presence_after margin at xs answers p).hold ≡ p.hold))
 unfolding presence_after held_back hold_after
@@ -96,7 +96,7 @@ least_of f m [] i within = absurd (omega (arith, within))
 least_of f m (x ∷ xs) zero within = let start = least_start (min m (f x)) (map f xs) in omega (arith, start)
 least_of f m (x ∷ xs) (suc i) within = least_of f (min m (f x)) xs i (omega (arith, within))
 
-held_least : (margin at : ℕ) (xs : List Track) (n i : ℕ) (t : Try) → i < length xs → (track_in xs i).attempt ≡ Some t → t.pressed ≡ true → held margin at xs n ≤ cap margin at (track_in xs i) t
+pub held_least : (margin at : ℕ) (xs : List Track) (n i : ℕ) (t : Try) → i < length xs → (track_in xs i).attempt ≡ Some t → t.pressed ≡ true → held margin at xs n ≤ cap margin at (track_in xs i) t
 unfolding held
 held_least margin at xs n i t within is pressed' =
     let x = track_in xs i in
@@ -266,18 +266,18 @@ cap_second : (margin at : ℕ) (x : Track) (t : Try) → 1000 ≤ cap margin at 
 unfolding cap
 cap_second margin at x t = cap_above (ms (2 * margin)) t.lost (left_to at (ms (2 * margin)) x.end t.lost)
 
-pause_within : (margin at : ℕ) (x : Track) (t : Try) → pause margin at x t ≤ cap margin at x t
+pub pause_within : (margin at : ℕ) (x : Track) (t : Try) → pause margin at x t ≤ cap margin at x t
 unfolding pause
 pause_within margin at x t = omega arith
 
 -- a try may go by a bound of all that holds it back
-ready_first : (p : Presence) (x : Track) (u : Try) (most : ℕ) → is_first u ≡ true → p.free ≤ most → u.at ≤ most → ready p x u ≤ most
+pub ready_first : (p : Presence) (x : Track) (u : Try) (most : ℕ) → is_first u ≡ true → p.free ≤ most → u.at ≤ most → ready p x u ≤ most
 unfolding ready
 ready_first p x u most first free at =
     let is = cond-true (is_first u) u.at (max p.hold (later_at p.away x u)) first in
     omega (arith, is, free, at)
 
-ready_later : (p : Presence) (x : Track) (u : Try) (most : ℕ) → p.free ≤ most → p.hold ≤ most → u.at ≤ most → ready p x u ≤ most
+pub ready_later : (p : Presence) (x : Track) (u : Try) (most : ℕ) → p.free ≤ most → p.hold ≤ most → u.at ≤ most → ready p x u ≤ most
 unfolding ready
 ready_later p x u most free hold at =
     let later : later_at p.away x u ≤ most = if_both (λ n. n ≤ most) (p.away && u.lost) (min u.at (rested x.last)) u.at (omega (arith, at)) at in
@@ -466,7 +466,7 @@ back_last : (x : Track) → SameLast (back_track x) x
 unfolding back_track
 back_last x = refl
 
-replied_free : (s : State) (q : Out) (reply : Reply) → (replied s q reply).presence.free ≡ s.presence.free
+pub replied_free : (s : State) (q : Out) (reply : Reply) → (replied s q reply).presence.free ≡ s.presence.free
 replied_free s q reply =
     let free = lane_freed s q in
     if_both (λ (t : State). t.presence.free ≡ s.presence.free) (is_real reply) (answers_all free) (if q.heard then free else silent free)
@@ -554,7 +554,7 @@ step_past old new (Known j end renewable) output step past =
       last = λ i. let l = past.last i in let e = ap rested (known_last old j end renewable i) in omega (arith, l, e);
     })
 
-turn_past : (old new : State) (event : Event) (result : Result Output WatchFault) → Turn old event result new → IsPast old → IsPast new
+pub turn_past : (old new : State) (event : Event) (result : Result Output WatchFault) → Turn old event result new → IsPast old → IsPast new
 turn_past old new event (Ok output) turn past = step_past old new event output turn.1 past
 turn_past old new event (Err fault) turn past = subst IsPast (sym (refused_stays old new event fault turn)) past
 
@@ -565,7 +565,7 @@ ran (turn ∷ turns) old h past = (
   ran turns turn.state h.1 (turn_past old turn.state turn.event turn.result h.0 past),
 )
 
-first_past : (es : List Entry) (i : ℕ) → rested (track_in (map fresh_track es) i).last ≤ 1000
+pub first_past : (es : List Entry) (i : ℕ) → rested (track_in (map fresh_track es) i).last ≤ 1000
 first_past [] i = omega arith
 first_past (e ∷ es) zero = omega arith
 first_past (e ∷ es) (suc i) = first_past es i

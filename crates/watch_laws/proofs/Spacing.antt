@@ -241,7 +241,7 @@ module _ (s : State) (requests : List Request) (i : ℕ) where
       ∙ cond-true (list_any (λ (q : Request). q.entry == i) requests) (sent_track s.clocks.at (track_at s i)) (track_at s i) named
 
 -- none of some requests is of i
-not_of : (X : Out → Type 0) (at i : ℕ) (rs : List Request) → list_any (λ (q : Request). q.entry == i) rs ≡ false → All (λ q. q.entry ≡ i → X q) (map (out_at at) rs)
+pub not_of : (X : Out → Type 0) (at i : ℕ) (rs : List Request) → list_any (λ (q : Request). q.entry == i) rs ≡ false → All (λ q. q.entry ≡ i → X q) (map (out_at at) rs)
 not_of X at i [] none = All-nil (λ q. q.entry ≡ i → X q)
 not_of X at i (r ∷ rs) none =
     let both = neither (r.entry == i) (list_any (λ (q : Request). q.entry == i) rs) none in
@@ -411,7 +411,7 @@ same_is Renew Renew h = refl
 same_is Look Renew h = absurd cc
 same_is Renew Look h = absurd cc
 
-out_operation : (out : List Out) (i : ℕ) (operation : Operation) (q : Out) → request_out out i operation ≡ Some q → q.operation ≡ operation
+pub out_operation : (out : List Out) (i : ℕ) (operation : Operation) (q : Out) → request_out out i operation ≡ Some q → q.operation ≡ operation
 unfolding request_out
 out_operation out i operation q found =
     same_is q.operation operation (and_parts (q.entry == i) (is_same q.operation operation) (found_passes (λ (x : Out). x.entry == i && is_same x.operation operation) out q found)).1

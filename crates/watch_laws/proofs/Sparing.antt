@@ -70,7 +70,7 @@ none_gone i (q ∷ out) none =
           ap (λ b. cond (not b) (q ∷ filter (λ (o : Out). not (o.entry == i)) out) (filter (λ (o : Out). not (o.entry == i)) out)) other ∙ ap (λ os. q ∷ os) (none_gone i out left)
     ]
 
-found_lane : (i : ℕ) (operation : Operation) (out : List Out) (q : Out) → find (λ (o : Out). o.entry == i && is_same o.operation operation) out ≡ Some q → 1 ≤ lanes_of i out
+pub found_lane : (i : ℕ) (operation : Operation) (out : List Out) (q : Out) → find (λ (o : Out). o.entry == i && is_same o.operation operation) out ≡ Some q → 1 ≤ lanes_of i out
 found_lane i operation [] q found = absurd cc
 found_lane i operation (o ∷ out) q found =
     let rest = filter (λ (p : Out). p.entry == i) out in
@@ -224,7 +224,7 @@ begun_answers : (s : State) (w : Option Why) → (begun s w).answers ≡ s.answe
 begun_answers s None = refl
 begun_answers s (Some w) = refl
 
-readied_answers : (s : State) (wall elapsed : ℕ) → (readied s wall elapsed).answers ≡ []
+pub readied_answers : (s : State) (wall elapsed : ℕ) → (readied s wall elapsed).answers ≡ []
 unfolding readied
 readied_answers s wall elapsed = begun_answers (settled (timed s wall elapsed)) (why s wall elapsed)
 
@@ -342,7 +342,7 @@ answer_spares width n old mid new q reply i operation found entry is out answers
       one_at_most true = omega arith
       one_at_most false = omega arith
 
-looked_answers : (s : State) (q : Out) (reply : Reply) (terms : Terms) → (looked s q reply terms).answers ≡ s.answers
+pub looked_answers : (s : State) (q : Out) (reply : Reply) (terms : Terms) → (looked s q reply terms).answers ≡ s.answers
 looked_answers s q (Told seconds renewable date) terms = refl
 looked_answers s q (Refused status date) terms = refl
 looked_answers s q Busy terms = refl

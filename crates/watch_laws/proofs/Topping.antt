@@ -121,7 +121,7 @@ begun_count : (s : State) (w : Option Why) → length (begun s w).tracks ≡ len
 begun_count s None = refl
 begun_count s (Some w) = each_length _ (untopped s.tracks) ∙ each_length (λ j. untopped_track) s.tracks
 
-readied_count : (s : State) (wall elapsed : ℕ) → length (readied s wall elapsed).tracks ≡ length s.tracks
+pub readied_count : (s : State) (wall elapsed : ℕ) → length (readied s wall elapsed).tracks ≡ length s.tracks
 unfolding readied
 readied_count s wall elapsed = begun_count (settled (timed s wall elapsed)) (why s wall elapsed) ∙ each_length _ s.tracks
 

@@ -6,3 +6,6 @@ pub mod Load
 pub mod Absence
 pub mod Time
 pub mod Waiting
+pub mod Ends
+pub mod Outage
+pub mod Calm

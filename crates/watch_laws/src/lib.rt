@@ -7,16 +7,22 @@
 
 mod laws_of_absence;
 mod laws_of_beginnings;
+mod laws_of_calm;
+mod laws_of_ends;
 mod laws_of_load;
 mod laws_of_needs;
+mod laws_of_outages;
 mod laws_of_time;
 mod laws_of_tops;
 mod laws_of_waiting;
 
 pub use laws_of_absence::{held_law, spared_law};
 pub use laws_of_beginnings::few_law;
+pub use laws_of_calm::{calm_law, next_moment_law, round_of_plan_law};
+pub use laws_of_ends::never_past_law;
 pub use laws_of_load::{load_law, spaced_law, width_law};
 pub use laws_of_needs::needed_law;
+pub use laws_of_outages::outage_law;
 pub use laws_of_time::{early_law, round_law};
 pub use laws_of_tops::{ceiling_law, topped_law};
 pub use laws_of_waiting::{minded_law, owed_law, retry_law};

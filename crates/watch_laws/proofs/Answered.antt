@@ -1,0 +1,276 @@
+-- Answered: what an answer makes of the stages of an outage. For the law of outages.
+use Rattle.std.proofs.Common.{◌≡◌, ◌≢◌, ◌⊎◌, ◌∙◌, ℕ, suc, ◌+◌, ◌*◌, ◌<◌, ◌≤◌, Bool, true, false, not, ◌&&◌, ◌||◌, ◌==◌, if◌then◌else◌, List, [], ◌∷◌, ◌++◌, Option, Some, None, All, length, refl, sym, ap, subst, arith, inl, inr}
+use Rattle.std.proofs.lemmas.Bool.{and_parts, cases_Bool, eqb-true}
+use Rattle.std.proofs.lemmas.Bool.Decides.{nat_tests}
+use Rattle.std.proofs.lemmas.List.{get_or-set_other, get_or-set_same, length-set}
+use Rattle.std.specs.List.{list_any}
+use Rattle.watch_machine.specs.declared.command.Output.{Output}
+use Rattle.watch_machine.specs.declared.event.Operation.{Operation}
+use Rattle.watch_machine.specs.declared.event.Operation.TheVariants.{Look, Renew}
+use Rattle.watch_machine.specs.declared.event.Reply.{Reply}
+use Rattle.watch_machine.specs.declared.event.Reply.TheVariants.{Told, Refused, Busy, Lost}
+use Rattle.watch_machine.specs.declared.event.Terms.{Terms}
+use Rattle.watch_machine.specs.declared.lanes.Answer.{Answer}
+use Rattle.watch_machine.specs.declared.lanes.Out.{Out}
+use Rattle.watch_machine.specs.declared.lanes.Presence.{Presence}
+use Rattle.watch_machine.specs.declared.track.Track.{Track}
+use Rattle.watch_machine.specs.Answers.{heard, noted, replied}
+use Rattle.watch_machine.specs.Clocks.{ms, sec}
+use Rattle.watch_machine.specs.Looked.{looked}
+use Rattle.watch_machine.specs.Refusal.{is_same, request_out}
+use Rattle.watch_machine.specs.Renewed.{renewed, renewed_track, track_renewed, ungranted_track}
+use Rattle.watch_machine.specs.Settling.{is_busy, is_real}
+use Rattle.watch_machine.specs.State.{State, no_track, track_at}
+use Rattle.watch_machine.specs.Step.{StepLooked, StepRenewed}
+use Rattle.watch_machine.proofs.Cases.{not_both, of_value}
+use Rattle.watch_machine.proofs.Within.{out_all, out_entry}
+use Rattle.watch_laws.specs.Outage.{IsReply, Outage, comes, how_many, is_served, is_whole, settled_by, waiting}
+use Rattle.watch_laws.proofs.Alone.{IsAlone, flag}
+use Rattle.watch_laws.proofs.Answering.{looked_leaves, renewed_leaves, rest_of}
+use Rattle.watch_laws.proofs.Enduring.{Cutting, Endures, IsAnswered, after, any_more, cut, lost_endures, own_endures, real_endures, second_before}
+use Rattle.watch_laws.proofs.Holding.{looked_presence}
+use Rattle.watch_laws.proofs.Lanes.{Sends, all_left, fewer_wait, is_anew, is_of, passes, replied_any, replied_lane}
+use Rattle.watch_laws.proofs.Lasting.{Asks, Same, no_look, same_time}
+use Rattle.watch_laws.proofs.Retrying.{replied_free}
+use Rattle.watch_laws.proofs.Sparing.{found_lane, looked_answers}
+use Rattle.watch_laws.proofs.Spacing.{after_flag, looked_other, looked_out, same_index}
+use Rattle.watch_laws.proofs.Stages.{Facts, IsBack, IsBase, IsCut, IsEarly, IsGoing, IsServed, IsThrough, free_from}
+
+-- an answer that was lived
+pub record IsReplied (f : Facts) (due : ℕ) (old mid new : State) (q : Out) (reply : Reply) : Type 0 where
+  pub answered : IsAnswered old mid new q reply
+  pub j : ℕ
+  pub operation : Operation
+  pub found : request_out old.out j operation ≡ Some q
+  pub reply_is : IsReply f.o reply q
+  pub other : q.entry ≢ f.i → track_at mid f.i ≡ track_at old f.i
+  pub own : q.entry ≡ f.i → (reply ≡ Lost) × ((f.i < length mid.tracks) × (track_at mid f.i ≡ ungranted_track old.clocks.at q.heard Lost (track_at old f.i)))
+  pub going : IsGoing f due old
+  pub base : IsBase f.width f.n new
+  pub same : Same f.i old new
+
+module _ (f : Facts) (due : ℕ) (old mid new : State) (q : Out) (reply : Reply) (t : IsReplied f due old mid new q reply) where
+  of_this : (P : Out → Type 0) → All P old.out → P q
+  of_this P all = of_value P (request_out old.out t.j t.operation) q (out_all P old.out t.j t.operation all) t.found
+
+  timely : due ≤ settled_by f.o q.since + f.o.late
+  timely = of_this (λ (r : Out). due ≤ settled_by f.o r.since + f.o.late) t.going.timely
+
+  lost_broke : reply ≡ Lost → is_whole f.o q.since ≡ false
+  lost_broke is = subst (λ r. IsReply f.o r q) is t.reply_is
+
+  -- the entry endures it
+  by_lost : (bound : ℕ) (miss : Type 0) → (w : Reply) → reply ≡ w → (reply ≡ Lost → miss) → Endures f.o f.i f.end bound due miss old → Endures f.o f.i f.end bound due miss new
+  by_lost bound miss (Told seconds renewable date) is may h =
+      let apart : q.entry ≢ f.i = λ own. (let bad : Told seconds renewable date ≡ Lost = sym is ∙ (t.own own).0 in absurd cc) in
+      real_endures f.o f.i f.end bound due miss old mid new q reply t.answered (t.other apart) apart (ap is_real is) t.going.base.past.hold h
+  by_lost bound miss (Refused status date) is may h =
+      let apart : q.entry ≢ f.i = λ own. (let bad : Refused status date ≡ Lost = sym is ∙ (t.own own).0 in absurd cc) in
+      real_endures f.o f.i f.end bound due miss old mid new q reply t.answered (t.other apart) apart (ap is_real is) t.going.base.past.hold h
+  by_lost bound miss Busy is may h = absurd (subst (λ r. IsReply f.o r q) is t.reply_is)
+  by_lost bound miss Lost is may h =
+      let broke = lost_broke is in
+      let a : IsAnswered old mid new q Lost = subst (IsAnswered old mid new q) is t.answered in
+      let ahead = t.going.ahead in
+      elim (cases_Bool (q.entry == f.i)) as (λ _. Endures f.o f.i f.end bound due miss new) [
+        | inl here ↦
+            let mine = eqb-true q.entry f.i here in
+            let own = t.own mine in
+            own_endures f.o f.i f.end bound due miss old mid new q a broke timely (may is) h mine own.1.0 own.1.1 (second_before old.clocks.at f.end ahead)
+            (λ heard'. (of_this (Cutting f.o f.i bound old) h.out mine).1 heard')
+        | inr different ↦
+            let apart : q.entry ≢ f.i = λ e. not_both (subst (λ n. (n == f.i) ≡ true) (sym e) (same_index f.i)) different in
+            lost_endures f.o f.i f.end bound due miss old mid new q a broke timely (may is) h (t.other apart) apart
+      ]
+
+  pub endures_reply : (bound : ℕ) (miss : Type 0) → (reply ≡ Lost → miss) → Endures f.o f.i f.end bound due miss old → Endures f.o f.i f.end bound due miss new
+  endures_reply bound miss may h = by_lost bound miss reply refl may h
+
+  kept_all : (P : Out → Type 0) → ((r : Out) → P r → P (heard r)) → All P old.out → All P new.out
+  kept_all P hears all = subst (λ (x : State). All P x.out) (sym t.answered.is) (all_left P hears mid q reply (subst (All P) (sym t.answered.outs) all))
+
+  not_busy : (w : Reply) → IsReply f.o w q → is_busy w ≡ false
+  not_busy (Told seconds renewable date) h = refl
+  not_busy (Refused status date) h = refl
+  not_busy Busy h = absurd h
+  not_busy Lost h = refl
+
+  pub goes_on_after : IsGoing f due new
+  goes_on_after =
+      let clock = ap (λ c. c.at) t.answered.clocks in
+      let ahead = t.going.ahead in
+      let by = t.going.by in
+      let a : Answer = record { since = q.since; heard = q.heard; reply = reply } in
+      let answers : new.answers ≡ old.answers ++ a ∷ [] = after old mid new q reply t.answered in
+      record {
+        base = t.base;
+        entries = t.same.count ∙ t.going.entries;
+        time = same_time f.i old new t.same ∙ t.going.time;
+        margin = t.same.margin ∙ t.going.margin;
+        end_is = t.same.bears.0 ∙ t.going.end_is;
+        asks = kept_all (λ (r : Out). r.entry ≡ f.i → r.operation ≡ Renew) (λ r h. h) t.going.asks;
+        timely = kept_all (λ (r : Out). due ≤ settled_by f.o r.since + f.o.late) (λ r h. h) t.going.timely;
+        calm =
+            elim (cases_Bool (list_any (λ (b : Answer). is_busy b.reply) new.answers)) as (λ _. list_any (λ (b : Answer). is_busy b.reply) new.answers ≡ false) [
+              | inl busy ↦
+                  elim (any_more (λ (b : Answer). is_busy b.reply) old.answers a (sym (ap (list_any (λ (b : Answer). is_busy b.reply)) answers) ∙ busy)) [
+                    | inl before ↦ absurd (not_both before t.going.calm)
+                    | inr this ↦ absurd (not_both this (not_busy reply t.reply_is))
+                  ]
+              | inr calm ↦ calm
+            ];
+        free =
+            let e = ap (λ (x : State). x.presence.free) t.answered.is ∙ replied_free mid q reply ∙ ap (λ (p : Presence). p.free) t.answered.presence in
+            let low = t.going.free in
+            omega (arith, e, low);
+        ahead = omega (arith, clock, ahead);
+        by = omega (arith, clock, by);
+      }
+
+  stays_unserved : is_served f.o old f.i ≡ false → is_served f.o new f.i ≡ false
+  stays_unserved unserved =
+      elim (cases_Bool (is_served f.o new f.i)) as (λ _. is_served f.o new f.i ≡ false) [
+        | inl served ↦
+            let p : ℕ → ℕ → Bool = λ k since. k == f.i && is_whole f.o since in
+            let there = replied_any p mid q reply (sym (ap (λ (x : State). list_any (passes p) x.out) t.answered.is) ∙ served) in
+            absurd (not_both (sym (ap (list_any (passes p)) t.answered.outs) ∙ there) unserved)
+        | inr no' ↦ no'
+      ]
+
+  apart_of : (track_at old f.i).out ≡ false → q.entry ≢ f.i
+  unfolding request_out
+  apart_of free is =
+      let entry = out_entry old.out t.j t.operation q t.found in
+      let lane = found_lane t.j t.operation old.out q t.found in
+      let once = t.going.base.alone.once t.j in
+      let e = ap flag (subst (λ k. (track_at old k).out ≡ false) (sym is ∙ entry) free) in
+      omega (arith, lane, once, e)
+
+  pub replied_through : (rest : ℕ) → Sends old new f.n → IsThrough f due (waiting f.o f.n old + (how_many f.n (comes f.o old new) + rest)) old → IsThrough f due (waiting f.o f.n new + rest) new
+  replied_through rest sends (inl (inl h)) =
+      let all = fewer_wait f.o (suc h.from) f.n old new t.going.base.alone t.base.alone t.base.tries sends in
+      let count = h.count in
+      let apart = apart_of h.idle in
+      inl (inl (record {
+        endures = endures_reply (ms f.time) ⊥ (λ is. not_both (of_this (λ (r : Out). is_whole f.o r.since ≡ true) h.whole) (lost_broke is)) h.endures;
+        idle = after_flag old mid new q reply f.i t.answered.is t.answered.outs t.other apart ∙ h.idle;
+        whole = kept_all (λ (r : Out). is_whole f.o r.since ≡ true) (λ r k. k) h.whole;
+        r = h.r;
+        from = h.from;
+        count = omega (arith, all, count);
+        fewer = h.fewer;
+        start = h.start;
+        next = h.next;
+      }))
+  replied_through rest sends (inl (inr h)) =
+      let all = fewer_wait f.o f.o.until f.n old new t.going.base.alone t.base.alone t.base.tries sends in
+      let count = h.count in
+      inl (inr (record {
+        endures = endures_reply (free_from f) Unit (λ is. tt) h.endures;
+        unserved = stays_unserved h.unserved;
+        r = h.r;
+        count = omega (arith, all, count);
+        fewer = h.fewer;
+        room = h.room;
+        next = h.next;
+      }))
+  replied_through rest sends (inr (inl h)) =
+      let all = fewer_wait f.o (suc h.from) f.n old new t.going.base.alone t.base.alone t.base.tries sends in
+      let count = h.count in
+      let clock = ap (λ c. c.at) t.answered.clocks in
+      let now = h.now in
+      inr (inl (record {
+        endures = endures_reply (free_from f) Unit (λ is. tt) h.endures;
+        unserved = stays_unserved h.unserved;
+        back = kept_all (λ (r : Out). f.o.until ≤ r.since) (λ r k. k) h.back;
+        r = h.r;
+        from = h.from;
+        last = h.last;
+        count = omega (arith, all, count);
+        fewer = h.fewer;
+        room = h.room;
+        start = h.start;
+        last_ahead = h.last_ahead;
+        last_by = h.last_by;
+        since = h.since;
+        now = omega (arith, clock, now);
+        next = h.next;
+      }))
+  replied_through rest sends (inr (inr h)) =
+      let P : Out → Type 0 = λ r. r.entry ≡ f.i → (is_whole f.o r.since ≡ true) × (r.since ≤ h.sent) in
+      let apart : q.entry ≢ f.i = λ is. not_both (of_this P h.whole is).0 (lost_broke (t.own is).0) in
+      inr (inr (record {
+        served =
+            ap (λ (x : State). is_served f.o x f.i) t.answered.is
+            ∙ replied_lane f.i (is_whole f.o) mid q reply apart (ap (list_any (is_of f.i (is_whole f.o))) t.answered.outs ∙ h.served);
+        sent = h.sent;
+        whole = kept_all P (λ r k. k) h.whole;
+        next = h.next;
+        last_ahead = h.last_ahead;
+        last_by = h.last_by;
+      }))
+
+-- the answers themselves
+pub looked_replied :
+    (f : Facts) (due : ℕ) (old new : State) (j : ℕ) (q : Out) (reply : Reply) (terms : Terms) (output : Output) → request_out old.out j Look ≡ Some q → StepLooked old (Some q) reply terms output new →
+    IsReply f.o reply q → IsGoing f due old → IsBase f.width f.n new → Same f.i old new → IsReplied f due old (looked (noted old q reply) q reply terms) new q reply
+looked_replied f due old new j q reply terms output found step reply_is going base same =
+    let s = noted old q reply in
+    let apart = no_look f.i j old q found going.asks in
+    record {
+      answered = record {
+        is = step.1;
+        presence = looked_presence s q reply terms;
+        clocks = ap (λ (x : State). x.clocks) (ap rest_of step.1 ∙ looked_leaves old q reply terms);
+        outs = looked_out s q reply terms;
+        answers = looked_answers s q reply terms;
+      };
+      j = j;
+      operation = Look;
+      found = found;
+      reply_is = reply_is;
+      other = looked_other s q reply terms f.i;
+      own = λ is. absurd (apart is);
+      going = going;
+      base = base;
+      same = same;
+    }
+
+own_made : (t : State) (r : Out) (w : Reply) (i : ℕ) → r.entry ≡ i → w ≡ Lost → i < length t.tracks → track_at (renewed (noted t r w) r w) i ≡ ungranted_track t.clocks.at r.heard Lost (track_at t i)
+unfolding renewed_track
+own_made t r w i is lost' below' =
+    subst (λ v. track_at (renewed (noted t r v) r v) i ≡ ungranted_track t.clocks.at r.heard Lost (track_at t i)) (sym lost')
+    (subst (λ k. track_at (renewed (noted t r Lost) r Lost) k ≡ ungranted_track t.clocks.at r.heard Lost (track_at t k)) is
+    (get_or-set_same t.tracks r.entry (ungranted_track t.clocks.at r.heard Lost (track_at t r.entry)) no_track (omega (arith, is, below'))))
+
+pub renewed_replied :
+    (f : Facts) (due : ℕ) (old new : State) (j : ℕ) (q : Out) (reply : Reply) (output : Output) → f.i < f.n → request_out old.out j Renew ≡ Some q → StepRenewed old (Some q) reply output new →
+    IsReply f.o reply q → (j ≡ f.i → reply ≡ Lost) → IsGoing f due old → IsBase f.width f.n new → Same f.i old new → IsReplied f due old (renewed (noted old q reply) q reply) new q reply
+renewed_replied f due old new j q reply output low found step reply_is lost going base same =
+    let s = noted old q reply in
+    let entry = out_entry old.out j Renew q found in
+    let count = going.base.count in
+    let below : f.i < length old.tracks = omega (arith, low, count) in
+    let many = length-set old.tracks q.entry (track_renewed s q reply) in
+    record {
+      answered = record {
+        is = step.1;
+        presence = refl;
+        clocks = ap (λ (x : State). x.clocks) (ap rest_of step.1 ∙ renewed_leaves old q reply);
+        outs = refl;
+        answers = refl;
+      };
+      j = j;
+      operation = Renew;
+      found = found;
+      reply_is = reply_is;
+      other = λ apart. get_or-set_other s.tracks q.entry f.i _ no_track (λ e. apart (sym e));
+      own = λ is.
+          let is_lost = lost (sym entry ∙ is) in (
+            is_lost,
+            (omega (arith, many, below), own_made old q reply f.i is is_lost below),
+          );
+      going = going;
+      base = base;
+      same = same;
+    }

@@ -1,0 +1,183 @@
+-- Counting: how many pass a test, and how many lanes hold requests of different entries. For the law of outages.
+use Rattle.std.proofs.Common.{◌≡◌, ◌≢◌, ◌⊎◌, ◌∙◌, ℕ, zero, suc, ◌+◌, ◌<◌, ◌≤◌, Bool, true, false, not, cond, ◌&&◌, ◌||◌, ◌==◌, if◌then◌else◌, List, [], ◌∷◌, All, filter, length, map, min, refl, sym, ap, subst, arith, inl, inr}
+use Rattle.std.proofs.lemmas.Bool.{and_from, and_parts, cases_Bool, cases_eq, cases_lt, eqb-true}
+use Rattle.std.proofs.lemmas.Bool.Decides.{nat_tests}
+use Rattle.std.proofs.lemmas.List.Elements.{All-cons, All-head, All-nil, All-tail}
+use Rattle.std.specs.List.{list_any}
+use Rattle.watch_machine.specs.declared.lanes.Out.{Out}
+use Rattle.watch_machine.specs.Wanted.{least}
+use Rattle.watch_machine.proofs.Cases.{not_both}
+use Rattle.watch_laws.specs.Outage.{how_many, one_if}
+use Rattle.watch_laws.proofs.Alone.{lanes_of}
+use Rattle.watch_laws.proofs.Minding.{least_start}
+use Rattle.watch_laws.proofs.Spacing.{same_index}
+
+-- sums of what each index adds
+pub sums :
+    (n : ℕ) (p q a b c : ℕ → Bool) → ((j : ℕ) → one_if (p j) + one_if (q j) ≤ one_if (a j) + one_if (b j) + one_if (c j)) →
+    how_many n p + how_many n q ≤ how_many n a + how_many n b + how_many n c
+sums zero p q a b c each' = omega arith
+sums (suc n) p q a b c each' = let rest = sums n p q a b c each' in let here = each' n in omega (arith, rest, here)
+
+one_less : (p q : Bool) → (p ≡ true → q ≡ true) → one_if p ≤ one_if q
+one_less true q h = let e = ap one_if (h refl) in omega (arith, e)
+one_less false q h = omega arith
+
+pub more : (n : ℕ) (p q : ℕ → Bool) → ((j : ℕ) → p j ≡ true → q j ≡ true) → how_many n p ≤ how_many n q
+more zero p q each' = omega arith
+more (suc n) p q each' = let rest = more n p q each' in let here = one_less (p n) (q n) (each' n) in omega (arith, rest, here)
+
+-- one that did not pass and passes now
+pub one_more : (n k : ℕ) (p q : ℕ → Bool) → k < n → p k ≡ false → q k ≡ true → ((j : ℕ) → p j ≡ true → q j ≡ true) → 1 + how_many n p ≤ how_many n q
+one_more zero k p q below no' yes' each' = absurd (omega (arith, below))
+one_more (suc n) k p q below no' yes' each' =
+    elim (cases_eq k n) as (λ _. 1 + how_many (suc n) p ≤ how_many (suc n) q) [
+      | inl is ↦
+          let rest = more n p q each' in
+          let a = ap one_if (subst (λ m. p m ≡ false) is no') in
+          let b = ap one_if (subst (λ m. q m ≡ true) is yes') in
+          omega (arith, rest, a, b)
+      | inr other ↦
+          let low : k < n = omega (arith, below, other) in
+          let rest = one_more n k p q low no' yes' each' in
+          let here = one_less (p n) (q n) (each' n) in
+          omega (arith, rest, here)
+    ]
+
+pub some : (n k : ℕ) (p : ℕ → Bool) → k < n → p k ≡ true → 1 ≤ how_many n p
+some n k p below yes' = let m = one_more n k (λ j. false) p below refl yes' (λ j e. absurd cc) in omega (arith, m)
+
+pub none : (n : ℕ) (p : ℕ → Bool) → ((j : ℕ) → p j ≡ false) → how_many n p ≡ 0
+none zero p each' = refl
+none (suc n) p each' = let rest = none n p each' in let here = ap one_if (each' n) in omega (arith, rest, here)
+
+-- no lane holds a request of j
+pub no_lane : (j : ℕ) (test : Out → Bool) (out : List Out) → lanes_of j out ≡ 0 → list_any (λ (q : Out). q.entry == j && test q) out ≡ false
+no_lane j test [] h = refl
+no_lane j test (q ∷ out) h =
+    let rest = filter (λ (p : Out). p.entry == j) out in
+    elim (cases_Bool (q.entry == j)) [
+      | inl here ↦ absurd (let more' : lanes_of j (q ∷ out) ≡ length (q ∷ rest) = ap (λ b. length (cond b (q ∷ rest) rest)) here in omega (arith, more', h))
+      | inr other ↦
+          let left : lanes_of j out ≡ 0 = sym (ap (λ b. length (cond b (q ∷ rest) rest)) other) ∙ h in
+          ap (λ b. (b && test q) || list_any (λ (p : Out). p.entry == j && test p) out) other ∙ no_lane j test out left
+    ]
+
+-- each lane holds a request of another entry
+pub lanes_apart :
+    (n : ℕ) (test : Out → Bool) (out : List Out) → ((j : ℕ) → lanes_of j out ≤ 1) → All (λ (q : Out). (q.entry < n) × (test q ≡ true)) out →
+    length out ≤ how_many n (λ j. list_any (λ (q : Out). q.entry == j && test q) out)
+lanes_apart n test [] once all = omega arith
+lanes_apart n test (q ∷ out) once all =
+    let P : Out → Type 0 = λ r. (r.entry < n) × (test r ≡ true) in
+    let here = All-head P q out all in
+    let k = q.entry in
+    let same : (k == k) ≡ true = same_index k in
+    let filtered : ℕ → List Out = λ j. filter (λ (p : Out). p.entry == j) out in
+    let fewer : (j : ℕ) → lanes_of j out ≤ lanes_of j (q ∷ out) = λ j. below (k == j) q (filtered j) in
+    let one : lanes_of k (q ∷ out) ≡ length (q ∷ filtered k) = ap (λ b. length (cond b (q ∷ filtered k) (filtered k))) same in
+    let first = once k in
+    let gone : lanes_of k out ≡ 0 = omega (arith, one, first) in
+    let old : ℕ → Bool = λ j. list_any (λ (r : Out). r.entry == j && test r) out in
+    let new : ℕ → Bool = λ j. list_any (λ (r : Out). r.entry == j && test r) (q ∷ out) in
+    let rest = lanes_apart n test out (λ j. let a = once j in let b = fewer j in omega (arith, a, b)) (All-tail P q out all) in
+    let added = one_more n k old new here.0 (no_lane k test out gone) (ap (λ b. b || old k) (and_from (k == k) (test q) same here.1)) (λ j e. or_more (k == j && test q) (old j) e) in
+    omega (arith, rest, added) where
+      below : (b : Bool) (r : Out) (xs : List Out) → length xs ≤ length (if b then r ∷ xs else xs)
+      below true r xs = omega arith
+      below false r xs = omega arith
+
+      or_more : (a b : Bool) → b ≡ true → a || b ≡ true
+      or_more true b h = refl
+      or_more false b h = h
+
+-- some of a list has what all have that pass
+pub least_some :
+    (test : Out → Bool) (f : Out → ℕ) (bound : ℕ) (out : List Out) → list_any test out ≡ true → All (λ (q : Out). test q ≡ true → f q ≤ bound) out → (m : ℕ) → least m (map f out) ≤ bound
+least_some test f bound [] any all m = absurd cc
+least_some test f bound (q ∷ out) any all m =
+    let P : Out → Type 0 = λ r. test r ≡ true → f r ≤ bound in
+    elim (cases_Bool (test q)) [
+      | inl here ↦ (let start = least_start (min m (f q)) (map f out) in let b = All-head P q out all here in omega (arith, start, b))
+      | inr other ↦ least_some test f bound out (sym (ap (λ b. b || list_any test out) other) ∙ any) (All-tail P q out all) (min m (f q))
+    ]
+
+-- the least is no more than any of them
+pub least_all : (f : Out → ℕ) (m : ℕ) (out : List Out) → All (λ (q : Out). least m (map f out) ≤ f q) out
+least_all f m [] = All-nil (λ (q : Out). m ≤ f q)
+least_all f m (q ∷ out) =
+    All-cons (λ (r : Out). least (min m (f q)) (map f out) ≤ f r) q out (let start = least_start (min m (f q)) (map f out) in omega (arith, start)) (least_all f (min m (f q)) out)
+
+-- what one entry adds to those that wait, and to those that are out anew, at a turn: it waited before, or comes to wait, or was out anew
+waits_less : (new served old before : Bool) → one_if (new && not served) ≤ one_if (old && not before) + one_if (new && (not old || (before && not served)))
+waits_less false served old before = omega arith
+waits_less true true old before = omega arith
+waits_less true false true true = omega arith
+waits_less true false true false = omega arith
+waits_less true false false before = omega arith
+
+served_anew :
+    (new served old before : Bool) → new ≡ true → served ≡ true → before ≡ false →
+    one_if (new && not served) + 1 ≤ one_if (old && not before) + one_if (new && (not old || (before && not served)))
+served_anew true true true false a b c = omega arith
+served_anew true true false false a b c = omega arith
+served_anew true true old true a b c = absurd cc
+served_anew true false old before a b c = absurd cc
+served_anew false served old before a b c = absurd cc
+
+pub counted :
+    (new served old before anew was : Bool) → (served ≡ true → new ≡ true) → (anew ≡ true → (was ≡ true) ⊎ ((served ≡ true) × (before ≡ false))) →
+    one_if (new && not served) + one_if anew ≤ one_if (old && not before) + one_if (new && (not old || (before && not served))) + one_if was
+counted new served old before false was tried from' = let less = waits_less new served old before in omega (arith, less)
+counted new served old before true was tried from' =
+    elim (from' refl) as (λ _. one_if (new && not served) + 1 ≤ one_if (old && not before) + one_if (new && (not old || (before && not served))) + one_if was) [
+      | inl still ↦ (let less = waits_less new served old before in let e = ap one_if still in omega (arith, less, e))
+      | inr now ↦ (let less = served_anew new served old before (tried now.0) now.0 now.1 in omega (arith, less))
+    ]
+
+-- no more entries have a lane than there are lanes
+pub lanes_most : (n : ℕ) (test : Out → Bool) (out : List Out) → how_many n (λ j. list_any (λ (q : Out). q.entry == j && test q) out) ≤ length out
+lanes_most n test [] = let z = none n (λ j. false) (λ j. refl) in omega (arith, z)
+lanes_most n test (q ∷ out) =
+    let old : ℕ → Bool = λ j. list_any (λ (r : Out). r.entry == j && test r) out in
+    let rest = lanes_most n test out in
+    let one = one_at_most n q.entry old (λ j. q.entry == j && test q) (λ j e. eqb-true q.entry j (and_parts (q.entry == j) (test q) e).0) in
+    omega (arith, rest, one) where
+      both_less : (a b : Bool) → one_if (a || b) ≤ one_if a + one_if b
+      both_less true b = omega arith
+      both_less false b = omega arith
+
+      none_at : (m : ℕ) (p r : ℕ → Bool) (k : ℕ) → ((j : ℕ) → r j ≡ true → k ≡ j) → m ≤ k → how_many m (λ j. r j || p j) ≤ how_many m p
+      none_at zero p r k is above = omega arith
+      none_at (suc m) p r k is above =
+          let less = none_at m p r k is (omega (arith, above)) in
+          let here : r m ≡ false =
+          elim (cases_Bool (r m)) as (λ _. r m ≡ false) [
+            | inl yes' ↦ (let e = is m yes' in absurd (omega (arith, e, above)))
+            | inr no' ↦ no'
+          ] in
+          let same = ap (λ b. one_if (b || p m)) here in
+          omega (arith, less, same)
+
+      one_at_most : (m k : ℕ) (p r : ℕ → Bool) → ((j : ℕ) → r j ≡ true → k ≡ j) → how_many m (λ j. r j || p j) ≤ 1 + how_many m p
+      one_at_most zero k p r is = omega arith
+      one_at_most (suc m) k p r is =
+          elim (cases_lt k m) as (λ _. how_many (suc m) (λ j. r j || p j) ≤ 1 + how_many (suc m) p) [
+            | inl below ↦
+                let less = one_at_most m k p r is in
+                let here : r m ≡ false =
+                elim (cases_Bool (r m)) as (λ _. r m ≡ false) [
+                  | inl yes' ↦ (let e = is m yes' in absurd (omega (arith, e, below)))
+                  | inr no' ↦ no'
+                ] in
+                let same = ap (λ b. one_if (b || p m)) here in
+                omega (arith, less, same)
+            | inr above ↦
+                let less = none_at m p r k is above in
+                let here = both_less (r m) (p m) in
+                let most = one_most (r m) in
+                omega (arith, less, here, most)
+          ] where
+            one_most : (b : Bool) → one_if b ≤ 1
+            one_most true = omega arith
+            one_most false = omega arith

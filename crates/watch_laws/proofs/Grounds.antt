@@ -1,0 +1,156 @@
+-- Grounds: what holds of every state of a history after its first clock. For the law of outages.
+use Rattle.std.proofs.Common.{◌≡◌, ◌∙◌, ℕ, zero, suc, ◌+◌, ◌<◌, ◌≤◌, Bool, true, false, ◌==◌, List, [], ◌∷◌, ◌++◌, Option, Some, None, All, Result, Ok, Err, is_none, length, map, refl, sym, ap, subst, arith}
+use Rattle.std.proofs.lemmas.List.{length-map}
+use Rattle.std.proofs.lemmas.List.Elements.{All-nil, All-weaker}
+use Rattle.keep_tree.specs.declared.entry.Entry.{Entry}
+use Rattle.keep_tree.specs.Forest.{Forest}
+use Rattle.watch_machine.specs.declared.command.Output.{Output}
+use Rattle.watch_machine.specs.declared.event.Event.{Event}
+use Rattle.watch_machine.specs.declared.event.Event.TheVariants.{Clock, Looked, Renewed, Need, Begin, Known}
+use Rattle.watch_machine.specs.declared.event.Operation.TheVariants.{Look, Renew}
+use Rattle.watch_machine.specs.declared.event.Reply.{Reply}
+use Rattle.watch_machine.specs.declared.event.Terms.{Terms}
+use Rattle.watch_machine.specs.declared.fault.WatchFault.{WatchFault}
+use Rattle.watch_machine.specs.declared.lanes.Out.{Out}
+use Rattle.watch_machine.specs.Answers.{noted, replied}
+use Rattle.watch_machine.specs.Clocks.{sec}
+use Rattle.watch_machine.specs.History.{History, Turn, Turned}
+use Rattle.watch_machine.specs.Looked.{looked}
+use Rattle.watch_machine.specs.Press.{pressed}
+use Rattle.watch_machine.specs.Refusal.{request_out}
+use Rattle.watch_machine.specs.Renewed.{renewed}
+use Rattle.watch_machine.specs.State.{State, fresh_track, opened, track_at, track_in}
+use Rattle.watch_machine.specs.Settling.{timed}
+use Rattle.watch_machine.specs.Step.{Step, StepLooked, StepRenewed, readied}
+use Rattle.watch_laws.specs.Turns.{after_all}
+use Rattle.watch_laws.proofs.Alone.{IsAlone, turn_alone}
+use Rattle.watch_laws.proofs.Answering.{looked_leaves, renewed_leaves, rest_of}
+use Rattle.watch_laws.proofs.Clocking.{begun_some, readied_clocks, refused_stays}
+use Rattle.watch_laws.proofs.Going.{entry_by}
+use Rattle.watch_laws.proofs.Lanes.{Ticks, all_left, all_sent, pressed_count, ticks}
+use Rattle.watch_laws.proofs.Owed.{AllTry, first_tries, turn_outcome}
+use Rattle.watch_laws.proofs.Retrying.{IsPast, first_past, rises, turn_past}
+use Rattle.watch_laws.proofs.Spacing.{looked_out}
+use Rattle.watch_laws.proofs.Stages.{IsBase}
+use Rattle.watch_laws.proofs.Topping.{readied_count, turn_count}
+use Rattle.watch_laws.proofs.Width.{Fits, turn_fits}
+
+-- before the first clock too
+pub record IsGround (width n : ℕ) (s : State) : Type 0 where
+  pub fits : Fits width s
+  pub alone : IsAlone s
+  pub tries : AllTry s
+  pub count : length s.tracks ≡ n
+  pub past : IsPast s
+  pub within : All (λ (q : Out). q.entry < n) s.out
+  pub since : All (λ (q : Out). q.since ≤ s.clocks.at) s.out
+
+abbrev Bounds : ℕ → State → Type 0
+Bounds n s = All (λ (q : Out). q.entry < n) s.out × All (λ (q : Out). q.since ≤ s.clocks.at) s.out
+
+since_later : (a b : ℕ) (out : List Out) → a ≤ b → All (λ (q : Out). q.since ≤ a) out → All (λ (q : Out). q.since ≤ b) out
+since_later a b out le all = All-weaker (λ (q : Out). q.since ≤ a) (λ (q : Out). q.since ≤ b) (λ q h. omega (arith, h, le)) out all
+
+clock_bounds : (n : ℕ) (old new : State) (wall elapsed : ℕ) (output : Output) → Ticks old new wall elapsed output → length old.tracks ≡ n → IsPast old → Bounds n old → Bounds n new
+clock_bounds n old new wall elapsed output h count past b =
+    let mid = pressed (readied old wall elapsed) h.round in
+    let many = pressed_count (readied old wall elapsed) h.round in
+    let more = readied_count old wall elapsed in
+    let up = rises old wall elapsed past.start in
+    let clock : new.clocks.at ≡ mid.clocks.at = ap (λ (x : State). x.clocks.at) h.new_is in
+    let same = ap (λ c. c.at) (readied_clocks old wall elapsed) in (
+      all_sent (λ (q : Out). q.entry < n) old new wall elapsed output h b.0
+          (λ k low due named. let e = entry_by mid.presence (sec mid.clocks.at) mid.tracks k in omega (arith, e, low, many, more, count)),
+      all_sent (λ (q : Out). q.since ≤ new.clocks.at) old new wall elapsed output h (since_later old.clocks.at new.clocks.at old.out (omega (arith, up, clock, same)) b.1) (λ k low due named. omega (arith, clock)),
+    )
+
+answer_bounds : (n : ℕ) (old mid new : State) (q : Out) (reply : Reply) → new ≡ replied mid q reply → mid.out ≡ old.out → new.clocks ≡ old.clocks → Bounds n old → Bounds n new
+answer_bounds n old mid new q reply is out clocks b =
+    let clock = ap (λ c. c.at) clocks in (
+      subst (λ (x : State). All (λ (r : Out). r.entry < n) x.out) (sym is) (all_left (λ (r : Out). r.entry < n) (λ r h. h) mid q reply (subst (All (λ (r : Out). r.entry < n)) (sym out) b.0)),
+      subst (λ (x : State). All (λ (r : Out). r.since ≤ new.clocks.at) x.out) (sym is)
+          (all_left (λ (r : Out). r.since ≤ new.clocks.at) (λ r h. h) mid q reply
+          (subst (All (λ (r : Out). r.since ≤ new.clocks.at)) (sym out) (since_later old.clocks.at new.clocks.at old.out (omega (arith, clock)) b.1))),
+    )
+
+looked_bounds : (n : ℕ) (old new : State) (found : Option Out) (reply : Reply) (terms : Terms) (output : Output) → StepLooked old found reply terms output new → Bounds n old → Bounds n new
+looked_bounds n old new None reply terms output step b = absurd step
+looked_bounds n old new (Some q) reply terms output step b =
+    let s = noted old q reply in
+    answer_bounds n old (looked s q reply terms) new q reply step.1 (looked_out s q reply terms) (ap (λ (x : State). x.clocks) (ap rest_of step.1 ∙ looked_leaves old q reply terms)) b
+
+renewed_bounds : (n : ℕ) (old new : State) (found : Option Out) (reply : Reply) (output : Output) → StepRenewed old found reply output new → Bounds n old → Bounds n new
+renewed_bounds n old new None reply output step b = absurd step
+renewed_bounds n old new (Some q) reply output step b =
+    answer_bounds n old (renewed (noted old q reply) q reply) new q reply step.1 refl (ap (λ (x : State). x.clocks) (ap rest_of step.1 ∙ renewed_leaves old q reply)) b
+
+step_bounds : (n : ℕ) (old new : State) (event : Event) (output : Output) → Step old event output new → length old.tracks ≡ n → IsPast old → Bounds n old → Bounds n new
+step_bounds n old new (Clock wall elapsed) output step count past b = clock_bounds n old new wall elapsed output (ticks old new wall elapsed output step) count past b
+step_bounds n old new (Looked j reply terms) output step count past b = looked_bounds n old new (request_out old.out j Look) reply terms output step b
+step_bounds n old new (Renewed j reply) output step count past b = renewed_bounds n old new (request_out old.out j Renew) reply output step b
+step_bounds n old new (Need j until) output step count past b = subst (Bounds n) (sym step.1) b
+step_bounds n old new Begin output step count past b = subst (Bounds n) (sym step.1) b
+step_bounds n old new (Known j end renewable) output step count past b = subst (Bounds n) (sym step.1) b
+
+turn_bounds : (n : ℕ) (old new : State) (event : Event) (result : Result Output WatchFault) → Turn old event result new → length old.tracks ≡ n → IsPast old → Bounds n old → Bounds n new
+turn_bounds n old new event (Ok output) turn count past b = step_bounds n old new event output turn.1 count past b
+turn_bounds n old new event (Err fault) turn count past b = subst (Bounds n) (sym (refused_stays old new event fault turn)) b
+
+pub turn_ground : (width n : ℕ) (old new : State) (event : Event) (result : Result Output WatchFault) → Turn old event result new → IsGround width n old → IsGround width n new
+turn_ground width n old new event result turn h =
+    let bounds = turn_bounds n old new event result turn h.count h.past (h.within, h.since) in
+    record {
+      fits = turn_fits width old new event result turn h.fits;
+      alone = turn_alone old new event result turn h.alone;
+      tries = (turn_outcome old new event result turn h.tries).0;
+      count = turn_count old new event result turn ∙ h.count;
+      past = turn_past old new event result turn h.past;
+      within = bounds.0;
+      since = bounds.1;
+    }
+
+-- a clock has been, and stays
+step_begun : (old new : State) (event : Event) (output : Output) → Step old event output new → is_none old.begun ≡ false → is_none new.begun ≡ false
+step_begun old new (Clock wall elapsed) output step begun' = clock_begun old new wall elapsed output (ticks old new wall elapsed output step) where
+  clock_begun : (a b : State) (w e : ℕ) (out : Output) → Ticks a b w e out → is_none b.begun ≡ false
+  clock_begun a b w e out h = ap (λ (x : State). is_none x.begun) h.new_is ∙ begun_some a w e
+step_begun old new (Looked j reply terms) output step begun' = looked_begun (request_out old.out j Look) step where
+  looked_begun : (found : Option Out) → StepLooked old found reply terms output new → is_none new.begun ≡ false
+  looked_begun None h = absurd h
+  looked_begun (Some q) h = ap (λ (x : State). is_none x.begun) (ap rest_of h.1 ∙ looked_leaves old q reply terms) ∙ begun'
+step_begun old new (Renewed j reply) output step begun' = renewed_begun (request_out old.out j Renew) step where
+  renewed_begun : (found : Option Out) → StepRenewed old found reply output new → is_none new.begun ≡ false
+  renewed_begun None h = absurd h
+  renewed_begun (Some q) h = ap (λ (x : State). is_none x.begun) (ap rest_of h.1 ∙ renewed_leaves old q reply) ∙ begun'
+step_begun old new (Need j until) output step begun' = ap (λ (x : State). is_none x.begun) step.1 ∙ begun'
+step_begun old new Begin output step begun' = ap (λ (x : State). is_none x.begun) step.1 ∙ begun'
+step_begun old new (Known j end renewable) output step begun' = ap (λ (x : State). is_none x.begun) step.1 ∙ begun'
+
+turn_begun : (old new : State) (event : Event) (result : Result Output WatchFault) → Turn old event result new → is_none old.begun ≡ false → is_none new.begun ≡ false
+turn_begun old new event (Ok output) turn begun' = step_begun old new event output turn.1 begun'
+turn_begun old new event (Err fault) turn begun' = ap (λ (x : State). is_none x.begun) (refused_stays old new event fault turn) ∙ begun'
+
+pub base_of : (width n : ℕ) (s : State) → IsGround width n s → is_none s.begun ≡ false → IsBase width n s
+base_of width n s h begun' = record { begun = begun'; fits = h.fits; alone = h.alone; tries = h.tries; count = h.count; past = h.past; within = h.within; since = h.since }
+
+pub turn_base : (width n : ℕ) (old new : State) (event : Event) (result : Result Output WatchFault) → Turn old event result new → IsBase width n old → IsBase width n new
+turn_base width n old new event result turn h =
+    base_of width n new
+    (turn_ground width n old new event result turn (record { fits = h.fits; alone = h.alone; tries = h.tries; count = h.count; past = h.past; within = h.within; since = h.since }))
+    (turn_begun old new event result turn h.begun)
+
+-- over a history
+pub ran_ground : (width n : ℕ) (turns : List Turned) (old : State) → History old turns → IsGround width n old → IsGround width n (after_all old turns)
+ran_ground width n [] old h ground = ground
+ran_ground width n (turn ∷ turns) old h ground = ran_ground width n turns turn.state h.1 (turn_ground width n old turn.state turn.event turn.result h.0 ground)
+
+pub opened_ground : (g : Forest) (width : ℕ) → IsGround width (length g.entries) (opened g width)
+opened_ground g width = record {
+  fits = (refl, omega arith);
+  alone = record { once = λ j. omega arith };
+  tries = first_tries g.entries;
+  count = length-map g.entries fresh_track;
+  past = record { start = λ none. refl; free = omega arith; hold = λ there. refl; last = λ i. let l = first_past g.entries i in omega (arith, l) };
+  within = All-nil (λ (q : Out). q.entry < length g.entries);
+  since = All-nil (λ (q : Out). q.since ≤ 0);
+}

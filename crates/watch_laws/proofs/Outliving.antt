@@ -1,0 +1,507 @@
+-- Outliving: an entry outlives every outage that its margin does. For the law of outages.
+use Rattle.std.proofs.Common.{◌≡◌, ◌⊎◌, ◌∙◌, ℕ, zero, suc, ◌+◌, ◌-◌, ◌*◌, ◌<◌, ◌≤◌, Bool, true, false, max, min, not, ◌&&◌, ◌||◌, ◌==◌, if◌then◌else◌, List, [], ◌∷◌, ◌++◌, Option, Some, None, All, IfSome, Result, Ok, Err, get_or, is_none, is_some, length, map, nat_le, nat_lt, refl, sym, ap, subst, arith, inl, inr, true≢false}
+use Rattle.std.proofs.lemmas.Bool.{and_parts, cases_Bool, cases_lt, eqb-true}
+use Rattle.std.proofs.lemmas.Bool.Decides.{nat_tests}
+use Rattle.std.proofs.lemmas.List.{length-set}
+use Rattle.std.proofs.lemmas.List.Elements.{All-weaker}
+use Rattle.std.specs.List.{list_any}
+use Rattle.keep_tree.specs.Forest.{Forest}
+use Rattle.watch_machine.specs.declared.command.Command.{Command}
+use Rattle.watch_machine.specs.declared.command.Command.TheVariants.{Go, Taken}
+use Rattle.watch_machine.specs.declared.command.Output.{Output}
+use Rattle.watch_machine.specs.declared.event.Event.{Event}
+use Rattle.watch_machine.specs.declared.event.Event.TheVariants.{Clock, Looked, Renewed, Need, Begin, Known}
+use Rattle.watch_machine.specs.declared.event.Operation.TheVariants.{Look, Renew}
+use Rattle.watch_machine.specs.declared.event.Reply.{Reply}
+use Rattle.watch_machine.specs.declared.event.Reply.TheVariants.{Told, Refused, Busy, Lost}
+use Rattle.watch_machine.specs.declared.event.Terms.{Terms}
+use Rattle.watch_machine.specs.declared.fault.WatchFault.{WatchFault}
+use Rattle.watch_machine.specs.declared.fault.WatchFault.TheVariants.{NotAsked, BadIndex, OutOfMemory}
+use Rattle.watch_machine.specs.declared.lanes.Answer.{Answer}
+use Rattle.watch_machine.specs.declared.lanes.Out.{Out}
+use Rattle.watch_machine.specs.declared.track.End.{End}
+use Rattle.watch_machine.specs.declared.track.End.TheVariants.{Unknown, At, Never}
+use Rattle.watch_machine.specs.declared.track.Track.{Track}
+use Rattle.watch_machine.specs.declared.track.Try.{Try}
+use Rattle.watch_machine.specs.Answers.{noted, replied}
+use Rattle.watch_machine.specs.Clocks.{ms, sec}
+use Rattle.watch_machine.specs.History.{History, Turn, Turned}
+use Rattle.watch_machine.specs.Lines.{rested}
+use Rattle.watch_machine.specs.Looked.{looked}
+use Rattle.watch_machine.specs.Margins.{is_in_plan, own_margin, time, time_before}
+use Rattle.watch_machine.specs.Press.{pressed}
+use Rattle.watch_machine.specs.Readings.{time_of}
+use Rattle.watch_machine.specs.Refusal.{request_out}
+use Rattle.watch_machine.specs.Renewed.{renewed}
+use Rattle.watch_machine.specs.Sending.{sent}
+use Rattle.watch_machine.specs.Settling.{is_busy, is_silent, timed}
+use Rattle.watch_machine.specs.State.{State, attempt_at, entry_of, opened, second, track_at}
+use Rattle.watch_machine.specs.Step.{Step, StepClock, StepLooked, StepRenewed, needed, readied}
+use Rattle.watch_machine.specs.Wait.{wait}
+use Rattle.watch_machine.specs.Wanted.{believed, is_never, is_unknown, is_wanted, least, wanted_need, wants}
+use Rattle.watch_machine.proofs.Cases.{if_both, not_both}
+use Rattle.watch_laws.specs.Absence.{is_clock, is_taken}
+use Rattle.watch_laws.specs.Outage.{AllInTime, AreLived, IsBefore, IsIncident, IsInTime, IsLived, IsReply, IsShort, Outage, OutageLaw, again, coming, comes, granted_by, how_many, is_served, is_whole, next_after, next_after_command, next_by, settled_by, waiting}
+use Rattle.watch_laws.specs.Turns.{after_all}
+use Rattle.watch_laws.proofs.Alone.{IsAlone}
+use Rattle.watch_laws.proofs.Answered.{IsReplied, goes_on_after, looked_replied, renewed_replied, replied_through}
+use Rattle.watch_laws.proofs.Clocking.{begun_some, clock_rises, refused_stays}
+use Rattle.watch_laws.proofs.Counting.{least_all}
+use Rattle.watch_laws.proofs.Enduring.{Cutting, Endures, IsPending, Kept, Missed, any_time, cut}
+use Rattle.watch_laws.proofs.Grounds.{IsGround, base_of, opened_ground, ran_ground, turn_base, turn_ground}
+use Rattle.watch_laws.proofs.Lanes.{Sends, Ticks, is_of, is_anew, served_marked, ticks, turn_sends}
+use Rattle.watch_laws.proofs.Lasting.{Asks, Same, clock_forest, same_time, turn_same}
+use Rattle.watch_laws.proofs.Minding.{end_minded, least_start}
+use Rattle.watch_laws.proofs.Sparing.{readied_answers}
+use Rattle.watch_laws.proofs.Stages.{Facts, IsBack, IsBase, IsCut, IsEarly, IsGoing, IsPlanned, IsServed, IsThrough, due_ahead, free_from, margin_holds, turn_of}
+use Rattle.watch_laws.proofs.Ticking.{IsTick, any_gives, anew_none, before_time, clock_goes, free_lanes, none_of, none_passes, not_whole, ticks_through}
+use Rattle.watch_laws.proofs.Tracking.{replied_forest}
+
+-- what holds after a turn
+pub record Stays (f : Facts) (due k : ℕ) (s : State) : Type 0 where
+  pub going : IsGoing f due s
+  pub through : IsThrough f due k s
+
+-- those that wait after a turn, where rest come to wait later
+abbrev After : Facts → State → ℕ → ℕ
+After f new rest = waiting f.o f.n new + rest
+
+abbrev Until : Facts → State → State → ℕ → ℕ
+Until f old new rest = waiting f.o f.n old + (how_many f.n (comes f.o old new) + rest)
+
+-- a clock
+clock_stays :
+    (f : Facts) (due rest : ℕ) (old new : State) (wall elapsed : ℕ) (output : Output) → IsPlanned f → Step old (Clock wall elapsed) output new → IsIncident f.o f.i due old (Clock wall elapsed) →
+    is_wanted new f.i ≡ true → IsBase f.width f.n new → Sends old new f.n → Same f.i old new → Stays f due (Until f old new rest) old → Stays f (next_after_command f.o output.command new due) (After f new rest) new
+clock_stays f due rest old new wall elapsed output planned step lived wanted base sends same h =
+    let go = ticks old new wall elapsed output step in
+    let ahead = due_ahead f due (Until f old new rest) old planned h.through in
+    let t : IsTick f due old new wall elapsed output = record {
+      ticks = go;
+      none = lived.1;
+      soon = lived.0;
+      rises = clock_rises old wall elapsed h.going.base.begun;
+      planned = planned;
+      going = h.going;
+      base = base;
+      same = same;
+      wanted = wanted;
+      ahead = ahead.0;
+      by = ahead.1;
+    } in
+    subst (λ c. Stays f (next_after_command f.o c new due) (After f new rest) new) (sym go.command)
+    (record { going = clock_goes f due old new wall elapsed output t sends rest h.through; through = ticks_through f due old new wall elapsed output t sends rest h.through })
+
+-- an answer
+taken_due : (o : Outage) (new : State) (due : ℕ) (output out : Output) → output ≡ out → out.command ≡ Taken → next_after_command o output.command new due ≡ due
+taken_due o new due output out is taken' = ap (λ c. next_after_command o c new due) (ap (λ (x : Output). x.command) is ∙ taken')
+
+replied_stays :
+    (f : Facts) (due rest : ℕ) (old mid new : State) (q : Out) (reply : Reply) → IsReplied f due old mid new q reply → Sends old new f.n → Stays f due (Until f old new rest) old → Stays f due (After f new rest) new
+replied_stays f due rest old mid new q reply t sends h = record { going = goes_on_after f due old mid new q reply t; through = replied_through f due old mid new q reply t rest sends h.through }
+
+looked_stays :
+    (f : Facts) (due rest : ℕ) (old new : State) (j : ℕ) (found : Option Out) (reply : Reply) (terms : Terms) (output : Output) → request_out old.out j Look ≡ found → StepLooked old found reply terms output new →
+    IfSome found (IsReply f.o reply) → IsBase f.width f.n new → Sends old new f.n → Same f.i old new → Stays f due (Until f old new rest) old →
+    Stays f (next_after_command f.o output.command new due) (After f new rest) new
+looked_stays f due rest old new j None reply terms output is step lived base sends same h = absurd step
+looked_stays f due rest old new j (Some q) reply terms output is step lived base sends same h =
+    subst (λ n. Stays f n (After f new rest) new) (sym (taken_due f.o new due output _ step.0 refl))
+    (replied_stays f due rest old (looked (noted old q reply) q reply terms) new q reply (looked_replied f due old new j q reply terms output is step lived h.going base same) sends h)
+
+renewed_stays :
+    (f : Facts) (due rest : ℕ) (old new : State) (j : ℕ) (found : Option Out) (reply : Reply) (output : Output) → f.i < f.n → request_out old.out j Renew ≡ found → StepRenewed old found reply output new →
+    IfSome found (IsReply f.o reply) → (j ≡ f.i → reply ≡ Lost) → IsBase f.width f.n new → Sends old new f.n → Same f.i old new → Stays f due (Until f old new rest) old →
+    Stays f (next_after_command f.o output.command new due) (After f new rest) new
+renewed_stays f due rest old new j None reply output low is step lived lost base sends same h = absurd step
+renewed_stays f due rest old new j (Some q) reply output low is step lived lost base sends same h =
+    subst (λ n. Stays f n (After f new rest) new) (sym (taken_due f.o new due output _ step.0 refl))
+    (replied_stays f due rest old (renewed (noted old q reply) q reply) new q reply (renewed_replied f due old new j q reply output low is step lived lost h.going base same) sends h)
+
+-- a forest that is written anew leaves all of it
+forest_endures : (o : Outage) (i end bound due : ℕ) (miss : Type 0) (s : State) (g : Forest) → Endures o i end bound due miss s → Endures o i end bound due miss (record s { forest = g })
+unfolding Kept Missed
+forest_endures o i end bound due miss s g h = record {
+  end_is = h.end_is;
+  owes = h.owes;
+  last = h.last;
+  tries = λ u is. record { pressed = (h.tries u is).pressed; renews = (h.tries u is).renews; how = (h.tries u is).how };
+  lane = h.lane;
+  out = h.out;
+  silent' = h.silent';
+}
+
+-- and fewer may wait
+forest_through : (f : Facts) (due k m : ℕ) (s : State) (g : Forest) → m ≤ k → IsThrough f due k s → IsThrough f due m (record s { forest = g })
+forest_through f due k m s g less (inl (inl h)) = let count = h.count in inl (inl (record {
+  endures = forest_endures f.o f.i f.end (ms f.time) due ⊥ s g h.endures;
+  idle = h.idle;
+  whole = h.whole;
+  r = h.r;
+  from = h.from;
+  count = omega (arith, count, less);
+  fewer = h.fewer;
+  start = h.start;
+  next = h.next;
+}))
+forest_through f due k m s g less (inl (inr h)) = let count = h.count in inl (inr (record {
+  endures = forest_endures f.o f.i f.end (free_from f) due Unit s g h.endures;
+  unserved = h.unserved;
+  r = h.r;
+  count = omega (arith, count, less);
+  fewer = h.fewer;
+  room = h.room;
+  next = h.next;
+}))
+forest_through f due k m s g less (inr (inl h)) = let count = h.count in inr (inl (record {
+  endures = forest_endures f.o f.i f.end (free_from f) due Unit s g h.endures;
+  unserved = h.unserved;
+  back = h.back;
+  r = h.r;
+  from = h.from;
+  last = h.last;
+  count = omega (arith, count, less);
+  fewer = h.fewer;
+  room = h.room;
+  start = h.start;
+  last_ahead = h.last_ahead;
+  last_by = h.last_by;
+  since = h.since;
+  now = h.now;
+  next = h.next;
+}))
+forest_through f due k m s g less (inr (inr h)) =
+    inr (inr (record { served = h.served; sent = h.sent; whole = h.whole; next = h.next; last_ahead = h.last_ahead; last_by = h.last_by }))
+
+-- a need
+forest_stays :
+    (f : Facts) (due rest : ℕ) (old new : State) (g : Forest) → new ≡ record old { forest = g } → IsBase f.width f.n new → Same f.i old new →
+    Stays f due (Until f old new rest) old → Stays f due (After f new rest) new
+forest_stays f due rest old new g is base same h =
+    let go = h.going in
+    let clock = ap (λ (x : State). x.clocks.at) is in
+    let ahead = go.ahead in
+    let by = go.by in
+    let waits' = ap (waiting f.o f.n) is in
+    record {
+      going = record {
+        base = base;
+        entries = same.count ∙ go.entries;
+        time = same_time f.i old new same ∙ go.time;
+        margin = same.margin ∙ go.margin;
+        end_is = same.bears.0 ∙ go.end_is;
+        asks = subst (Asks f.i) (sym is) go.asks;
+        timely = subst (λ (x : State). All (λ (q : Out). due ≤ settled_by f.o q.since + f.o.late) x.out) (sym is) go.timely;
+        calm = subst (λ (x : State). list_any (λ (a : Answer). is_busy a.reply) x.answers ≡ false) (sym is) go.calm;
+        free = subst (λ (x : State). x.presence.free ≤ ms f.time) (sym is) go.free;
+        ahead = omega (arith, clock, ahead);
+        by = omega (arith, clock, by);
+      };
+      through = subst (IsThrough f due (After f new rest)) (sym is) (forest_through f due (Until f old new rest) (After f new rest) old g (omega (arith, waits')) h.through);
+    }
+
+-- a turn
+step_stays :
+    (f : Facts) (due rest : ℕ) (old new : State) (event : Event) (output : Output) → IsPlanned f → Step old event output new → IsIncident f.o f.i due old event → is_wanted new f.i ≡ true →
+    IsBase f.width f.n new → Sends old new f.n → Same f.i old new → Stays f due (Until f old new rest) old → Stays f (next_after_command f.o output.command new due) (After f new rest) new
+step_stays f due rest old new (Clock wall elapsed) output planned step lived wanted base sends same h = clock_stays f due rest old new wall elapsed output planned step lived wanted base sends same h
+step_stays f due rest old new (Looked j reply terms) output planned step lived wanted base sends same h =
+    looked_stays f due rest old new j (request_out old.out j Look) reply terms output refl step lived base sends same h
+step_stays f due rest old new (Renewed j reply) output planned step lived wanted base sends same h =
+    renewed_stays f due rest old new j (request_out old.out j Renew) reply output planned.within refl step lived.0 lived.1 base sends same h
+step_stays f due rest old new (Need j until) output planned step lived wanted base sends same h =
+    subst (λ n. Stays f n (After f new rest) new) (sym (taken_due f.o new due output _ step.0 refl)) (forest_stays f due rest old new (needed old j until).forest step.1 base same h)
+step_stays f due rest old new Begin output planned step lived wanted base sends same h = absurd lived
+step_stays f due rest old new (Known j end renewable) output planned step lived wanted base sends same h = absurd lived
+
+turn_stays :
+    (f : Facts) (due rest : ℕ) (old new : State) (event : Event) (result : Result Output WatchFault) → IsPlanned f → Turn old event result new → IsLived f.o f.i due old event result → is_wanted new f.i ≡ true →
+    IsBase f.width f.n new → Sends old new f.n → Same f.i old new → Stays f due (Until f old new rest) old → Stays f (next_after f.o result new due) (After f new rest) new
+turn_stays f due rest old new event (Ok output) planned turn lived wanted base sends same h = step_stays f due rest old new event output planned turn.1 lived wanted base sends same h
+turn_stays f due rest old new event (Err fault) planned turn lived wanted base sends same h =
+    forest_stays f due rest old new old.forest (refused_stays old new event fault turn) base same h
+
+-- every turn is in time
+in_time : (f : Facts) (due k : ℕ) (s : State) → Stays f due k s → IsInTime f.o f.i s
+in_time f due k s h =
+    let end = ap believed h.going.end_is in
+    let time = h.going.time in
+    let ahead = h.going.ahead in
+    let by = h.going.by in
+    (
+      subst (λ n. s.clocks.at < ms n) (sym end) ahead,
+      subst (λ n. s.clocks.at ≤ granted_by f.o (time_of s f.i) n) (sym end) (subst (λ n. s.clocks.at ≤ granted_by f.o n f.end) (sym time) by),
+    )
+
+along :
+    (f : Facts) → IsPlanned f → (turns : List Turned) (due : ℕ) (old : State) → History old turns → AreLived f.o f.i due old turns → Stays f due (waiting f.o f.n old + coming f.o f.n old turns) old →
+    AllInTime f.o f.i turns
+along f planned [] due old history lived h = tt
+along f planned (turn ∷ turns) due old history lived h =
+    let base = turn_base f.width f.n old turn.state turn.event turn.result history.0 h.going.base in
+    let count = base.count in
+    let sends = turn_sends old turn.state turn.event turn.result f.n (omega (arith, count)) history.0 in
+    let same = turn_same f.o f.i due old turn.state turn.event turn.result history.0 lived.0 h.going.asks in
+    let here = turn_stays f due (coming f.o f.n turn.state turns) old turn.state turn.event turn.result planned history.0 lived.0 lived.1.0 base sends same h in
+    (
+      in_time f (next_after f.o turn.result turn.state due) (After f turn.state (coming f.o f.n turn.state turns)) turn.state here,
+      along f planned turns (next_after f.o turn.result turn.state due) turn.state history.1 lived.1.1 here,
+    )
+
+-- no turn changes how many entries there are, nor the margin
+abbrev Shape : State → State → Type 0
+Shape new old = (length new.forest.entries ≡ length old.forest.entries) × (new.forest.margin ≡ old.forest.margin)
+
+looked_shape : (s : State) (q : Out) (reply : Reply) (terms : Terms) → Shape (looked s q reply terms) s
+looked_shape s q (Told seconds renewable date) terms = (length-set s.forest.entries q.entry _, refl)
+looked_shape s q (Refused status date) terms = (refl, refl)
+looked_shape s q Busy terms = (refl, refl)
+looked_shape s q Lost terms = (refl, refl)
+
+forest_shape : (new mid old : State) → new.forest ≡ mid.forest → Shape mid old → Shape new old
+forest_shape new mid old is h = (ap (λ (g : Forest). length g.entries) is ∙ h.0, ap (λ (g : Forest). g.margin) is ∙ h.1)
+
+answer_shape : (old mid new : State) (q : Out) (reply : Reply) → new ≡ replied mid q reply → Shape mid old → Shape new old
+answer_shape old mid new q reply is h = forest_shape new mid old (ap (λ (x : State). x.forest) is ∙ replied_forest mid q reply) h
+
+looked_shapes : (old new : State) (found : Option Out) (reply : Reply) (terms : Terms) (output : Output) → StepLooked old found reply terms output new → Shape new old
+looked_shapes old new None reply terms output step = absurd step
+looked_shapes old new (Some q) reply terms output step = answer_shape old (looked (noted old q reply) q reply terms) new q reply step.1 (looked_shape (noted old q reply) q reply terms)
+
+renewed_shapes : (old new : State) (found : Option Out) (reply : Reply) (output : Output) → StepRenewed old found reply output new → Shape new old
+renewed_shapes old new None reply output step = absurd step
+renewed_shapes old new (Some q) reply output step = answer_shape old (renewed (noted old q reply) q reply) new q reply step.1 (refl, refl)
+
+step_shape : (old new : State) (event : Event) (output : Output) → Step old event output new → Shape new old
+step_shape old new (Clock wall elapsed) output step = forest_shape new old old (clock_forest old new wall elapsed output (ticks old new wall elapsed output step)) (refl, refl)
+step_shape old new (Looked j reply terms) output step = looked_shapes old new (request_out old.out j Look) reply terms output step
+step_shape old new (Renewed j reply) output step = renewed_shapes old new (request_out old.out j Renew) reply output step
+step_shape old new (Need j until) output step = forest_shape new (needed old j until) old (ap (λ (x : State). x.forest) step.1) (length-set old.forest.entries j _, refl)
+step_shape old new Begin output step = forest_shape new old old (ap (λ (x : State). x.forest) step.1) (refl, refl)
+step_shape old new (Known j end renewable) output step = forest_shape new old old (ap (λ (x : State). x.forest) step.1) (refl, refl)
+
+turn_shape : (old new : State) (event : Event) (result : Result Output WatchFault) → Turn old event result new → Shape new old
+turn_shape old new event (Ok output) turn = step_shape old new event output turn.1
+turn_shape old new event (Err fault) turn = forest_shape new old old (ap (λ (x : State). x.forest) (refused_stays old new event fault turn)) (refl, refl)
+
+ran_shape : (turns : List Turned) (old : State) → History old turns → Shape (after_all old turns) old
+ran_shape [] old h = (refl, refl)
+ran_shape (turn ∷ turns) old h =
+    let here = turn_shape old turn.state turn.event turn.result h.0 in
+    let rest = ran_shape turns turn.state h.1 in
+    (rest.0 ∙ here.0, rest.1 ∙ here.1)
+
+-- the first turns, and the others
+first_turns : (xs ys : List Turned) (old : State) → History old (xs ++ ys) → History old xs
+first_turns [] ys old h = tt
+first_turns (x ∷ xs) ys old h = (h.0, first_turns xs ys x.state h.1)
+
+last_turns : (xs ys : List Turned) (old : State) → History old (xs ++ ys) → History (after_all old xs) ys
+last_turns [] ys old h = h
+last_turns (x ∷ xs) ys old h = last_turns xs ys x.state h.1
+
+-- the clock from which on it is lived
+record Starts (o : Outage) (old : State) (last : Turned) : Type 0 where
+  wall : ℕ
+  elapsed : ℕ
+  output : Output
+  ticks' : Ticks old last.state wall elapsed output
+  due : next_after o last.result last.state 0 ≡ next_by o (wait last.state) last.state.out
+
+starts : (o : Outage) (old : State) (last : Turned) (event : Event) (result : Result Output WatchFault) → last.result ≡ result → Turn old event result last.state → is_clock event ≡ true → is_taken result ≡ true → Starts o old last
+starts o old last (Clock wall elapsed) (Ok output) same turn clock taken' =
+    let go = ticks old last.state wall elapsed output turn.1 in
+    record {
+      wall = wall;
+      elapsed = elapsed;
+      output = output;
+      ticks' = go;
+      due = ap (λ r. next_after o r last.state 0) same ∙ ap (λ c. next_after_command o c last.state 0) go.command;
+    }
+starts o old last (Looked j reply terms) (Ok output) same turn clock taken' = absurd (true≢false (sym clock))
+starts o old last (Renewed j reply) (Ok output) same turn clock taken' = absurd (true≢false (sym clock))
+starts o old last (Need j until) (Ok output) same turn clock taken' = absurd (true≢false (sym clock))
+starts o old last Begin (Ok output) same turn clock taken' = absurd (true≢false (sym clock))
+starts o old last (Known j end renewable) (Ok output) same turn clock taken' = absurd (true≢false (sym clock))
+starts o old last event (Err fault) same turn clock taken' = absurd (true≢false (sym taken'))
+
+-- the end that is a margin after the time
+end_known : (e : End) (margin n : ℕ) (x : Track) (need : ℕ) → x.end ≡ e → wants x need ≡ true → n < time_before e margin → (k : ℕ) × ((e ≡ At k) × (k ≡ time_before e margin + margin))
+unfolding wants
+end_known Unknown margin n x need is wanted h = absurd (omega (arith, h))
+end_known (At k) margin n x need is wanted h = (k, (refl, omega (arith, h)))
+end_known Never margin n x need is wanted h =
+    let led = (and_parts (x.renewable || is_unknown x.end) (not x.top && (not (is_never x.end) && nat_lt (believed x.end) need)) wanted).1 in
+    let ends = (and_parts (not x.top) (not (is_never x.end) && nat_lt (believed x.end) need) led).1 in
+    let lasts = (and_parts (not (is_never x.end)) (nat_lt (believed x.end) need) ends).0 in
+    absurd (not_both lasts (ap (λ e. not (is_never e)) is))
+
+plan_margin : (s : State) (i : ℕ) → is_in_plan s.forest.margin (entry_of s i) (track_at s i) ≡ true → own_margin s.forest.margin (entry_of s i) (track_at s i) ≡ s.forest.margin
+unfolding is_in_plan
+plan_margin s i h = eqb-true (own_margin s.forest.margin (entry_of s i) (track_at s i)) s.forest.margin h
+
+time_is : (s : State) (i : ℕ) → is_in_plan s.forest.margin (entry_of s i) (track_at s i) ≡ true → time_of s i ≡ time_before (track_at s i).end s.forest.margin
+unfolding time
+time_is s i h = ap (time_before (track_at s i).end) (plan_margin s i h)
+
+-- all facts, and the first stage
+record First (o : Outage) (n width margin : ℕ) (s : State) (i : ℕ) : Type 0 where
+  end : ℕ
+  end_is : (track_at s i).end ≡ At end
+  sum : end ≡ time_of s i + margin
+
+first_end : (o : Outage) (n width margin : ℕ) (s : State) (i : ℕ) → IsBefore o s i → s.forest.margin ≡ margin → First o n width margin s i
+first_end o n width margin s i b same =
+    let t = time_is s i b.in_plan in
+    let ahead = b.ahead in
+    let k = end_known (track_at s i).end s.forest.margin (second s) (track_at s i) (wanted_need s i) refl b.wanted (omega (arith, t, ahead)) in
+    let sum = k.1.1 in
+    record { end = k.0; end_is = k.1.0; sum = omega (arith, sum, t, same) }
+
+first_endures :
+    (o : Outage) (i end bound due : ℕ) (miss : Type 0) (s : State) → (track_at s i).end ≡ At end → (track_at s i).owes ≡ false → rested (track_at s i).last ≤ bound → attempt_at s i ≡ None → (track_at s i).out ≡ false →
+    IsAlone s → s.answers ≡ [] → Endures o i end bound due miss s
+first_endures o i end bound due miss s end_is owes last idle free alone answers = record {
+  end_is = end_is;
+  owes = owes;
+  last = last;
+  tries = λ u is. absurd (let bad : None ≡ Some u = sym idle ∙ is in cc);
+  lane = λ out. absurd (not_both out free);
+  out = All-weaker (λ (q : Out). q.entry ≡ i → ⊥) (Cutting o i bound s) (λ q no' is. absurd (no' is)) s.out (none_of i s.out (free_lanes i s alone free));
+  silent' = λ any. absurd (not_both any (ap (list_any is_silent) answers));
+}
+
+first_stays :
+    (o : Outage) (width n : ℕ) (s : State) (i due k end : ℕ) → IsPlanned (record { o = o; i = i; n = n; width = width; margin = s.forest.margin; time = time_of s i; end = end }) → IsBase width n s →
+    length s.forest.entries ≡ n → IsBefore o s i → (track_at s i).end ≡ At end → s.answers ≡ [] → due ≤ ms (time_of s i) + o.late → All (λ (q : Out). due ≤ settled_by o q.since + o.late) s.out →
+    k ≤ width * o.rounds → Stays (record { o = o; i = i; n = n; width = width; margin = s.forest.margin; time = time_of s i; end = end }) due k s
+first_stays o width n s i due k end planned base entries b end_is answers soon timely few =
+    let f : Facts = record { o = o; i = i; n = n; width = width; margin = s.forest.margin; time = time_of s i; end = end } in
+    let at = s.clocks.at in
+    let before = before_time s i (time_of s i) refl b.ahead in
+    let sum = planned.end_is in
+    let rest = b.rested in
+    let reach : ms (time_of s i) ≤ free_from f = omega arith in
+    let free : (track_at s i).out ≡ false =
+    elim (cases_Bool (track_at s i).out) as (λ _. (track_at s i).out ≡ false) [
+      | inl out ↦ absurd (true≢false (sym ((base.tries i).out out) ∙ ap is_some b.idle))
+      | inr no' ↦ no'
+    ] in
+    let none' = none_of i s.out (free_lanes i s base.alone free) in
+    let now = base.since in
+    record {
+      going = record {
+        base = base;
+        entries = entries;
+        time = refl;
+        margin = refl;
+        end_is = end_is;
+        asks = All-weaker (λ (q : Out). q.entry ≡ i → ⊥) (λ (q : Out). q.entry ≡ i → q.operation ≡ Renew) (λ q no' is. absurd (no' is)) s.out none';
+        timely = timely;
+        calm = ap (list_any (λ (a : Answer). is_busy a.reply)) answers;
+        free = omega (arith, rest);
+        ahead = omega (arith, before, sum);
+        by = omega (arith, before);
+      };
+      through = elim (cases_Bool (list_any (λ (q : Out). not (is_whole o q.since)) s.out)) as (λ _. IsThrough f due k s) [
+        | inr all_whole ↦
+            let whole : All (λ (q : Out). is_whole o q.since ≡ true) s.out =
+            All-weaker (λ (q : Out). not (is_whole o q.since) ≡ false) (λ (q : Out). is_whole o q.since ≡ true) (λ q h. so_whole (is_whole o q.since) h) s.out (none_passes (λ (q : Out). not (is_whole o q.since)) s.out all_whole) in
+            let zero' = anew_none o (suc at) n s now (omega arith) in
+            inl (inl (record {
+              endures = first_endures o i end (ms (time_of s i)) due ⊥ s end_is b.owes (omega (arith, rest)) b.idle free base.alone answers;
+              idle = free;
+              whole = whole;
+              r = o.rounds;
+              from = at;
+              count = omega (arith, few, zero');
+              fewer = omega arith;
+              start = omega (arith, before);
+              next = omega (arith, soon);
+            }))
+        | inl broke ↦
+            let early : at < o.until =
+            elim (cases_lt at o.until) as (λ _. at < o.until) [
+              | inl yes' ↦ yes'
+              | inr over ↦
+                  let settled = b.settled over in
+                  absurd (any_gives ⊥ (λ (q : Out). not (is_whole o q.since)) s.out broke (λ j d below no'. not_both (settled j d below) (not_so (is_whole o (get_or s.out j d).since) no')))
+            ] in
+            let late : o.from < at + o.quick =
+            any_gives (o.from < at + o.quick) (λ (q : Out). not (is_whole o q.since)) s.out broke
+            (λ j d below no'.
+            let q = get_or s.out j d in
+            let h = not_whole o q.since (not_so (is_whole o q.since) no') in
+            let l = h.0 in
+            let le = now j d below in
+            omega (arith, l, le)) in
+            let zero' = anew_none o o.until n s now early in
+            inl (inr (record {
+              endures = first_endures o i end (free_from f) due Unit s end_is b.owes (omega (arith, rest, reach)) b.idle free base.alone answers;
+              unserved = elim (cases_Bool (is_served o s i)) as (λ _. is_served o s i ≡ false) [
+                | inl served ↦ absurd (not_both (served_marked o s i base.alone served) free)
+                | inr no' ↦ no'
+              ];
+              r = o.rounds;
+              count = omega (arith, few, zero');
+              fewer = omega arith;
+              room = omega (arith, late, before);
+              next = omega (arith, soon, reach);
+            }))
+      ];
+    } where
+      so_whole : (w : Bool) → not w ≡ false → w ≡ true
+      so_whole true h = refl
+      so_whole false h = absurd cc
+
+      not_so : (w : Bool) → not w ≡ true → w ≡ false
+      not_so true h = absurd cc
+      not_so false h = refl
+
+-- until then is waited at most
+waits_for : (old s : State) (wall elapsed : ℕ) (output : Output) (i : ℕ) → Ticks old s wall elapsed output → i < length s.forest.entries → is_wanted s i ≡ true → attempt_at s i ≡ None → (track_at s i).out ≡ false → wait s ≤ ms (time_of s i)
+waits_for old s wall elapsed output i h within wanted idle free =
+    let ready' = readied old wall elapsed in
+    let end = sent (pressed ready' h.round) h.requests in
+    let is = h.new_is in
+    subst (λ (x : State). wait x ≤ ms (time_of x i)) (sym is)
+    (elim (end_minded ready' h.round h.requests i h.going (subst (λ (x : State). i < length x.forest.entries) is within) (subst (λ (x : State). is_wanted x i ≡ true) is wanted)) as (λ _. wait end ≤ ms (time_of end i)) [
+      | inl out ↦ absurd (not_both out (subst (λ (x : State). (track_at x i).out ≡ false) is free))
+      | inr minded ↦
+          elim minded as (λ _. wait end ≤ ms (time_of end i)) [
+            | inl pressed' ↦ absurd (let bad : None ≡ Some pressed'.has.attempt = sym (subst (λ (x : State). attempt_at x i ≡ None) is idle) ∙ pressed'.has.attempt_is in cc)
+            | inr ahead ↦ ahead.heeded
+          ]
+    ])
+
+pub outlives : OutageLaw
+outlives o g width before last turns i wide run clock taken' b lived few order short =
+    let n = length g.entries in
+    let old = after_all (opened g width) before in
+    let history = last_turns before (last ∷ turns) (opened g width) run in
+    let first = first_turns before (last ∷ turns) (opened g width) run in
+    let s = last.state in
+    let start = starts o old last last.event last.result refl history.0 clock taken' in
+    let ground = turn_ground width n old s last.event last.result history.0 (ran_ground width n before (opened g width) first (opened_ground g width)) in
+    let begun' : is_none s.begun ≡ false = ap (λ (x : State). is_none x.begun) start.ticks'.new_is ∙ begun_some old start.wall start.elapsed in
+    let base = base_of width n s ground begun' in
+    let shape = turn_shape old s last.event last.result history.0 in
+    let shapes = ran_shape before (opened g width) first in
+    let entries : length s.forest.entries ≡ n = shape.0 ∙ shapes.0 in
+    let margin : s.forest.margin ≡ g.margin = shape.1 ∙ shapes.1 in
+    let e = first_end o n width s.forest.margin s i b refl in
+    let f : Facts = record { o = o; i = i; n = n; width = width; margin = s.forest.margin; time = time_of s i; end = e.end } in
+    let low = b.within in
+    let planned : IsPlanned f = record { wide = wide; within = omega (arith, low, entries); order = order; short = subst (IsShort o) (sym margin) short; end_is = e.sum } in
+    let answers : s.answers ≡ [] = ap (λ (x : State). x.answers) start.ticks'.new_is ∙ readied_answers old start.wall start.elapsed in
+    let free : (track_at s i).out ≡ false =
+    elim (cases_Bool (track_at s i).out) as (λ _. (track_at s i).out ≡ false) [
+      | inl out ↦ absurd (true≢false (sym ((base.tries i).out out) ∙ ap is_some b.idle))
+      | inr no' ↦ no'
+    ] in
+    let until = waits_for old s start.wall start.elapsed start.output i start.ticks' b.within b.wanted b.idle free in
+    let due = next_by o (wait s) s.out in
+    let least' = least_start (wait s + o.late) (map (λ (q : Out). settled_by o q.since + o.late) s.out) in
+    let stays = first_stays o width n s i due (waiting o n s + coming o n s turns) e.end planned base entries b e.end_is answers (omega (arith, until, least'))
+    (least_all (λ (q : Out). settled_by o q.since + o.late) (wait s + o.late) s.out) few in
+    along f planned turns due s history.1 (subst (λ d. AreLived o i d s turns) start.due lived) stays

@@ -1,0 +1,191 @@
+-- Stages: how an outage goes by for an entry, stage by stage, and the sums of each. For the law of outages.
+use Rattle.std.proofs.Common.{◌≡◌, ◌⊎◌, ◌∙◌, ℕ, zero, suc, ◌+◌, ◌-◌, ◌*◌, ◌/◌, ◌<◌, ◌≤◌, Bool, true, false, max, not, ◌&&◌, ◌||◌, ◌==◌, if◌then◌else◌, List, Option, Some, None, All, is_none, length, nat_le, nat_lt, refl, sym, ap, subst, arith, inl, inr}
+use Rattle.std.proofs.Math.Nat.{mul-suc, mul-zero}
+use Rattle.std.proofs.lemmas.Bool.Decides.{nat_tests}
+use Rattle.std.proofs.lemmas.Bool.{cond-true}
+use Rattle.std.specs.List.{list_any}
+use Rattle.watch_machine.specs.declared.lanes.Out.{Out}
+use Rattle.watch_machine.specs.declared.track.End.TheVariants.{At}
+use Rattle.watch_machine.specs.Clocks.{ms}
+use Rattle.watch_machine.specs.Readings.{time_of}
+use Rattle.watch_machine.specs.Settling.{is_busy}
+use Rattle.watch_machine.specs.State.{State, track_at}
+use Rattle.watch_laws.specs.Outage.{IsShort, Outage, again, breath, granted_by, how_many, is_served, is_whole, settled_by, sweep}
+use Rattle.watch_laws.proofs.Alone.{IsAlone}
+use Rattle.watch_laws.proofs.Enduring.{Endures, cut}
+use Rattle.watch_laws.proofs.Lanes.{is_anew}
+use Rattle.watch_laws.proofs.Lasting.{Asks}
+use Rattle.watch_laws.proofs.Owed.{AllTry}
+use Rattle.watch_laws.proofs.Retrying.{IsPast}
+use Rattle.watch_laws.proofs.Width.{Fits}
+
+-- what does not change: the outage, the entry, how many there are, the width and the margin, and the entry's time and end
+pub record Facts : Type 0 where
+  pub o : Outage
+  pub i : ℕ
+  pub n : ℕ
+  pub width : ℕ
+  pub margin : ℕ
+  pub time : ℕ
+  pub end : ℕ
+
+abbrev pub turn_of : Outage → ℕ
+turn_of o = o.quick + o.late
+
+-- from then on the entry may be asked, after the outage
+abbrev pub free_from : Facts → ℕ
+free_from f = max (ms f.time) (again f.end (cut f.o))
+
+pub record IsPlanned (f : Facts) : Type 0 where
+  pub wide : 0 < f.width
+  pub within : f.i < f.n
+  pub order : f.o.from ≤ f.o.until
+  pub short : IsShort f.o f.margin
+  pub end_is : f.end ≡ f.time + f.margin
+
+-- what holds of every state of a history after its first clock
+pub record IsBase (width n : ℕ) (s : State) : Type 0 where
+  pub begun : is_none s.begun ≡ false
+  pub fits : Fits width s
+  pub alone : IsAlone s
+  pub tries : AllTry s
+  pub count : length s.tracks ≡ n
+  pub past : IsPast s
+  pub within : All (λ (q : Out). q.entry < n) s.out
+  pub since : All (λ (q : Out). q.since ≤ s.clocks.at) s.out
+
+-- and after a turn that was lived, where due is by when the next clock comes
+pub record IsGoing (f : Facts) (due : ℕ) (s : State) : Type 0 where
+  pub base : IsBase f.width f.n s
+  pub entries : length s.forest.entries ≡ f.n
+  pub time : time_of s f.i ≡ f.time
+  pub margin : s.forest.margin ≡ f.margin
+  pub end_is : (track_at s f.i).end ≡ At f.end
+  pub asks : Asks f.i s
+  pub timely : All (λ (q : Out). due ≤ settled_by f.o q.since + f.o.late) s.out
+  pub calm : list_any (λ a. is_busy a.reply) s.answers ≡ false
+  pub free : s.presence.free ≤ ms f.time
+  pub ahead : s.clocks.at < ms f.end
+  pub by : s.clocks.at ≤ granted_by f.o f.time f.end
+
+-- before the outage: r rounds hold those that wait, but for those that went out after from
+pub record IsEarly (f : Facts) (due k : ℕ) (s : State) : Type 0 where
+  pub endures : Endures f.o f.i f.end (ms f.time) due ⊥ s
+  pub idle : (track_at s f.i).out ≡ false
+  pub whole : All (λ (q : Out). is_whole f.o q.since ≡ true) s.out
+  pub r : ℕ
+  pub from : ℕ
+  pub count : k + how_many f.n (is_anew f.o (suc from) s) ≤ f.width * r
+  pub fewer : turn_of f.o * r ≤ turn_of f.o * f.o.rounds
+  pub start : from + turn_of f.o * r ≤ ms f.time + turn_of f.o * f.o.rounds
+  pub next : due + turn_of f.o * r ≤ ms f.time + turn_of f.o + turn_of f.o * f.o.rounds
+
+-- from the outage on, until all requests that it cut are settled
+pub record IsCut (f : Facts) (due k : ℕ) (s : State) : Type 0 where
+  pub endures : Endures f.o f.i f.end (free_from f) due Unit s
+  pub unserved : is_served f.o s f.i ≡ false
+  pub r : ℕ
+  pub count : k + how_many f.n (is_anew f.o f.o.until s) ≤ f.width * r
+  pub fewer : turn_of f.o * r ≤ turn_of f.o * f.o.rounds
+  pub room : f.o.from + 1 + turn_of f.o * r ≤ ms f.time + turn_of f.o + f.o.quick + turn_of f.o * f.o.rounds
+  pub next : due ≤ free_from f + f.o.late
+
+-- after it, while all lanes are taken by requests that went out since
+pub record IsBack (f : Facts) (due k : ℕ) (s : State) : Type 0 where
+  pub endures : Endures f.o f.i f.end (free_from f) due Unit s
+  pub unserved : is_served f.o s f.i ≡ false
+  pub back : All (λ (q : Out). f.o.until ≤ q.since) s.out
+  pub r : ℕ
+  pub from : ℕ
+  pub last : ℕ
+  pub count : k + how_many f.n (is_anew f.o (suc from) s) ≤ f.width * r
+  pub fewer : turn_of f.o * suc r ≤ turn_of f.o * f.o.rounds
+  pub room : f.o.from + 1 + turn_of f.o * suc r ≤ ms f.time + turn_of f.o + f.o.quick + turn_of f.o * f.o.rounds
+  pub start : from + turn_of f.o * suc r ≤ last
+  pub last_ahead : last < ms f.end
+  pub last_by : last ≤ granted_by f.o f.time f.end
+  pub since : f.o.until ≤ from
+  pub now : from ≤ s.clocks.at
+  pub next : due ≤ from + turn_of f.o
+
+-- and while a request of the entry is out that is whole
+pub record IsServed (f : Facts) (due : ℕ) (s : State) : Type 0 where
+  pub served : is_served f.o s f.i ≡ true
+  pub sent : ℕ
+  pub whole : All (λ (q : Out). q.entry ≡ f.i → (is_whole f.o q.since ≡ true) × (q.since ≤ sent)) s.out
+  pub next : due ≤ sent + turn_of f.o
+  pub last_ahead : sent + turn_of f.o < ms f.end
+  pub last_by : sent + turn_of f.o ≤ granted_by f.o f.time f.end
+
+abbrev pub IsThrough : Facts → ℕ → ℕ → State → Type 0
+IsThrough f due k s = (IsEarly f due k s ⊎ IsCut f due k s) ⊎ (IsBack f due k s ⊎ IsServed f due s)
+
+-- sums: what is left after the last pause
+sum_pause : (end x rest q : ℕ) → rest ≤ q → x + rest + max 1000 (q / 15) + 1 ≤ ms end → again end x + rest < ms end
+sum_pause end x rest q few room = omega (arith, few, room)
+
+sum_back : (from until quick slow late a c time margin : ℕ) → from ≤ until → a ≤ c → from + 1 + a ≤ ms time + (quick + late) + quick + c →
+    (until - from) + slow + 2 * (quick + late) + (c + late) + max 1000 ((c + late) / 15) ≤ ms margin → max (ms time) (again (time + margin) (until + slow + late)) + late + a < ms (time + margin)
+sum_back from until quick slow late a c time margin order fewer room short =
+    let h = sum_pause (time + margin) (until + slow + late) (late + a) (c + late) (omega (arith, fewer)) (omega (arith, order, room, short)) in
+    omega (arith, h, fewer, short)
+
+pub room_back :
+    (f : Facts) (r : ℕ) → IsPlanned f → turn_of f.o * r ≤ turn_of f.o * f.o.rounds → f.o.from + 1 + turn_of f.o * r ≤ ms f.time + turn_of f.o + f.o.quick + turn_of f.o * f.o.rounds →
+    free_from f + f.o.late + turn_of f.o * r < ms f.end
+room_back f r planned fewer room =
+    let o = f.o in
+    subst (λ e. max (ms f.time) (again e (cut o)) + o.late + turn_of o * r < ms e) (sym planned.end_is)
+    (sum_back o.from o.until o.quick o.slow o.late (turn_of o * r) (turn_of o * o.rounds) f.time f.margin planned.order fewer room planned.short)
+
+-- the margin holds all rounds
+pub margin_holds : (f : Facts) → IsPlanned f → ms f.time + turn_of f.o + turn_of f.o * f.o.rounds + f.o.late + turn_of f.o < ms f.end
+margin_holds f planned =
+    let o = f.o in
+    let short : (o.until - o.from) + o.slow + 2 * (o.quick + o.late) + (turn_of o * o.rounds + o.late) + max 1000 ((turn_of o * o.rounds + o.late) / 15) ≤ ms f.margin = planned.short in
+    let end = planned.end_is in
+    omega (arith, short, end)
+
+-- all lanes hold one round
+pub take_one : (w r k less : ℕ) → 0 < w → w + less ≤ k → k ≤ w * r → (q : ℕ) × ((r ≡ suc q) × (less ≤ w * q))
+take_one w zero k less wide fuller fits = absurd (let z = mul-zero w in omega (arith, z, wide, fuller, fits))
+take_one w (suc q) k less wide fuller fits = (q, (refl, (let m = mul-suc w q in omega (arith, m, fuller, fits))))
+
+pub one_left : (w r k : ℕ) → k ≤ w * r → 1 ≤ k → (q : ℕ) × (r ≡ suc q)
+one_left w zero k fits some = absurd (let z = mul-zero w in omega (arith, z, fits, some))
+one_left w (suc q) k fits some = (q, refl)
+
+-- the next clock comes in time, whatever the stage
+pub due_ahead : (f : Facts) (due k : ℕ) (s : State) → IsPlanned f → IsThrough f due k s → (due < ms f.end) × (due ≤ granted_by f.o f.time f.end)
+due_ahead f due k s planned (inl (inl h)) =
+    let holds = margin_holds f planned in
+    let next = h.next in
+    (omega (arith, holds, next), omega (arith, next))
+due_ahead f due k s planned (inl (inr h)) =
+    let room = room_back f h.r planned h.fewer h.room in
+    let next = h.next in
+    (omega (arith, room, next), omega (arith, next))
+due_ahead f due k s planned (inr (inl h)) =
+    let next = h.next in
+    let start = h.start in
+    let m = mul-suc (turn_of f.o) h.r in
+    let a = h.last_ahead in
+    let b = h.last_by in
+    (omega (arith, next, start, m, a), omega (arith, next, start, m, b))
+due_ahead f due k s planned (inr (inr h)) =
+    let next = h.next in
+    let a = h.last_ahead in
+    let b = h.last_by in
+    (omega (arith, next, a), omega (arith, next, b))
+
+-- requests by when they went out
+pub whole_after : (o : Outage) (at : ℕ) → o.until ≤ at → is_whole o at ≡ true
+unfolding is_whole
+whole_after o at h = let e : nat_le o.until at ≡ true = grind (arith, nat_tests) in ap (λ b. nat_le (at + o.quick) o.from || b) e ∙ or_true (nat_le (at + o.quick) o.from) where
+  or_true : (b : Bool) → b || true ≡ true
+  or_true true = refl
+  or_true false = refl
+
+pub quick_if : (o : Outage) (at : ℕ) → is_whole o at ≡ true → settled_by o at ≡ at + o.quick
+unfolding settled_by
+quick_if o at whole = ap (λ n. at + n) (cond-true (is_whole o at) o.quick o.slow whole)

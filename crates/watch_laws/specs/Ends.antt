@@ -1,0 +1,110 @@
+-- Ends: no believed end comes after the real one. The law is the contract of a public function without a body.
+-- Source: this project's own, over Vault, HTTP API: `auth/token`, "Lookup a token (self)" and "Renew a token (self)";
+-- `sys/leases`, "Read lease" and "Renew lease" (the seconds count from the reply).
+use Rattle.std.specs.Prelude.{◌≡◌, ◌==◌, ℕ, ◌+◌, ◌≤◌, Bool, true, false, ◌&&◌, if◌then◌else◌, List, [], ◌∷◌}
+use Rattle.std.specs.List.{list_any}
+use Rattle.keep_tree.specs.Forest.{Forest}
+use Rattle.watch_machine.specs.declared.event.Event.{Event}
+use Rattle.watch_machine.specs.declared.event.Event.TheVariants.{Clock, Looked, Renewed, Need, Begin, Known}
+use Rattle.watch_machine.specs.declared.event.Reply.{Reply}
+use Rattle.watch_machine.specs.declared.event.Reply.TheVariants.{Told, Refused, Busy, Lost}
+use Rattle.watch_machine.specs.declared.track.End.TheVariants.{At}
+use Rattle.watch_machine.specs.Clocks.{ms}
+use Rattle.watch_machine.specs.History.{Turn, Turned}
+use Rattle.watch_machine.specs.State.{State, opened, track_at}
+use Rattle.watch_laws.specs.Absence.{is_taken}
+use Rattle.watch_laws.specs.Load.{requests_of}
+
+-- the world beside a watch. Moments of it are milliseconds of real time: what the clock that never steps shows at each, and by
+-- how much it may have fallen behind between two
+pub record World : Type 0 where
+  pub reading : ℕ → ℕ
+  pub lag : ℕ → ℕ → ℕ
+
+-- an honest clock: its readings never fall, as much passes by them as passes, but for the lag, and a lag is not made good
+pub record IsHonest (w : World) : Type 0 where
+  pub rises : (a b : ℕ) → a ≤ b → w.reading a ≤ w.reading b
+  pub counts : (a n : ℕ) → w.reading a + n ≤ w.reading (a + n) + w.lag a (a + n)
+  pub adds : (a b c : ℕ) → a ≤ b → b ≤ c → w.lag a b ≤ w.lag a c
+
+-- how an end was told: the moment at which the broker read the request, and how many milliseconds too much it told at most (half a
+-- second where a lookup rounds)
+pub record Origin : Type 0 where
+  pub since : ℕ
+  pub over : ℕ
+
+-- a turn as it was lived: the moment at which it was handed in, the real end of the entry after it, and how it told the end, if it did
+pub record Lived : Type 0 where
+  pub turn : Turned
+  pub at : ℕ
+  pub real : ℕ
+  pub origin : Origin
+
+-- an end, a second of the watch's clock, comes no later than a real one, but for what the clock has lagged since the end was told,
+-- and what was told too much
+pub record IsNoLater (w : World) (phase end real : ℕ) (o : Origin) : Type 0 where
+  pub before : o.since ≤ real
+  pub no_later : ms end ≤ w.reading real + phase + w.lag o.since real + o.over
+
+-- a reply was true: the broker read the request after that had gone out, and before the real end; and an end that is told as so many
+-- seconds was as far away then, or further, but for what was told too much
+abbrev pub IsTrueReply : ℕ → ℕ → Origin → Reply → Type 0
+IsTrueReply asked real o (Told seconds renewable date) = (asked ≤ o.since) × ((o.since ≤ real) × (o.since + ms seconds ≤ real + o.over))
+IsTrueReply asked real o (Refused status date) = Unit {0}
+IsTrueReply asked real o Busy = Unit {0}
+IsTrueReply asked real o Lost = Unit {0}
+
+-- an event was true of i, whose last request went out at asked: a reading was taken before it was handed in, a reply was true, and an
+-- end that is known was told by an earlier watch
+abbrev pub IsTrueEvent : World → ℕ → ℕ → State → Lived → Event → Type 0
+IsTrueEvent w i asked s l (Clock wall elapsed) = elapsed ≤ w.reading l.at
+IsTrueEvent w i asked s l (Looked j reply terms) = j ≡ i → IsTrueReply asked l.real l.origin reply
+IsTrueEvent w i asked s l (Renewed j reply) = j ≡ i → IsTrueReply asked l.real l.origin reply
+IsTrueEvent w i asked s l (Need j until) = Unit {0}
+IsTrueEvent w i asked s l Begin = Unit {0}
+IsTrueEvent w i asked s l (Known j end renewable) = j ≡ i → IsNoLater w s.clocks.phase end l.real l.origin
+
+-- the moment of the clock at which the last request of i went out
+abbrev pub asked_after : ℕ → ℕ → Lived → ℕ
+asked_after i asked l = if list_any (λ r. r.entry == i) (requests_of l.turn.result) then l.at else asked
+
+-- turns that were lived one after another from a state on, by events that were true of i: the moment of the last turn, that at which
+-- the last request of i went out, and the real end before. The real end does not come to be earlier
+abbrev pub AreLivedFrom : World → ℕ → State → ℕ → ℕ → ℕ → List Lived → Type 0
+AreLivedFrom w i s last asked real [] = Unit {0}
+AreLivedFrom w i s last asked real (l ∷ ls) =
+    Turn s l.turn.event l.turn.result l.turn.state × ((last ≤ l.at) × (IsTrueEvent w i asked s l l.turn.event × ((real ≤ l.real)
+    × AreLivedFrom w i l.turn.state l.at (asked_after i asked l) l.real ls)))
+
+-- an event tells the end of i
+abbrev pub is_told : Reply → Bool
+is_told (Told seconds renewable date) = true
+is_told (Refused status date) = false
+is_told Busy = false
+is_told Lost = false
+
+abbrev pub tells : ℕ → Event → Bool
+tells i (Clock wall elapsed) = false
+tells i (Looked j reply terms) = is_told reply && j == i
+tells i (Renewed j reply) = is_told reply && j == i
+tells i (Need j until) = false
+tells i Begin = false
+tells i (Known j end renewable) = j == i
+
+-- how the end of i was told last
+abbrev pub told_after : ℕ → Origin → Lived → Origin
+told_after i o l = if is_taken l.turn.result && tells i l.turn.event then l.origin else o
+
+abbrev pub AllNoLater : World → ℕ → Origin → List Lived → Type 0
+AllNoLater w i o [] = Unit {0}
+AllNoLater w i o (l ∷ ls) =
+    ((end : ℕ) → (track_at l.turn.state i).end ≡ At end → IsNoLater w l.turn.state.clocks.phase end l.real (told_after i o l)) × AllNoLater w i (told_after i o l) ls
+
+-- before the first request, and the first end
+abbrev pub never : Origin
+never = record { since = 0; over = 0 }
+
+-- with an honest clock, and replies that are true of an entry, no end of it that a watch believes in comes later than the real one,
+-- but for what the clock has lagged since the broker read the request whose reply told that end
+abbrev pub NeverPastLaw : Type 0
+NeverPastLaw = (w : World) → IsHonest w → (g : Forest) (width i real : ℕ) (ls : List Lived) → AreLivedFrom w i (opened g width) 0 0 real ls → AllNoLater w i never ls

@@ -1,0 +1,167 @@
+-- Outage: how long the broker may be away. The law is the contract of a public function without a body.
+-- Source: this project's own.
+use Rattle.std.specs.Prelude.{◌≡◌, ◌==◌, ℕ, zero, suc, ◌+◌, ◌-◌, ◌*◌, ◌/◌, ◌<◌, ◌≤◌, Bool, true, false, not, ◌&&◌, ◌||◌, if◌then◌else◌, List, [], ◌∷◌, ◌++◌, Option, Some, None, Result, Ok, Err, IfSome, is_some, length, map, max, nat_le}
+use Rattle.std.specs.List.{All, list_any}
+use Rattle.keep_tree.specs.Forest.{Forest}
+use Rattle.watch_machine.specs.declared.command.Command.{Command}
+use Rattle.watch_machine.specs.declared.command.Command.TheVariants.{Go, Taken}
+use Rattle.watch_machine.specs.declared.command.Output.{Output}
+use Rattle.watch_machine.specs.declared.event.Event.{Event}
+use Rattle.watch_machine.specs.declared.event.Event.TheVariants.{Clock, Looked, Renewed, Need, Begin, Known}
+use Rattle.watch_machine.specs.declared.event.Operation.TheVariants.{Look, Renew}
+use Rattle.watch_machine.specs.declared.event.Reply.{Reply}
+use Rattle.watch_machine.specs.declared.event.Reply.TheVariants.{Told, Refused, Busy, Lost}
+use Rattle.watch_machine.specs.declared.fault.WatchFault.{WatchFault}
+use Rattle.watch_machine.specs.declared.lanes.Out.{Out}
+use Rattle.watch_machine.specs.Clocks.{ms}
+use Rattle.watch_machine.specs.History.{IsRun, Turned}
+use Rattle.watch_machine.specs.Lines.{rested}
+use Rattle.watch_machine.specs.Margins.{is_in_plan}
+use Rattle.watch_machine.specs.Readings.{time_of}
+use Rattle.watch_machine.specs.Refusal.{request_out}
+use Rattle.watch_machine.specs.Settling.{timed}
+use Rattle.watch_machine.specs.State.{State, attempt_at, entry_of, second, track_at}
+use Rattle.watch_machine.specs.Step.{why}
+use Rattle.watch_machine.specs.Wanted.{believed, is_wanted, least}
+use Rattle.watch_laws.specs.Absence.{is_clock, is_taken}
+
+-- an outage, in milliseconds of the watch's clock: when it begins and ends; by when a request is settled while the broker is there,
+-- and by when at all; how late a clock is handed in at most; and how many rounds of all lanes hold those that wait and come to wait
+pub record Outage : Type 0 where
+  pub from : ℕ
+  pub until : ℕ
+  pub quick : ℕ
+  pub slow : ℕ
+  pub late : ℕ
+  pub rounds : ℕ
+
+-- a request that goes out at a moment is whole: it is answered before the broker goes, or goes out when it is back
+unfoldable pub is_whole : Outage → ℕ → Bool
+is_whole o since = nat_le (since + o.quick) o.from || nat_le o.until since
+
+-- by when a request that went out at a moment is settled
+unfoldable pub settled_by : Outage → ℕ → ℕ
+settled_by o since = since + (if is_whole o since then o.quick else o.slow)
+
+-- the shell: by when the next clock is handed in. It is no later than the moment until which was to be waited, nor than any answer, but
+-- for so much
+abbrev pub next_by : Outage → ℕ → List Out → ℕ
+next_by o until out = least (until + o.late) (map (λ (q : Out). settled_by o q.since + o.late) out)
+
+abbrev pub next_after_command : Outage → Command → State → ℕ → ℕ
+next_after_command o (Go requests until) s due = next_by o until s.out
+next_after_command o Taken s due = due
+
+abbrev pub next_after : Outage → Result Output WatchFault → State → ℕ → ℕ
+next_after o (Ok output) s due = next_after_command o output.command s due
+next_after o (Err fault) s due = due
+
+-- the broker: no request that is whole is lost
+abbrev pub IsReply : Outage → Reply → Out → Type 0
+IsReply o (Told seconds renewable date) q = Unit {0}
+IsReply o (Refused status date) q = Unit {0}
+IsReply o Busy q = ⊥
+IsReply o Lost q = is_whole o q.since ≡ false
+
+-- what happens until i is granted: a clock in time, at which nothing begins anew; replies, of which those to renewals of i are lost; and
+-- needs
+abbrev pub IsIncident : Outage → ℕ → ℕ → State → Event → Type 0
+IsIncident o i due s (Clock wall elapsed) = ((timed s wall elapsed).clocks.at ≤ due) × (why s wall elapsed ≡ None)
+IsIncident o i due s (Looked j reply terms) = IfSome (request_out s.out j Look) (IsReply o reply)
+IsIncident o i due s (Renewed j reply) = IfSome (request_out s.out j Renew) (IsReply o reply) × (j ≡ i → reply ≡ Lost)
+IsIncident o i due s (Need j until) = Unit {0}
+IsIncident o i due s Begin = ⊥
+IsIncident o i due s (Known j end renewable) = ⊥
+
+abbrev pub IsLived : Outage → ℕ → ℕ → State → Event → Result Output WatchFault → Type 0
+IsLived o i due s event (Ok output) = IsIncident o i due s event
+IsLived o i due s event (Err fault) = Unit {0}
+
+-- turns that are lived through the outage, until i is granted; i is wanted after each
+abbrev pub AreLived : Outage → ℕ → ℕ → State → List Turned → Type 0
+AreLived o i due s [] = Unit {0}
+AreLived o i due s (turn ∷ turns) =
+    IsLived o i due s turn.event turn.result × ((is_wanted turn.state i ≡ true) × AreLived o i (next_after o turn.result turn.state due) turn.state turns)
+
+-- how many of the first n pass a test
+abbrev pub one_if : Bool → ℕ
+one_if b = if b then 1 else 0
+
+abbrev pub how_many : ℕ → (ℕ → Bool) → ℕ
+how_many zero p = 0
+how_many (suc n) p = one_if (p n) + how_many n p
+
+-- something is to be asked of j, or asked
+abbrev pub is_tried : State → ℕ → Bool
+is_tried s j = is_some (attempt_at s j)
+
+-- a request of j that is whole is out
+abbrev pub is_served : Outage → State → ℕ → Bool
+is_served o s j = list_any (λ (q : Out). q.entry == j && is_whole o q.since) s.out
+
+-- j waits: something is to be asked of it, and no request that is whole is out
+abbrev pub waits : Outage → State → ℕ → Bool
+waits o s j = is_tried s j && not (is_served o s j)
+
+-- how many of n entries wait
+abbrev pub waiting : Outage → ℕ → State → ℕ
+waiting o n s = how_many n (waits o s)
+
+-- j comes to wait between two states: something is to be asked of it, and nothing was before, or a request that is whole was answered
+abbrev pub comes : Outage → State → State → ℕ → Bool
+comes o old new j = is_tried new j && (not (is_tried old j) || (is_served o old j && not (is_served o new j)))
+
+-- how often one of n entries comes to wait in a list of turns
+abbrev pub coming : Outage → ℕ → State → List Turned → ℕ
+coming o n old [] = 0
+coming o n old (turn ∷ turns) = how_many n (comes o old turn.state) + coming o n turn.state turns
+
+-- how long a lane is taken by one request after another, as many as rounds; and the longest pause before them
+abbrev pub sweep : Outage → ℕ
+sweep o = (o.quick + o.late) * o.rounds + o.late
+
+abbrev pub breath : Outage → ℕ
+breath o = max 1000 (sweep o / 15)
+
+-- by when whoever was lost may go out again that has that end, after a clock at that moment
+abbrev pub again : ℕ → ℕ → ℕ
+again end at = at + max 1000 ((ms end - at) / 16)
+
+-- by when an entry of that time and end is granted
+abbrev pub granted_by : Outage → ℕ → ℕ → ℕ
+granted_by o time end = max (ms time) (again end (o.until + o.slow + o.late)) + sweep o + o.quick
+
+-- an outage that a margin of so many seconds outlasts: beside it there is room for the request that its end cuts, that which its
+-- beginning cuts, the one under way when the time came, all rounds, and one pause
+abbrev pub IsShort : Outage → ℕ → Type 0
+IsShort o margin = (o.until - o.from) + o.slow + 2 * (o.quick + o.late) + sweep o + breath o ≤ ms margin
+
+-- a state in which the time of i is ahead: i is wanted, in the plan, and not asked, and may be asked when its time comes. If the outage
+-- is over, the requests that it cut are settled
+pub record IsBefore (o : Outage) (s : State) (i : ℕ) : Type 0 where
+  pub within : i < length s.forest.entries
+  pub wanted : is_wanted s i ≡ true
+  pub in_plan : is_in_plan s.forest.margin (entry_of s i) (track_at s i) ≡ true
+  pub idle : attempt_at s i ≡ None
+  pub owes : (track_at s i).owes ≡ false
+  pub ahead : second s < time_of s i
+  pub rested : max s.presence.free (rested (track_at s i).last) ≤ ms (time_of s i)
+  pub settled : o.until ≤ s.clocks.at → All (λ (q : Out). is_whole o q.since ≡ true) s.out
+
+-- after each turn the end of i is ahead, and it is no later than i is granted
+abbrev pub IsInTime : Outage → ℕ → State → Type 0
+IsInTime o i s = (s.clocks.at < ms (believed (track_at s i).end)) × (s.clocks.at ≤ granted_by o (time_of s i) (believed (track_at s i).end))
+
+abbrev pub AllInTime : Outage → ℕ → List Turned → Type 0
+AllInTime o i [] = Unit {0}
+AllInTime o i (turn ∷ turns) = IsInTime o i turn.state × AllInTime o i turns
+
+-- whatever was before: from a clock on at which the time of an entry is ahead that is wanted and in the plan, until it is granted, its end
+-- is ahead, through any outage that the margin outlasts
+abbrev pub OutageLaw : Type 0
+OutageLaw =
+    (o : Outage) (g : Forest) (width : ℕ) (before : List Turned) (last : Turned) (turns : List Turned) (i : ℕ) → 0 < width →
+    IsRun g width (before ++ last ∷ turns) → is_clock last.event ≡ true → is_taken last.result ≡ true → IsBefore o last.state i →
+    AreLived o i (next_after o last.result last.state 0) last.state turns →
+    waiting o (length g.entries) last.state + coming o (length g.entries) last.state turns ≤ width * o.rounds → o.from ≤ o.until → IsShort o g.margin →
+    AllInTime o i turns
