@@ -19,13 +19,13 @@ stand-requires-clause-watched c =
 pub invariant_of-self-2 : goal.invariant_of-self-2
 invariant_of-self-2 c =
     let old : Agent = record { machine = c.self.inside.watch; inventory = c.self.inside.inventory; standings = c.self.inside.standings.items; beginnings = c.self.inside.beginnings } in
-    let new : Agent = record { machine = c.step.new.self; inventory = c.set_need.new.inventory; standings = c.stand.new.standings; beginnings = c.beginnings_after.result } in
+    let new : Agent = record { machine = c.step.new.self; inventory = c.set_need.new.inventory; standings = c.stand.new.standings; beginnings = c.beginnings_after-self-inside.result } in
     let written = once c.self.inside.standings c.deref_mut.result.now c.stand.new.standings c.deref_mut.ensures.value c.stand.auto.standings in
-    subst (λ (xs : List Standing). IsAgent (record { machine = c.step.new.self; inventory = c.set_need.new.inventory; standings = xs; beginnings = c.beginnings_after.result })) (sym written)
+    subst (λ (xs : List Standing). IsAgent (record { machine = c.step.new.self; inventory = c.set_need.new.inventory; standings = xs; beginnings = c.beginnings_after-self-inside.result })) (sym written)
     (turned_is_agent old new c.args.event c.in_ok-output.output c.self.invariant
     (record {
       machine = c.in_ok-output.ensures.turn;
       inventory = c.set_need.ensures;
       standings = c.stand.ensures.value ∙ ap (standings_after c.step.new.self c.args.event) c.deref_mut.ensures.value;
-      beginnings = c.beginnings_after.ensures;
+      beginnings = c.beginnings_after-self-inside.ensures;
     }) c.stand.ensures.bounds)
