@@ -236,11 +236,19 @@ module _ (S : Type 0) (m : Hearing S) (limits : Limits) where
       text = h.up_to.text;
       heard = heard_so_far;
       prompt = prompt_so_far;
-      ends =
-          (pending, (refl, (h.short, (
-            inr (h.failed, inr (let many = h.many in omega (arith, many, all), subst (λ n. MakesAtLeast n fed.old.input fed.new.input) all h.least)),
-            (refl, h.up_to.sent.0),
-          ))));
+      ends = (
+        pending,
+        (
+          refl,
+          (
+            h.short,
+            (
+              inr (h.failed, inr (let many = h.many in omega (arith, many, all), subst (λ n. MakesAtLeast n fed.old.input fed.new.input) all h.least)),
+              (refl, h.up_to.sent.0),
+            ),
+          ),
+        ),
+      );
     }
 
     -- the input has ended

@@ -112,8 +112,8 @@ module _ (port : ℕ) (bytes : List ℕ) (start : ℕ) (before : Option Behind) 
           ends =
               subst (λ n. ListensTo port v.inventory.credentials h.read n h.mid h.behind (o.text ++ h.text) result final fed (change k a c)) (few_lines h.read h.lines h.behind h.heard.parts)
               (
-                listens_then World (hearing port v.inventory.credentials) (stops_after port v.inventory.credentials) (change k a b) (change k b c) refl limits h.read (counted (length h.lines + 1)) h.mid h.behind o.text h.text result final fed
-                (inl o.sent, o.kept) h.ends
+              listens_then World (hearing port v.inventory.credentials) (stops_after port v.inventory.credentials) (change k a b) (change k b c) refl limits h.read (counted (length h.lines + 1)) h.mid h.behind o.text h.text result final fed
+              (inl o.sent, o.kept) h.ends
               );
           flushed = flushed;
         }

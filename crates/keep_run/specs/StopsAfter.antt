@@ -53,10 +53,10 @@ stops_after port cs a b old line t u stops.Memory new same first h =
       | inl none ↦ inl (none.0, (none.1.0, (none.1.1.0, appends_then a b same t u before none.1.1.1)))
       | inr some ↦
           inr (
-            elim some [
-              | inl broken ↦ inl (broken.0, (broken.1.0, broken_then a b same port cs old new t u before broken.0 broken.1.1))
-              | inr cut ↦ inr (cut.0, short_then a b same port cs old new t u before line cut.1)
-            ]
+          elim some [
+            | inl broken ↦ inl (broken.0, (broken.1.0, broken_then a b same port cs old new t u before broken.0 broken.1.1))
+            | inr cut ↦ inr (cut.0, short_then a b same port cs old new t u before line cut.1)
+          ]
           )
     ]
 stops_after port cs a b old line t u (stops.Inventory fault) new same first h = absurd h

@@ -33,13 +33,7 @@ pub fn watch<R: Files + AllocGlobal + Net + Clock, I: Source, W: Sink, E: Sink>(
         Err(_) => return Stop::Memory.report(PROGRAM, &mut streams.errors),
     };
     let mut files = SystemFiles::new(rt);
-    let exit = watch_file(
-        rt.alloc(),
-        watched.file,
-        &mut files,
-        &mut lanes,
-        streams,
-    );
+    let exit = watch_file(rt.alloc(), watched.file, &mut files, &mut lanes, streams);
     files.advise(PROGRAM, exit, watched.file, &mut streams.errors);
     exit
 }

@@ -506,7 +506,7 @@ known_stands w i now asked j told o real old new end renewable is alone so h =
     set_kept (λ (z x : Track). Timely c.at n x → Timely c.at n z) (λ x k. k) old.tracks j y (λ k. record { base = k.base; out = k.out }) i h.timely in
     let stands : (after : Origin) → EndBy w c.phase real after (track_at there i).end → Stands w i now asked after real new =
     λ after e. subst (λ (x : State). Stands w i now asked after real x) (sym is)
-        (record { alone = subst IsAlone is alone; past = h.past; at = h.at; unbegun = h.unbegun; out = h.out; end = e; timely = timely }) in
+    (record { alone = subst IsAlone is alone; past = h.past; at = h.at; unbegun = h.unbegun; out = h.out; end = e; timely = timely }) in
     elim (cases_Bool (j == i)) as (λ _. Stands w i now asked (if j == i then o else told) real new) [
       | inl same ↦
           let mine = eqb-true j i same in

@@ -499,10 +499,16 @@ module _ (o : Outage) (i end bound due : ℕ) (miss : Type 0) (old mid new : Sta
               how = elim p.how as (λ _. Kept i bound new t ⊎ Missed i bound due (cut o) miss new t) [
                 | inl kept ↦
                     let soon' = kept.1.0 in
-                    inl (kept.0, (omega (arith, soon', clock), λ free. elim (kept.1.1 (sym (ap (λ (x : Track). x.out) track) ∙ free)) as (λ _. (is_first t ≡ true) ⊎ (new.presence.hold ≤ bound)) [
-                      | inl first ↦ inl first
-                      | inr low ↦ inr (omega (arith, low, l))
-                    ]))
+                    inl (
+                      kept.0,
+                      (
+                        omega (arith, soon', clock),
+                        λ free. elim (kept.1.1 (sym (ap (λ (x : Track). x.out) track) ∙ free)) as (λ _. (is_first t ≡ true) ⊎ (new.presence.hold ≤ bound)) [
+                          | inl first ↦ inl first
+                          | inr low ↦ inr (omega (arith, low, l))
+                        ],
+                      ),
+                    )
                 | inr missed ↦ inr (missed.0, (ap (λ (x : Track). x.out) track ∙ missed.1.0, (missed.1.1.0, (missed.1.1.1.0, still_held missed.1.1.1.1))))
               ];
             };
@@ -544,15 +550,26 @@ module _ (o : Outage) (i end bound due : ℕ) (miss : Type 0) (old mid new : Sta
             record {
               pressed = f.0;
               renews = f.1.0;
-              how = inr (f.1.1, (free, (may, (by_cut,
-                  elim (cases_Bool q.heard) as (λ _. (new.presence.hold ≤ bound) ⊎ ((list_any is_silent new.answers ≡ true) × (new.presence.away ≡ true))) [
-                    | inl heard' ↦ (let low = spared heard' in inl (omega (arith, low, l)))
-                    | inr unheard ↦
-                        inr (
-                          ap (list_any is_silent) (after old mid new q Lost a) ∙ any_added is_silent old.answers (answer old mid new q Lost a) (ap not unheard),
-                          ap (λ (y : State). y.presence.away) a.is ∙ unheard_away mid q unheard,
-                        )
-                  ]))));
+              how = inr (
+                f.1.1,
+                (
+                  free,
+                  (
+                    may,
+                    (
+                      by_cut,
+                      elim (cases_Bool q.heard) as (λ _. (new.presence.hold ≤ bound) ⊎ ((list_any is_silent new.answers ≡ true) × (new.presence.away ≡ true))) [
+                        | inl heard' ↦ (let low = spared heard' in inl (omega (arith, low, l)))
+                        | inr unheard ↦
+                            inr (
+                              ap (list_any is_silent) (after old mid new q Lost a) ∙ any_added is_silent old.answers (answer old mid new q Lost a) (ap not unheard),
+                              ap (λ (y : State). y.presence.away) a.is ∙ unheard_away mid q unheard,
+                            )
+                      ],
+                    ),
+                  ),
+                ),
+              );
             };
         lane = λ out. absurd (not_both out free);
         out = left_out;
@@ -575,15 +592,33 @@ later_endures o i end bound more due miss may s le weaker h = record {
         how = elim p.how as (λ _. Kept i more s t ⊎ Missed i more due (cut o) may s t) [
           | inl kept ↦
               let soon' = kept.1.0 in
-              inl (kept.0, (omega (arith, soon', le), λ free. elim (kept.1.1 free) as (λ _. (is_first t ≡ true) ⊎ (s.presence.hold ≤ more)) [
-                | inl first ↦ inl first
-                | inr low ↦ inr (omega (arith, low, le))
-              ]))
+              inl (
+                kept.0,
+                (
+                  omega (arith, soon', le),
+                  λ free. elim (kept.1.1 free) as (λ _. (is_first t ≡ true) ⊎ (s.presence.hold ≤ more)) [
+                    | inl first ↦ inl first
+                    | inr low ↦ inr (omega (arith, low, le))
+                  ],
+                ),
+              )
           | inr missed ↦
-              inr (missed.0, (missed.1.0, (weaker missed.1.1.0, (missed.1.1.1.0, elim missed.1.1.1.1 as (λ _. (s.presence.hold ≤ more) ⊎ ((list_any is_silent s.answers ≡ true) × (s.presence.away ≡ true))) [
-                | inl low ↦ inl (omega (arith, low, le))
-                | inr both ↦ inr both
-              ]))))
+              inr (
+                missed.0,
+                (
+                  missed.1.0,
+                  (
+                    weaker missed.1.1.0,
+                    (
+                      missed.1.1.1.0,
+                      elim missed.1.1.1.1 as (λ _. (s.presence.hold ≤ more) ⊎ ((list_any is_silent s.answers ≡ true) × (s.presence.away ≡ true))) [
+                        | inl low ↦ inl (omega (arith, low, le))
+                        | inr both ↦ inr both
+                      ],
+                    ),
+                  ),
+                ),
+              )
         ];
       };
   lane = h.lane;

@@ -227,8 +227,7 @@ in_time f due k s h =
     let end = ap believed h.going.end_is in
     let time = h.going.time in
     let ahead = h.going.ahead in
-    let by = h.going.by in
-    (
+    let by = h.going.by in (
       subst (λ n. s.clocks.at < ms n) (sym end) ahead,
       subst (λ n. s.clocks.at ≤ granted_by f.o (time_of s f.i) n) (sym end) (subst (λ n. s.clocks.at ≤ granted_by f.o n f.end) (sym time) by),
     )
@@ -242,8 +241,7 @@ along f planned (turn ∷ turns) due old history lived h =
     let count = base.count in
     let sends = turn_sends old turn.state turn.event turn.result f.n (omega (arith, count)) history.0 in
     let same = turn_same f.o f.i due old turn.state turn.event turn.result history.0 lived.0 h.going.asks in
-    let here = turn_stays f due (coming f.o f.n turn.state turns) old turn.state turn.event turn.result planned history.0 lived.0 lived.1.0 base sends same h in
-    (
+    let here = turn_stays f due (coming f.o f.n turn.state turns) old turn.state turn.event turn.result planned history.0 lived.0 lived.1.0 base sends same h in (
       in_time f (next_after f.o turn.result turn.state due) (After f turn.state (coming f.o f.n turn.state turns)) turn.state here,
       along f planned turns (next_after f.o turn.result turn.state due) turn.state history.1 lived.1.1 here,
     )

@@ -322,10 +322,16 @@ module _ (f : Facts) (due : ℕ) (old new : State) (wall elapsed : ℕ) (output 
             record {
               pressed = k.pressed;
               renews = k.renews;
-              how = inl (k.settled, (k.soon, λ free. elim k.first as (λ _. (is_first u ≡ true) ⊎ (new.presence.hold ≤ bound)) [
-                | inl first ↦ inl first
-                | inr held' ↦ inr (held' (was_free free))
-              ]));
+              how = inl (
+                k.settled,
+                (
+                  k.soon,
+                  λ free. elim k.first as (λ _. (is_first u ≡ true) ⊎ (new.presence.hold ≤ bound)) [
+                    | inl first ↦ inl first
+                    | inr held' ↦ inr (held' (was_free free))
+                  ],
+                ),
+              );
             };
         lane = λ out.
             elim (cases_Bool (track_at old i).out) as (λ _. list_any (is_of i any_time) new.out ≡ true) [
@@ -361,19 +367,19 @@ module _ (f : Facts) (due : ℕ) (old new : State) (wall elapsed : ℕ) (output 
       let free' : (track_at end i).out ≡ false = subst (λ (x : State). (track_at x i).out ≡ false) is free in
       let time : time_of new i ≡ f.time = same_time i old new t.same ∙ t.going.time in
       subst (λ (x : State). ((u : Try) × ((attempt_at x i ≡ Some u) × ((x.clocks.at < ready x.presence (track_at x i) u) × (wait x ≤ ready x.presence (track_at x i) u))))
-          ⊎ ((f.width ≤ length x.out) ⊎ ((x.clocks.at < ms f.time) × (wait x ≤ ms f.time)))) (sym is)
+      ⊎ ((f.width ≤ length x.out) ⊎ ((x.clocks.at < ms f.time) × (wait x ≤ ms f.time)))) (sym is)
       (elim (end_minded ready' t.ticks.round t.ticks.requests i t.ticks.going there (subst (λ (x : State). is_wanted x i ≡ true) is t.wanted))
       as (λ _. ((u : Try) × ((attempt_at end i ≡ Some u) × ((end.clocks.at < ready end.presence (track_at end i) u) × (wait end ≤ ready end.presence (track_at end i) u))))
-          ⊎ ((f.width ≤ length end.out) ⊎ ((end.clocks.at < ms f.time) × (wait end ≤ ms f.time)))) [
+      ⊎ ((f.width ≤ length end.out) ⊎ ((end.clocks.at < ms f.time) × (wait end ≤ ms f.time)))) [
         | inl out ↦ absurd (not_both out free')
         | inr minded ↦
             elim minded as (λ _. ((u : Try) × ((attempt_at end i ≡ Some u) × ((end.clocks.at < ready end.presence (track_at end i) u) × (wait end ≤ ready end.presence (track_at end i) u))))
-                ⊎ ((f.width ≤ length end.out) ⊎ ((end.clocks.at < ms f.time) × (wait end ≤ ms f.time)))) [
+            ⊎ ((f.width ≤ length end.out) ⊎ ((end.clocks.at < ms f.time) × (wait end ≤ ms f.time)))) [
               | inl pressed' ↦
                   let u = pressed'.has.attempt in
                   elim (tended ready' t.ticks.round t.ticks.requests i u t.ticks.going there free' pressed'.has.attempt_is)
                   as (λ _. ((u : Try) × ((attempt_at end i ≡ Some u) × ((end.clocks.at < ready end.presence (track_at end i) u) × (wait end ≤ ready end.presence (track_at end i) u))))
-                      ⊎ ((f.width ≤ length end.out) ⊎ ((end.clocks.at < ms f.time) × (wait end ≤ ms f.time)))) [
+                  ⊎ ((f.width ≤ length end.out) ⊎ ((end.clocks.at < ms f.time) × (wait end ≤ ms f.time)))) [
                     | inl later ↦ inl (u, (pressed'.has.attempt_is, later))
                     | inr full ↦ (let w = ap (λ (x : State). x.width) (sym is) ∙ t.base.fits.0 in inr (inl (omega (arith, full, w))))
                   ]

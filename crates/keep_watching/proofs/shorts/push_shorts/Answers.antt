@@ -29,8 +29,8 @@ loop-entry-preserved c =
           ∙ one_more lines c.args.text.now.items n;
       before = before_more first (λ k. later m.forest.margin (said_of first k) (short_now m k)) said n c.later.result within
           (
-            c.later.ensures ∙ ap (λ k. later k (said_of said n) c.short_now-reach.result) margin ∙ ap (λ o. later m.forest.margin o c.short_now-reach.result) last
-            ∙ ap (later m.forest.margin (said_of first n)) c.short_now-reach.ensures
+          c.later.ensures ∙ ap (λ k. later k (said_of said n) c.short_now-reach.result) margin ∙ ap (λ o. later m.forest.margin o c.short_now-reach.result) last
+          ∙ ap (later m.forest.margin (said_of first n)) c.short_now-reach.ensures
           ) c.loop-entry.invariant.before;
       behind = behind_more first (λ k. later m.forest.margin (said_of first k) (short_now m k)) said n c.later.result c.loop-entry.invariant.behind;
     }

@@ -56,5 +56,5 @@ returns-clause-taken c =
     c.name_of-name.ensures ∙ ap (λ (g : Forest). name_of g i) c.names.ensures.names ∙ ap (λ (s : Inventory). name_of s.forest i) same in
     on_ok_weaker c.push_notes.result
     (λ (noted : last ≡ mid ++ noted_lines c.name_of-name.result.now v.machine output.notes).
-      taken_made w.inventory a w.machine v.machine operation said output first mid last c.requires.out c.asked_of-operation.ensures.operation c.in_ok-said.ensures turn told (noted ∙ ap (λ n. mid ++ noted_lines n v.machine output.notes) name))
+    taken_made w.inventory a w.machine v.machine operation said output first mid last c.requires.out c.asked_of-operation.ensures.operation c.in_ok-said.ensures turn told (noted ∙ ap (λ n. mid ++ noted_lines n v.machine output.notes) name))
     c.push_notes.ensures

@@ -17,5 +17,5 @@ returns-in-Known-clause-abreast g c =
     let last = c.know.new.text.items in
     on_ok_weaker c.know.result
     (λ (known : Appended first last (IsKnown (is_some old.machine.begun) old i end renewable new)).
-      abreast_known i end renewable old new first last (g.L.Lanes.width c.args.lanes.now) (g.L.Lanes.out c.args.lanes.now) known c.requires.abreast)
+    abreast_known i end renewable old new first last (g.L.Lanes.width c.args.lanes.now) (g.L.Lanes.out c.args.lanes.now) known c.requires.abreast)
     c.know.ensures.known
